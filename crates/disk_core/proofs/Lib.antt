@@ -1,0 +1,9 @@
+pub mod Epochs
+pub mod Overwritten
+pub mod Pairs
+pub mod Patched
+pub mod Published
+pub mod Runs
+pub mod Spans
+pub mod Synced
+pub mod Torn

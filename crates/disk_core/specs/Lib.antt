@@ -1,0 +1,11 @@
+pub mod Epochs
+pub mod Faults
+pub mod File
+pub mod Fuse
+pub mod Images
+pub mod Kept
+pub mod Memory
+pub mod Moments
+pub mod Pairs
+pub mod Publish
+pub mod Spans

@@ -1,0 +1,11 @@
+-- A payload behind a flag.
+use Rattle.std.specs.Prelude.{◌≡◌, ◌⊎◌, ◌==◌, ℕ, List, [], ◌∷◌, take, Option, Some, None, if◌then◌else◌}
+
+-- what these bytes publish: n bytes behind a flag, where the flag is 1
+abbrev pub published : ℕ → List ℕ → Option (List ℕ)
+published n [] = None
+published n (flag ∷ rest) = if flag == 1 then Some (take n rest) else None
+
+-- nothing is published, or all of the payload
+abbrev pub IsAllOrNothing : ℕ → List ℕ → List ℕ → Type 0
+IsAllOrNothing n payload c = (published n c ≡ None) ⊎ (published n c ≡ Some payload)

@@ -1,0 +1,141 @@
+//! A disk in a real file.
+ghost use Rattle.std.specs.Prelude.{◌≡◌, replicate, IfOk, ⊤};
+
+use crate::faults::count;
+use crate::{DeviceFault, Disk};
+use std::fs::{File, OpenOptions};
+use std::io;
+use std::os::unix::fs::FileExt;
+use std::path::Path;
+use std::rt::Files;
+use thiserror::Error;
+
+/// Why a file is not opened as a disk.
+#[derive(Debug, Drop, Error)]
+pub enum OpenError {
+    /// What was to be made is there already, as a file or as something else.
+    #[error("cannot open")]
+    Exists,
+    /// The system refuses to open, make, size or sync it.
+    #[error("cannot open")]
+    System(io::Error),
+}
+
+impl From<io::Error> for OpenError {
+    fn from(error: io::Error) -> Self {
+        if error.kind() == io::ErrorKind::AlreadyExists {
+            OpenError::Exists
+        } else {
+            OpenError::System(error)
+        }
+    }
+}
+
+/// A disk in a file of the operating system.
+///
+/// Of its content and images nothing is claimed, since no contract knows what a file holds: it is
+/// never honest. A sync asks the system to have the bytes and the size on the device (`fsync`).
+/// Nothing keeps another process from writing the file. A range that the file no longer has fails
+/// to be read.
+#[derive(Drop)]
+pub struct FileDisk {
+    file: File,
+    size: u64,
+    failures: u64,
+}
+
+impl FileDisk {
+    ghost use Rattle.disk_core.specs.File.{file_size, file_failures};
+
+    /// Makes a file of so many zeros, and has it and its name on the device. A file that is there
+    /// is left as it is; one that cannot be sized or synced is removed again.
+    pub fn create<R: Files<File = File>>(
+        rt: &R,
+        path: &str,
+        size: u64,
+    ) -> Result<FileDisk, OpenError>
+        ensures size { IfOk result (λ disk. file_size disk ≡ size) }
+        ensures failures { IfOk result (λ disk. file_failures disk ≡ 0) }
+    {
+        let file = OpenOptions::new()
+            .read(true)
+            .write(true)
+            .create_new(true)
+            .open(rt, path)?;
+        if let Err(error) = settle(rt, &file, path, size) {
+            let _ = std::fs::remove_file(rt, path);
+            return Err(OpenError::System(error));
+        }
+        Ok(FileDisk {
+            file,
+            size,
+            failures: 0,
+        })
+    }
+
+    /// Opens a file that is there for reading and writing, as a disk of the size that it has now.
+    pub fn open<R: Files<File = File>>(rt: &R, path: &str) -> Result<FileDisk, OpenError>
+        ensures { IfOk result (λ disk. file_failures disk ≡ 0) }
+    {
+        let file = OpenOptions::new().read(true).write(true).open(rt, path)?;
+        let size = file.metadata()?.len();
+        Ok(FileDisk {
+            file,
+            size,
+            failures: 0,
+        })
+    }
+}
+
+// Sizes a new file, and syncs it and the folder that has its name.
+fn settle<R: Files<File = File>>(rt: &R, file: &File, path: &str, size: u64) -> io::Result<()> {
+    file.set_len(size)?;
+    file.sync_all()?;
+    let folder = match Path::new(path).parent() {
+        Some(folder) if !folder.as_str().is_empty() => folder,
+        _ => Path::new("."),
+    };
+    File::open(rt, folder)?.sync_all()
+}
+
+impl Disk for FileDisk {
+    // Its length alone is meant.
+    ghost content = { λ f. replicate f.size 0 };
+
+    ghost images = { λ _ _. ⊤ };
+
+    ghost moment = { λ _. 0 };
+
+    ghost images_since = { λ _ _ _. ⊤ };
+
+    ghost failures = { λ f. f.failures };
+
+    ghost honest = { λ _. ⊥ };
+
+    ghost reads = { λ f honest. absurd honest };
+
+    ghost sizes = { λ f c honest _. absurd honest };
+
+    ghost counts_now = { λ f t c _ _. tt };
+
+    ghost only_now = { λ f c _. tt };
+
+    fn size(&self) -> u64 {
+        self.size
+    }
+
+    fn read_at(&mut self, at: u64, into: &mut [u8]) -> Result<(), DeviceFault> {
+        let outcome = self.file.read_exact_at(into, at);
+        count(outcome, &mut self.failures)
+    }
+
+    fn write_at(&mut self, at: u64, bytes: &[u8]) -> Result<(), DeviceFault> {
+        let outcome = self.file.write_all_at(bytes, at);
+        count(outcome, &mut self.failures)
+    }
+
+    fn sync(&mut self) -> Result<(), DeviceFault> {
+        let outcome = self.file.sync_all();
+        count(outcome, &mut self.failures)
+    }
+}

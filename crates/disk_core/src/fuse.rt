@@ -1,0 +1,172 @@
+//! A disk that fails from a chosen call on.
+ghost use Rattle.std.specs.Prelude.{◌≡◌, ◌+◌, ◌-◌, ◌<◌, ◌≤◌, ◌↔◌, length, take, drop, OnOk, OnErr, IsErr, IsTrue};
+ghost use Rattle.disk_core.specs.Faults.{HasCause};
+ghost use Rattle.disk_core.specs.Images.{patched, Torn, Frees, Same, Within, Only};
+ghost use Rattle.disk_core.specs.Moments.{Elapses};
+
+use crate::faults::fail;
+use crate::{DeviceFault, Disk};
+
+/// A disk that passes so many calls on, and fails every later one.
+///
+/// Each read, write and sync is a call. A write that fails so may have begun: it is passed on, and
+/// its range is written and unsynced. A read and a sync that fail so do nothing.
+#[derive(Drop)]
+pub struct FuseDisk<D> {
+    disk: D,
+    left: u64,
+    // The failures that are not the disk's own.
+    failed: u64,
+}
+
+impl<D: Disk> FuseDisk<D> {
+    ghost use Rattle.disk_core.specs.Fuse.{fused, calls_left, all_failures};
+
+    /// A fuse over a disk, which passes so many calls.
+    pub fn new(disk: D, calls: u64) -> FuseDisk<D>
+        ensures disk { fused result ≡ disk }
+        ensures calls { calls_left result ≡ calls }
+        ensures failures { all_failures D.failures result ≡ D.failures disk }
+    {
+        FuseDisk {
+            disk,
+            left: calls,
+            failed: 0,
+        }
+    }
+
+    /// The disk below, as the calls left it.
+    pub fn into_inner(self) -> D
+        ensures { result ≡ fused self }
+    {
+        let FuseDisk {
+            disk,
+            left: _,
+            failed: _,
+        } = self;
+        disk
+    }
+}
+
+// Whether one more call passes, which is then spent.
+fn spend(left: &mut u64) -> bool
+    ensures passes { IsTrue result ↔ (0 < left.old) }
+    ensures spent { left.new ≡ left.old - 1 }
+{
+    if *left == 0 {
+        return false;
+    }
+    *left -= 1;
+    true
+}
+
+impl<D: Disk> Disk for FuseDisk<D> {
+    ghost use Rattle.disk_core.specs.Fuse.{fused, calls_left, all_failures};
+
+    ghost content = { λ f. D.content f.disk };
+
+    ghost images = { λ f. D.images f.disk };
+
+    ghost moment = { λ f. D.moment f.disk };
+
+    ghost images_since = { λ f. D.images_since f.disk };
+
+    ghost failures = { λ f. D.failures f.disk + f.failed };
+
+    ghost honest = { λ f. D.honest f.disk };
+
+    ghost reads = { λ f. D.reads f.disk };
+
+    ghost sizes = { λ f. D.sizes f.disk };
+
+    ghost counts_now = { λ f. D.counts_now f.disk };
+
+    ghost only_now = { λ f. D.only_now f.disk };
+
+    fn size(&self) -> u64 {
+        self.disk.size()
+    }
+
+    fn read_at(&mut self, at: u64, into: &mut [u8]) -> Result<(), DeviceFault>
+        requires { at + length into.old ≤ length (D.content (fused self.old)) }
+        ensures bytes { D.honest (fused self.old) →
+            OnOk result (into.new ≡ take (length into.old) (drop at (D.content (fused self.old)))) }
+        ensures content { D.honest (fused self.old) →
+            D.content (fused self.new) ≡ D.content (fused self.old) }
+        ensures size { length (D.content (fused self.new)) ≡ length (D.content (fused self.old)) }
+        ensures images { D.honest (fused self.old) →
+            Same (D.images (fused self.old)) (D.images (fused self.new)) }
+        ensures time { D.honest (fused self.old) →
+            Elapses (D.moment (fused self.old)) (D.moment (fused self.new))
+            (D.images_since (fused self.old)) (D.images_since (fused self.new)) (D.images (fused self.new)) }
+        ensures cause { HasCause (all_failures D.failures self.old) (all_failures D.failures self.new) result }
+        ensures honest { D.honest (fused self.old) → D.honest (fused self.new) }
+
+        // It passes the call on where some are left.
+        ensures passed { 0 < calls_left self.old →
+            HasCause (D.failures (fused self.old)) (D.failures (fused self.new)) result }
+        ensures left { 0 < calls_left self.old → calls_left self.new + 1 ≡ calls_left self.old }
+        ensures blown { calls_left self.old ≡ 0 → IsErr result × (calls_left self.new ≡ 0) }
+    {
+        if !spend(&mut self.left) {
+            return fail(&mut self.failed);
+        }
+        self.disk.read_at(at, into)
+    }
+
+    fn write_at(&mut self, at: u64, bytes: &[u8]) -> Result<(), DeviceFault>
+        requires { at + length bytes.now ≤ length (D.content (fused self.old)) }
+        ensures written { D.honest (fused self.old) →
+            OnOk result (D.content (fused self.new) ≡ patched at bytes.now (D.content (fused self.old))) }
+        ensures content { D.honest (fused self.old) →
+            Torn at (length bytes.now) (D.content (fused self.old)) (D.content (fused self.new)) }
+        ensures size { length (D.content (fused self.new)) ≡ length (D.content (fused self.old)) }
+        ensures images { D.honest (fused self.old) →
+            Frees at (length bytes.now) (D.images (fused self.old)) (D.images (fused self.new)) }
+        ensures time { D.honest (fused self.old) →
+            Elapses (D.moment (fused self.old)) (D.moment (fused self.new))
+            (D.images_since (fused self.old)) (D.images_since (fused self.new)) (D.images (fused self.new)) }
+        ensures cause { HasCause (all_failures D.failures self.old) (all_failures D.failures self.new) result }
+        ensures honest { D.honest (fused self.old) → D.honest (fused self.new) }
+
+        ensures passed { 0 < calls_left self.old →
+            HasCause (D.failures (fused self.old)) (D.failures (fused self.new)) result }
+        ensures left { 0 < calls_left self.old → calls_left self.new + 1 ≡ calls_left self.old }
+        ensures blown { calls_left self.old ≡ 0 → IsErr result × (calls_left self.new ≡ 0) }
+    {
+        if !spend(&mut self.left) {
+            // It fails, but it may have begun.
+            self.disk.write_at(at, bytes)?;
+            return fail(&mut self.failed);
+        }
+        self.disk.write_at(at, bytes)
+    }
+
+    fn sync(&mut self) -> Result<(), DeviceFault>
+        ensures stable { D.honest (fused self.old) →
+            OnOk result (Only (D.content (fused self.old)) (D.images (fused self.new))) }
+        ensures failed { D.honest (fused self.old) →
+            OnErr result (Same (D.images (fused self.old)) (D.images (fused self.new))) }
+        ensures content { D.honest (fused self.old) →
+            D.content (fused self.new) ≡ D.content (fused self.old) }
+        ensures size { length (D.content (fused self.new)) ≡ length (D.content (fused self.old)) }
+        ensures images { D.honest (fused self.old) →
+            Within (D.images (fused self.new)) (D.images (fused self.old)) }
+        ensures time { D.honest (fused self.old) →
+            Elapses (D.moment (fused self.old)) (D.moment (fused self.new))
+            (D.images_since (fused self.old)) (D.images_since (fused self.new)) (D.images (fused self.new)) }
+        ensures cause { HasCause (all_failures D.failures self.old) (all_failures D.failures self.new) result }
+        ensures honest { D.honest (fused self.old) → D.honest (fused self.new) }
+
+        ensures passed { 0 < calls_left self.old →
+            HasCause (D.failures (fused self.old)) (D.failures (fused self.new)) result }
+        ensures left { 0 < calls_left self.old → calls_left self.new + 1 ≡ calls_left self.old }
+        ensures blown { calls_left self.old ≡ 0 → IsErr result × (calls_left self.new ≡ 0) }
+    {
+        if !spend(&mut self.left) {
+            // Nothing becomes stable.
+            return fail(&mut self.failed);
+        }
+        self.disk.sync()
+    }
+}

@@ -1,0 +1,22 @@
+//! A disk, and what a stop at any moment may leave of it: the contract, a disk in memory that can
+//! be crashed, one that fails from a chosen call on, and a file.
+#![tactic(auto)]
+
+mod disk;
+mod epoch;
+mod example;
+mod faults;
+mod file;
+mod fuse;
+mod memory;
+mod span;
+
+pub use disk::Disk;
+pub use example::publish;
+pub use faults::DeviceFault;
+pub use file::{FileDisk, OpenError};
+pub use fuse::FuseDisk;
+pub use memory::MemDisk;
+
+#[cfg(test)]
+mod tests;
