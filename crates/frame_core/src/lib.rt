@@ -1,0 +1,13 @@
+//! The frames of STOMP 1.2: what a frame is, how it is written, and how a stream of bytes is read as frames.
+
+#![tactic(auto)]
+
+mod bytes;
+mod frame;
+mod headers;
+mod text;
+
+pub use bytes::Bytes;
+pub use frame::{Frame, Verb};
+pub use headers::Headers;
+pub use text::Text;
