@@ -1,1 +1,9 @@
 pub mod SameHeaders
+pub mod Verbs
+pub mod Heads
+pub mod Spelling
+pub mod Parts
+pub mod Faults
+pub mod FaultCodes
+pub mod Streams
+pub mod Writable

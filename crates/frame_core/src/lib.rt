@@ -3,11 +3,13 @@
 #![tactic(auto)]
 
 mod bytes;
+mod fault;
 mod frame;
 mod headers;
 mod text;
 
 pub use bytes::Bytes;
+pub use fault::FrameFault;
 pub use frame::{Frame, Verb};
 pub use headers::Headers;
 pub use text::Text;
