@@ -1,4 +1,6 @@
 use Rattle.std.specs.Prelude.{List, ℕ, codes}
+use Rattle.frame_core.specs.declared.fault.FrameFault.{FrameFault}
+use Rattle.frame_core.specs.declared.fault.FrameFault.TheVariants as streams
 use Rattle.command_core.specs.declared.fault.Fault.{Fault}
 use Rattle.command_core.specs.declared.fault.Fault.TheVariants.{MalformedFrame, FrameTooLarge, UndefinedEscape, UnknownCommand, MissingHeader, UnsupportedVersion, UnexpectedFrame, BadDestination, SubscriptionIdInUse, UnknownSubscription, UnknownAcknowledgement, NoRoom, NoClientId, DurableSubscription, TransactionBegun, TransactionNotBegun, TransactionTooLarge, TooManyEntries, BodyNotAllowed, BadHeaderValue}
 
@@ -47,3 +49,12 @@ text_of TransactionTooLarge = codes "E17 transaction too large"
 text_of TooManyEntries = codes "E18 too many subscriptions or transactions"
 text_of BodyNotAllowed = codes "E19 body not allowed"
 text_of BadHeaderValue = codes "E20 bad header value"
+
+-- the fault of a stream of frames
+abbrev pub fault_of : FrameFault → Fault
+fault_of streams.Malformed = MalformedFrame
+fault_of streams.TooLarge = FrameTooLarge
+fault_of streams.UndefinedEscape = UndefinedEscape
+fault_of streams.UnknownCommand = UnknownCommand
+fault_of streams.BodyNotAllowed = BodyNotAllowed
+fault_of streams.BadHeaderValue = BadHeaderValue

@@ -6,6 +6,8 @@ ghost use Rattle.command_core.specs.Faults.{code_of, text_of};
 use std::error::Error;
 use std::fmt;
 
+use frame_core::FrameFault;
+
 /// Why a frame or a command is refused. Its code and text stand in the `message` header of an ERROR frame (STOMP 1.2,
 /// "ERROR").
 #[derive(Clone, Copy, Debug, PartialEq, Eq)]
@@ -119,3 +121,21 @@ impl fmt::Display for Fault {
 }
 
 impl Error for Fault {}
+
+impl From<FrameFault> for Fault {
+    ghost use Rattle.std.specs.Prelude.{◌≡◌};
+    ghost use Rattle.command_core.specs.Faults.{fault_of};
+
+    ghost from_gives = { λ fault r. r ≡ fault_of fault };
+
+    fn from(fault: FrameFault) -> Fault {
+        match fault {
+            FrameFault::Malformed => Fault::MalformedFrame,
+            FrameFault::TooLarge => Fault::FrameTooLarge,
+            FrameFault::UndefinedEscape => Fault::UndefinedEscape,
+            FrameFault::UnknownCommand => Fault::UnknownCommand,
+            FrameFault::BodyNotAllowed => Fault::BodyNotAllowed,
+            FrameFault::BadHeaderValue => Fault::BadHeaderValue,
+        }
+    }
+}

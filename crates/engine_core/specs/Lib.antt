@@ -1,2 +1,5 @@
 pub mod ScriptLines
 pub mod Shown
+pub mod Versions
+pub mod Verbs
+pub mod Sessions

@@ -2,5 +2,8 @@
 
 #![tactic(auto)]
 
+mod asking;
 mod line;
+mod notice;
+mod session;
 mod shown;
