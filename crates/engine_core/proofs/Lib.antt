@@ -1,2 +1,5 @@
 pub mod Connections
 pub mod Showing
+pub mod ReadFrames
+pub mod Items
+pub mod Acting

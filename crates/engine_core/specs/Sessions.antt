@@ -69,11 +69,15 @@ sends_to (Some to) frame = cond (is_destination to) (Ok (ops.Send (record { dest
 abbrev pub sends : Frame → Result Op Fault
 sends frame = sends_to (first_of (codes "destination") frame.headers) frame
 
--- what a frame asks for in a session that stands so, or why it is refused
+-- what a client's frame asks for in a session that stands so, or why it is refused
+abbrev pub expected : Phase → Frame → Result Op Fault
+expected New frame = cond (is_connect frame.verb) (connects frame) (Err faults.UnexpectedFrame)
+expected Open frame = cond (is_send frame.verb) (sends frame) (Err faults.UnexpectedFrame)
+expected _ frame = Err faults.UnexpectedFrame
+
+-- what a frame asks for, or why it is refused: a server's frame is no client's, whenever it comes
 abbrev pub asked : Phase → Frame → Result Op Fault
-asked New frame = cond (is_servers frame.verb) (Err faults.UnknownCommand) (cond (is_connect frame.verb) (connects frame) (Err faults.UnexpectedFrame))
-asked Open frame = cond (is_servers frame.verb) (Err faults.UnknownCommand) (cond (is_send frame.verb) (sends frame) (Err faults.UnexpectedFrame))
-asked _ frame = Err faults.UnexpectedFrame
+asked phase frame = cond (is_servers frame.verb) (Err faults.UnknownCommand) (expected phase frame)
 
 -- the session hears no more
 abbrev pub IsOver : Phase → Type 0
@@ -128,7 +132,7 @@ fresh = record { rest = []; phase = New }
 pub record HearsFrames (old : Hearing) (bytes : List ℕ) (acts : List Act) (new : Hearing) : Type 0 where
   pub frames : List Frame
   pub reads : Reads (old.rest ++ bytes) frames new.rest
-  pub acts : acts ≡ acts_of old.phase frames
+  pub same_acts : acts ≡ acts_of old.phase frames
   pub phase : new.phase ≡ phase_of old.phase frames
 
 -- the octets have a fault behind whole frames
@@ -136,7 +140,7 @@ pub record HearsFault (old : Hearing) (bytes : List ℕ) (acts : List Act) (new 
   pub frames : List Frame
   pub fault : FrameFault
   pub fails : Fails (old.rest ++ bytes) frames fault
-  pub acts : acts ≡ acts_of old.phase frames ++ refused (phase_of old.phase frames) (fault_of fault) None
+  pub same_acts : acts ≡ acts_of old.phase frames ++ refused (phase_of old.phase frames) (fault_of fault) None
   pub phase : new.phase ≡ Ended
 
 -- What a session does for octets that it hears behind those that it keeps: what their frames ask for, and at a fault of

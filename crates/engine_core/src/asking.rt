@@ -1,13 +1,11 @@
 //! What a frame asks for, or why it is refused.
 
-ghost use Rattle.std.specs.Prelude.{◌≡◌, ◌≤◌, ◌==◌, length, IfOk, IfSome, MatchOption, None, Some};
-ghost use Rattle.std.specs.List.{AllByRecursion, filter, list_any};
+ghost use Rattle.std.specs.Prelude.{◌≡◌, ◌==◌, codes, IfOk};
+ghost use Rattle.std.specs.List.{list_all};
 ghost use Rattle.frame_core.specs.Writable.{first_of};
 ghost use Rattle.command_core.specs.Texts.{IsHeaderText};
-ghost use Rattle.command_core.specs.Sendings.{IsKept};
-ghost use Rattle.engine_core.specs.Versions.{offers, is_version};
-ghost use Rattle.engine_core.specs.Sessions.{IsRead, IsReadHeader, asked, connects, sends, kept, receipt_of, some_text, is_servers, is_connect};
-ghost use Rattle.engine_core.specs.declared.session.Phase.TheVariants as phases;
+ghost use Rattle.engine_core.specs.Versions.{offers, is_version, without_blanks};
+ghost use Rattle.engine_core.specs.Sessions.{IsRead, asked, connects, sends, kept, receipt_of, some_text};
 
 use std::alloc::{AllocError, Global};
 
@@ -99,11 +97,7 @@ fn send(alloc: Global, frame: Frame) -> Result<Result<Op, Fault>, AllocError>
 
 /// The headers that go on with a message.
 fn kept_headers(alloc: Global, headers: Headers) -> Result<Headers, AllocError>
-    requires few { length headers ≤ 64 }
-    requires each { AllByRecursion IsReadHeader headers }
-    ensures value { IfOk result (λ r. r ≡ kept headers) }
-    ensures few { IfOk result (λ r. length r ≤ 64) }
-    ensures each { IfOk result (λ r. AllByRecursion IsKept r) }
+    ensures { IfOk result (λ r. r ≡ kept headers) }
 {
     let headers = headers.into_vec();
     let mut kept = Vec::with_capacity(alloc, headers.len())?;
@@ -120,15 +114,37 @@ fn kept_headers(alloc: Global, headers: Headers) -> Result<Headers, AllocError>
 fn offers_version(text: &[u8]) -> bool
     ensures { result ≡ offers text.now }
 {
-    text.split(|byte| *byte == b',').any(is_version_item)
+    let mut start = 0;
+    for at in 0..text.len() {
+        if text[at] == b',' {
+            if is_version_item(&text[start..at]) {
+                return true;
+            }
+            start = at + 1;
+        }
+    }
+    is_version_item(&text[start..])
 }
 
 fn is_version_item(item: &[u8]) -> bool
     ensures { result ≡ is_version item.now }
 {
-    let blanks = item.iter().take_while(|byte| **byte == b' ').count();
-    match item[blanks..].strip_prefix(b"1.2") {
-        Some(rest) => rest.iter().all(|byte| *byte == b' '),
-        None => false,
+    let rest = skip_blanks(item);
+    rest.starts_with(b"1.2") && are_blanks(&rest[3..])
+}
+
+fn are_blanks(text: &[u8]) -> bool
+    ensures { result ≡ list_all (λ b. b == 32) text.now }
+{
+    text.iter().all(|byte| *byte == b' ')
+}
+
+fn skip_blanks(text: &[u8]) -> &[u8]
+    ensures { result.now ≡ without_blanks text.now }
+{
+    let mut rest = text;
+    while !rest.is_empty() && rest[0] == b' ' {
+        rest = &rest[1..];
     }
+    rest
 }
