@@ -3,3 +3,4 @@ pub mod Showing
 pub mod ReadFrames
 pub mod Items
 pub mod Acting
+pub mod Carrying

@@ -3,3 +3,5 @@ pub mod Shown
 pub mod Versions
 pub mod Verbs
 pub mod Sessions
+pub mod Desks
+

@@ -3,7 +3,10 @@
 #![tactic(auto)]
 
 mod asking;
+mod desk;
+mod fault;
 mod line;
 mod notice;
+mod printing;
 mod session;
 mod shown;
