@@ -18,3 +18,6 @@ pub use header_text::{HeaderText, is_header_text};
 pub use out::Out;
 pub use replies::{connected_reply, error_reply, receipt_reply};
 pub use sending::{Sending, is_kept_name};
+
+#[cfg(test)]
+mod tests;

@@ -1,0 +1,3 @@
+pub mod QueueCounts
+pub mod CommandLists
+pub mod HeaderSizes

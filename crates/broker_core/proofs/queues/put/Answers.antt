@@ -1,0 +1,25 @@
+use Rattle.std.proofs.Common.{◌≡◌, ◌++◌, ◌∷◌, [], List, ℕ, None, rules}
+use Rattle.std.specs.BTreeMap.{is_at}
+use Rattle.std.specs.Cmp.Lexicographic.{slice_cmp}
+use Rattle.std.specs.List.Sorted.{IsStrictlySortedBy}
+use Rattle.std.specs.Map.{keys_of, lookup, remove_entry}
+use Rattle.std.specs.Ordering.{nat_cmp}
+use Rattle.broker_core.specs.States.{line_of, with_line}
+use Rattle.broker_core.proofs.QueueCounts.{count_of-put, bytes_of-put}
+use Rattle.broker_core.proofs.queues.put.Goals as goal
+
+pub returns-clause-count : goal.returns-clause-count
+returns-clause-count c =
+    let es = c.args.queues.now.entries in
+    let absent = rw c.remove.ensures.entries at c.remove.ensures.updates.1 in
+    let sorted = rw c.remove.ensures.entries at c.remove.ensures.ordered in
+    let is : c.insert.new.self.entries ≡ with_line c.args.to (line_of c.args.to es ++ c.args.message ∷ []) es = search rules in
+    rw is (count_of-put c.args.to c.args.message es absent sorted)
+
+pub returns-clause-bytes : goal.returns-clause-bytes
+returns-clause-bytes c =
+    let es = c.args.queues.now.entries in
+    let absent = rw c.remove.ensures.entries at c.remove.ensures.updates.1 in
+    let sorted = rw c.remove.ensures.entries at c.remove.ensures.ordered in
+    let is : c.insert.new.self.entries ≡ with_line c.args.to (line_of c.args.to es ++ c.args.message ∷ []) es = search rules in
+    rw is (bytes_of-put c.args.to c.args.message es absent sorted)
