@@ -54,6 +54,7 @@ impl Broker {
         ensures whole { OnOk result ((self.old.broken ≡ false) × (self.new.broken ≡ false)) }
         ensures broken { IfErr result (λ fault. (fault ≡ BrokerFault.Broken) ↔ (self.old.broken ≡ true)) }
         ensures err { OnErr result (self.new.broken ≡ true) }
+        ensures count { OnErr result (self.new.state.count ≡ self.old.state.count) }
     {
         if self.broken {
             return Err(BrokerFault::Broken);
