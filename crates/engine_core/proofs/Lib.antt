@@ -4,3 +4,4 @@ pub mod ReadFrames
 pub mod Items
 pub mod Acting
 pub mod Carrying
+pub mod Receiving

@@ -4,4 +4,5 @@ pub mod Versions
 pub mod Verbs
 pub mod Sessions
 pub mod Desks
-
+pub mod Scripts
+pub mod Connections

@@ -5,6 +5,8 @@ use std::alloc::AllocError;
 use broker_core::BrokerFault;
 use thiserror::Error;
 
+use crate::session::SessionFault;
+
 /// Why a script does not run to its end. What it printed before stays.
 #[derive(Debug, Drop, Error)]
 pub enum ScriptFault {
@@ -32,5 +34,11 @@ impl From<BrokerFault> for ScriptFault {
             BrokerFault::Memory(refused) => ScriptFault::Memory(refused),
             BrokerFault::Broken => ScriptFault::Memory(AllocError),
         }
+    }
+}
+
+impl From<SessionFault> for ScriptFault {
+    fn from(_: SessionFault) -> ScriptFault {
+        ScriptFault::Memory(AllocError)
     }
 }

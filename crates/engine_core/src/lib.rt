@@ -8,5 +8,6 @@ mod fault;
 mod line;
 mod notice;
 mod printing;
+mod script;
 mod session;
 mod shown;
