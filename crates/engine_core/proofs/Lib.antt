@@ -5,3 +5,4 @@ pub mod Items
 pub mod Acting
 pub mod Carrying
 pub mod Receiving
+pub mod Running

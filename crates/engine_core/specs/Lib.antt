@@ -6,3 +6,5 @@ pub mod Sessions
 pub mod Desks
 pub mod Scripts
 pub mod Connections
+pub mod Runs
+pub mod OfDesk

@@ -53,9 +53,13 @@ abbrev pub PrintsAll : ScriptValue → List (List ℕ) → List ℕ → ScriptVa
 PrintsAll s [] printed t = (printed ≡ []) × (t ≡ s)
 PrintsAll s (line ∷ lines) printed t = (first : List ℕ) × (others : List ℕ) × (u : ScriptValue) × Prints s line first u × PrintsAll u lines others t × (printed ≡ first ++ others)
 
+-- no LF stands in it
+abbrev pub HasNoLf : List ℕ → Type 0
+HasNoLf bytes = AllByRecursion (λ b. b ≢ 10) bytes
+
 -- a line without its LF: at most 1,048,576 octets
 pub record IsLine (line : List ℕ) : Type 0 where
-  pub no_lf : AllByRecursion (λ b. b ≢ 10) line
+  pub no_lf : HasNoLf line
   pub short : length line ≤ 1048576
 
 -- the octets of whole lines
@@ -77,17 +81,8 @@ pub record IsScript (input printed : List ℕ) : Type 0 where
   pub end : ScriptValue
   pub prints : PrintsAll beginning lines printed end
 
--- Octets that hold no line of a script at their front: more than a line may have, a line of no form, or no LF at the
--- end of the script.
+-- Octets with no line of a script at their front: one has more octets than a line may have, or is of no form.
 abbrev pub HasNoLine : List ℕ → Type 0
 HasNoLine bytes =
-    ((line : List ℕ) × (behind : List ℕ) × (bytes ≡ line ++ behind) × AllByRecursion (λ b. b ≢ 10) line × (1048576 < length line))
-    ⊎ (((line : List ℕ) × (behind : List ℕ) × (bytes ≡ line ++ 10 ∷ behind) × AllByRecursion (λ b. b ≢ 10) line × IsOfNoForm line)
-    ⊎ ((bytes ≢ []) × AllByRecursion (λ b. b ≢ 10) bytes))
-
--- The octets begin with lines that print this, whatever follows them.
-pub record BeginsScript (input : List ℕ) (lines : List (List ℕ)) (printed rest : List ℕ) : Type 0 where
-  pub whole : input ≡ text_of_lines lines ++ rest
-  pub each : AllByRecursion IsLine lines
-  pub end : ScriptValue
-  pub prints : PrintsAll beginning lines printed end
+    ((line : List ℕ) × (behind : List ℕ) × (bytes ≡ line ++ behind) × HasNoLf line × (1048576 < length line))
+    ⊎ ((line : List ℕ) × (behind : List ℕ) × (bytes ≡ line ++ 10 ∷ behind) × HasNoLf line × IsOfNoForm line)

@@ -14,7 +14,7 @@ use broker_core::Broker;
 use command_core::{Command, HeaderText, Op};
 
 
-use crate::fault::ScriptFault;
+use crate::fault::DeskFault;
 use crate::printing::carry_out;
 
 /// A command that waits for the next flush, and the connection that it came from.
@@ -67,7 +67,7 @@ impl Desk {
     }
 
     /// Has the broker carry out what waits, and adds a line for each output to the text.
-    pub fn flush(&mut self, alloc: Global, text: &mut String) -> Result<(), ScriptFault>
+    pub fn flush(&mut self, alloc: Global, text: &mut String) -> Result<(), DeskFault>
         ensures state { OnOk result (self.new ≡ flushed self.old) }
         ensures text { OnOk result (string_bytes text.new ≡ string_bytes text.old ++ flush_text self.old) }
     {
@@ -92,7 +92,7 @@ impl Desk {
         op: Op,
         receipt: Option<HeaderText>,
         text: &mut String,
-    ) -> Result<u64, ScriptFault>
+    ) -> Result<u64, DeskFault>
         requires { Fits op 0 receipt }
         ensures number { IfOk result (λ n. n ≡ number_for op number (with_room connection self.old)) }
         ensures desk { OnOk result (self.new ≡ as_command connection op receipt number (with_room connection self.old)) }
@@ -102,7 +102,7 @@ impl Desk {
             self.flush(alloc, text)?;
         }
         if self.broker.count() >= LAST_COUNT {
-            return Err(ScriptFault::CountTooLarge);
+            return Err(DeskFault::CountTooLarge);
         }
         let next = self.broker.count() + self.waiting.len() as u64;
         let (number, session) = match op {

@@ -1,5 +1,7 @@
 //! Why a script does not run to its end.
 
+ghost use Rattle.std.specs.Prelude.{◌≡◌};
+
 use std::alloc::AllocError;
 
 use broker_core::BrokerFault;
@@ -7,12 +9,38 @@ use thiserror::Error;
 
 use crate::session::SessionFault;
 
+/// Why the desk can't take or flush a command.
+#[derive(Debug, Drop, Error)]
+pub enum DeskFault {
+    /// Memory was refused.
+    #[error("no memory")]
+    Memory(#[from(alloc)] AllocError),
+    /// As many commands have been carried out as may be: 2^60.
+    #[error("J5 count too large")]
+    CountTooLarge,
+}
+
+impl From<BrokerFault> for DeskFault {
+    fn from(fault: BrokerFault) -> DeskFault {
+        match fault {
+            BrokerFault::Memory(refused) => DeskFault::Memory(refused),
+            BrokerFault::Broken => DeskFault::Memory(AllocError),
+        }
+    }
+}
+
+impl From<SessionFault> for DeskFault {
+    fn from(_: SessionFault) -> DeskFault {
+        DeskFault::Memory(AllocError)
+    }
+}
+
 /// Why a script does not run to its end. What it printed before stays.
 #[derive(Debug, Drop, Error)]
 pub enum ScriptFault {
     /// Memory was refused.
     #[error("no memory")]
-    Memory(#[from(alloc)] AllocError),
+    Memory(AllocError),
     /// The line of that number, counted from 1, says nothing that a script can say, is longer than 1,048,576 bytes, or
     /// is the last one and has no LF.
     #[error("line {line} not understood")]
@@ -28,17 +56,16 @@ pub enum ScriptFault {
     Output,
 }
 
-impl From<BrokerFault> for ScriptFault {
-    fn from(fault: BrokerFault) -> ScriptFault {
-        match fault {
-            BrokerFault::Memory(refused) => ScriptFault::Memory(refused),
-            BrokerFault::Broken => ScriptFault::Memory(AllocError),
-        }
-    }
-}
+impl From<DeskFault> for ScriptFault {
+    ghost use Rattle.engine_core.specs.OfDesk.{of_desk};
+    ghost use Rattle.std.specs.Prelude.{◌≡◌};
 
-impl From<SessionFault> for ScriptFault {
-    fn from(_: SessionFault) -> ScriptFault {
-        ScriptFault::Memory(AllocError)
+    ghost from_gives = { λ fault r. r ≡ of_desk fault };
+
+    fn from(fault: DeskFault) -> ScriptFault {
+        match fault {
+            DeskFault::Memory(refused) => ScriptFault::Memory(refused),
+            DeskFault::CountTooLarge => ScriptFault::CountTooLarge,
+        }
     }
 }

@@ -8,6 +8,10 @@ mod fault;
 mod line;
 mod notice;
 mod printing;
+mod run;
 mod script;
 mod session;
 mod shown;
+
+pub use fault::ScriptFault;
+pub use run::run_script;

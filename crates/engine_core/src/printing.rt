@@ -14,7 +14,7 @@ use command_core::Out;
 use frame_core::{Frame, write_frame};
 
 use crate::desk::Waiting;
-use crate::fault::ScriptFault;
+use crate::fault::DeskFault;
 use crate::shown::show;
 
 /// Adds a line for a frame to the text: the connection's number, a blank, and the frame's bytes as text.
@@ -61,7 +61,7 @@ pub fn carry_out(
     openers: &BTreeMap<u64, u8>,
     waiting: Vec<Waiting>,
     text: &mut String,
-) -> Result<(), ScriptFault>
+) -> Result<(), DeskFault>
     requires { broker.old.state.count + length waiting.items ≤ 2 ^ 62 }
     ensures state { OnOk result (broker.new.state ≡ state_after broker.old.state (commands_of waiting.items)) }
     ensures text { OnOk result (string_bytes text.new ≡ string_bytes text.old ++ flat_map (line_of_out openers.now.entries) (outs_of broker.old.state (commands_of waiting.items))) }

@@ -15,7 +15,7 @@ use std::collections::BTreeMap;
 use std::marker::Model;
 
 use crate::desk::Desk;
-use crate::fault::ScriptFault;
+use crate::fault::DeskFault;
 use crate::line::{Line, read_line};
 use crate::printing::print_frame;
 use crate::session::{Act, Session};
@@ -58,7 +58,7 @@ impl Script {
     }
 
     /// Does what a line says, and answers what it prints; `None` where the line says nothing that a script can say.
-    pub fn perform(&mut self, alloc: Global, line: &[u8]) -> Result<Option<String>, ScriptFault>
+    pub fn perform(&mut self, alloc: Global, line: &[u8]) -> Result<Option<String>, DeskFault>
         ensures { IfOk result (λ printed. MatchOption printed (IsOfNoForm line.now)
             (λ text. Prints self.old line.now (string_bytes text) self.new)) }
     {
@@ -78,7 +78,7 @@ impl Script {
     }
 
     /// A connection receives bytes; answers what is printed.
-    fn receive(&mut self, alloc: Global, n: u8, bytes: &[u8]) -> Result<String, ScriptFault>
+    fn receive(&mut self, alloc: Global, n: u8, bytes: &[u8]) -> Result<String, DeskFault>
         ensures { IfOk result (λ text. Receives self.old n bytes.now (string_bytes text) self.new) }
     {
         let Connection { mut session, number } = take_connection(alloc, &mut self.connections, n);
@@ -112,7 +112,7 @@ fn do_acts(
     number: u64,
     acts: Vec<Act>,
     text: &mut String,
-) -> Result<u64, ScriptFault>
+) -> Result<u64, DeskFault>
     requires { AllByRecursion HasForm acts.items }
     ensures { IfOk result (λ n. record { number = n; desk = desk.new; text = string_bytes text.new }
         ≡ fold (acted connection) (record { number = number; desk = desk.old; text = string_bytes text.old }) acts.items) }
@@ -131,7 +131,7 @@ fn do_act(
     number: u64,
     act: Act,
     text: &mut String,
-) -> Result<u64, ScriptFault>
+) -> Result<u64, DeskFault>
     requires { HasForm act }
     ensures { IfOk result (λ n. record { number = n; desk = desk.new; text = string_bytes text.new }
         ≡ acted connection (record { number = number; desk = desk.old; text = string_bytes text.old }) act) }
