@@ -7,3 +7,4 @@ pub mod Faults
 pub mod FaultCodes
 pub mod Streams
 pub mod Writable
+pub mod Written

@@ -7,9 +7,11 @@ mod fault;
 mod frame;
 mod headers;
 mod text;
+mod write;
 
 pub use bytes::Bytes;
 pub use fault::FrameFault;
-pub use frame::{Frame, Verb};
+pub use frame::{Frame, Verb, first};
 pub use headers::Headers;
 pub use text::Text;
+pub use write::{writable, write_frame};
