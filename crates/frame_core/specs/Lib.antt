@@ -8,3 +8,6 @@ pub mod FaultCodes
 pub mod Streams
 pub mod Writable
 pub mod Written
+pub mod Partials
+pub mod Stops
+pub mod Reading

@@ -5,6 +5,7 @@ ghost use Rattle.frame_core.specs.Writable.{first_of};
 
 use crate::bytes::Bytes;
 use crate::headers::Headers;
+use crate::text::Text;
 
 /// A command of STOMP 1.2 ("Standard Headers" and the sections on client and server frames). The first eleven come
 /// from clients, the last four from servers.
@@ -28,7 +29,8 @@ pub enum Verb {
 }
 
 impl Verb {
-    ghost use Rattle.std.specs.Prelude.{◌≡◌};
+    ghost use Rattle.std.specs.Prelude.{◌≡◌, ◌≢◌, MatchOption};
+    ghost use Rattle.frame_core.specs.declared.frame.Verb.{Verb};
     ghost use Rattle.frame_core.specs.Verbs.{name_of, is_raw, has_body};
 
     /// The word of the command line.
@@ -51,6 +53,32 @@ impl Verb {
             Verb::Message => "MESSAGE",
             Verb::Receipt => "RECEIPT",
             Verb::Error => "ERROR",
+        }
+    }
+
+    /// The command of that word.
+    pub fn from_name(name: &str) -> Option<Verb>
+        ensures { MatchOption result
+            ((verb : Verb) → name_of verb ≢ name.now)
+            (λ verb. name.now ≡ name_of verb) }
+    {
+        match name {
+            "CONNECT" => Some(Verb::Connect),
+            "STOMP" => Some(Verb::Stomp),
+            "SEND" => Some(Verb::Send),
+            "SUBSCRIBE" => Some(Verb::Subscribe),
+            "UNSUBSCRIBE" => Some(Verb::Unsubscribe),
+            "ACK" => Some(Verb::Ack),
+            "NACK" => Some(Verb::Nack),
+            "BEGIN" => Some(Verb::Begin),
+            "COMMIT" => Some(Verb::Commit),
+            "ABORT" => Some(Verb::Abort),
+            "DISCONNECT" => Some(Verb::Disconnect),
+            "CONNECTED" => Some(Verb::Connected),
+            "MESSAGE" => Some(Verb::Message),
+            "RECEIPT" => Some(Verb::Receipt),
+            "ERROR" => Some(Verb::Error),
+            _ => None,
         }
     }
 
@@ -79,6 +107,20 @@ pub struct Frame {
     pub body: Bytes,
 }
 
+/// The value of the first of these headers that has that name.
+pub(crate) fn value_of<'a>(headers: &'a [(Text, Text)], name: &str) -> Option<&'a str>
+    ensures { MatchOption result
+        (first_of name.now headers.now ≡ None)
+        (λ value. first_of name.now headers.now ≡ Some value.now) }
+{
+    for (key, value) in headers {
+        if name == key.as_str() {
+            return Some(value.as_str());
+        }
+    }
+    None
+}
+
 /// The value of the first header of that name, which is the one that counts (STOMP 1.2, "Repeated Header Entries"),
 /// or `None` where there is none.
 pub fn first<'a>(frame: &'a Frame, name: &str) -> Option<&'a str>
@@ -86,10 +128,5 @@ pub fn first<'a>(frame: &'a Frame, name: &str) -> Option<&'a str>
         (first_of name.now frame.now.headers ≡ None)
         (λ value. first_of name.now frame.now.headers ≡ Some value.now) }
 {
-    for (key, value) in frame.headers.as_slice() {
-        if name == key.as_str() {
-            return Some(value.as_str());
-        }
-    }
-    None
+    value_of(frame.headers.as_slice(), name)
 }
