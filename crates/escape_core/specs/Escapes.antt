@@ -1,4 +1,4 @@
-use Rattle.std.specs.Prelude.{List, [], ◌∷◌, ◌++◌, ℕ, Option, Some, None, ◌==◌, if◌then◌else◌, flat_map}
+use Rattle.std.specs.Prelude.{List, [], ◌∷◌, ℕ, Option, Some, None, ◌==◌, if◌then◌else◌, flat_map}
 
 -- how an octet of a name or value is written: CR, LF, colon and backslash have an escape (STOMP 1.2, "Value Encoding")
 abbrev pub code_of : ℕ → List ℕ

@@ -7,3 +7,7 @@ pub mod Faults
 pub mod FaultCodes
 pub mod Streams
 pub mod Writable
+pub mod Written
+pub mod Partials
+pub mod Stops
+pub mod Reading

@@ -2,9 +2,8 @@
 
 ghost use Rattle.std.specs.Prelude.{◌≡◌};
 
-use std::marker::Model;
-
 use crate::text::Text;
+use std::marker::Model;
 
 /// The headers of a frame in the order in which they stand there, repeated ones too. Contracts see them as the list
 /// of their names and values.

@@ -6,10 +6,19 @@ mod bytes;
 mod fault;
 mod frame;
 mod headers;
+mod lines;
+mod partial;
+mod reader;
+mod search;
+#[cfg(test)]
+mod tests;
 mod text;
+mod write;
 
 pub use bytes::Bytes;
 pub use fault::FrameFault;
-pub use frame::{Frame, Verb};
+pub use frame::{Frame, Verb, first};
 pub use headers::Headers;
+pub use reader::{Fed, FeedFault, FrameReader, read_pieces};
 pub use text::Text;
+pub use write::{writable, write_frame};

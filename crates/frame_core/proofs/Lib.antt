@@ -1,0 +1,14 @@
+pub mod BodySteps
+pub mod HeadSteps
+pub mod HeadFaults
+pub mod HeaderLines
+pub mod Joins
+pub mod OpenLines
+pub mod Kept
+pub mod Lists
+pub mod Lookups
+pub mod NextLines
+pub mod Numbers
+pub mod Pieces
+pub mod Places
+pub mod Writing
