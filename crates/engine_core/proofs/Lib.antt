@@ -6,3 +6,4 @@ pub mod Acting
 pub mod Carrying
 pub mod Receiving
 pub mod Running
+pub mod Pieces

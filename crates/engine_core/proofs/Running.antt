@@ -1,8 +1,16 @@
 -- How a run goes on, piece by piece.
-use Rattle.std.proofs.Common.{◌≡◌, ◌≢◌, ◌+◌, ◌≤◌, ◌<◌, List, [], ◌∷◌, ◌++◌, ℕ, Option, Some, None, length, refl, ap, sym, ◌∙◌, append_assoc, append-nil, arith, subst, length-append}
+use Rattle.std.proofs.Common.{◌≡◌, ◌≢◌, ◌+◌, ◌≤◌, ◌<◌, List, [], ◌∷◌, ◌++◌, ℕ, Option, Some, None, length, refl, ap, sym, ◌∙◌, append_assoc, append-nil, arith, subst, length-append, inl, inr}
 use Rattle.std.specs.List.{AllByRecursion, flat_map}
 use Rattle.std.specs.Io.KnownBytes.{Appends, Consumes}
 use Rattle.std.proofs.lemmas.Grind.{flat_map-append}
+use Rattle.engine_core.specs.ScriptLines.{IsOfNoForm}
+use Rattle.engine_core.specs.OfDesk.{of_desk}
+use Rattle.engine_core.specs.Runs.{Goes, Halts, StopsIn, IsTooLong}
+use Rattle.engine_core.specs.declared.run.Run.{Run}
+use Rattle.engine_core.specs.declared.fault.DeskFault.{DeskFault}
+use Rattle.engine_core.specs.declared.fault.DeskFault.TheVariants as desk
+use Rattle.engine_core.specs.declared.fault.ScriptFault.{ScriptFault}
+use Rattle.engine_core.specs.declared.fault.ScriptFault.TheVariants.{Memory, NotUnderstood, CountTooLarge, Input, Output}
 use Rattle.engine_core.specs.Scripts.{ScriptValue, beginning, Prints, PrintsAll, Takes, IsLine, HasNoLf, HasNoLine, text_of_lines}
 
 pub prints_append : (s t u : ScriptValue) (a b : List (List ℕ)) (p q : List ℕ) → PrintsAll s a p t → PrintsAll t b q u → PrintsAll s (a ++ b) (p ++ q) u
@@ -46,3 +54,46 @@ takes_line s t begun x printed line prints = record {
     each = (line, tt);
     prints = (printed, [], t, prints, (refl, refl), sym (append-nil printed));
   }
+
+no_lf_append : (a b : List ℕ) → HasNoLf a → HasNoLf b → HasNoLf (a ++ b)
+no_lf_append [] b first second = second
+no_lf_append (x ∷ a) b first second = (first.0, no_lf_append a b first.1 second)
+
+-- nothing more is printed
+pub halts_nothing : (old : Run) (bytes : List ℕ) (contents : Option (List ℕ)) → Halts old bytes [] (old.begun.items ++ bytes) contents contents
+halts_nothing old bytes contents = record { printed = []; end = old.script; takes = takes_nothing old.script old.begun.items bytes; writes = appends_nothing contents }
+
+pub stops_at_desk : (fault : DeskFault) (given : ScriptFault) (old : Run) (bytes : List ℕ) (contents : Option (List ℕ)) → given ≡ of_desk fault → StopsIn given old bytes contents contents
+stops_at_desk (desk.Memory refused) given old bytes contents e = subst (λ f. StopsIn f old bytes contents contents) (sym e) ([], old.begun.items ++ bytes, halts_nothing old bytes contents)
+stops_at_desk desk.CountTooLarge given old bytes contents e = subst (λ f. StopsIn f old bytes contents contents) (sym e) ([], old.begun.items ++ bytes, halts_nothing old bytes contents)
+
+pub stops_too_long : (fault : ScriptFault) (old : Run) (bytes after : List ℕ) (contents : Option (List ℕ)) → IsLine old.begun.items → HasNoLf bytes → IsTooLong fault old bytes → StopsIn fault old (bytes ++ after) contents contents
+stops_too_long (NotUnderstood k) old bytes after contents line no_lf (e, long) =
+    ([], old.begun.items ++ (bytes ++ after), halts_nothing old (bytes ++ after) contents, omega (arith, e),
+      inl (old.begun.items ++ bytes, after, sym (append_assoc old.begun.items bytes after), no_lf_append old.begun.items bytes line.no_lf no_lf, long))
+stops_too_long (Memory refused) old bytes after contents line no_lf h = ([], old.begun.items ++ (bytes ++ after), halts_nothing old (bytes ++ after) contents)
+stops_too_long CountTooLarge old bytes after contents line no_lf h = absurd h
+stops_too_long Input old bytes after contents line no_lf h = absurd h
+stops_too_long Output old bytes after contents line no_lf h = absurd h
+
+pub stops_at_no_form : (old : Run) (bytes line : List ℕ) (k : ℕ) (contents : Option (List ℕ)) → IsLine old.begun.items → HasNoLf bytes → line ≡ old.begun.items ++ bytes → IsOfNoForm line → k ≡ old.lines + 1 → StopsIn (NotUnderstood k) old (bytes ++ 10 ∷ []) contents contents
+stops_at_no_form old bytes line k contents begun no_lf same form e =
+    ([], old.begun.items ++ (bytes ++ 10 ∷ []), halts_nothing old (bytes ++ 10 ∷ []) contents, omega (arith, e),
+      inr (line, [], sym (append_assoc old.begun.items bytes (10 ∷ [])) ∙ ap (λ l. l ++ 10 ∷ []) (sym same), subst HasNoLf (sym same) (no_lf_append old.begun.items bytes begun.no_lf no_lf), form))
+
+pub goes_on_line : (old new : Run) (bytes line printed : List ℕ) (before after : Option (List ℕ))
+    → line ≡ old.begun.items ++ bytes → IsLine line → Prints old.script line printed new.script → new.begun.items ≡ [] → new.lines ≡ old.lines + 1 → Appends before after printed
+    → Goes old (bytes ++ 10 ∷ []) new before after
+goes_on_line old new bytes line printed before after same is_line prints none counted writes =
+    let is : IsLine (old.begun.items ++ bytes) = subst IsLine same is_line in
+    let p : Prints old.script (old.begun.items ++ bytes) printed new.script = subst (λ l. Prints old.script l printed new.script) same prints in
+    let t : Takes old.script old.begun.items (bytes ++ 10 ∷ []) ((old.begun.items ++ bytes) ∷ []) printed new.script [] = takes_line old.script new.script old.begun.items bytes printed is p in
+    record {
+      lines = (old.begun.items ++ bytes) ∷ [];
+      printed = printed;
+      takes = subst (λ r. Takes old.script old.begun.items (bytes ++ 10 ∷ []) ((old.begun.items ++ bytes) ∷ []) printed new.script r) (sym none) t;
+      begun = subst IsLine (sym none) (record { no_lf = tt; short = omega arith });
+      count = counted;
+      few = omega (arith, length-append bytes (10 ∷ []));
+      writes = writes;
+    }

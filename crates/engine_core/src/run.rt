@@ -24,7 +24,7 @@ const MOST_READS: u64 = 4_294_967_296;
 const LONGEST_LINE: usize = 1_048_576;
 
 /// A script while its bytes are read: how far it has run, the line that has begun, and how many lines were whole.
-#[derive(Debug, Drop)]
+#[derive(Drop)]
 pub struct Run {
     pub script: Script,
     pub begun: Vec<u8>,
@@ -145,12 +145,20 @@ fn end_line<W: Write>(
     match run.script.perform(alloc, run.begun.as_slice())? {
         None => Err(ScriptFault::NotUnderstood { line: run.lines + 1 }),
         Some(text) => {
-            if writer.write_all(text.as_str().as_bytes()).is_err() {
-                return Err(ScriptFault::Output);
-            }
+            write_text(writer, text.as_str())?;
             run.begun.clear();
             run.lines += 1;
             Ok(())
         }
+    }
+}
+
+fn write_text<W: Write>(writer: &mut W, text: &str) -> Result<(), ScriptFault>
+    ensures ok { OnOk result (Appends (W.contents writer.old) (W.contents writer.new) text.now) }
+    ensures err { IfErr result (λ fault. fault ≡ ScriptFault.Output) }
+{
+    match writer.write_all(text.as_bytes()) {
+        Ok(()) => Ok(()),
+        Err(_) => Err(ScriptFault::Output),
     }
 }

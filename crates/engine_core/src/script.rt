@@ -22,14 +22,14 @@ use crate::session::{Act, Session};
 use crate::shown::unshow;
 
 /// A connection of a script: its session, and that session's number once it has one.
-#[derive(Debug, Drop)]
+#[derive(Drop)]
 pub struct Connection {
     pub session: Session,
     pub number: u64,
 }
 
 /// A script as far as it has run. Contracts see its connections by rising number, and the desk.
-#[derive(Debug, Drop)]
+#[derive(Drop)]
 pub struct Script {
     connections: BTreeMap<u8, Connection>,
     desk: Desk,

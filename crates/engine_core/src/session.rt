@@ -58,7 +58,7 @@ pub enum SessionFault {
 }
 
 /// A session of STOMP 1.2. Contracts see the bytes of the frame that isn't finished, and where the session stands.
-#[derive(Debug, Drop)]
+#[derive(Drop)]
 pub struct Session {
     reader: FrameReader,
     phase: Phase,
