@@ -7,3 +7,4 @@ pub mod Carrying
 pub mod Receiving
 pub mod Running
 pub mod Pieces
+pub mod Turning

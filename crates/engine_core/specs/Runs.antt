@@ -1,4 +1,4 @@
-use Rattle.std.specs.Prelude.{◌≡◌, ◌≢◌, ◌+◌, ◌<◌, ◌≤◌, ◌⊎◌, List, [], ◌++◌, ℕ, Option, length}
+use Rattle.std.specs.Prelude.{◌≡◌, ◌≢◌, ◌+◌, ◌<◌, ◌≤◌, ◌⊎◌, List, [], ◌++◌, ℕ, Bool, true, Option, length}
 use Rattle.std.specs.Io.KnownBytes.{Appends, Consumes, IsAtEnd}
 use Rattle.engine_core.specs.Scripts.{ScriptValue, beginning, Takes, IsLine, HasNoLf, HasNoLine}
 use Rattle.engine_core.specs.declared.fault.ScriptFault.{ScriptFault}
@@ -34,6 +34,25 @@ abbrev pub IsTooLong : ScriptFault → Run → List ℕ → Type 0
 IsTooLong (NotUnderstood k) old bytes = (k ≡ old.lines + 1) × (1048576 < length (old.begun.items ++ bytes))
 IsTooLong (Memory refused) old bytes = Unit {0}
 IsTooLong _ old bytes = ⊥
+
+-- reads lead a run on by what they give; at the end nothing has begun
+pub record Turned (end : Bool) (old new : Run) (unread left before after : Option (List ℕ)) : Type 0 where
+  pub bytes : List ℕ
+  pub reads : Consumes unread left bytes
+  pub goes : Goes old bytes new before after
+  pub at_end : end ≡ true → IsAtEnd left × (new.begun.items ≡ [])
+
+-- the script ends within a line
+abbrev pub EndsWithin : ScriptFault → Run → List ℕ → Option (List ℕ) → Option (List ℕ) → Option (List ℕ) → Type 0
+EndsWithin (NotUnderstood k) old bytes left before after =
+    (new : Run) × Goes old bytes new before after × IsAtEnd left × (new.begun.items ≢ []) × (k ≡ new.lines + 1)
+EndsWithin _ old bytes left before after = ⊥
+
+-- a fault stops a run that has read these octets
+pub record Stopped (fault : ScriptFault) (old : Run) (unread left before after : Option (List ℕ)) : Type 0 where
+  pub bytes : List ℕ
+  pub reads : Consumes unread left bytes
+  pub stops : StopsIn fault old bytes before after ⊎ EndsWithin fault old bytes left before after
 
 -- what was read begins a script: these lines, and what they print is written
 pub record Begins (lines : List (List ℕ)) (rest : List ℕ) (unread left before after : Option (List ℕ)) : Type 0 where

@@ -69,3 +69,14 @@ impl From<DeskFault> for ScriptFault {
         }
     }
 }
+
+impl From<AllocError> for ScriptFault {
+    ghost use Rattle.std.specs.Prelude.{◌≡◌};
+    ghost use Rattle.engine_core.specs.declared.fault.ScriptFault.TheVariants as faults;
+
+    ghost from_gives = { λ refused r. r ≡ faults.Memory refused };
+
+    fn from(refused: AllocError) -> ScriptFault {
+        ScriptFault::Memory(refused)
+    }
+}

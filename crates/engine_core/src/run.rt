@@ -1,10 +1,10 @@
 //! A script from its bytes to the bytes that it prints.
 
-ghost use Rattle.std.specs.Prelude.{◌≡◌, ◌≢◌, ◌+◌, ◌++◌, ◌∷◌, ◌<◌, ◌≤◌, ◌*◌, ◌^◌, [], ℕ, List, IfOk, IfErr, OnOk, OnErr, MatchOption, length, drop, take, slice_index};
+ghost use Rattle.std.specs.Prelude.{◌≡◌, ◌≢◌, ◌+◌, ◌++◌, ◌∷◌, ◌<◌, ◌≤◌, ◌*◌, ◌^◌, [], ℕ, List, true, IfOk, IfErr, OnOk, OnErr, MatchOption, length, drop, take, slice_index};
 ghost use Rattle.std.specs.List.{AllByRecursion};
 ghost use Rattle.std.specs.Io.KnownBytes.{Appends, Consumes, IsAtEnd};
 ghost use Rattle.engine_core.specs.Scripts.{IsLine, HasNoLf, IsScript};
-ghost use Rattle.engine_core.specs.Runs.{Goes, StopsIn, Stops, IsTooLong};
+ghost use Rattle.engine_core.specs.Runs.{Goes, StopsIn, Stops, IsTooLong, Turned, Stopped};
 
 use std::alloc::Global;
 use std::io::{ErrorKind, Read, Write};
@@ -48,24 +48,68 @@ pub fn run_script<R: Read, W: Write>(
     // On a fault other than the writer's, it is what the lines before print; and a line is told only where it is none.
     ensures err { IfErr result (λ fault. Stops fault (R.remaining reader.old) (R.remaining reader.new) (W.contents writer.old) (W.contents writer.new)) }
 {
-    let mut piece = vec![in alloc; 0u8; PIECE].map_err(ScriptFault::Memory)?;
+    let mut piece = vec![in alloc; 0u8; PIECE]?;
     let mut run = Run {
         script: Script::new(alloc),
         begun: Vec::new(alloc),
         lines: 0,
     };
+    read_to_end(alloc, &mut run, piece.as_mut_slice(), reader, writer)
+}
+
+/// Reads the script to its end, and runs each line.
+fn read_to_end<R: Read, W: Write>(
+    alloc: Global,
+    run: &mut Run,
+    piece: &mut [u8],
+    reader: &mut R,
+    writer: &mut W,
+) -> Result<(), ScriptFault>
+    requires begun { IsLine run.old.begun.items }
+    requires first { run.old.lines ≡ 0 }
+    requires piece { length piece.old ≡ 65536 }
+    ensures ok { OnOk result (Turned true run.old run.new (R.remaining reader.old) (R.remaining reader.new) (W.contents writer.old) (W.contents writer.new)) }
+    ensures err { IfErr result (λ fault. Stopped fault run.old (R.remaining reader.old) (R.remaining reader.new) (W.contents writer.old) (W.contents writer.new)) }
+{
     for _read in 0..MOST_READS {
-        match reader.read(piece.as_mut_slice()) {
-            Ok(0) => return end(&run),
-            Ok(count) => take_piece(alloc, &mut run, &piece[..count], writer)?,
-            Err(error) => {
-                if error.kind() != ErrorKind::Interrupted {
-                    return Err(ScriptFault::Input);
-                }
-            }
+        if read_piece(alloc, run, piece, reader, writer)? {
+            return Ok(());
         }
     }
     Err(ScriptFault::Input)
+}
+
+/// Reads a piece of the script, and runs the lines that end in it; answers whether the script is at its end.
+fn read_piece<R: Read, W: Write>(
+    alloc: Global,
+    run: &mut Run,
+    piece: &mut [u8],
+    reader: &mut R,
+    writer: &mut W,
+) -> Result<bool, ScriptFault>
+    requires begun { IsLine run.old.begun.items }
+    requires room { run.old.lines ≤ 2 ^ 48 }
+    requires piece { length piece.old ≡ 65536 }
+    ensures ok { IfOk result (λ end. Turned end run.old run.new (R.remaining reader.old) (R.remaining reader.new) (W.contents writer.old) (W.contents writer.new)) }
+    ensures few { OnOk result (run.new.lines ≤ run.old.lines + 65536) }
+    ensures err { IfErr result (λ fault. Stopped fault run.old (R.remaining reader.old) (R.remaining reader.new) (W.contents writer.old) (W.contents writer.new)) }
+{
+    match reader.read(piece) {
+        Ok(0) => {
+            end(run)?;
+            Ok(true)
+        }
+        Ok(count) => {
+            take_piece(alloc, run, &piece[..count], writer)?;
+            Ok(false)
+        }
+        Err(error) => {
+            if error.kind() != ErrorKind::Interrupted {
+                return Err(ScriptFault::Input);
+            }
+            Ok(false)
+        }
+    }
 }
 
 /// The end of the script, which must not come within a line.
@@ -124,7 +168,7 @@ fn begin_line(run: &mut Run, bytes: &[u8]) -> Result<(), ScriptFault>
     if bytes.len() > LONGEST_LINE - run.begun.len() {
         return Err(ScriptFault::NotUnderstood { line: run.lines + 1 });
     }
-    run.begun.extend_from_slice(bytes).map_err(ScriptFault::Memory)?;
+    run.begun.extend_from_slice(bytes)?;
     Ok(())
 }
 
