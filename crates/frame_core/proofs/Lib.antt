@@ -3,6 +3,8 @@ pub mod HeadSteps
 pub mod HeadFaults
 pub mod HeaderLines
 pub mod Joins
+pub mod OneFrame
+pub mod OneHead
 pub mod OpenLines
 pub mod Kept
 pub mod Lists
