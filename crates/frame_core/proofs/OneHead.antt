@@ -145,7 +145,7 @@ name_in_line Receipt = tested (codes "RECEIPT") refl
 name_in_line Error = tested (codes "ERROR") refl
 
 -- the command of a word
-verb_named : List ℕ → Option Verb
+unfoldable pub verb_named : List ℕ → Option Verb
 verb_named text =
     cond (bytes_eq text (codes "CONNECT")) (Some Connect) (
     cond (bytes_eq text (codes "STOMP")) (Some Stomp) (
@@ -163,7 +163,7 @@ verb_named text =
     cond (bytes_eq text (codes "RECEIPT")) (Some Receipt) (
     cond (bytes_eq text (codes "ERROR")) (Some Error) None))))))))))))))
 
-named : (verb : Verb) → verb_named (name_of verb) ≡ Some verb
+pub named : (verb : Verb) → verb_named (name_of verb) ≡ Some verb
 unfolding verb_named
 named Connect = refl
 named Stomp = refl

@@ -20,7 +20,7 @@ pub use bytes::Bytes;
 pub use fault::FrameFault;
 pub use frame::{Frame, Verb, first};
 pub use headers::Headers;
-pub use laws::one_spelling;
+pub use laws::{answers_stay, one_answer, one_spelling};
 pub use reader::{Fed, FeedFault, FrameReader, read_pieces};
 pub use text::Text;
 pub use write::{writable, write_frame};
