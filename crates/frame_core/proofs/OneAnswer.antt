@@ -1,4 +1,4 @@
-use Rattle.std.proofs.Common.{◌≡◌, ◌≤◌, ◌+◌, ℕ, List, [], ◌∷◌, ◌++◌, Bool, true, false, flat_map, length, None, refl, sym, ap, ◌∙◌, subst, arith, append_assoc}
+use Rattle.std.proofs.Common.{inl, ◌≡◌, ◌≤◌, ◌+◌, ℕ, List, [], ◌∷◌, ◌++◌, Bool, true, false, flat_map, length, None, refl, sym, ap, ◌∙◌, subst, arith, append_assoc}
 use Rattle.std.specs.Bool.{⊤}
 use Rattle.std.proofs.lemmas.List.{append-nil}
 use Rattle.frame_core.specs.declared.frame.Frame.{Frame}
@@ -6,9 +6,9 @@ use Rattle.frame_core.specs.declared.fault.FrameFault.{FrameFault}
 use Rattle.frame_core.specs.Heads.{eol}
 use Rattle.frame_core.specs.Spelling.{Spells, IsWithinLimits}
 use Rattle.frame_core.specs.Faults.{Faulty}
-use Rattle.frame_core.specs.Streams.{Frames, Reads, Fails}
+use Rattle.frame_core.specs.Streams.{Frames, Reads, Fails, IsReadFirst}
 use Rattle.frame_core.proofs.OneHead.{one_line}
-use Rattle.frame_core.proofs.Joins.{joined}
+use Rattle.frame_core.proofs.Joins.{joined, one_frame}
 use Rattle.frame_core.proofs.Machine.{Outcome, waits, skipped, given, failed, run, start}
 use Rattle.frame_core.proofs.MachineHeads.{eol_run}
 use Rattle.frame_core.proofs.MachineBodies.{spelled_run}
@@ -124,3 +124,14 @@ pub fails_on : (stream more : List ℕ) (a b : List Frame) (q : List ℕ) (f : F
 fails_on stream more a b q f h k =
     let c = continues (stream ++ more) a b (q ++ more) (k.0 ++ k.1) (longer stream more a q h.0) k.2 (subst IsEnd (sym (faulty_run f k.0 k.1 k.3)) tt) in
     (c.0, c.1, (k.0, k.1, c.2, k.3))
+
+-- a spelling within the limits is read first
+pub read_first : (bytes : List ℕ) (frame : Frame) → Spells bytes frame → IsWithinLimits bytes frame → IsReadFirst bytes frame
+read_first bytes frame spells within =
+    let alone : Reads bytes (frame ∷ []) [] =
+      (one_frame bytes frame spells within, inl (record { lines = []; part = []; with_cr = false; whole = refl; begun = inl refl; each = tt; size = omega arith })) in
+    record {
+      alone = alone;
+      reads = λ more frames rest k. reads_on bytes more (frame ∷ []) frames [] rest alone k;
+      fails = λ more frames fault k. fails_on bytes more (frame ∷ []) frames [] fault alone k
+    }
