@@ -3,10 +3,17 @@ pub mod HeadSteps
 pub mod HeadFaults
 pub mod HeaderLines
 pub mod Joins
+pub mod OneAnswer
+pub mod OneFrame
+pub mod OneHead
 pub mod OpenLines
 pub mod Kept
 pub mod Lists
 pub mod Lookups
+pub mod Machine
+pub mod MachineBodies
+pub mod MachineFaults
+pub mod MachineHeads
 pub mod NextLines
 pub mod Numbers
 pub mod Pieces

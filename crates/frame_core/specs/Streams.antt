@@ -20,3 +20,11 @@ Reads stream frames rest = Frames stream frames rest × IsUnfinished rest
 -- behind these frames the stream has that fault, decided at the last octet of `bad`
 abbrev pub Fails : List ℕ → List Frame → FrameFault → Type 0
 Fails stream frames fault = (bad : List ℕ) × (after : List ℕ) × Frames stream frames (bad ++ after) × Faulty fault bad
+
+-- The octets are read as the frame, and whatever follows them, what is read of both begins with the frame.
+pub record IsReadFirst (bytes : List ℕ) (frame : Frame) : Type 0 where
+  pub alone : Reads bytes (frame ∷ []) []
+  pub reads : (more : List ℕ) (frames : List Frame) (rest : List ℕ) → Reads (bytes ++ more) frames rest
+    → (others : List Frame) × (frames ≡ frame ∷ others) × Reads more others rest
+  pub fails : (more : List ℕ) (frames : List Frame) (fault : FrameFault) → Fails (bytes ++ more) frames fault
+    → (others : List Frame) × (frames ≡ frame ∷ others) × Fails more others fault

@@ -122,9 +122,7 @@ impl Partial {
             (frames.new.items ≡ frames.old.items) × Fails (octets_of self.old ++ piece.now) [] fault)) }
     {
         match self.stage {
-            Stage::Body(verb, Some(length)) => self.take_counted(
-                alloc, verb, length, frames, piece,
-            ),
+            Stage::Body(verb, Some(n)) => self.take_counted(alloc, verb, n, frames, piece),
             Stage::Body(verb, None) => self.take_to_nul(alloc, verb, frames, piece),
             _ => {
                 self.take_octet(alloc, piece[0])?;

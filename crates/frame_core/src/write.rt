@@ -3,7 +3,8 @@
 ghost use Rattle.std.specs.Prelude.{◌≡◌, ◌↔◌, ◌++◌, IsTrue, IfOk, OnOk, length, ◌<◌, codes, MatchOption, decimal, ◌≢◌};
 ghost use Rattle.frame_core.specs.Writable.{HasNoNul, IsOneLine, IsHeader, IsRawHeader, Writable, first_of};
 ghost use Rattle.frame_core.specs.Written.{written, written_header, IsText};
-ghost use Rattle.frame_core.specs.Spelling.{Spells};
+ghost use Rattle.frame_core.specs.Spelling.{Spells, IsWithinLimits};
+ghost use Rattle.frame_core.specs.Streams.{IsReadFirst};
 ghost use Rattle.std.specs.List.{AllByRecursion, flat_map};
 
 use crate::frame::{Frame, Verb, first};
@@ -150,11 +151,14 @@ fn write_headers(
 
 /// The octets of a frame that can be written (STOMP 1.2, "Augmented BNF"): lines end with LF, a CR, LF, colon or
 /// backslash of a name or value is escaped unless the command is CONNECT, STOMP or CONNECTED, and no EOL stands behind
-/// the NUL. Where memory is refused, that is the error.
+/// the NUL. Within the reader's limits they are read again as the frame, whatever follows them. Where memory is
+/// refused, that is the error.
 pub fn write_frame(alloc: Global, frame: &Frame) -> Result<Vec<u8>, AllocError>
     requires { Writable frame.now }
     ensures bytes { IfOk result (λ bytes. bytes.items ≡ written frame.now) }
     ensures spells { IfOk result (λ bytes. Spells bytes.items frame.now) }
+    ensures again { IfOk result (λ bytes.
+        IsWithinLimits bytes.items frame.now → IsReadFirst bytes.items frame.now) }
 {
     let mut bytes = Vec::with_capacity(alloc, room(frame))?;
     bytes.extend_from_slice(frame.verb.name().as_bytes())?;
