@@ -1,6 +1,6 @@
-use Rattle.std.proofs.Common.{◌≡◌, ◌≤◌, ◌<◌, ◌+◌, ◌*◌, List, [], ◌∷◌, ℕ, length, arith, take, get_or}
+use Rattle.std.proofs.Common.{◌≤◌, ◌*◌, List, [], ◌∷◌, ℕ, length, arith}
 use Rattle.std.specs.List.{AllByRecursion, sum_by}
-use Rattle.std.proofs.lemmas.List.Sums.{sum_by-cons, sum_by_more_le}
+use Rattle.std.proofs.lemmas.List.Sums.{sum_by-cons}
 use Rattle.command_core.specs.Sendings.{IsKept}
 use Rattle.broker_core.specs.Messages.{header_size}
 

@@ -1,9 +1,11 @@
-use Rattle.std.specs.Prelude.{◌≡◌, ◌+◌, List, [], ◌∷◌, ◌++◌, ℕ, Bool, Option, is_some, unwrap_or, length}
+use Rattle.std.specs.Prelude.{◌<◌, List, [], ◌∷◌, ◌++◌, ℕ, Bool, IsTrue, Option, is_some, unwrap_or, length}
 use Rattle.std.specs.BTreeMap.{insert_entry, is_at}
 use Rattle.std.specs.Cmp.Lexicographic.{slice_cmp}
-use Rattle.std.specs.List.{flat_map, sum_by}
-use Rattle.std.specs.Map.{lookup, remove_entry, values_of}
+use Rattle.std.specs.List.{AllByRecursion, flat_map, sum_by}
+use Rattle.std.specs.List.Sorted.{IsStrictlySortedBy}
+use Rattle.std.specs.Map.{keys_of, lookup, remove_entry, values_of}
 use Rattle.std.specs.Ordering.{nat_cmp}
+use Rattle.command_core.specs.Destinations.{is_queue}
 use Rattle.broker_core.specs.declared.message.Message.{Message}
 use Rattle.broker_core.specs.Messages.{size_of}
 
@@ -18,6 +20,14 @@ pub record State : Type 0 where
   pub next_delivery : ℕ
   pub sessions : List (ℕ × Option (List ℕ))
   pub queues : Queues
+
+-- Sessions stand by rising number, and were opened by commands that are counted. Queues stand by rising bytes of their
+-- destination, which is a queue's, and each has messages.
+pub record IsInOrder (s : State) : Type 0 where
+  pub sessions : IsStrictlySortedBy nat_cmp (keys_of s.sessions)
+  pub opened : AllByRecursion (λ session. session.0 < s.count) s.sessions
+  pub queues : IsStrictlySortedBy (slice_cmp nat_cmp) (keys_of s.queues)
+  pub lines : AllByRecursion (λ queue. IsTrue (is_queue queue.0) × (0 < length queue.1)) s.queues
 
 -- before the first command
 abbrev pub empty_state : State

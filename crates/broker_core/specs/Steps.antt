@@ -41,6 +41,15 @@ done s session (End _) = if is_open s session then ended s session else s
 abbrev pub step : State → CommandValue → State
 step s c = record (done s c.session c.op) { count = s.count + 1 }
 
+-- the message that an operation puts into a line, if it does
+abbrev pub taken_by : State → ℕ → Op → List Message
+taken_by s session (Send sending) = if is_open s session then (if is_queue sending.destination then message_of s sending ∷ [] else []) else []
+taken_by s session _ = []
+
+-- the message that a command puts into a line, if it does
+abbrev pub taken : State → CommandValue → List Message
+taken s c = taken_by s c.session c.op
+
 -- whether an operation opens a session
 abbrev pub is_opening : Op → Bool
 is_opening (Open _) = true

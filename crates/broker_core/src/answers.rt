@@ -5,9 +5,8 @@ ghost use Rattle.command_core.specs.declared.command.Op.TheVariants.{End as ends
 ghost use Rattle.command_core.specs.Replies.{connected};
 ghost use Rattle.broker_core.specs.Steps.{answers, outs_to, receipts};
 
-use std::alloc::{AllocError, Global};
-
 use command_core::{End, HeaderText, Out, connected_reply, error_reply, receipt_reply};
+use std::alloc::{AllocError, Global};
 
 /// CONNECTED, to the session that the command of that number opens.
 pub fn opening(alloc: Global, number: u64) -> Result<Vec<Out>, AllocError>

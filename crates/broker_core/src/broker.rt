@@ -4,13 +4,11 @@ ghost use Rattle.std.specs.Prelude.{◌≡◌, ◌+◌, ◌<◌, ◌^◌, ◌↔
 ghost use Rattle.broker_core.specs.States.{empty_state, held_messages, held_bytes};
 ghost use Rattle.broker_core.specs.Steps.{step, outs};
 
-use std::alloc::Global;
-use std::marker::Model;
-
-use command_core::{Command, Out};
-
 use crate::fault::BrokerFault;
 use crate::tables::{Held, Tables};
+use command_core::{Command, Out};
+use std::alloc::Global;
+use std::marker::Model;
 
 /// The broker: it carries out commands one after another, numbered from 0, and answers each. Contracts see its state
 /// and whether it is broken. It breaks where memory is refused within a command, and stays so for good.

@@ -1,7 +1,6 @@
 //! Why the broker did not carry out a command.
 
 use std::alloc::AllocError;
-
 use thiserror::Error;
 
 #[derive(Debug, Drop, Error)]

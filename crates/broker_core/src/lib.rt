@@ -15,7 +15,7 @@ pub use broker::Broker;
 pub use fault::BrokerFault;
 pub use laws::{
     closed_sessions_change_nothing, commands_follow_one_another, held_counts_what_waits,
-    outputs_have_the_number_of_their_command,
+    held_grows_by_what_is_taken, outputs_have_the_number_of_their_command, states_stay_in_order,
 };
 pub use message::{Message, MessageNumber};
 pub use tables::Held;

@@ -2,11 +2,10 @@
 
 ghost use Rattle.std.specs.Prelude.{◌≡◌, ◌++◌, ◌∷◌, [], OnOk, OnErr};
 
+use crate::message::Message;
 use std::alloc::{AllocError, Global};
 use std::collections::VecDeque;
 use std::marker::Model;
-
-use crate::message::Message;
 
 /// The messages that wait in one place, by rising number. Contracts see it as the list of them.
 #[derive(Clone, Debug, Drop)]

@@ -4,13 +4,11 @@ ghost use Rattle.std.specs.Prelude.{◌≡◌, ◌+◌, ◌++◌, ◌∷◌, [],
 ghost use Rattle.broker_core.specs.Messages.{size_of};
 ghost use Rattle.broker_core.specs.States.{bytes_of, count_of, line_of, with_line};
 
-use std::alloc::{AllocError, Global};
-use std::collections::BTreeMap;
-
-use command_core::Dest;
-
 use crate::line::Line;
 use crate::message::Message;
+use command_core::Dest;
+use std::alloc::{AllocError, Global};
+use std::collections::BTreeMap;
 
 /// Puts the message behind the others of that destination.
 pub fn put(
@@ -21,7 +19,7 @@ pub fn put(
 ) -> Result<(), AllocError>
     ensures entries { OnOk result
         (queues.new.entries
-            ≡ with_line to (line_of to queues.old.entries ++ message ∷ []) queues.old.entries) }
+        ≡ with_line to (line_of to queues.old.entries ++ message ∷ []) queues.old.entries) }
     ensures count { OnOk result (count_of queues.new.entries ≡ count_of queues.old.entries + 1) }
     ensures bytes { OnOk result
         (bytes_of queues.new.entries ≡ bytes_of queues.old.entries + size_of message.sending) }

@@ -6,15 +6,12 @@ ghost use Rattle.broker_core.specs.States.{empty_state};
 ghost use Rattle.broker_core.specs.Steps.{done, opened, outs, outs_to, sent};
 ghost use Rattle.broker_core.specs.Tables.{IsTallied, state_of};
 
-use std::alloc::{AllocError, Global};
-use std::collections::BTreeMap;
-
-use command_core::{Command, Dest, HeaderText, Op, Out, Sending};
-
-use crate::answers;
 use crate::line::Line;
 use crate::message::{Message, MessageNumber, size};
-use crate::queues;
+use crate::{answers, queues};
+use command_core::{Command, Dest, HeaderText, Op, Out, Sending};
+use std::alloc::{AllocError, Global};
+use std::collections::BTreeMap;
 
 /// How much the broker holds.
 #[derive(Clone, Copy, Debug, PartialEq, Eq)]
@@ -102,7 +99,7 @@ impl Tables {
         requires tallied { IsTallied number self.old }
         ensures state { OnOk result
             (state_of number self.new
-                ≡ done (state_of number self.old) command.session command.op) }
+            ≡ done (state_of number self.old) command.session command.op) }
         ensures outs { IfOk result
             (λ given. given.items ≡ outs (state_of number self.old) command) }
         ensures tallied { OnOk result (IsTallied (number + 1) self.new) }

@@ -1,12 +1,10 @@
 ghost use Rattle.std.specs.Prelude.{◌≡◌, IfOk};
 
-use std::alloc::Global;
-use std::test::Fail;
-
+use super::*;
 use command_core::{Command, Dest, End, Fault, HeaderText, Op, Out, Sending};
 use frame_core::{Bytes, Headers, Text, Verb};
-
-use super::*;
+use std::alloc::Global;
+use std::test::Fail;
 
 fn header_text(alloc: Global, text: &str) -> Result<Option<HeaderText>, Fail> {
     let text = Text::new(String::from_str(alloc, text)?);
@@ -37,11 +35,19 @@ fn send(alloc: Global, broker: &mut Broker, session: u64, to: &str) -> Result<Ve
         Bytes::new(Vec::from_slice(alloc, b"hi")?),
     );
     let receipt = header_text(alloc, "r1")?;
-    carry_out(alloc, broker, Command::new(session, Op::Send(sending), receipt))
+    carry_out(
+        alloc,
+        broker,
+        Command::new(session, Op::Send(sending), receipt),
+    )
 }
 
 fn lose(alloc: Global, broker: &mut Broker, session: u64) -> Result<Vec<Out>, Fail> {
-    carry_out(alloc, broker, Command::new(session, Op::End(End::Lost), None))
+    carry_out(
+        alloc,
+        broker,
+        Command::new(session, Op::End(End::Lost), None),
+    )
 }
 
 // Whether it is one output of that command to that session, of that verb, whose last header has that value.
@@ -61,7 +67,14 @@ fn is_one(outs: &[Out], number: u64, session: u64, verb: Verb, value: &str) -> b
 #[test]
 fn opens_a_session_by_the_number_of_its_command(rt: HostRuntime) -> Result<(), Fail> {
     let mut broker = Broker::new(rt.alloc());
-    assert!(rt; broker.count() == 0 && broker.held() == Held { messages: 0, bytes: 0 });
+    assert!(rt;
+        broker.count() == 0
+            && broker.held()
+                == Held {
+                    messages: 0,
+                    bytes: 0
+                }
+    );
     let first = connect(rt.alloc(), &mut broker)?;
     assert!(rt; is_one(first.as_slice(), 0, 0, Verb::Connected, "0,0"));
     let second = connect(rt.alloc(), &mut broker)?;
@@ -78,7 +91,13 @@ fn keeps_what_is_sent_to_a_queue(rt: HostRuntime) -> Result<(), Fail> {
     assert!(rt; is_one(outs.as_slice(), 1, 0, Verb::Receipt, "r1"));
     let _ = send(rt.alloc(), &mut broker, 0, "/queue/a")?;
     let _ = send(rt.alloc(), &mut broker, 0, "/queue/bc")?;
-    assert!(rt; broker.held() == Held { messages: 3, bytes: 31 });
+    assert!(rt;
+        broker.held()
+            == Held {
+                messages: 3,
+                bytes: 31
+            }
+    );
     Ok(())
 }
 
@@ -88,7 +107,13 @@ fn what_is_sent_to_a_topic_reaches_nobody(rt: HostRuntime) -> Result<(), Fail> {
     let _ = connect(rt.alloc(), &mut broker)?;
     let outs = send(rt.alloc(), &mut broker, 0, "/topic/a")?;
     assert!(rt; is_one(outs.as_slice(), 1, 0, Verb::Receipt, "r1"));
-    assert!(rt; broker.held() == Held { messages: 0, bytes: 0 });
+    assert!(rt;
+        broker.held()
+            == Held {
+                messages: 0,
+                bytes: 0
+            }
+    );
     Ok(())
 }
 
