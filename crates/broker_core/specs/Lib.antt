@@ -1,0 +1,4 @@
+pub mod Messages
+pub mod States
+pub mod Steps
+pub mod Tables

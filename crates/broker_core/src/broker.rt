@@ -1,0 +1,84 @@
+//! The broker, one command after another.
+
+ghost use Rattle.std.specs.Prelude.{◌≡◌, ◌+◌, ◌<◌, ◌^◌, ◌↔◌, true, false, IfOk, IfErr, OnOk, OnErr};
+ghost use Rattle.broker_core.specs.States.{empty_state, held_messages, held_bytes};
+ghost use Rattle.broker_core.specs.Steps.{step, outs};
+
+use crate::fault::BrokerFault;
+use crate::tables::{Held, Tables};
+use command_core::{Command, Out};
+use std::alloc::Global;
+use std::marker::Model;
+
+/// The broker: it carries out commands one after another, numbered from 0, and answers each. Contracts see its state
+/// and whether it is broken. It breaks where memory is refused within a command, and stays so for good.
+#[derive(Debug, Drop)]
+pub struct Broker {
+    count: u64,
+    tables: Tables,
+    broken: bool,
+}
+
+impl Model for Broker {
+    ghost use Rattle.std.specs.Prelude.{◌≡◌, false};
+    ghost use Rattle.broker_core.specs.States.{BrokerValue};
+    ghost use Rattle.broker_core.specs.Tables.{IsTallied, state_of};
+
+    ghost Value = { BrokerValue };
+
+    ghost view = { λ a. record { state = state_of a.count a.tables; broken = a.broken } };
+
+    ghost invariant = { λ a. a.broken ≡ false → IsTallied a.count a.tables };
+}
+
+impl Broker {
+    /// A broker that has carried out no command. No memory is taken.
+    pub fn new(alloc: Global) -> Broker
+        ensures { result ≡ record { state = empty_state; broken = false } }
+    {
+        Broker {
+            count: 0,
+            tables: Tables::new(alloc),
+            broken: false,
+        }
+    }
+
+    /// Carries out the command of the next number, and answers its outputs. `Memory` where memory is refused; from then
+    /// on `Broken`, and nothing is carried out any more.
+    pub fn step(&mut self, alloc: Global, command: Command) -> Result<Vec<Out>, BrokerFault>
+        requires { self.old.state.count < 2 ^ 62 }
+        ensures state { OnOk result (self.new.state ≡ step self.old.state command) }
+        ensures outs { IfOk result (λ given. given.items ≡ outs self.old.state command) }
+        ensures whole { OnOk result ((self.old.broken ≡ false) × (self.new.broken ≡ false)) }
+        ensures broken { IfErr result (λ fault. (fault ≡ BrokerFault.Broken) ↔ (self.old.broken ≡ true)) }
+        ensures err { OnErr result (self.new.broken ≡ true) }
+        ensures count { OnErr result (self.new.state.count ≡ self.old.state.count) }
+    {
+        if self.broken {
+            return Err(BrokerFault::Broken);
+        }
+        self.broken = true;
+        let given = self
+            .tables
+            .carry_out(alloc, self.count, command)
+            .map_err(BrokerFault::Memory)?;
+        self.count += 1;
+        self.broken = false;
+        Ok(given)
+    }
+
+    /// How many commands it has carried out.
+    pub fn count(&self) -> u64
+        ensures { result ≡ self.now.state.count }
+    {
+        self.count
+    }
+
+    /// How much it holds, unless it is broken.
+    pub fn held(&self) -> Held
+        ensures messages { self.now.broken ≡ false → result.messages ≡ held_messages self.now.state }
+        ensures bytes { self.now.broken ≡ false → result.bytes ≡ held_bytes self.now.state }
+    {
+        self.tables.held
+    }
+}

@@ -1,0 +1,2 @@
+pub mod DestinationNames
+pub mod WritableReplies

@@ -1,0 +1,163 @@
+//! Where messages are sent to.
+
+ghost use Rattle.std.specs.Prelude.{◌≡◌, ◌↔◌, ◌++◌, IsTrue, IfOk, IfErr, MatchOption, List, ℕ};
+ghost use Rattle.std.specs.List.{list_all};
+ghost use Rattle.command_core.specs.Destinations.{IsDestination, IsName, Names, is_destination_byte, is_queue};
+
+use std::alloc::{AllocError, Global};
+use std::cmp::Ordering;
+use std::marker::Model;
+
+use frame_core::Text;
+use thiserror::Error;
+
+/// A valid destination: `/topic/` or `/queue/` and a name of 1 to 200 bytes, each an ASCII letter, a digit, `.`, `-`,
+/// `_` or `/`. STOMP 1.2 leaves the form to the server ("SEND"). Contracts see it as the list of its bytes.
+#[derive(Clone, Debug, Drop)]
+pub struct Dest {
+    text: Text,
+}
+
+impl Model for Dest {
+    ghost use Rattle.std.specs.Prelude.{List, ℕ};
+    ghost use Rattle.command_core.specs.Destinations.{IsDestination};
+
+    ghost Value = { List ℕ };
+
+    ghost view = { λ a. a.text };
+
+    ghost invariant = { λ a. IsDestination a.text };
+}
+
+/// Why a text was not read as a destination.
+#[derive(Debug, Drop, Error)]
+pub enum DestFault {
+    /// It is none.
+    #[error("bad destination")]
+    Bad,
+    #[error(transparent)]
+    Memory(#[from(alloc)] AllocError),
+}
+
+/// Whether a destination's name may have the byte.
+fn may_name(byte: u8) -> bool
+    ensures { result ≡ is_destination_byte byte }
+{
+    matches!(byte, b'a'..=b'z' | b'A'..=b'Z' | b'0'..=b'9' | b'.' | b'-' | b'_' | b'/')
+}
+
+/// What follows `/topic/` or `/queue/`.
+fn name_of(bytes: &[u8]) -> Option<&[u8]>
+    ensures { MatchOption result ((name : List ℕ) → ¬ Names bytes.now name)
+        (λ name. Names bytes.now name.now) }
+{
+    match bytes.strip_prefix(b"/topic/") {
+        Some(name) => Some(name),
+        None => bytes.strip_prefix(b"/queue/"),
+    }
+}
+
+fn all_may_name(bytes: &[u8]) -> bool
+    ensures { result ≡ list_all is_destination_byte bytes.now }
+{
+    bytes.iter().all(|byte| may_name(*byte))
+}
+
+/// Whether a topic or a queue may have the name.
+fn is_name(name: &[u8]) -> bool
+    ensures { IsTrue result ↔ IsName name.now }
+{
+    !name.is_empty() && name.len() <= 200 && all_may_name(name)
+}
+
+fn is_destination(text: &str) -> bool
+    ensures { IsTrue result ↔ IsDestination text.now }
+{
+    match name_of(text.as_bytes()) {
+        Some(name) => is_name(name),
+        None => false,
+    }
+}
+
+impl Dest {
+    /// The text as a destination. Where it is none, no memory is taken.
+    pub fn read(alloc: Global, text: &str) -> Result<Dest, DestFault>
+        ensures ok { IfOk result (λ dest. (dest ≡ text.now) × IsDestination text.now) }
+        ensures bad { IfErr result (λ fault. (fault ≡ DestFault.Bad) ↔ (¬ IsDestination text.now)) }
+    {
+        if !is_destination(text) {
+            return Err(DestFault::Bad);
+        }
+        let text = String::from_str(alloc, text).map_err(DestFault::Memory)?;
+        Ok(Dest {
+            text: Text::new(text),
+        })
+    }
+
+    pub fn as_str(&self) -> &str
+        ensures text { result.now ≡ self.now }
+        ensures form { IsDestination self.now }
+    {
+        self.text.as_str()
+    }
+
+    /// Whether messages to it wait in a line for who takes them, and are not copied to all who listen.
+    pub fn is_queue(&self) -> bool
+        ensures { result ≡ is_queue self.now }
+    {
+        self.text.as_str().as_bytes().starts_with(b"/queue/")
+    }
+}
+
+impl PartialEq for Dest {
+    ghost use Rattle.std.specs.Cmp.{partial_equiv_from_equiv};
+    ghost use Rattle.std.specs.Str.{bytes_eq};
+    ghost use Rattle.std.proofs.lemmas.Cmp.{nat_list_eq_equiv};
+
+    ghost eq = { bytes_eq };
+
+    ghost laws = { partial_equiv_from_equiv nat_list_eq_equiv };
+
+    fn eq(&self, other: &Dest) -> bool {
+        self.text == other.text
+    }
+}
+
+impl Eq for Dest {
+    ghost use Rattle.std.proofs.lemmas.Cmp.{nat_list_eq_equiv};
+
+    ghost laws = { nat_list_eq_equiv };
+}
+
+impl PartialOrd for Dest {
+    ghost use Rattle.std.specs.Prelude.{Some};
+    ghost use Rattle.std.specs.Cmp.Lexicographic.{slice_cmp, texts_po};
+    ghost use Rattle.std.specs.Ordering.{nat_cmp};
+
+    ghost partial_cmp = { λ x y. Some (slice_cmp nat_cmp x y) };
+
+    ghost laws = { texts_po };
+
+    fn partial_cmp(&self, other: &Dest) -> Option<Ordering> {
+        Some(self.cmp(other))
+    }
+}
+
+impl Ord for Dest {
+    ghost use Rattle.std.specs.Prelude.{refl};
+    ghost use Rattle.std.specs.Cmp.Lexicographic.{slice_cmp, texts_ties};
+    ghost use Rattle.std.specs.Ordering.{nat_cmp};
+    ghost use Rattle.std.proofs.lemmas.Cmp.{nat_list_cmp_total};
+
+    ghost cmp = { slice_cmp nat_cmp };
+
+    ghost total = { nat_list_cmp_total };
+
+    ghost matches_partial_cmp = { λ x y. refl };
+
+    ghost matches_eq = { texts_ties };
+
+    fn cmp(&self, other: &Dest) -> Ordering {
+        self.text.cmp(&other.text)
+    }
+}

@@ -1,0 +1,78 @@
+//! Text that may stand in a header.
+
+ghost use Rattle.std.specs.Prelude.{◌≡◌, ◌↔◌, IsTrue};
+ghost use Rattle.command_core.specs.Texts.{IsHeaderText};
+
+use std::marker::Model;
+
+use frame_core::Text;
+
+/// A text that may stand in a header: UTF-8 without NUL, at most 8,192 bytes. Contracts see it as the list of its
+/// bytes.
+#[derive(Clone, Debug, Drop)]
+pub struct HeaderText {
+    text: Text,
+}
+
+impl Model for HeaderText {
+    ghost use Rattle.std.specs.Prelude.{List, ℕ};
+    ghost use Rattle.command_core.specs.Texts.{IsHeaderText};
+
+    ghost Value = { List ℕ };
+
+    ghost view = { λ a. a.text };
+
+    ghost invariant = { λ a. IsHeaderText a.text };
+}
+
+/// Whether the text may stand in a header: it has no NUL, and at most 8,192 bytes.
+pub fn is_header_text(text: &str) -> bool
+    ensures { IsTrue result ↔ IsHeaderText text.now }
+{
+    text.len() <= 8192 && !text.as_bytes().contains(&0)
+}
+
+impl HeaderText {
+    /// A text that [`is_header_text`], which moves: no memory is taken.
+    pub fn new(text: Text) -> HeaderText
+        requires { IsHeaderText text }
+        ensures { result ≡ text }
+    {
+        HeaderText { text }
+    }
+
+    pub fn as_str(&self) -> &str
+        ensures text { result.now ≡ self.now }
+        ensures form { IsHeaderText self.now }
+    {
+        self.text.as_str()
+    }
+
+    /// The text, which moves: no memory is taken.
+    pub fn into_text(self) -> Text
+        ensures text { result ≡ self }
+        ensures form { IsHeaderText self }
+    {
+        self.text
+    }
+}
+
+impl PartialEq for HeaderText {
+    ghost use Rattle.std.specs.Cmp.{partial_equiv_from_equiv};
+    ghost use Rattle.std.specs.Str.{bytes_eq};
+    ghost use Rattle.std.proofs.lemmas.Cmp.{nat_list_eq_equiv};
+
+    ghost eq = { bytes_eq };
+
+    ghost laws = { partial_equiv_from_equiv nat_list_eq_equiv };
+
+    fn eq(&self, other: &HeaderText) -> bool {
+        self.text == other.text
+    }
+}
+
+impl Eq for HeaderText {
+    ghost use Rattle.std.proofs.lemmas.Cmp.{nat_list_eq_equiv};
+
+    ghost laws = { nat_list_eq_equiv };
+}

@@ -1,0 +1,23 @@
+//! The commands of the broker and what it answers: what clients ask for, the faults that refuse it, and the frames
+//! that go back.
+
+#![tactic(auto)]
+
+mod command;
+mod destination;
+mod fault;
+mod header_text;
+mod out;
+mod replies;
+mod sending;
+
+pub use command::{Command, End, Op};
+pub use destination::{Dest, DestFault};
+pub use fault::{Fault, fault_text};
+pub use header_text::{HeaderText, is_header_text};
+pub use out::Out;
+pub use replies::{connected_reply, error_reply, receipt_reply};
+pub use sending::{Sending, is_kept_name};
+
+#[cfg(test)]
+mod tests;

@@ -1,0 +1,127 @@
+-- A run over a piece, line by line.
+use Rattle.std.proofs.Common.{◌≡◌, ◌≢◌, ◌+◌, ◌-◌, ◌≤◌, ◌<◌, List, [], ◌∷◌, ◌++◌, ℕ, Option, length, take, drop, refl, ap, sym, ◌∙◌, append_assoc, append-nil, arith, subst, length-append, length-drop, inl, inr, take_all}
+use Rattle.std.proofs.Math.Seq.{take-add, take-append_seam}
+use Rattle.std.proofs.lemmas.List.{take-append-drop}
+use Rattle.engine_core.specs.Scripts.{ScriptValue, Takes, IsLine, HasNoLf, HasNoLine, text_of_lines}
+use Rattle.engine_core.specs.Runs.{Goes, Halts, StopsIn, IsTooLong}
+use Rattle.engine_core.specs.declared.run.Run.{Run}
+use Rattle.engine_core.specs.declared.fault.ScriptFault.{ScriptFault}
+use Rattle.engine_core.specs.declared.fault.ScriptFault.TheVariants.{Memory, NotUnderstood, CountTooLarge, Input, Output}
+use Rattle.engine_core.proofs.Running.{takes_append, appends_append, takes_nothing, appends_nothing, stops_too_long}
+
+pub goes_nothing : (run : Run) (contents : Option (List ℕ)) → IsLine run.begun.items → Goes run [] run contents contents
+goes_nothing run contents line = record {
+    lines = []; printed = [];
+    takes = subst (λ r. Takes run.script run.begun.items [] [] [] run.script r) (append-nil run.begun.items) (takes_nothing run.script run.begun.items []);
+    begun = line; count = omega arith; few = omega arith; writes = appends_nothing contents;
+  }
+
+pub goes_append : (old mid new : Run) (x y : List ℕ) (before middle after : Option (List ℕ)) → Goes old x mid before middle → Goes mid y new middle after → Goes old (x ++ y) new before after
+goes_append old mid new x y before middle after first second = record {
+    lines = first.lines ++ second.lines;
+    printed = first.printed ++ second.printed;
+    takes = takes_append old.script mid.script new.script old.begun.items x y first.lines second.lines first.printed second.printed mid.begun.items new.begun.items first.takes second.takes;
+    begun = second.begun;
+    count = omega (arith, first.count, second.count, length-append first.lines second.lines);
+    few = omega (arith, first.few, second.few, length-append first.lines second.lines, length-append x y);
+    writes = appends_append before middle after first.printed second.printed first.writes second.writes;
+  }
+
+halts_later : (old mid : Run) (x y : List ℕ) (lines : List (List ℕ)) (rest : List ℕ) (before middle after : Option (List ℕ)) (g : Goes old x mid before middle) → Halts mid y lines rest middle after → Halts old (x ++ y) (g.lines ++ lines) rest before after
+halts_later old mid x y lines rest before middle after g h = record {
+    printed = g.printed ++ h.printed;
+    end = h.end;
+    takes = takes_append old.script mid.script h.end old.begun.items x y g.lines lines g.printed h.printed mid.begun.items rest g.takes h.takes;
+    writes = appends_append before middle after g.printed h.printed g.writes h.writes;
+  }
+
+pub stops_later : (fault : ScriptFault) (old mid : Run) (x y : List ℕ) (before middle after : Option (List ℕ)) → Goes old x mid before middle → StopsIn fault mid y middle after → StopsIn fault old (x ++ y) before after
+stops_later (NotUnderstood k) old mid x y before middle after g (lines, rest, h, e, none) =
+    (g.lines ++ lines, rest, halts_later old mid x y lines rest before middle after g h, omega (arith, e, g.count, length-append g.lines lines), none)
+stops_later (Memory refused) old mid x y before middle after g (lines, rest, h) = (g.lines ++ lines, rest, halts_later old mid x y lines rest before middle after g h)
+stops_later CountTooLarge old mid x y before middle after g (lines, rest, h) = (g.lines ++ lines, rest, halts_later old mid x y lines rest before middle after g h)
+stops_later Input old mid x y before middle after g (lines, rest, h) = (g.lines ++ lines, rest, halts_later old mid x y lines rest before middle after g h)
+stops_later Output old mid x y before middle after g h = tt
+
+halts_before : (old : Run) (x z : List ℕ) (lines : List (List ℕ)) (rest : List ℕ) (before after : Option (List ℕ)) → Halts old x lines rest before after → Halts old (x ++ z) lines (rest ++ z) before after
+halts_before old x z lines rest before after h = record {
+    printed = h.printed;
+    end = h.end;
+    takes = record {
+      whole = sym (append_assoc old.begun.items x z) ∙ ap (λ l. l ++ z) h.takes.whole ∙ append_assoc (text_of_lines lines) rest z;
+      each = h.takes.each;
+      prints = h.takes.prints;
+    };
+    writes = h.writes;
+  }
+
+no_line_before : (rest z : List ℕ) → HasNoLine rest → HasNoLine (rest ++ z)
+no_line_before rest z (inl (line, behind, whole, no_lf, long)) = inl (line, behind ++ z, ap (λ l. l ++ z) whole ∙ append_assoc line behind z, no_lf, long)
+no_line_before rest z (inr (line, behind, whole, no_lf, form)) = inr (line, behind ++ z, ap (λ l. l ++ z) whole ∙ append_assoc line (10 ∷ behind) z, no_lf, form)
+
+pub stops_before : (fault : ScriptFault) (old : Run) (x z : List ℕ) (before after : Option (List ℕ)) → StopsIn fault old x before after → StopsIn fault old (x ++ z) before after
+stops_before (NotUnderstood k) old x z before after (lines, rest, h, e, none) = (lines, rest ++ z, halts_before old x z lines rest before after h, e, no_line_before rest z none)
+stops_before (Memory refused) old x z before after (lines, rest, h) = (lines, rest ++ z, halts_before old x z lines rest before after h)
+stops_before CountTooLarge old x z before after (lines, rest, h) = (lines, rest ++ z, halts_before old x z lines rest before after h)
+stops_before Input old x z before after (lines, rest, h) = (lines, rest ++ z, halts_before old x z lines rest before after h)
+stops_before Output old x z before after h = tt
+
+-- what is left of a piece from a place on
+abbrev pub left_of : List ℕ → ℕ → List ℕ
+left_of piece at = take (length piece - at) (drop at piece)
+
+pub all_left : (piece : List ℕ) (at : ℕ) → left_of piece at ≡ drop at piece
+all_left piece at = take_all (length piece - at) (drop at piece) (omega (arith, length-drop at piece))
+
+-- a line at a place of a piece
+pub record LineAt (piece : List ℕ) (at : ℕ) (front : List ℕ) : Type 0 where
+  pub within : at + length front + 1 ≤ length piece
+  pub taken : take (at + length front + 1) piece ≡ take at piece ++ (front ++ 10 ∷ [])
+
+pub line_at : (piece : List ℕ) (at : ℕ) (front : List ℕ) → at ≤ length piece → left_of piece at ≡ front ++ 10 ∷ drop (length front + 1) (left_of piece at) → LineAt piece at front
+line_at piece at front l e =
+    let more = drop (length front + 1) (left_of piece at) in
+    let rest : drop at piece ≡ (front ++ 10 ∷ []) ++ more = sym (all_left piece at) ∙ e ∙ sym (append_assoc front (10 ∷ []) more) in
+    let n : length (front ++ 10 ∷ []) ≡ length front + 1 = length-append front (10 ∷ []) in
+    let long : length (drop at piece) ≡ length (front ++ 10 ∷ []) + length more = ap length rest ∙ length-append (front ++ 10 ∷ []) more in
+    let first : take (length front + 1) (drop at piece) ≡ front ++ 10 ∷ [] = ap (take (length front + 1)) rest ∙ ap (λ k. take k ((front ++ 10 ∷ []) ++ more)) (sym n) ∙ take-append_seam (front ++ 10 ∷ []) more in
+    let sum : at + length front + 1 ≡ at + (length front + 1) = omega arith in
+    record {
+      within = omega (arith, long, n, length-drop at piece);
+      taken = ap (λ k. take k piece) sum ∙ take-add at (length front + 1) piece ∙ ap (λ l. take at piece ++ l) first;
+    }
+
+-- a line goes on
+pub goes_on : (old mid new : Run) (piece : List ℕ) (at : ℕ) (front : List ℕ) (before middle after : Option (List ℕ)) → LineAt piece at front
+    → Goes old (take at piece) mid before middle → Goes mid (front ++ 10 ∷ []) new middle after → Goes old (take (at + length front + 1) piece) new before after
+goes_on old mid new piece at front before middle after line first second =
+    subst (λ x. Goes old x new before after) (sym line.taken) (goes_append old mid new (take at piece) (front ++ 10 ∷ []) before middle after first second)
+
+-- a line stops
+pub stops_on : (fault : ScriptFault) (old mid : Run) (piece : List ℕ) (at : ℕ) (front : List ℕ) (before middle after : Option (List ℕ)) → LineAt piece at front
+    → Goes old (take at piece) mid before middle → StopsIn fault mid (front ++ 10 ∷ []) middle after → StopsIn fault old piece before after
+stops_on fault old mid piece at front before middle after line first second =
+    let stopped = stops_later fault old mid (take at piece) (front ++ 10 ∷ []) before middle after first second in
+    let n = at + length front + 1 in
+    let here : StopsIn fault old (take n piece) before after = subst (λ x. StopsIn fault old x before after) (sym line.taken) stopped in
+    subst (λ x. StopsIn fault old x before after) (take-append-drop n piece) (stops_before fault old (take n piece) (drop n piece) before after here)
+
+-- the last part of a piece is too long
+pub stops_at_end : (fault : ScriptFault) (old mid : Run) (piece : List ℕ) (at : ℕ) (before after : Option (List ℕ)) → Goes old (take at piece) mid before after → HasNoLf (left_of piece at)
+    → IsTooLong fault mid (left_of piece at) → StopsIn fault old piece before after
+stops_at_end fault old mid piece at before after first no_lf long =
+    let stopped : StopsIn fault mid (left_of piece at ++ []) after after = stops_too_long fault mid (left_of piece at) [] after first.begun no_lf long in
+    let same : left_of piece at ++ [] ≡ drop at piece = append-nil (left_of piece at) ∙ all_left piece at in
+    let here : StopsIn fault mid (drop at piece) after after = subst (λ x. StopsIn fault mid x after after) same stopped in
+    subst (λ x. StopsIn fault old x before after) (take-append-drop at piece) (stops_later fault old mid (take at piece) (drop at piece) before after after first here)
+
+-- the last part of a piece begins a line
+pub goes_to_end : (old mid new : Run) (piece : List ℕ) (at : ℕ) (before after : Option (List ℕ)) → Goes old (take at piece) mid before after
+    → new.script ≡ mid.script → new.lines ≡ mid.lines → new.begun.items ≡ mid.begun.items ++ left_of piece at → IsLine new.begun.items → Goes old piece new before after
+goes_to_end old mid new piece at before after first script lines begun line =
+    let more : Goes mid (drop at piece) new after after = record {
+        lines = []; printed = [];
+        takes = record { whole = ap (λ x. mid.begun.items ++ x) (sym (all_left piece at)) ∙ sym begun; each = tt; prints = (refl, script) };
+        begun = line; count = omega (arith, lines); few = omega arith; writes = appends_nothing after;
+      } in
+    subst (λ x. Goes old x new before after) (take-append-drop at piece) (goes_append old mid new (take at piece) (drop at piece) before after after first more)

@@ -1,0 +1,99 @@
+-- How a run goes on, piece by piece.
+use Rattle.std.proofs.Common.{◌≡◌, ◌≢◌, ◌+◌, ◌≤◌, ◌<◌, List, [], ◌∷◌, ◌++◌, ℕ, Option, Some, None, length, refl, ap, sym, ◌∙◌, append_assoc, append-nil, arith, subst, length-append, inl, inr}
+use Rattle.std.specs.List.{AllByRecursion, flat_map}
+use Rattle.std.specs.Io.KnownBytes.{Appends, Consumes}
+use Rattle.std.proofs.lemmas.Grind.{flat_map-append}
+use Rattle.engine_core.specs.ScriptLines.{IsOfNoForm}
+use Rattle.engine_core.specs.OfDesk.{of_desk}
+use Rattle.engine_core.specs.Runs.{Goes, Halts, StopsIn, IsTooLong}
+use Rattle.engine_core.specs.declared.run.Run.{Run}
+use Rattle.engine_core.specs.declared.fault.DeskFault.{DeskFault}
+use Rattle.engine_core.specs.declared.fault.DeskFault.TheVariants as desk
+use Rattle.engine_core.specs.declared.fault.ScriptFault.{ScriptFault}
+use Rattle.engine_core.specs.declared.fault.ScriptFault.TheVariants.{Memory, NotUnderstood, CountTooLarge, Input, Output}
+use Rattle.engine_core.specs.Scripts.{ScriptValue, beginning, Prints, PrintsAll, Takes, IsLine, HasNoLf, HasNoLine, text_of_lines}
+
+pub prints_append : (s t u : ScriptValue) (a b : List (List ℕ)) (p q : List ℕ) → PrintsAll s a p t → PrintsAll t b q u → PrintsAll s (a ++ b) (p ++ q) u
+prints_append s t u [] b p q first second =
+    let e : q ≡ p ++ q = ap (λ x. x ++ q) (sym first.0) in
+    subst (λ x. PrintsAll s b x u) e (subst (λ v. PrintsAll v b q u) first.1 second)
+prints_append s t u (line ∷ a) b p q (p1, p2, v, prints, more, whole) second =
+    (p1, p2 ++ q, v, prints, prints_append v t u a b p2 q more second, ap (λ x. x ++ q) whole ∙ append_assoc p1 p2 q)
+
+pub each_append : (a b : List (List ℕ)) → AllByRecursion IsLine a → AllByRecursion IsLine b → AllByRecursion IsLine (a ++ b)
+each_append [] b first second = second
+each_append (line ∷ a) b first second = (first.0, each_append a b first.1 second)
+
+pub takes_append : (s t u : ScriptValue) (begun x y : List ℕ) (a b : List (List ℕ)) (p q middle rest : List ℕ)
+    → Takes s begun x a p t middle → Takes t middle y b q u rest → Takes s begun (x ++ y) (a ++ b) (p ++ q) u rest
+takes_append s t u begun x y a b p q middle rest first second = record {
+    whole = sym (append_assoc begun x y) ∙ ap (λ z. z ++ y) first.whole ∙ append_assoc (text_of_lines a) middle y ∙ ap (λ z. text_of_lines a ++ z) second.whole
+        ∙ sym (append_assoc (text_of_lines a) (text_of_lines b) rest) ∙ ap (λ z. z ++ rest) (sym (flat_map-append (λ (line : List ℕ). line ++ 10 ∷ []) a b));
+    each = each_append a b first.each second.each;
+    prints = prints_append s t u a b p q first.prints second.prints;
+  }
+
+pub appends_append : (old now new : Option (List ℕ)) (p q : List ℕ) → Appends old now p → Appends now new q → Appends old new (p ++ q)
+appends_append None now new p q first second = tt
+appends_append (Some a) None new p q first second = absurd first
+appends_append (Some a) (Some b) None p q first second = absurd second
+appends_append (Some a) (Some b) (Some c) p q first second = second ∙ ap (λ z. z ++ q) first ∙ append_assoc a p q
+
+pub appends_nothing : (old : Option (List ℕ)) → Appends old old []
+appends_nothing None = tt
+appends_nothing (Some a) = sym (append-nil a)
+
+-- no line yet
+pub takes_nothing : (s : ScriptValue) (begun x : List ℕ) → Takes s begun x [] [] s (begun ++ x)
+takes_nothing s begun x = record { whole = refl; each = tt; prints = (refl, refl) }
+
+-- one line
+pub takes_line : (s t : ScriptValue) (begun x printed : List ℕ) → IsLine (begun ++ x) → Prints s (begun ++ x) printed t → Takes s begun (x ++ 10 ∷ []) ((begun ++ x) ∷ []) printed t []
+takes_line s t begun x printed line prints = record {
+    whole = sym (append_assoc begun x (10 ∷ [])) ∙ sym (append-nil ((begun ++ x) ++ 10 ∷ [])) ∙ ap (λ z. z ++ []) (sym (append-nil ((begun ++ x) ++ 10 ∷ [])));
+    each = (line, tt);
+    prints = (printed, [], t, prints, (refl, refl), sym (append-nil printed));
+  }
+
+no_lf_append : (a b : List ℕ) → HasNoLf a → HasNoLf b → HasNoLf (a ++ b)
+no_lf_append [] b first second = second
+no_lf_append (x ∷ a) b first second = (first.0, no_lf_append a b first.1 second)
+
+-- nothing more is printed
+pub halts_nothing : (old : Run) (bytes : List ℕ) (contents : Option (List ℕ)) → Halts old bytes [] (old.begun.items ++ bytes) contents contents
+halts_nothing old bytes contents = record { printed = []; end = old.script; takes = takes_nothing old.script old.begun.items bytes; writes = appends_nothing contents }
+
+pub stops_at_desk : (fault : DeskFault) (given : ScriptFault) (old : Run) (bytes : List ℕ) (contents : Option (List ℕ)) → given ≡ of_desk fault → StopsIn given old bytes contents contents
+stops_at_desk (desk.Memory refused) given old bytes contents e = subst (λ f. StopsIn f old bytes contents contents) (sym e) ([], old.begun.items ++ bytes, halts_nothing old bytes contents)
+stops_at_desk desk.CountTooLarge given old bytes contents e = subst (λ f. StopsIn f old bytes contents contents) (sym e) ([], old.begun.items ++ bytes, halts_nothing old bytes contents)
+
+pub stops_too_long : (fault : ScriptFault) (old : Run) (bytes after : List ℕ) (contents : Option (List ℕ)) → IsLine old.begun.items → HasNoLf bytes → IsTooLong fault old bytes → StopsIn fault old (bytes ++ after) contents contents
+stops_too_long (NotUnderstood k) old bytes after contents line no_lf (e, long) =
+    ([], old.begun.items ++ (bytes ++ after), halts_nothing old (bytes ++ after) contents, omega (arith, e),
+      inl (old.begun.items ++ bytes, after, sym (append_assoc old.begun.items bytes after), no_lf_append old.begun.items bytes line.no_lf no_lf, long))
+stops_too_long (Memory refused) old bytes after contents line no_lf h = ([], old.begun.items ++ (bytes ++ after), halts_nothing old (bytes ++ after) contents)
+stops_too_long CountTooLarge old bytes after contents line no_lf h = absurd h
+stops_too_long Input old bytes after contents line no_lf h = absurd h
+stops_too_long Output old bytes after contents line no_lf h = absurd h
+
+pub stops_at_no_form : (old : Run) (bytes line : List ℕ) (k : ℕ) (contents : Option (List ℕ)) → IsLine old.begun.items → HasNoLf bytes → line ≡ old.begun.items ++ bytes → IsOfNoForm line → k ≡ old.lines + 1 → StopsIn (NotUnderstood k) old (bytes ++ 10 ∷ []) contents contents
+stops_at_no_form old bytes line k contents begun no_lf same form e =
+    ([], old.begun.items ++ (bytes ++ 10 ∷ []), halts_nothing old (bytes ++ 10 ∷ []) contents, omega (arith, e),
+      inr (line, [], sym (append_assoc old.begun.items bytes (10 ∷ [])) ∙ ap (λ l. l ++ 10 ∷ []) (sym same), subst HasNoLf (sym same) (no_lf_append old.begun.items bytes begun.no_lf no_lf), form))
+
+pub goes_on_line : (old new : Run) (bytes line printed : List ℕ) (before after : Option (List ℕ))
+    → line ≡ old.begun.items ++ bytes → IsLine line → Prints old.script line printed new.script → new.begun.items ≡ [] → new.lines ≡ old.lines + 1 → Appends before after printed
+    → Goes old (bytes ++ 10 ∷ []) new before after
+goes_on_line old new bytes line printed before after same is_line prints none counted writes =
+    let is : IsLine (old.begun.items ++ bytes) = subst IsLine same is_line in
+    let p : Prints old.script (old.begun.items ++ bytes) printed new.script = subst (λ l. Prints old.script l printed new.script) same prints in
+    let t : Takes old.script old.begun.items (bytes ++ 10 ∷ []) ((old.begun.items ++ bytes) ∷ []) printed new.script [] = takes_line old.script new.script old.begun.items bytes printed is p in
+    record {
+      lines = (old.begun.items ++ bytes) ∷ [];
+      printed = printed;
+      takes = subst (λ r. Takes old.script old.begun.items (bytes ++ 10 ∷ []) ((old.begun.items ++ bytes) ∷ []) printed new.script r) (sym none) t;
+      begun = subst IsLine (sym none) (record { no_lf = tt; short = omega arith });
+      count = counted;
+      few = omega (arith, length-append bytes (10 ∷ []));
+      writes = writes;
+    }

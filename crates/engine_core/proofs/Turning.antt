@@ -1,0 +1,128 @@
+-- A run from read to read, and from its beginning.
+use Rattle.std.proofs.Common.{◌≡◌, ◌≢◌, ◌+◌, ◌≤◌, ◌<◌, ◌⊎◌, List, [], ◌∷◌, ◌++◌, ℕ, Option, Some, None, Bool, true, false, length, refl, ap, sym, ◌∙◌, append_assoc, append-nil, arith, subst, length-append, inl, inr}
+use Rattle.std.specs.Io.KnownBytes.{Appends, Consumes, IsAtEnd, Keeps}
+use Rattle.std.specs.declared.alloc.AllocError.{AllocError}
+use Rattle.engine_core.specs.Scripts.{ScriptValue, beginning, Takes, IsLine, HasNoLf, HasNoLine, IsScript, text_of_lines}
+use Rattle.engine_core.specs.Runs.{Goes, Halts, StopsIn, Turned, Stopped, EndsWithin, Begins, Stops}
+use Rattle.engine_core.specs.declared.run.Run.{Run}
+use Rattle.engine_core.specs.declared.fault.ScriptFault.{ScriptFault}
+use Rattle.engine_core.specs.declared.fault.ScriptFault.TheVariants.{Memory, NotUnderstood, CountTooLarge, Input, Output}
+use Rattle.engine_core.proofs.Running.{takes_nothing, appends_nothing}
+use Rattle.engine_core.proofs.Pieces.{goes_nothing, goes_append, stops_later}
+
+pub consumes_nothing : (unread : Option (List ℕ)) → Consumes unread unread []
+consumes_nothing None = tt
+consumes_nothing (Some a) = refl
+
+consumes_kept : (unread left : Option (List ℕ)) → Keeps unread left → Consumes unread left []
+consumes_kept None left h = tt
+consumes_kept (Some a) None h = absurd h
+consumes_kept (Some a) (Some b) h = sym h
+
+consumes_append : (unread middle left : Option (List ℕ)) (x y : List ℕ) → Consumes unread middle x → Consumes middle left y → Consumes unread left (x ++ y)
+consumes_append None middle left x y first second = tt
+consumes_append (Some a) None left x y first second = absurd first
+consumes_append (Some a) (Some b) None x y first second = absurd second
+consumes_append (Some a) (Some b) (Some c) x y first second = first ∙ ap (λ z. x ++ z) second ∙ sym (append_assoc x y c)
+
+pub turned_kept : (run : Run) (unread left contents : Option (List ℕ)) → IsLine run.begun.items → Keeps unread left → Turned false run run unread left contents contents
+turned_kept run unread left contents line kept = record { bytes = []; reads = consumes_kept unread left kept; goes = goes_nothing run contents line; at_end = λ e. cc }
+
+pub turned_nothing : (run : Run) (unread contents : Option (List ℕ)) → IsLine run.begun.items → Turned false run run unread unread contents contents
+turned_nothing run unread contents line = record { bytes = []; reads = consumes_nothing unread; goes = goes_nothing run contents line; at_end = λ e. cc }
+
+pub turned_later : (end : Bool) (old mid new : Run) (unread middle left before between after : Option (List ℕ)) → Turned false old mid unread middle before between → Turned end mid new middle left between after → Turned end old new unread left before after
+turned_later end old mid new unread middle left before between after first second = record {
+    bytes = first.bytes ++ second.bytes;
+    reads = consumes_append unread middle left first.bytes second.bytes first.reads second.reads;
+    goes = goes_append old mid new first.bytes second.bytes before between after first.goes second.goes;
+    at_end = second.at_end;
+  }
+
+ends_later : (fault : ScriptFault) (old mid : Run) (x y : List ℕ) (left before between after : Option (List ℕ)) → Goes old x mid before between → EndsWithin fault mid y left between after → EndsWithin fault old (x ++ y) left before after
+ends_later (NotUnderstood k) old mid x y left before between after first (new, second, at_end, some, e) = (new, goes_append old mid new x y before between after first second, at_end, some, e)
+ends_later (Memory refused) old mid x y left before between after first h = absurd h
+ends_later CountTooLarge old mid x y left before between after first h = absurd h
+ends_later Input old mid x y left before between after first h = absurd h
+ends_later Output old mid x y left before between after first h = absurd h
+
+pub stopped_later : (fault : ScriptFault) (old mid : Run) (unread middle left before between after : Option (List ℕ)) → Turned false old mid unread middle before between → Stopped fault mid middle left between after → Stopped fault old unread left before after
+stopped_later fault old mid unread middle left before between after first second = record {
+    bytes = first.bytes ++ second.bytes;
+    reads = consumes_append unread middle left first.bytes second.bytes first.reads second.reads;
+    stops = elim second.stops [
+        inl s ↦ inl (stops_later fault old mid first.bytes second.bytes before between after first.goes s)
+      | inr e ↦ inr (ends_later fault old mid first.bytes second.bytes left before between after first.goes e) ];
+  }
+
+ends_here : (run : Run) (k : ℕ) (bytes : List ℕ) (left contents : Option (List ℕ)) → IsLine run.begun.items → bytes ≡ [] → IsAtEnd left → run.begun.items ≢ [] → k ≡ run.lines + 1 → EndsWithin (NotUnderstood k) run bytes left contents contents
+ends_here run k bytes left contents line none at_end some e = (run, subst (λ x. Goes run x run contents contents) (sym none) (goes_nothing run contents line), at_end, some, e)
+
+pub stopped_at_end : (fault : ScriptFault) (run : Run) (bytes : List ℕ) (unread left contents : Option (List ℕ)) → IsLine run.begun.items → Consumes unread left bytes → bytes ≡ [] → IsAtEnd left → fault ≡ NotUnderstood (run.lines + 1) → run.begun.items ≢ [] → Stopped fault run unread left contents contents
+stopped_at_end fault run bytes unread left contents line reads none at_end is some =
+    subst (λ f. Stopped f run unread left contents contents) (sym is) (record { bytes = bytes; reads = reads; stops = inr (ends_here run (run.lines + 1) bytes left contents line none at_end some refl) })
+
+-- a run that begins
+from_start : (start : Run) (bytes : List ℕ) (lines : List (List ℕ)) (printed rest : List ℕ) (end : ScriptValue) → start.script ≡ beginning → start.begun.items ≡ [] → Takes start.script start.begun.items bytes lines printed end rest → Takes beginning [] bytes lines printed end rest
+from_start start bytes lines printed rest end script none t = subst (λ b. Takes beginning b bytes lines printed end rest) none (subst (λ s. Takes s start.begun.items bytes lines printed end rest) script t)
+
+begins : (start : Run) (bytes : List ℕ) (lines : List (List ℕ)) (rest : List ℕ) (unread left before after : Option (List ℕ)) → start.script ≡ beginning → start.begun.items ≡ [] → Consumes unread left bytes → Halts start bytes lines rest before after → Begins lines rest unread left before after
+begins start bytes lines rest unread left before after script none reads h =
+    record { input = bytes; printed = h.printed; end = h.end; reads = reads; takes = from_start start bytes lines h.printed rest h.end script none h.takes; writes = h.writes }
+
+halts : (start new : Run) (bytes : List ℕ) (before after : Option (List ℕ)) (g : Goes start bytes new before after) → Halts start bytes g.lines new.begun.items before after
+halts start new bytes before after g = record { printed = g.printed; end = new.script; takes = g.takes; writes = g.writes }
+
+stops_in : (fault : ScriptFault) (start : Run) (bytes : List ℕ) (unread left before after : Option (List ℕ)) → start.script ≡ beginning → start.begun.items ≡ [] → start.lines ≡ 0 → Consumes unread left bytes → StopsIn fault start bytes before after → Stops fault unread left before after
+stops_in (NotUnderstood k) start bytes unread left before after script none first reads (lines, rest, h, e, no_line) =
+    (lines, rest, begins start bytes lines rest unread left before after script none reads h, omega (arith, e, first), inl no_line)
+stops_in (Memory refused) start bytes unread left before after script none first reads (lines, rest, h) = (lines, rest, begins start bytes lines rest unread left before after script none reads h)
+stops_in CountTooLarge start bytes unread left before after script none first reads (lines, rest, h) = (lines, rest, begins start bytes lines rest unread left before after script none reads h)
+stops_in Input start bytes unread left before after script none first reads (lines, rest, h) = (lines, rest, begins start bytes lines rest unread left before after script none reads h)
+stops_in Output start bytes unread left before after script none first reads h = tt
+
+ends_in : (fault : ScriptFault) (start : Run) (bytes : List ℕ) (unread left before after : Option (List ℕ)) → start.script ≡ beginning → start.begun.items ≡ [] → start.lines ≡ 0 → Consumes unread left bytes → EndsWithin fault start bytes left before after → Stops fault unread left before after
+ends_in (NotUnderstood k) start bytes unread left before after script none first reads (new, g, at_end, some, e) =
+    (g.lines, new.begun.items, begins start bytes g.lines new.begun.items unread left before after script none reads (halts start new bytes before after g), omega (arith, e, g.count, first), inr (at_end, some, g.begun.no_lf))
+ends_in (Memory refused) start bytes unread left before after script none first reads h = absurd h
+ends_in CountTooLarge start bytes unread left before after script none first reads h = absurd h
+ends_in Input start bytes unread left before after script none first reads h = absurd h
+ends_in Output start bytes unread left before after script none first reads h = absurd h
+
+pub stops_script : (fault : ScriptFault) (start : Run) (unread left before after : Option (List ℕ)) → start.script ≡ beginning → start.begun.items ≡ [] → start.lines ≡ 0 → Stopped fault start unread left before after → Stops fault unread left before after
+stops_script fault start unread left before after script none first s = elim s.stops [
+    inl h ↦ stops_in fault start s.bytes unread left before after script none first s.reads h
+  | inr h ↦ ends_in fault start s.bytes unread left before after script none first s.reads h ]
+
+pub stops_at_once : (refused : ScriptFault) (unread contents : Option (List ℕ)) (e : AllocError) → refused ≡ Memory e → Stops refused unread unread contents contents
+stops_at_once refused unread contents e is =
+    subst (λ f. Stops f unread unread contents contents) (sym is)
+      ([], [], record { input = []; printed = []; end = beginning; reads = consumes_nothing unread; takes = takes_nothing beginning [] []; writes = appends_nothing contents })
+
+-- a script that was read to its end
+pub record Whole (unread left before after : Option (List ℕ)) : Type 0 where
+  pub input : List ℕ
+  pub printed : List ℕ
+  pub reads : Consumes unread left input
+  pub at_end : IsAtEnd left
+  pub script : IsScript input printed
+  pub writes : Appends before after printed
+
+pub whole : (start new : Run) (unread left before after : Option (List ℕ)) → start.script ≡ beginning → start.begun.items ≡ [] → Turned true start new unread left before after → Whole unread left before after
+whole start new unread left before after script none t =
+    let takes = from_start start t.bytes t.goes.lines t.goes.printed new.begun.items new.script script none t.goes.takes in
+    let at_end = t.at_end refl in
+    record {
+      input = t.bytes;
+      printed = t.goes.printed;
+      reads = t.reads;
+      at_end = at_end.0;
+      script = record {
+        lines = t.goes.lines;
+        whole = takes.whole ∙ ap (λ r. text_of_lines t.goes.lines ++ r) at_end.1 ∙ append-nil (text_of_lines t.goes.lines);
+        each = takes.each;
+        end = new.script;
+        prints = takes.prints;
+      };
+      writes = t.goes.writes;
+    }

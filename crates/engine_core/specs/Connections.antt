@@ -1,0 +1,6 @@
+use Rattle.engine_core.specs.Sessions.{fresh}
+use Rattle.engine_core.specs.declared.script.Connection.{Connection}
+
+-- a connection that has received nothing
+abbrev pub new_connection : Connection
+new_connection = record { session = fresh; number = 0 }

@@ -1,0 +1,36 @@
+use Rattle.std.specs.Prelude.{◌≡◌, ◌≢◌, ◌+◌, ◌/◌, ◌%◌, ◌<◌, ◌≤◌, List, [], ◌∷◌, ◌++◌, ℕ, codes, drop, length}
+use Rattle.std.specs.Fmt.{decimal}
+use Rattle.engine_core.specs.declared.line.Line.{Line}
+use Rattle.engine_core.specs.declared.line.Line.TheVariants.{Blank, Flush, Receive}
+
+-- the line says that: nothing, `flush`, or a connection's number in decimal, a blank and a text
+abbrev pub Says : List ℕ → Line → Type 0
+Says line Blank = line ≡ []
+Says line Flush = line ≡ codes "flush"
+Says line (Receive n text) = (n < 32) × (line ≡ decimal n ++ 32 ∷ text.now)
+
+-- the line is of none of these forms
+pub record IsOfNoForm (line : List ℕ) : Type 0 where
+  pub not_blank : line ≢ []
+  pub not_flush : line ≢ codes "flush"
+  pub not_received : (n : ℕ) (text : List ℕ) → n < 32 → line ≢ decimal n ++ 32 ∷ text
+
+-- a decimal digit
+abbrev pub IsDigit : ℕ → Type 0
+IsDigit b = (48 ≤ b) × (b ≤ 57)
+
+-- the line begins with this digit and a blank
+abbrev pub HasDigit : List ℕ → ℕ → Type 0
+HasDigit line n = (n < 10) × (2 ≤ length line) × (line ≡ (48 + n) ∷ 32 ∷ drop 2 line)
+
+-- the line begins with no digit and a blank
+abbrev pub HasNoDigit : List ℕ → Type 0
+HasNoDigit line = (n : ℕ) (text : List ℕ) → n < 10 → line ≢ (48 + n) ∷ 32 ∷ text
+
+-- the line begins with the two digits of this number and a blank
+abbrev pub HasDigits : List ℕ → ℕ → Type 0
+HasDigits line n = (10 ≤ n) × (n < 32) × (3 ≤ length line) × (line ≡ (48 + n / 10) ∷ (48 + n % 10) ∷ 32 ∷ drop 3 line)
+
+-- the line begins with no two digits of a number from 10 to 31 and a blank
+abbrev pub HasNoDigits : List ℕ → Type 0
+HasNoDigits line = (n : ℕ) (text : List ℕ) → 10 ≤ n → n < 32 → line ≢ (48 + n / 10) ∷ (48 + n % 10) ∷ 32 ∷ text

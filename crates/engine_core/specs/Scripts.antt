@@ -1,0 +1,88 @@
+use Rattle.std.specs.Prelude.{◌≡◌, ◌≢◌, ◌⊎◌, ◌<◌, ◌≤◌, List, [], ◌∷◌, ◌++◌, ℕ, codes, length, unwrap_or, flat_map}
+use Rattle.std.specs.BTreeMap.{insert_entry, is_at}
+use Rattle.std.specs.Fmt.{decimal}
+use Rattle.std.specs.List.{fold, AllByRecursion}
+use Rattle.std.specs.Map.{lookup, remove_entry}
+use Rattle.std.specs.Ordering.{nat_cmp}
+use Rattle.broker_core.specs.States.{empty_state}
+use Rattle.engine_core.specs.Shown.{meant}
+use Rattle.engine_core.specs.ScriptLines.{IsOfNoForm}
+use Rattle.engine_core.specs.Sessions.{Hearing, Hears}
+use Rattle.engine_core.specs.Connections.{new_connection}
+use Rattle.engine_core.specs.Desks.{DeskValue, Progress, acted, flush_text, flushed}
+use Rattle.engine_core.specs.declared.session.Act.{Act}
+use Rattle.engine_core.specs.declared.script.Connection.{Connection}
+
+-- a script as far as it has run: its connections by rising number, and the desk
+pub record ScriptValue : Type 0 where
+  pub connections : List (ℕ × Connection)
+  pub desk : DeskValue
+
+-- before the first line
+abbrev pub beginning : ScriptValue
+beginning = record { connections = []; desk = record { waiting = []; openers = []; state = empty_state } }
+
+-- a connection, new where there is none
+abbrev pub connection_at : ℕ → ScriptValue → Connection
+connection_at n s = unwrap_or (lookup (is_at (nat_cmp n)) s.connections) new_connection
+
+-- the script with a connection as it is now
+abbrev pub with_connection : ℕ → Connection → List (ℕ × Connection) → List (ℕ × Connection)
+with_connection n connection connections = insert_entry nat_cmp (remove_entry (is_at (nat_cmp n)) connections) n connection
+
+-- A connection receives octets: its session hears them, and what they ask for is done, act by act.
+pub record Receives (s : ScriptValue) (n : ℕ) (bytes printed : List ℕ) (t : ScriptValue) : Type 0 where
+  pub acts : List Act
+  pub session : Hearing
+  pub hears : Hears (connection_at n s).session bytes acts session
+  pub progress : Progress
+  pub done : progress ≡ fold (acted n) (record { number = (connection_at n s).number; desk = s.desk; text = [] }) acts
+  pub same_text : printed ≡ progress.text
+  pub after : t ≡ record { connections = with_connection n (record { session = session; number = progress.number }) s.connections; desk = progress.desk }
+
+-- What a line prints, and what it leaves: an empty line nothing, `flush` what waits, a connection's number with a blank
+-- and a text what the connection receives.
+abbrev pub Prints : ScriptValue → List ℕ → List ℕ → ScriptValue → Type 0
+Prints s line printed t =
+    ((line ≡ []) × (printed ≡ []) × (t ≡ s))
+    ⊎ (((line ≡ codes "flush") × (printed ≡ flush_text s.desk) × (t ≡ record s { desk = flushed s.desk }))
+    ⊎ ((n : ℕ) × (text : List ℕ) × (n < 32) × (line ≡ decimal n ++ 32 ∷ text) × Receives s n (meant text) printed t))
+
+-- what lines print, one after another
+abbrev pub PrintsAll : ScriptValue → List (List ℕ) → List ℕ → ScriptValue → Type 0
+PrintsAll s [] printed t = (printed ≡ []) × (t ≡ s)
+PrintsAll s (line ∷ lines) printed t = (first : List ℕ) × (others : List ℕ) × (u : ScriptValue) × Prints s line first u × PrintsAll u lines others t × (printed ≡ first ++ others)
+
+-- no LF stands in it
+abbrev pub HasNoLf : List ℕ → Type 0
+HasNoLf bytes = AllByRecursion (λ b. b ≢ 10) bytes
+
+-- a line without its LF: at most 1,048,576 octets
+pub record IsLine (line : List ℕ) : Type 0 where
+  pub no_lf : HasNoLf line
+  pub short : length line ≤ 1048576
+
+-- the octets of whole lines
+abbrev pub text_of_lines : List (List ℕ) → List ℕ
+text_of_lines lines = flat_map (λ line. line ++ 10 ∷ []) lines
+
+-- What a part of a script leads to, behind the beginning of a line: whole lines and what they print, and the beginning of
+-- one more line.
+pub record Takes (s : ScriptValue) (begun bytes : List ℕ) (lines : List (List ℕ)) (printed : List ℕ) (t : ScriptValue) (rest : List ℕ) : Type 0 where
+  pub whole : begun ++ bytes ≡ text_of_lines lines ++ rest
+  pub each : AllByRecursion IsLine lines
+  pub prints : PrintsAll s lines printed t
+
+-- What a script's octets print: they are whole lines, and these print it.
+pub record IsScript (input printed : List ℕ) : Type 0 where
+  pub lines : List (List ℕ)
+  pub whole : input ≡ text_of_lines lines
+  pub each : AllByRecursion IsLine lines
+  pub end : ScriptValue
+  pub prints : PrintsAll beginning lines printed end
+
+-- Octets with no line of a script at their front: one has more octets than a line may have, or is of no form.
+abbrev pub HasNoLine : List ℕ → Type 0
+HasNoLine bytes =
+    ((line : List ℕ) × (behind : List ℕ) × (bytes ≡ line ++ behind) × HasNoLf line × (1048576 < length line))
+    ⊎ ((line : List ℕ) × (behind : List ℕ) × (bytes ≡ line ++ 10 ∷ behind) × HasNoLf line × IsOfNoForm line)

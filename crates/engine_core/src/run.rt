@@ -1,0 +1,208 @@
+//! A script from its bytes to the bytes that it prints.
+
+ghost use Rattle.std.specs.Prelude.{◌≡◌, ◌≢◌, ◌+◌, ◌++◌, ◌∷◌, ◌<◌, ◌≤◌, ◌*◌, ◌^◌, [], ℕ, List, true, IfOk, IfErr, OnOk, OnErr, MatchOption, length, drop, take, slice_index};
+ghost use Rattle.std.specs.List.{AllByRecursion};
+ghost use Rattle.std.specs.Io.KnownBytes.{Appends, Consumes, IsAtEnd};
+ghost use Rattle.engine_core.specs.Scripts.{IsLine, HasNoLf, IsScript};
+ghost use Rattle.engine_core.specs.Runs.{Goes, StopsIn, Stops, IsTooLong, Turned, Stopped};
+
+use std::alloc::Global;
+use std::io::{ErrorKind, Read, Write};
+
+use memchr::memchr;
+
+use crate::fault::ScriptFault;
+use crate::script::Script;
+
+/// How many bytes are read at once.
+const PIECE: usize = 65_536;
+
+/// How many reads are made at most.
+const MOST_READS: u64 = 4_294_967_296;
+
+/// How many bytes a line has at most, without its LF.
+const LONGEST_LINE: usize = 1_048_576;
+
+/// A script while its bytes are read: how far it has run, the line that has begun, and how many lines were whole.
+#[derive(Drop)]
+pub struct Run {
+    pub script: Script,
+    pub begun: Vec<u8>,
+    pub lines: u64,
+}
+
+/// Runs a script: reads it to its end, and writes what each line prints as soon as the line is done. The bytes are read
+/// in pieces of 65,536, and at most 4,294,967,296 reads are made.
+///
+/// Where it is refused, what was written is what the lines before the refused one print, unless it is the writer that
+/// failed. Commands that wait at the end of the script are dropped.
+pub fn run_script<R: Read, W: Write>(
+    alloc: Global,
+    reader: &mut R,
+    writer: &mut W,
+) -> Result<(), ScriptFault>
+    // What is written is what the lines print that were read, and nothing else.
+    ensures ok { OnOk result ((input : List ℕ) × (printed : List ℕ)
+        × Consumes (R.remaining reader.old) (R.remaining reader.new) input × IsAtEnd (R.remaining reader.new)
+        × IsScript input printed × Appends (W.contents writer.old) (W.contents writer.new) printed) }
+    // On a fault other than the writer's, it is what the lines before print; and a line is told only where it is none.
+    ensures err { IfErr result (λ fault. Stops fault (R.remaining reader.old) (R.remaining reader.new) (W.contents writer.old) (W.contents writer.new)) }
+{
+    let mut piece = vec![in alloc; 0u8; PIECE]?;
+    let mut run = Run {
+        script: Script::new(alloc),
+        begun: Vec::new(alloc),
+        lines: 0,
+    };
+    read_to_end(alloc, &mut run, piece.as_mut_slice(), reader, writer)
+}
+
+/// Reads the script to its end, and runs each line.
+fn read_to_end<R: Read, W: Write>(
+    alloc: Global,
+    run: &mut Run,
+    piece: &mut [u8],
+    reader: &mut R,
+    writer: &mut W,
+) -> Result<(), ScriptFault>
+    requires begun { IsLine run.old.begun.items }
+    requires first { run.old.lines ≡ 0 }
+    requires piece { length piece.old ≡ 65536 }
+    ensures ok { OnOk result (Turned true run.old run.new (R.remaining reader.old) (R.remaining reader.new) (W.contents writer.old) (W.contents writer.new)) }
+    ensures err { IfErr result (λ fault. Stopped fault run.old (R.remaining reader.old) (R.remaining reader.new) (W.contents writer.old) (W.contents writer.new)) }
+{
+    for _read in 0..MOST_READS {
+        if read_piece(alloc, run, piece, reader, writer)? {
+            return Ok(());
+        }
+    }
+    Err(ScriptFault::Input)
+}
+
+/// Reads a piece of the script, and runs the lines that end in it; answers whether the script is at its end.
+fn read_piece<R: Read, W: Write>(
+    alloc: Global,
+    run: &mut Run,
+    piece: &mut [u8],
+    reader: &mut R,
+    writer: &mut W,
+) -> Result<bool, ScriptFault>
+    requires begun { IsLine run.old.begun.items }
+    requires room { run.old.lines ≤ 2 ^ 48 }
+    requires piece { length piece.old ≡ 65536 }
+    ensures ok { IfOk result (λ end. Turned end run.old run.new (R.remaining reader.old) (R.remaining reader.new) (W.contents writer.old) (W.contents writer.new)) }
+    ensures few { OnOk result (run.new.lines ≤ run.old.lines + 65536) }
+    ensures err { IfErr result (λ fault. Stopped fault run.old (R.remaining reader.old) (R.remaining reader.new) (W.contents writer.old) (W.contents writer.new)) }
+{
+    match reader.read(piece) {
+        Ok(0) => {
+            end(run)?;
+            Ok(true)
+        }
+        Ok(count) => {
+            take_piece(alloc, run, &piece[..count], writer)?;
+            Ok(false)
+        }
+        Err(error) => {
+            if error.kind() != ErrorKind::Interrupted {
+                return Err(ScriptFault::Input);
+            }
+            Ok(false)
+        }
+    }
+}
+
+/// The end of the script, which must not come within a line.
+fn end(run: &Run) -> Result<(), ScriptFault>
+    requires { run.now.lines + 1 < 2 ^ 64 }
+    ensures ok { OnOk result (run.now.begun.items ≡ []) }
+    ensures err { IfErr result (λ fault. (fault ≡ ScriptFault.NotUnderstood (run.now.lines + 1)) × (run.now.begun.items ≢ [])) }
+{
+    if run.begun.is_empty() {
+        Ok(())
+    } else {
+        Err(ScriptFault::NotUnderstood { line: run.lines + 1 })
+    }
+}
+
+/// Runs the lines that end within a piece, and keeps what begins the next one.
+fn take_piece<W: Write>(
+    alloc: Global,
+    run: &mut Run,
+    piece: &[u8],
+    writer: &mut W,
+) -> Result<(), ScriptFault>
+    requires begun { IsLine run.old.begun.items }
+    requires room { run.old.lines + length piece.now + 1 < 2 ^ 64 }
+    ensures ok { OnOk result (Goes run.old piece.now run.new (W.contents writer.old) (W.contents writer.new)) }
+    ensures err { IfErr result (λ fault. StopsIn fault run.old piece.now (W.contents writer.old) (W.contents writer.new)) }
+{
+    let mut at = 0;
+    while let Some(front) = before_lf(&piece[at..]) {
+        let next = at + front.len() + 1;
+        end_line(alloc, run, front, writer)?;
+        at = next;
+    }
+    begin_line(run, &piece[at..])
+}
+
+/// What stands before the first LF.
+fn before_lf(bytes: &[u8]) -> Option<&[u8]>
+    ensures { MatchOption result (HasNoLf bytes.now) (λ front. HasNoLf front.now × (bytes.now ≡ front.now ++ 10 ∷ drop (length front.now + 1) bytes.now)) }
+{
+    match memchr(b'\n', bytes) {
+        Some(at) => Some(&bytes[..at]),
+        None => None,
+    }
+}
+
+/// Adds bytes to the line that has begun.
+fn begin_line(run: &mut Run, bytes: &[u8]) -> Result<(), ScriptFault>
+    requires begun { IsLine run.old.begun.items }
+    requires bytes { HasNoLf bytes.now }
+    requires room { run.old.lines + 1 < 2 ^ 64 }
+    ensures ok { OnOk result ((run.new.begun.items ≡ run.old.begun.items ++ bytes.now) × IsLine run.new.begun.items) }
+    ensures same { (run.new.script ≡ run.old.script) × (run.new.lines ≡ run.old.lines) }
+    ensures err { IfErr result (λ fault. IsTooLong fault run.old bytes.now) }
+{
+    if bytes.len() > LONGEST_LINE - run.begun.len() {
+        return Err(ScriptFault::NotUnderstood { line: run.lines + 1 });
+    }
+    run.begun.extend_from_slice(bytes)?;
+    Ok(())
+}
+
+/// Runs the line that ends with these bytes.
+fn end_line<W: Write>(
+    alloc: Global,
+    run: &mut Run,
+    bytes: &[u8],
+    writer: &mut W,
+) -> Result<(), ScriptFault>
+    requires begun { IsLine run.old.begun.items }
+    requires bytes { HasNoLf bytes.now }
+    requires room { run.old.lines + 1 < 2 ^ 64 }
+    ensures ok { OnOk result (Goes run.old (bytes.now ++ 10 ∷ []) run.new (W.contents writer.old) (W.contents writer.new)) }
+    ensures err { IfErr result (λ fault. StopsIn fault run.old (bytes.now ++ 10 ∷ []) (W.contents writer.old) (W.contents writer.new)) }
+{
+    begin_line(run, bytes)?;
+    match run.script.perform(alloc, run.begun.as_slice())? {
+        None => Err(ScriptFault::NotUnderstood { line: run.lines + 1 }),
+        Some(text) => {
+            write_text(writer, text.as_str())?;
+            run.begun.clear();
+            run.lines += 1;
+            Ok(())
+        }
+    }
+}
+
+fn write_text<W: Write>(writer: &mut W, text: &str) -> Result<(), ScriptFault>
+    ensures ok { OnOk result (Appends (W.contents writer.old) (W.contents writer.new) text.now) }
+    ensures err { IfErr result (λ fault. fault ≡ ScriptFault.Output) }
+{
+    match writer.write_all(text.as_bytes()) {
+        Ok(()) => Ok(()),
+        Err(_) => Err(ScriptFault::Output),
+    }
+}

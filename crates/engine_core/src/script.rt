@@ -1,0 +1,147 @@
+//! A script as far as it has run: its connections and the desk.
+
+ghost use Rattle.std.specs.Prelude.{◌≡◌, ◌++◌, ◌<◌, [], IfOk, OnOk, MatchOption, string_bytes};
+ghost use Rattle.std.specs.List.{AllByRecursion, fold};
+ghost use Rattle.engine_core.specs.Sessions.{HasForm};
+ghost use Rattle.std.specs.Prelude.{unwrap_or};
+ghost use Rattle.std.specs.BTreeMap.{is_at};
+ghost use Rattle.std.specs.Map.{lookup, remove_entry};
+ghost use Rattle.std.specs.Ordering.{nat_cmp};
+ghost use Rattle.engine_core.specs.Connections.{new_connection};
+ghost use Rattle.engine_core.specs.Desks.{Progress, acted};
+
+use std::alloc::Global;
+use std::collections::BTreeMap;
+use std::marker::Model;
+
+use crate::desk::Desk;
+use crate::fault::DeskFault;
+use crate::line::{Line, read_line};
+use crate::printing::print_frame;
+use crate::session::{Act, Session};
+use crate::shown::unshow;
+
+/// A connection of a script: its session, and that session's number once it has one.
+#[derive(Drop)]
+pub struct Connection {
+    pub session: Session,
+    pub number: u64,
+}
+
+/// A script as far as it has run. Contracts see its connections by rising number, and the desk.
+#[derive(Drop)]
+pub struct Script {
+    connections: BTreeMap<u8, Connection>,
+    desk: Desk,
+}
+
+impl Model for Script {
+    ghost use Rattle.engine_core.specs.Scripts.{ScriptValue};
+
+    ghost Value = { ScriptValue };
+
+    ghost view = { λ a. record { connections = a.connections.entries; desk = a.desk } };
+}
+
+impl Script {
+    ghost use Rattle.engine_core.specs.Scripts.{beginning, Receives, Prints};
+    ghost use Rattle.engine_core.specs.ScriptLines.{IsOfNoForm};
+
+    /// A script before its first line. No memory is taken.
+    pub fn new(alloc: Global) -> Script
+        ensures { result ≡ beginning }
+    {
+        Script {
+            connections: BTreeMap::new(alloc),
+            desk: Desk::new(alloc),
+        }
+    }
+
+    /// Does what a line says, and answers what it prints; `None` where the line says nothing that a script can say.
+    pub fn perform(&mut self, alloc: Global, line: &[u8]) -> Result<Option<String>, DeskFault>
+        ensures { IfOk result (λ printed. MatchOption printed (IsOfNoForm line.now)
+            (λ text. Prints self.old line.now (string_bytes text) self.new)) }
+    {
+        match read_line(line) {
+            None => Ok(None),
+            Some(Line::Blank) => Ok(Some(String::new(alloc))),
+            Some(Line::Flush) => {
+                let mut text = String::new(alloc);
+                self.desk.flush(alloc, &mut text)?;
+                Ok(Some(text))
+            }
+            Some(Line::Receive { connection, text }) => {
+                let bytes = unshow(alloc, text)?;
+                Ok(Some(self.receive(alloc, connection, bytes.as_slice())?))
+            }
+        }
+    }
+
+    /// A connection receives bytes; answers what is printed.
+    fn receive(&mut self, alloc: Global, n: u8, bytes: &[u8]) -> Result<String, DeskFault>
+        ensures { IfOk result (λ text. Receives self.old n bytes.now (string_bytes text) self.new) }
+    {
+        let Connection { mut session, number } = take_connection(alloc, &mut self.connections, n);
+        let acts = session.feed(alloc, bytes)?;
+        let mut text = String::new(alloc);
+        let number = do_acts(alloc, &mut self.desk, n, number, acts, &mut text)?;
+        self.connections.insert(n, Connection { session, number })?;
+        Ok(text)
+    }
+}
+
+/// Takes a connection out of the others; a new one where there is none of that number.
+fn take_connection(alloc: Global, connections: &mut BTreeMap<u8, Connection>, n: u8) -> Connection
+    ensures taken { result ≡ unwrap_or (lookup (is_at (nat_cmp n)) connections.old.entries) new_connection }
+    ensures others { connections.new.entries ≡ remove_entry (is_at (nat_cmp n)) connections.old.entries }
+{
+    match connections.remove(&n) {
+        Some(connection) => connection,
+        None => Connection {
+            session: Session::new(alloc),
+            number: 0,
+        },
+    }
+}
+
+/// Does what a connection's acts ask for, one after another; answers the number of its session then.
+fn do_acts(
+    alloc: Global,
+    desk: &mut Desk,
+    connection: u8,
+    number: u64,
+    acts: Vec<Act>,
+    text: &mut String,
+) -> Result<u64, DeskFault>
+    requires { AllByRecursion HasForm acts.items }
+    ensures { IfOk result (λ n. record { number = n; desk = desk.new; text = string_bytes text.new }
+        ≡ fold (acted connection) (record { number = number; desk = desk.old; text = string_bytes text.old }) acts.items) }
+{
+    let mut number = number;
+    for act in acts {
+        number = do_act(alloc, desk, connection, number, act, text)?;
+    }
+    Ok(number)
+}
+
+fn do_act(
+    alloc: Global,
+    desk: &mut Desk,
+    connection: u8,
+    number: u64,
+    act: Act,
+    text: &mut String,
+) -> Result<u64, DeskFault>
+    requires { HasForm act }
+    ensures { IfOk result (λ n. record { number = n; desk = desk.new; text = string_bytes text.new }
+        ≡ acted connection (record { number = number; desk = desk.old; text = string_bytes text.old }) act) }
+{
+    match act {
+        Act::Do(op, receipt) => desk.submit(alloc, connection, number, op, receipt, text),
+        Act::Direct(notice) => {
+            print_frame(alloc, text, connection, notice.frame())?;
+            Ok(number)
+        }
+        Act::Close(_) => Ok(number),
+    }
+}

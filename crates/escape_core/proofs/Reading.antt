@@ -1,0 +1,88 @@
+use Rattle.std.proofs.Common.{◌≡◌, ◌≢◌, ℕ, List, [], ◌∷◌, ◌++◌, Option, Some, None, Bool, true, false, cond, inl, inr, length, get_or, drop, ◌<◌, ◌+◌, refl, sym, ap, ◌∙◌, subst, append_assoc, append-nil}
+use Rattle.std.proofs.lemmas.Bool.{cases_eq, ne_eqb}
+use Rattle.std.proofs.lemmas.List.{drop_more}
+use Rattle.escape_core.specs.Escapes.{code_of, escaped, escape_of, behind, unescaped}
+
+-- this text, and then what the rest means, if anything
+abbrev pub after : List ℕ → Option (List ℕ) → Option (List ℕ)
+after text None = None
+after text (Some more) = Some (text ++ more)
+
+-- an octet that is no backslash is itself, whatever follows
+pub unescaped_plain : (b : ℕ) (more : List ℕ) → b ≢ 92 → unescaped (b ∷ more) ≡ behind (Some b) (unescaped more)
+unescaped_plain b [] ne = rw (ne_eqb b 92 ne) refl
+unescaped_plain b (c ∷ more) ne = rw (ne_eqb b 92 ne) refl
+
+-- one octet more is read
+pub after-behind : (text : List ℕ) (b : ℕ) (more : Option (List ℕ)) → after text (behind (Some b) more) ≡ after (text ++ b ∷ []) more
+after-behind text b None = refl
+after-behind text b (Some more) = ap Some (sym (append_assoc text (b ∷ []) more))
+
+pub after-nil : (more : Option (List ℕ)) → after [] more ≡ more
+after-nil None = refl
+after-nil (Some more) = refl
+
+pub after_end : (text : List ℕ) → after text (Some []) ≡ Some text
+after_end text = ap Some (append-nil text)
+
+-- the code of an octet means that octet
+pub unescaped-code_of : (b : ℕ) (more : List ℕ) → unescaped (code_of b ++ more) ≡ behind (Some b) (unescaped more)
+unescaped-code_of b more =
+    elim (cases_eq b 13) [
+      | inl e ↦ let P : ℕ → Type 0 = λ x. unescaped (code_of x ++ more) ≡ behind (Some x) (unescaped more) in subst P (sym e) refl
+      | inr no_cr ↦ elim (cases_eq b 10) [
+        | inl e ↦ let P : ℕ → Type 0 = λ x. unescaped (code_of x ++ more) ≡ behind (Some x) (unescaped more) in subst P (sym e) refl
+        | inr no_lf ↦ elim (cases_eq b 58) [
+          | inl e ↦ let P : ℕ → Type 0 = λ x. unescaped (code_of x ++ more) ≡ behind (Some x) (unescaped more) in subst P (sym e) refl
+          | inr no_colon ↦ elim (cases_eq b 92) [
+            | inl e ↦ let P : ℕ → Type 0 = λ x. unescaped (code_of x ++ more) ≡ behind (Some x) (unescaped more) in subst P (sym e) refl
+            | inr no_backslash ↦ rw (ne_eqb b 13 no_cr, ne_eqb b 10 no_lf, ne_eqb b 58 no_colon, ne_eqb b 92 no_backslash) (unescaped_plain b more no_backslash)
+          ]
+        ]
+      ]
+    ]
+
+pub unescaped-escaped : (text : List ℕ) → unescaped (escaped text) ≡ Some text
+unescaped-escaped [] = refl
+unescaped-escaped (b ∷ text) = unescaped-code_of b (escaped text) ∙ ap (behind (Some b)) (unescaped-escaped text)
+
+pub escaped-same : (text other : List ℕ) → escaped text ≡ escaped other → text ≡ other
+escaped-same text other e =
+    let this = unescaped-escaped text in
+    let that = unescaped-escaped other in
+    let same : unescaped (escaped text) ≡ unescaped (escaped other) = ap unescaped e in
+    cc
+
+-- what is left to read, where the octet before it may be a backslash
+abbrev pub left : Bool → ℕ → List ℕ → List ℕ
+left in_escape i bytes = cond in_escape (92 ∷ drop i bytes) (drop i bytes)
+
+-- the octets mean this text and then what the rest means
+abbrev pub IsReadTo : List ℕ → List ℕ → Bool → ℕ → Type 0
+IsReadTo bytes text in_escape i = unescaped bytes ≡ after text (unescaped (left in_escape i bytes))
+
+pub read_escape : (bytes text next : List ℕ) (in_escape then_in_escape : Bool) (i meant : ℕ) → i < length bytes → in_escape ≡ true → then_in_escape ≡ false
+    → Some meant ≡ escape_of (get_or bytes i 0) → next ≡ text ++ meant ∷ [] → IsReadTo bytes text in_escape i → IsReadTo bytes next then_in_escape (i + 1)
+read_escape bytes text next in_escape then_in_escape i meant lt was is e n h =
+    let d = drop_more bytes i 0 lt in
+    let whole : unescaped (left in_escape i bytes) ≡ behind (escape_of (get_or bytes i 0)) (unescaped (drop (i + 1) bytes)) = rw (was, d) refl in
+    let rest : left then_in_escape (i + 1) bytes ≡ drop (i + 1) bytes = rw is refl in
+    let moved = after-behind text meant (unescaped (drop (i + 1) bytes)) in
+    h ∙ ap (after text) (whole ∙ ap (λ o. behind o (unescaped (drop (i + 1) bytes))) (sym e)) ∙ moved ∙ rw (n, rest) refl
+
+pub read_backslash : (bytes text next : List ℕ) (in_escape then_in_escape : Bool) (i : ℕ) → i < length bytes → in_escape ≡ false → then_in_escape ≡ true
+    → get_or bytes i 0 ≡ 92 → next ≡ text → IsReadTo bytes text in_escape i → IsReadTo bytes next then_in_escape (i + 1)
+read_backslash bytes text next in_escape then_in_escape i lt was is e n h =
+    let d = drop_more bytes i 0 lt in
+    let whole : left in_escape i bytes ≡ left then_in_escape (i + 1) bytes = rw (was, is, d, e) refl in
+    h ∙ rw (whole, n) refl
+
+pub read_plain : (bytes text next : List ℕ) (in_escape then_in_escape : Bool) (i : ℕ) → i < length bytes → in_escape ≡ false → then_in_escape ≡ false
+    → get_or bytes i 0 ≢ 92 → next ≡ text ++ get_or bytes i 0 ∷ [] → IsReadTo bytes text in_escape i → IsReadTo bytes next then_in_escape (i + 1)
+read_plain bytes text next in_escape then_in_escape i lt was is ne n h =
+    let d = drop_more bytes i 0 lt in
+    let whole : left in_escape i bytes ≡ get_or bytes i 0 ∷ drop (i + 1) bytes = rw was d in
+    let rest : left then_in_escape (i + 1) bytes ≡ drop (i + 1) bytes = rw is refl in
+    let plain = unescaped_plain (get_or bytes i 0) (drop (i + 1) bytes) ne in
+    let moved = after-behind text (get_or bytes i 0) (unescaped (drop (i + 1) bytes)) in
+    h ∙ ap (after text) (ap unescaped whole ∙ plain) ∙ moved ∙ rw (n, rest) refl

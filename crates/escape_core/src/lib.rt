@@ -1,0 +1,96 @@
+//! The escapes of STOMP 1.2 in header names and values ("Value Encoding").
+
+#![tactic(auto)]
+
+ghost use Rattle.std.specs.Prelude.{◌≡◌, Some, None, IfOk, IfErr, List, ℕ};
+ghost use Rattle.escape_core.specs.Escapes.{escaped, unescaped, escape_of};
+
+use std::alloc::{AllocError, Global};
+use thiserror::Error;
+
+#[cfg(test)]
+mod tests;
+
+/// Why written octets could not be read as a text.
+#[derive(Clone, Copy, Debug, PartialEq, Eq, Error)]
+pub enum EscapeFault {
+    /// A backslash that begins none of the four escapes, or one at the end.
+    #[error("undefined escape")]
+    Undefined,
+    /// The room for the text was refused.
+    #[error("no memory")]
+    Memory,
+}
+
+/// What a backslash and this octet stand for.
+fn meaning_of(c: u8) -> Option<u8>
+    ensures { result ≡ escape_of c }
+{
+    match c {
+        b'r' => Some(b'\r'),
+        b'n' => Some(b'\n'),
+        b'c' => Some(b':'),
+        b'\\' => Some(b'\\'),
+        _ => None,
+    }
+}
+
+/// The text as it is written in a header: CR, LF, colon and backslash as their escapes, every other octet as itself
+/// (STOMP 1.2, "Value Encoding"). Room for the longest result, two octets for each of the text's, is taken at once;
+/// where it is refused, that is the error.
+pub fn escape(alloc: Global, text: &[u8]) -> Result<Vec<u8>, AllocError>
+    ensures { IfOk result (λ written. written.items ≡ escaped text.now) }
+{
+    let mut written = Vec::with_capacity(alloc, text.len().saturating_mul(2))?;
+    for b in text {
+        match *b {
+            b'\r' => written.extend_from_slice(b"\\r")?,
+            b'\n' => written.extend_from_slice(b"\\n")?,
+            b':' => written.extend_from_slice(b"\\c")?,
+            b'\\' => written.extend_from_slice(b"\\\\")?,
+            plain => written.push(plain)?,
+        }
+    }
+    Ok(written)
+}
+
+/// The text that written octets mean: each escape is the octet that it stands for, and every other octet is itself.
+/// Room for the longest result, one octet for each that is written, is taken at once.
+///
+/// It is `Undefined` where a backslash begins none of the four escapes or ends the octets, and `Memory` where the room
+/// was refused.
+pub fn unescape(alloc: Global, bytes: &[u8]) -> Result<Vec<u8>, EscapeFault>
+    ensures ok { IfOk result (λ text. unescaped bytes.now ≡ Some text.items) }
+    ensures undefined { result ≡ Err EscapeFault.Undefined → unescaped bytes.now ≡ None }
+{
+    let mut text = Vec::with_capacity(alloc, bytes.len()).map_err(|_| EscapeFault::Memory)?;
+    let mut in_escape = false;
+    for b in bytes {
+        if in_escape {
+            let Some(meant) = meaning_of(*b) else {
+                return Err(EscapeFault::Undefined);
+            };
+            text.push(meant).map_err(|_| EscapeFault::Memory)?;
+            in_escape = false;
+        } else if *b == b'\\' {
+            in_escape = true;
+        } else {
+            text.push(*b).map_err(|_| EscapeFault::Memory)?;
+        }
+    }
+    if !in_escape {
+        Ok(text)
+    } else {
+        Err(EscapeFault::Undefined)
+    }
+}
+
+/// What is escaped means the text again.
+pub fn means_itself()
+    ensures { (text : List ℕ) → unescaped (escaped text) ≡ Some text }
+{}
+
+/// Each text is written in a way of its own.
+pub fn one_spelling()
+    ensures { (text other : List ℕ) → escaped text ≡ escaped other → text ≡ other }
+{}

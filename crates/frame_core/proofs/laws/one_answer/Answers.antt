@@ -1,0 +1,5 @@
+use Rattle.frame_core.proofs.OneAnswer.{one_reading, one_fault, fault_or_none}
+use Rattle.frame_core.proofs.laws.one_answer.Goals as goal
+
+pub returns : goal.returns
+returns c = record { reads = one_reading; fails = one_fault; apart = fault_or_none }

@@ -1,0 +1,13 @@
+pub mod SameHeaders
+pub mod Verbs
+pub mod Heads
+pub mod Spelling
+pub mod Parts
+pub mod Faults
+pub mod FaultCodes
+pub mod Streams
+pub mod Writable
+pub mod Written
+pub mod Partials
+pub mod Stops
+pub mod Reading

@@ -1,0 +1,64 @@
+use Rattle.std.specs.Prelude.{◌≡◌, ◌<◌, ◌≤◌, ◌+◌, List, [], ◌∷◌, ◌++◌, ℕ, Bool, true, false, Option, length, take, cond, ⊤}
+use Rattle.std.specs.List.{AllByRecursion}
+use Rattle.frame_core.specs.declared.frame.Frame.{Frame}
+use Rattle.frame_core.specs.declared.frame.Verb.{Verb}
+use Rattle.frame_core.specs.declared.partial.Stage.{Stage}
+use Rattle.frame_core.specs.declared.partial.Stage.TheVariants.{Command, HeaderLines, Body}
+use Rattle.frame_core.specs.declared.partial.Partial.{Partial}
+use Rattle.frame_core.specs.Heads.{IsInLine, Begins}
+use Rattle.frame_core.specs.Parts.{IsBoundedHead, Plans, IsPartOfBody}
+use Rattle.frame_core.specs.Streams.{Frames}
+
+-- behind whole lines stands a part of one more, perhaps with the CR of its end
+pub record IsLine (head : List ℕ) (line : ℕ) (with_cr : Bool) (lines : List ℕ) : Type 0 where
+  pub part : List ℕ
+  pub whole : head ≡ lines ++ (part ++ cond with_cr (13 ∷ []) [])
+  pub start : length lines ≡ line
+  pub each : AllByRecursion IsInLine part
+  pub size : length head ≤ 8192
+
+-- what is known of an unfinished frame at each stage
+abbrev pub IsAt : Stage → List ℕ → ℕ → Bool → List (List ℕ × List ℕ) → List ℕ → Type 0
+IsAt Command head line with_cr headers body = IsLine head line with_cr [] × (headers ≡ []) × (body ≡ [])
+IsAt (HeaderLines verb) head line with_cr headers body = (lines : List ℕ) × IsLine head line with_cr lines × Begins verb headers lines × (length headers ≤ 64) × (body ≡ [])
+IsAt (Body verb plan) head line with_cr headers body = IsBoundedHead verb headers head × Plans verb headers plan × IsPartOfBody verb plan body
+
+-- the fields of an unfinished frame say what its octets are, at a stage
+abbrev pub IsKeptAt : Stage → Partial → Type 0
+IsKeptAt stage p = IsAt stage p.head.items p.line p.with_cr p.headers.items p.body.items
+
+-- the fields of an unfinished frame say what its octets are, at its stage
+abbrev pub IsKept : Partial → Type 0
+IsKept p = IsKeptAt p.stage p
+
+-- its octets
+abbrev pub octets_of : Partial → List ℕ
+octets_of p = p.head.items ++ p.body.items
+
+-- its head isn't whole
+abbrev pub IsInHead : Stage → Type 0
+IsInHead (Body verb plan) = ⊥
+IsInHead stage = ⊤
+
+-- With so many octets of the piece the frames grow by those that they end, and the new unfinished frame is what is
+-- left of them.
+pub record Advances (old new : Partial) (had have : List Frame) (piece : List ℕ) (count : ℕ) : Type 0 where
+  pub done : List Frame
+  pub some_octet : 0 < count
+  pub within : count ≤ length piece
+  pub frames : have ≡ had ++ done
+  pub reads : Frames (octets_of old ++ take count piece) done (octets_of new)
+  pub kept : IsKept new
+
+-- the line is ended with its LF, and the next begins
+pub record IsNextLineOf (stage : Stage) (old new : Partial) : Type 0 where
+  pub stage_is : new.stage ≡ stage
+  pub head : new.head.items ≡ old.head.items ++ 10 ∷ []
+  pub line : new.line ≡ length old.head.items + 1
+  pub no_cr : new.with_cr ≡ false
+  pub headers : new.headers.items ≡ old.headers.items
+  pub body : new.body.items ≡ old.body.items
+
+-- the frame that its fields make
+abbrev pub frame_of : Verb → Partial → Frame
+frame_of verb p = record { verb = verb; headers = p.headers.items; body = p.body.items }

@@ -1,0 +1,132 @@
+//! A frame: its command, its headers and its body.
+
+ghost use Rattle.std.specs.Prelude.{◌≡◌, Some, None, MatchOption};
+ghost use Rattle.frame_core.specs.Writable.{first_of};
+
+use crate::bytes::Bytes;
+use crate::headers::Headers;
+use crate::text::Text;
+
+/// A command of STOMP 1.2 ("Standard Headers" and the sections on client and server frames). The first eleven come
+/// from clients, the last four from servers.
+#[derive(Clone, Copy, Debug, PartialEq, Eq)]
+pub enum Verb {
+    Connect,
+    Stomp,
+    Send,
+    Subscribe,
+    Unsubscribe,
+    Ack,
+    Nack,
+    Begin,
+    Commit,
+    Abort,
+    Disconnect,
+    Connected,
+    Message,
+    Receipt,
+    Error,
+}
+
+impl Verb {
+    ghost use Rattle.std.specs.Prelude.{◌≡◌, ◌≢◌, MatchOption};
+    ghost use Rattle.frame_core.specs.declared.frame.Verb.{Verb};
+    ghost use Rattle.frame_core.specs.Verbs.{name_of, is_raw, has_body};
+
+    /// The word of the command line.
+    pub fn name(self) -> &'static str
+        ensures { result.now ≡ name_of self }
+    {
+        match self {
+            Verb::Connect => "CONNECT",
+            Verb::Stomp => "STOMP",
+            Verb::Send => "SEND",
+            Verb::Subscribe => "SUBSCRIBE",
+            Verb::Unsubscribe => "UNSUBSCRIBE",
+            Verb::Ack => "ACK",
+            Verb::Nack => "NACK",
+            Verb::Begin => "BEGIN",
+            Verb::Commit => "COMMIT",
+            Verb::Abort => "ABORT",
+            Verb::Disconnect => "DISCONNECT",
+            Verb::Connected => "CONNECTED",
+            Verb::Message => "MESSAGE",
+            Verb::Receipt => "RECEIPT",
+            Verb::Error => "ERROR",
+        }
+    }
+
+    /// The command of that word.
+    pub fn from_name(name: &str) -> Option<Verb>
+        ensures { MatchOption result
+            ((verb : Verb) → name_of verb ≢ name.now)
+            (λ verb. name.now ≡ name_of verb) }
+    {
+        match name {
+            "CONNECT" => Some(Verb::Connect),
+            "STOMP" => Some(Verb::Stomp),
+            "SEND" => Some(Verb::Send),
+            "SUBSCRIBE" => Some(Verb::Subscribe),
+            "UNSUBSCRIBE" => Some(Verb::Unsubscribe),
+            "ACK" => Some(Verb::Ack),
+            "NACK" => Some(Verb::Nack),
+            "BEGIN" => Some(Verb::Begin),
+            "COMMIT" => Some(Verb::Commit),
+            "ABORT" => Some(Verb::Abort),
+            "DISCONNECT" => Some(Verb::Disconnect),
+            "CONNECTED" => Some(Verb::Connected),
+            "MESSAGE" => Some(Verb::Message),
+            "RECEIPT" => Some(Verb::Receipt),
+            "ERROR" => Some(Verb::Error),
+            _ => None,
+        }
+    }
+
+    /// Whether its headers stand as they are, with no escapes: CONNECT, STOMP and CONNECTED (STOMP 1.2, "Value
+    /// Encoding").
+    pub fn is_raw(self) -> bool
+        ensures { result ≡ is_raw self }
+    {
+        matches!(self, Verb::Connect | Verb::Stomp | Verb::Connected)
+    }
+
+    /// Whether a frame of it may have a body: SEND, MESSAGE and ERROR (STOMP 1.2, "Body").
+    pub fn has_body(self) -> bool
+        ensures { result ≡ has_body self }
+    {
+        matches!(self, Verb::Send | Verb::Message | Verb::Error)
+    }
+}
+
+/// One frame of STOMP 1.2 as it is meant: names and values without their escapes, and of a repeated header all of
+/// them, of which the first counts.
+#[derive(Clone, Debug, PartialEq, Eq, Drop)]
+pub struct Frame {
+    pub verb: Verb,
+    pub headers: Headers,
+    pub body: Bytes,
+}
+
+/// The value of the first of these headers that has that name.
+pub(crate) fn value_of<'a>(headers: &'a [(Text, Text)], name: &str) -> Option<&'a str>
+    ensures { MatchOption result
+        (first_of name.now headers.now ≡ None)
+        (λ value. first_of name.now headers.now ≡ Some value.now) }
+{
+    for (key, value) in headers {
+        if name == key.as_str() {
+            return Some(value.as_str());
+        }
+    }
+    None
+}
+
+/// The value of the first header of that name, which is the one that counts (STOMP 1.2, "Repeated Header Entries"),
+/// or `None` where there is none.
+pub fn first<'a>(frame: &'a Frame, name: &str) -> Option<&'a str>
+    ensures { MatchOption result
+        (first_of name.now frame.now.headers ≡ None)
+        (λ value. first_of name.now frame.now.headers ≡ Some value.now) }
+{
+    value_of(frame.headers.as_slice(), name)
+}

@@ -1,0 +1,307 @@
+//! The frame that isn't whole yet, octet by octet of its head and slice by slice of its body.
+
+use crate::bytes::Bytes;
+use crate::fault::FrameFault;
+use crate::frame::{Frame, Verb};
+use crate::headers::Headers;
+use crate::lines::{body_plan, header_of, verb_of};
+use crate::search::run_before_nul;
+use crate::text::Text;
+use std::alloc::{AllocError, AllocFailed, Global};
+use std::mem;
+
+/// The octets of a head: its command line, its header lines and its empty line.
+const MAX_HEAD: usize = 8192;
+/// The headers of a frame.
+const MAX_HEADERS: usize = 64;
+/// The octets of a body.
+pub(crate) const MAX_BODY: usize = 65_536;
+
+/// Why reading stops.
+#[derive(Clone, Copy, Debug)]
+pub(crate) enum Stop {
+    Memory,
+    Fault(FrameFault),
+}
+
+impl From<AllocError> for Stop {
+    ghost use Rattle.std.specs.Prelude.{◌≡◌};
+    ghost use Rattle.frame_core.specs.declared.partial.Stop.TheVariants.{Memory};
+
+    ghost from_gives = { λ _ stop. stop ≡ Memory };
+
+    fn from(_error: AllocError) -> Stop {
+        Stop::Memory
+    }
+}
+
+impl<T: Drop> From<AllocFailed<T>> for Stop {
+    ghost use Rattle.std.specs.Prelude.{◌≡◌};
+    ghost use Rattle.frame_core.specs.declared.partial.Stop.TheVariants.{Memory};
+
+    ghost from_gives = { λ _ stop. stop ≡ Memory };
+
+    fn from(_error: AllocFailed<T>) -> Stop {
+        Stop::Memory
+    }
+}
+
+impl From<FrameFault> for Stop {
+    ghost use Rattle.std.specs.Prelude.{◌≡◌};
+    ghost use Rattle.frame_core.specs.declared.partial.Stop.TheVariants.{Fault};
+
+    ghost from_gives = { λ fault stop. stop ≡ Fault fault };
+
+    fn from(fault: FrameFault) -> Stop {
+        Stop::Fault(fault)
+    }
+}
+
+/// How far an unfinished frame has come.
+#[derive(Clone, Copy, Debug)]
+pub(crate) enum Stage {
+    /// The command line isn't whole. Between two frames nothing of it is there, or the CR that may begin an EOL.
+    Command,
+    /// The command line is whole, and header lines or the empty line follow.
+    HeaderLines(Verb),
+    /// The head is whole, and the body follows: of so many octets, or up to the first NUL.
+    Body(Verb, Option<usize>),
+}
+
+/// An unfinished frame. Its octets are kept as they came, and each line of its head is read once, at its LF.
+#[derive(Drop)]
+pub(crate) struct Partial {
+    pub(crate) stage: Stage,
+    /// The octets of the head so far.
+    pub(crate) head: Vec<u8>,
+    /// Where in the head the line begins that isn't whole.
+    pub(crate) line: usize,
+    /// Whether the last octet is a CR, which only an LF may follow.
+    pub(crate) with_cr: bool,
+    pub(crate) headers: Vec<(Text, Text)>,
+    /// The octets behind the head.
+    pub(crate) body: Vec<u8>,
+}
+
+impl Partial {
+    ghost use Rattle.std.specs.Prelude.{◌≡◌, ◌≢◌, ◌<◌, ◌≤◌, ◌+◌, ◌-◌, ◌++◌, ◌∷◌, [], if◌then◌else◌, List, ℕ, Some, None, OnOk, IfOk, IfErr, length, take, true, false};
+    ghost use Rattle.std.specs.List.{AllByRecursion};
+    ghost use Rattle.frame_core.specs.declared.partial.Stage.TheVariants.{Command, HeaderLines, Body};
+    ghost use Rattle.frame_core.specs.declared.partial.Stop.TheVariants.{Memory};
+    ghost use Rattle.frame_core.specs.Streams.{Frames, Fails};
+    ghost use Rattle.frame_core.specs.Faults.{Faulty};
+    ghost use Rattle.frame_core.specs.Stops.{IfFault};
+    ghost use Rattle.frame_core.specs.Partials.{IsKept, IsKeptAt, IsInHead, octets_of, Advances, IsNextLineOf, frame_of};
+
+    /// Nothing yet. It takes no memory.
+    pub(crate) fn new(alloc: Global) -> Partial
+        ensures kept { IsKept result }
+        ensures empty { octets_of result ≡ [] }
+    {
+        Partial {
+            stage: Stage::Command,
+            head: Vec::new(alloc),
+            line: 0,
+            with_cr: false,
+            headers: Vec::new(alloc),
+            body: Vec::new(alloc),
+        }
+    }
+
+    /// Takes some octets of the piece, which has some, and says how many.
+    pub(crate) fn advance(
+        &mut self,
+        alloc: Global,
+        frames: &mut Vec<Frame>,
+        piece: &[u8],
+    ) -> Result<usize, Stop>
+        requires some_octet { 0 < length piece.now }
+        requires kept { IsKept self.old }
+        ensures ok { IfOk result (λ count. Advances self.old self.new frames.old.items frames.new.items piece.now count) }
+        ensures fault { IfErr result (λ stop. IfFault stop (λ fault.
+            (frames.new.items ≡ frames.old.items) × Fails (octets_of self.old ++ piece.now) [] fault)) }
+    {
+        match self.stage {
+            Stage::Body(verb, Some(n)) => self.take_counted(alloc, verb, n, frames, piece),
+            Stage::Body(verb, None) => self.take_to_nul(alloc, verb, frames, piece),
+            _ => {
+                self.take_octet(alloc, piece[0])?;
+                Ok(1)
+            }
+        }
+    }
+
+    /// Takes one octet of the head.
+    fn take_octet(&mut self, alloc: Global, octet: u8) -> Result<(), Stop>
+        requires in_head { IsInHead self.old.stage }
+        requires kept { IsKept self.old }
+        ensures ok { OnOk result (Frames (octets_of self.old ++ octet ∷ []) [] (octets_of self.new) × IsKept self.new) }
+        ensures fault { IfErr result (λ stop. IfFault stop (λ fault. Faulty fault (octets_of self.old ++ octet ∷ []))) }
+    {
+        if self.head.len() == MAX_HEAD {
+            return Err(Stop::Fault(FrameFault::TooLarge));
+        }
+        if octet == b'\n' {
+            return self.end_line(alloc);
+        }
+        if octet == 0 || self.with_cr {
+            return Err(Stop::Fault(FrameFault::Malformed));
+        }
+        self.head.push(octet)?;
+        self.with_cr = octet == b'\r';
+        Ok(())
+    }
+
+    /// Takes the LF of a line.
+    fn end_line(&mut self, alloc: Global) -> Result<(), Stop>
+        requires in_head { IsInHead self.old.stage }
+        requires kept { IsKept self.old }
+        requires room { length self.old.head.items < 8192 }
+        ensures ok { OnOk result (Frames (octets_of self.old ++ 10 ∷ []) [] (octets_of self.new) × IsKept self.new) }
+        ensures fault { IfErr result (λ stop. IfFault stop (λ fault. Faulty fault (octets_of self.old ++ 10 ∷ []))) }
+    {
+        match self.stage {
+            Stage::Command => self.end_command_line(),
+            Stage::HeaderLines(verb) => self.end_header_line(alloc, verb),
+            Stage::Body(..) => unreachable!(),
+        }
+    }
+
+    /// Where the text of the unfinished line ends.
+    fn text_end(&self) -> usize
+        ensures { result ≡ length self.now.head.items - (if self.now.with_cr then 1 else 0) }
+    {
+        self.head.len().saturating_sub(usize::from(self.with_cr))
+    }
+
+    /// Takes the LF of a command line, or of an EOL between two frames.
+    fn end_command_line(&mut self) -> Result<(), Stop>
+        requires kept { IsKeptAt Command self.old }
+        requires stage { self.old.stage ≡ Command }
+        requires room { length self.old.head.items < 8192 }
+        ensures ok { OnOk result (Frames (octets_of self.old ++ 10 ∷ []) [] (octets_of self.new) × IsKept self.new) }
+        ensures fault { IfErr result (λ stop. IfFault stop (λ fault. Faulty fault (octets_of self.old ++ 10 ∷ []))) }
+    {
+        let end = self.text_end();
+        if end == 0 {
+            self.head.clear();
+            self.with_cr = false;
+            return Ok(());
+        }
+        let verb = verb_of(&self.head[self.line..end])?;
+        self.next_line(Stage::HeaderLines(verb))
+    }
+
+    /// Takes the LF of a header line or of the empty line.
+    fn end_header_line(&mut self, alloc: Global, verb: Verb) -> Result<(), Stop>
+        requires kept { IsKeptAt (HeaderLines verb) self.old }
+        requires room { length self.old.head.items < 8192 }
+        ensures ok { OnOk result (Frames (octets_of self.old ++ 10 ∷ []) [] (octets_of self.new) × IsKept self.new) }
+        ensures fault { IfErr result (λ stop. IfFault stop (λ fault. Faulty fault (octets_of self.old ++ 10 ∷ []))) }
+    {
+        let end = self.text_end();
+        if end == self.line {
+            let plan = body_plan(verb, self.headers.as_slice())?;
+            return self.next_line(Stage::Body(verb, plan));
+        }
+        let header = header_of(alloc, verb, &self.head[self.line..end])?;
+        if self.headers.len() == MAX_HEADERS {
+            return Err(Stop::Fault(FrameFault::TooLarge));
+        }
+        self.headers.push(header)?;
+        self.next_line(Stage::HeaderLines(verb))
+    }
+
+    /// Ends the line with its LF, and begins the next.
+    fn next_line(&mut self, stage: Stage) -> Result<(), Stop>
+        requires { length self.old.head.items < 8192 }
+        ensures ok { OnOk result (IsNextLineOf stage self.old self.new) }
+        ensures fault { IfErr result (λ stop. stop ≡ Memory) }
+    {
+        self.line = self.head.len() + 1;
+        self.head.push(b'\n')?;
+        self.with_cr = false;
+        self.stage = stage;
+        Ok(())
+    }
+
+    /// Takes octets of a body of announced length, or the NUL behind it.
+    fn take_counted(
+        &mut self,
+        alloc: Global,
+        verb: Verb,
+        announced: usize,
+        frames: &mut Vec<Frame>,
+        piece: &[u8],
+    ) -> Result<usize, Stop>
+        requires some_octet { 0 < length piece.now }
+        requires stage { self.old.stage ≡ Body verb (Some announced) }
+        requires kept { IsKeptAt (Body verb (Some announced)) self.old }
+        ensures ok { IfOk result (λ count. Advances self.old self.new frames.old.items frames.new.items piece.now count) }
+        ensures fault { IfErr result (λ stop. IfFault stop (λ fault.
+            (frames.new.items ≡ frames.old.items) × Fails (octets_of self.old ++ piece.now) [] fault)) }
+    {
+        let left = announced - self.body.len();
+        if left == 0 {
+            if piece[0] != 0 {
+                return Err(Stop::Fault(FrameFault::Malformed));
+            }
+            self.finish(alloc, verb, frames)?;
+            return Ok(1);
+        }
+        let count = left.min(piece.len());
+        self.body.extend_from_slice(&piece[..count])?;
+        Ok(count)
+    }
+
+    /// Takes octets of a body up to its NUL, or the NUL.
+    fn take_to_nul(
+        &mut self,
+        alloc: Global,
+        verb: Verb,
+        frames: &mut Vec<Frame>,
+        piece: &[u8],
+    ) -> Result<usize, Stop>
+        requires some_octet { 0 < length piece.now }
+        requires stage { self.old.stage ≡ Body verb None }
+        requires kept { IsKeptAt (Body verb None) self.old }
+        ensures ok { IfOk result (λ count. Advances self.old self.new frames.old.items frames.new.items piece.now count) }
+        ensures fault { IfErr result (λ stop. IfFault stop (λ fault.
+            (frames.new.items ≡ frames.old.items) × Fails (octets_of self.old ++ piece.now) [] fault)) }
+    {
+        let count = run_before_nul(piece);
+        if count == 0 {
+            self.finish(alloc, verb, frames)?;
+            return Ok(1);
+        }
+        if !verb.has_body() {
+            return Err(Stop::Fault(FrameFault::BodyNotAllowed));
+        }
+        if count > MAX_BODY - self.body.len() {
+            return Err(Stop::Fault(FrameFault::TooLarge));
+        }
+        self.body.extend_from_slice(&piece[..count])?;
+        Ok(count)
+    }
+
+    /// Ends the frame at its NUL, and begins the next.
+    fn finish(&mut self, alloc: Global, verb: Verb, frames: &mut Vec<Frame>) -> Result<(), Stop>
+        ensures frames { OnOk result (frames.new.items ≡ frames.old.items ++ frame_of verb self.old ∷ []) }
+        ensures kept { OnOk result (IsKept self.new) }
+        ensures empty { OnOk result (octets_of self.new ≡ []) }
+        ensures fault { IfErr result (λ stop. stop ≡ Memory) }
+    {
+        let headers = Headers::new(mem::replace(&mut self.headers, Vec::new(alloc)));
+        let body = Bytes::new(mem::replace(&mut self.body, Vec::new(alloc)));
+        frames.push(Frame {
+            verb,
+            headers,
+            body,
+        })?;
+        self.head.clear();
+        self.line = 0;
+        self.with_cr = false;
+        self.stage = Stage::Command;
+        Ok(())
+    }
+}
