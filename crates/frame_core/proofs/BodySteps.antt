@@ -1,18 +1,16 @@
-use Rattle.std.proofs.Common.{◌≡◌, ◌≢◌, ◌<◌, ◌≤◌, ◌+◌, ◌-◌, ℕ, List, [], ◌∷◌, ◌++◌, Option, Some, None, Bool, true, false, ◌⊎◌, inl, inr, MatchOption, IfSome, length, take, drop, get_or, refl, sym, ap, ◌∙◌, subst, arith, append_assoc, length-append}
+use Rattle.std.proofs.Common.{◌≡◌, ◌≢◌, ◌<◌, ◌≤◌, ℕ, List, [], ◌∷◌, ◌++◌, Option, Some, None, Bool, true, false, inr, IfSome, length, take, drop, get_or, sym, ◌∙◌, subst, arith, append_assoc, length-append}
 use Rattle.std.specs.List.{AllByRecursion}
 use Rattle.std.proofs.lemmas.Bool.{both_ways}
-use Rattle.std.proofs.lemmas.List.{append-nil, nil_from_length, take-take, take-append-drop, get_or-take, length-take-le}
+use Rattle.std.proofs.lemmas.List.{nil_from_length, take-take, take-append-drop, get_or-take, length-take-le}
 use Rattle.std.proofs.lemmas.List.Elements.{All-from_recursion}
 use Rattle.frame_core.specs.declared.frame.Frame.{Frame}
 use Rattle.frame_core.specs.declared.frame.Verb.{Verb}
-use Rattle.frame_core.specs.declared.fault.FrameFault.{FrameFault}
 use Rattle.frame_core.specs.declared.fault.FrameFault.TheVariants.{Malformed, TooLarge, BodyNotAllowed}
-use Rattle.frame_core.specs.declared.partial.Stage.{Stage}
 use Rattle.frame_core.specs.declared.partial.Stage.TheVariants.{Body}
 use Rattle.frame_core.specs.Verbs.{has_body}
 use Rattle.frame_core.specs.Writable.{HasNoNul}
 use Rattle.frame_core.specs.Spelling.{IsNumber, announced, HasBody, Spells, IsWithinLimits}
-use Rattle.frame_core.specs.Parts.{IsBoundedHead, IsAnnounced, Plans, IsPartOfBody}
+use Rattle.frame_core.specs.Parts.{IsBoundedHead, Plans, IsPartOfBody}
 use Rattle.frame_core.specs.Faults.{Faulty, IsNextOctet}
 use Rattle.frame_core.specs.Partials.{IsAt}
 use Rattle.frame_core.specs.Streams.{Frames}

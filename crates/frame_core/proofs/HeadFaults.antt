@@ -1,4 +1,4 @@
-use Rattle.std.proofs.Common.{◌≡◌, ◌≢◌, ◌<◌, ◌≤◌, ◌+◌, ◌-◌, ℕ, List, [], ◌∷◌, ◌++◌, Option, Some, None, Bool, true, false, cond, ◌⊎◌, inl, inr, length, refl, sym, ap, ◌∙◌, subst, arith, length-append}
+use Rattle.std.proofs.Common.{◌≡◌, ◌≢◌, ◌<◌, ◌+◌, ◌-◌, ℕ, List, [], ◌∷◌, ◌++◌, Bool, true, false, cond, inl, inr, length, sym, ap, ◌∙◌, subst, arith, length-append}
 use Rattle.std.specs.List.{AllByRecursion}
 use Rattle.std.proofs.lemmas.List.{append-nil}
 use Rattle.frame_core.specs.declared.frame.Verb.{Verb}
@@ -7,13 +7,13 @@ use Rattle.frame_core.specs.declared.fault.FrameFault.TheVariants.{Malformed, To
 use Rattle.frame_core.specs.declared.partial.Stop.{Stop}
 use Rattle.frame_core.specs.declared.partial.Stop.TheVariants.{Memory, Fault}
 use Rattle.frame_core.specs.declared.partial.Stage.{Stage}
-use Rattle.frame_core.specs.declared.partial.Stage.TheVariants.{Command, HeaderLines, Body}
-use Rattle.frame_core.specs.Heads.{IsInLine, eol, HeaderLine, line_of, IsHeaderLine, IsHeaderOf, Begins}
+use Rattle.frame_core.specs.declared.partial.Stage.TheVariants.{Command, HeaderLines}
+use Rattle.frame_core.specs.Heads.{IsInLine}
 use Rattle.frame_core.specs.Parts.{IsBoundedHead}
-use Rattle.frame_core.specs.Faults.{Faulty, HasStrayOctet, HasLongHead, IsFirstLine, IsNextLine, IsNextHeader}
+use Rattle.frame_core.specs.Faults.{Faulty, IsFirstLine, IsNextLine, IsNextHeader}
 use Rattle.frame_core.specs.Stops.{IfFault, ended, IsHeaderText, IsNameAndValue, IsCommandFault, IsHeaderFault, IsPlanFault}
-use Rattle.frame_core.specs.Partials.{IsLine, IsAt, IsInHead}
-use Rattle.frame_core.proofs.OpenLines.{length-head, with_lf, no_body, part_of_head}
+use Rattle.frame_core.specs.Partials.{IsAt, IsInHead}
+use Rattle.frame_core.proofs.OpenLines.{length-head, with_lf, no_body, part_of_head, run_kept}
 use Rattle.frame_core.proofs.HeadSteps.{other_end, with_line, head_ends}
 
 -- a head that isn't whole is all that is there
@@ -40,6 +40,17 @@ pub long_head : (stage : Stage) (head : List ℕ) (line : ℕ) (cr : Bool) (head
 long_head stage head line cr headers body b i h full =
     let p = part_of_head stage head line cr headers body i h in
     inl (record { front = head; last = b; whole = only_head head body (b ∷ []) (no_body stage head line cr headers body i h); part = p.0; full = full })
+
+-- the limit within octets of a line
+pub long_run : (stage : Stage) (head : List ℕ) (line : ℕ) (cr : Bool) (headers : List (List ℕ × List ℕ)) (body run : List ℕ) (b : ℕ) → IsInHead stage → IsAt stage head line cr headers body
+    → cr ≡ false → AllByRecursion IsInLine run → length head + length run ≡ 8192 → Faulty TooLarge (((head ++ body) ++ run) ++ b ∷ [])
+long_run stage head line cr headers body run b i h no_cr in_line full =
+    let none = no_body stage head line cr headers body i h in
+    let kept = run_kept stage head line cr headers body run i h no_cr in_line (omega arith) in
+    let at_limit = long_head stage (head ++ run) line false headers body b i kept (omega (arith, length-append head run)) in
+    let same : ((head ++ run) ++ body) ++ b ∷ [] ≡ ((head ++ body) ++ run) ++ b ∷ [] =
+    only_head (head ++ run) body (b ∷ []) none ∙ ap (λ x. x ++ b ∷ []) (sym (only_head head body run none)) in
+    subst (Faulty TooLarge) same at_limit
 
 -- why a command line is refused
 command_fault : (fault : FrameFault) (text bytes : List ℕ) → IsFirstLine text bytes → IsCommandFault text fault → Faulty fault bytes

@@ -1,18 +1,15 @@
-use Rattle.std.proofs.Common.{◌≡◌, ◌≢◌, ◌<◌, ◌≤◌, ◌+◌, ◌-◌, ℕ, List, [], ◌∷◌, ◌++◌, Option, Some, None, Bool, true, false, cond, ◌⊎◌, inl, inr, length, flat_map, refl, sym, ap, ◌∙◌, subst, arith, append_assoc, length-append}
-use Rattle.std.specs.List.{AllByRecursion}
-use Rattle.std.specs.Str.{IsUtf8}
+use Rattle.std.proofs.Common.{◌≡◌, ◌<◌, ◌≤◌, ◌+◌, ◌-◌, ℕ, List, [], ◌∷◌, ◌++◌, Option, Some, None, Bool, true, false, cond, length, flat_map, refl, sym, ap, ◌∙◌, subst, arith, append_assoc, length-append}
 use Rattle.std.proofs.lemmas.List.{append-nil, nil_from_length}
 use Rattle.frame_core.specs.declared.frame.Verb.{Verb}
-use Rattle.frame_core.specs.declared.partial.Stage.{Stage}
 use Rattle.frame_core.specs.declared.partial.Stage.TheVariants.{Command, HeaderLines, Body}
 use Rattle.frame_core.specs.Verbs.{name_of}
 use Rattle.frame_core.specs.Heads.{IsInLine, eol, HeaderLine, line_of, IsHeaderOf, Begins, IsHead}
 use Rattle.frame_core.specs.Heads as Heads
 use Rattle.frame_core.specs.Parts.{IsBoundedHead, Plans, IsPartOfBody}
 use Rattle.frame_core.specs.Stops.{ended, IsHeaderText}
-use Rattle.frame_core.specs.Partials.{IsLine, IsAt, IsInHead}
+use Rattle.frame_core.specs.Partials.{IsLine, IsAt}
 use Rattle.frame_core.specs.Streams.{Frames}
-use Rattle.frame_core.proofs.OpenLines.{tail, tail-eol, length-head, with_lf, octet_reads}
+use Rattle.frame_core.proofs.OpenLines.{tail, tail-eol, length-head, with_lf}
 
 -- a line without text is nothing but a part of its end
 pub no_text : (head : List ℕ) (line : ℕ) (cr : Bool) (lines : List ℕ) (l : IsLine head line cr lines) → length head - cond cr 1 0 ≡ line → l.part ≡ []

@@ -1,4 +1,4 @@
-use Rattle.std.proofs.Common.{◌≡◌, ◌≢◌, ◌<◌, ◌≤◌, ◌+◌, ◌^◌, ℕ, List, [], ◌∷◌, ◌++◌, Option, Some, None, Result, Ok, Err, MatchOption, Bool, true, false, cond, eqb, nat_lt, ◌⊎◌, inl, inr, length, drop, get_or, refl, sym, ap, ◌∙◌, subst, arith}
+use Rattle.std.proofs.Common.{◌≡◌, ◌≢◌, ◌<◌, ℕ, List, ◌∷◌, ◌++◌, Some, None, inl, inr, length, sym, ap, ◌∙◌, subst}
 use Rattle.std.specs.List.{AllByRecursion}
 use Rattle.std.specs.Str.{IsUtf8}
 use Rattle.frame_core.specs.declared.frame.Verb.{Verb}
@@ -6,8 +6,8 @@ use Rattle.frame_core.specs.declared.fault.FrameFault.{FrameFault}
 use Rattle.frame_core.specs.declared.fault.FrameFault.TheVariants.{UndefinedEscape, BadHeaderValue}
 use Rattle.frame_core.specs.declared.partial.Stop.{Stop}
 use Rattle.frame_core.specs.declared.partial.Stop.TheVariants.{Memory, Fault}
-use Rattle.frame_core.specs.Heads.{IsInLine, HeaderLine, IsHeaderLine, meaning, IsHeaderOf}
-use Rattle.frame_core.specs.Stops.{IfFault, ended, IsHeaderText, IsHeaderFault, IsNameAndValue}
+use Rattle.frame_core.specs.Heads.{IsInLine, meaning}
+use Rattle.frame_core.specs.Stops.{IfFault, IsHeaderText, IsHeaderFault, IsNameAndValue}
 use Rattle.frame_core.proofs.Lists.{all_left, all_right, all_both}
 
 -- what a callee says of its one fault, said of a greater whole

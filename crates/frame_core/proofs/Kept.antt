@@ -1,14 +1,13 @@
-use Rattle.std.proofs.Common.{◌≡◌, ◌≤◌, ◌+◌, ℕ, List, [], ◌∷◌, ◌++◌, Option, Bool, inl, inr, length, take, drop, refl, sym, ap, subst, ◌∙◌, append_assoc, arith}
+use Rattle.std.proofs.Common.{◌≡◌, ◌+◌, ℕ, List, [], ◌++◌, Bool, inl, inr, take, drop, refl, sym, ap, subst, ◌∙◌, append_assoc, arith}
 use Rattle.std.proofs.lemmas.List.{append-nil, take-take, take-append-drop, drop-take}
 use Rattle.frame_core.specs.declared.frame.Frame.{Frame}
-use Rattle.frame_core.specs.declared.frame.Verb.{Verb}
 use Rattle.frame_core.specs.declared.fault.FrameFault.{FrameFault}
 use Rattle.frame_core.specs.declared.partial.Stage.{Stage}
 use Rattle.frame_core.specs.declared.partial.Stage.TheVariants.{Command, HeaderLines, Body}
 use Rattle.frame_core.specs.Parts.{IsPartOfHead, IsUnfinished}
 use Rattle.frame_core.specs.Streams.{Frames, Fails}
 use Rattle.frame_core.specs.Partials.{IsAt}
-use Rattle.frame_core.proofs.OpenLines.{no_body, part_of_head}
+use Rattle.frame_core.proofs.OpenLines.{part_of_head}
 use Rattle.frame_core.proofs.Joins.{joined, joined_fault}
 
 -- what is kept is an unfinished frame

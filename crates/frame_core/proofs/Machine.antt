@@ -51,10 +51,10 @@ abbrev pub plan_next : Verb → List (List ℕ × List ℕ) → Option (List ℕ
 plan_next verb headers None = goes (in_body verb headers None [])
 plan_next verb headers (Some text) =
     cond (is_number text)
-      (cond (nat_lt 65536 (digits_value 10 text)) (fails TooLarge)
-        (cond (nat_lt 0 (digits_value 10 text) && not (has_body verb)) (fails BodyNotAllowed)
-          (goes (in_body verb headers (Some (digits_value 10 text)) []))))
-      (fails BadHeaderValue)
+    (cond (nat_lt 65536 (digits_value 10 text)) (fails TooLarge)
+    (cond (nat_lt 0 (digits_value 10 text) && not (has_body verb)) (fails BodyNotAllowed)
+    (goes (in_body verb headers (Some (digits_value 10 text)) []))))
+    (fails BadHeaderValue)
 
 abbrev pub cut_colon : List ℕ → Option (List ℕ × List ℕ)
 cut_colon [] = None
@@ -65,8 +65,8 @@ meant verb headers used None value = fails UndefinedEscape
 meant verb headers used (Some name) None = fails UndefinedEscape
 meant verb headers used (Some name) (Some value) =
     cond (is_utf8 name && is_utf8 value)
-      (cond (nat_lt (length headers) 64) (goes (in_line (Some (verb, headers ++ (name, value) ∷ [])) [] false used)) (fails TooLarge))
-      (fails BadHeaderValue)
+    (cond (nat_lt (length headers) 64) (goes (in_line (Some (verb, headers ++ (name, value) ∷ [])) [] false used)) (fails TooLarge))
+    (fails BadHeaderValue)
 
 abbrev pub line_parts : Verb → List (List ℕ × List ℕ) → ℕ → Option (List ℕ × List ℕ) → Next
 line_parts verb headers used None = fails Malformed
@@ -84,20 +84,20 @@ abbrev pub line_step : Known → List ℕ → Bool → ℕ → ℕ → Next
 line_step k part true used b = cond (eqb b 10) (ended_line k part used) (fails Malformed)
 line_step k part false used b =
     cond (eqb b 10) (ended_line k part used)
-      (cond (eqb b 0) (fails Malformed)
-        (cond (eqb b 13) (goes (in_line k part true used)) (goes (in_line k (part ++ b ∷ []) false used))))
+    (cond (eqb b 0) (fails Malformed)
+    (cond (eqb b 13) (goes (in_line k part true used)) (goes (in_line k (part ++ b ∷ []) false used))))
 
 abbrev pub step : At → ℕ → Next
 step (in_line k part cr used) b = cond (eqb used 8192) (fails TooLarge) (line_step k part cr (used + 1) b)
 step (in_body verb headers (Some n) body) b =
     cond (eqb (length body) n)
-      (cond (eqb b 0) (gives (record { verb = verb; headers = headers; body = body })) (fails Malformed))
-      (goes (in_body verb headers (Some n) (body ++ b ∷ [])))
+    (cond (eqb b 0) (gives (record { verb = verb; headers = headers; body = body })) (fails Malformed))
+    (goes (in_body verb headers (Some n) (body ++ b ∷ [])))
 step (in_body verb headers None body) b =
     cond (eqb b 0) (gives (record { verb = verb; headers = headers; body = body }))
-      (cond (has_body verb)
-        (cond (eqb (length body) 65536) (fails TooLarge) (goes (in_body verb headers None (body ++ b ∷ []))))
-        (fails BodyNotAllowed))
+    (cond (has_body verb)
+    (cond (eqb (length body) 65536) (fails TooLarge) (goes (in_body verb headers None (body ++ b ∷ []))))
+    (fails BodyNotAllowed))
 
 abbrev pub run : List ℕ → At → Outcome
 run [] at = waits

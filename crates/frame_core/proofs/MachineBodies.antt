@@ -1,17 +1,16 @@
-use Rattle.std.proofs.Common.{◌≡◌, ◌≢◌, ◌<◌, ◌≤◌, ◌+◌, ℕ, List, [], ◌∷◌, ◌++◌, Bool, true, false, cond, eqb, not, ◌&&◌, nat_lt, nat_le, Option, Some, None, MatchOption, IfSome, ◌⊎◌, inl, inr, length, refl, sym, ap, ◌∙◌, subst, arith, append_assoc, length-append}
+use Rattle.std.proofs.Common.{◌≡◌, ◌<◌, ◌≤◌, ◌+◌, ℕ, List, [], ◌∷◌, ◌++◌, true, false, not, ◌&&◌, nat_lt, nat_le, Option, Some, None, MatchOption, IfSome, ◌⊎◌, inl, inr, length, refl, sym, ap, ◌∙◌, arith, append_assoc, length-append}
 use Rattle.std.specs.Char.{digit_value}
 use Rattle.std.specs.Str.Parse.{IsNumeral, AllDigits, digits_value}
-use Rattle.std.proofs.lemmas.Bool.{ne_eqb, eq-eqb, lt-ltb, le-ltb, le-leb, leb-true, ltb-true, and_from, and_parts, and_left, and_right, cases_Bool, both_ways, false_from_ne_true}
-use Rattle.std.proofs.lemmas.List.{append-nil, nil_from_length}
+use Rattle.std.proofs.lemmas.Bool.{ne_eqb, eq-eqb, lt-ltb, le-ltb, le-leb, leb-true, ltb-true, and_from, and_parts, and_left, and_right, cases_Bool, false_from_ne_true}
+use Rattle.std.proofs.lemmas.List.{append-nil}
 use Rattle.frame_core.specs.declared.frame.Frame.{Frame}
 use Rattle.frame_core.specs.declared.frame.Verb.{Verb}
-use Rattle.frame_core.specs.declared.fault.FrameFault.{FrameFault}
 use Rattle.frame_core.specs.Verbs.{has_body}
 use Rattle.frame_core.specs.Writable.{HasNoNul}
-use Rattle.frame_core.specs.Spelling.{IsNumber, announced, HasBody, Spells, IsWithinLimits}
-use Rattle.frame_core.specs.Parts.{IsBoundedHead, IsAnnounced, Plans, IsPartOfBody}
+use Rattle.frame_core.specs.Spelling.{IsNumber, announced, Spells, IsWithinLimits}
+use Rattle.frame_core.specs.Parts.{IsBoundedHead, Plans, IsPartOfBody}
 use Rattle.frame_core.proofs.BodySteps.{IsWholeBody}
-use Rattle.frame_core.proofs.Machine.{Known, At, in_line, in_body, Next, goes, gives, fails, Outcome, waits, given, failed, next, all_digits, is_number, plan_next, step, run, start}
+use Rattle.frame_core.proofs.Machine.{in_body, goes, gives, given, next, all_digits, is_number, plan_next, step, run, start}
 use Rattle.frame_core.proofs.MachineHeads.{go_run, head_run}
 
 digits_pass : (text : List ℕ) → AllDigits 10 text → all_digits text ≡ true
@@ -25,7 +24,7 @@ passes_digits (c ∷ text) h = let p = and_parts (nat_lt (digit_value c) 10) (al
 pub number_passes : (text : List ℕ) → IsNumeral 10 text → length text ≤ 10 → is_number text ≡ true
 number_passes text h le =
     and_from (nat_lt 0 (length text)) (all_digits text && nat_le (length text) 10) (lt-ltb 0 (length text) h.0)
-      (and_from (all_digits text) (nat_le (length text) 10) (digits_pass text h.1) (le-leb (length text) 10 le))
+    (and_from (all_digits text) (nat_le (length text) 10) (digits_pass text h.1) (le-leb (length text) 10 le))
 
 pub number_fails : (text : List ℕ) → (IsNumeral 10 text → ⊥) ⊎ (10 < length text) → is_number text ≡ false
 number_fails text h = false_from_ne_true (is_number text) (λ e.
@@ -38,8 +37,8 @@ number_fails text h = false_from_ne_true (is_number text) (λ e.
 bare_test : (verb : Verb) (n : ℕ) → (has_body verb ≡ false → n ≡ 0) → (nat_lt 0 n && not (has_body verb)) ≡ false
 bare_test verb n h =
     elim (cases_Bool (has_body verb)) [
-      inl e ↦ and_right (nat_lt 0 n) (not (has_body verb)) (ap not e)
-    | inr e ↦ and_left (nat_lt 0 n) (not (has_body verb)) (le-ltb 0 n (omega (arith, h e)))
+      | inl e ↦ and_right (nat_lt 0 n) (not (has_body verb)) (ap not e)
+      | inr e ↦ and_left (nat_lt 0 n) (not (has_body verb)) (le-ltb 0 n (omega (arith, h e)))
     ]
 
 pub plans_next : (verb : Verb) (headers : List (List ℕ × List ℕ)) (plan : Option ℕ) → Plans verb headers plan → plan_next verb headers (announced headers) ≡ goes (in_body verb headers plan [])
@@ -62,7 +61,7 @@ uncounted_run : (verb : Verb) (headers : List (List ℕ × List ℕ)) (done body
 uncounted_run verb headers done [] x h allowed le = ap (λ d. run x (in_body verb headers None d)) (sym (append-nil done))
 uncounted_run verb headers done (b ∷ body) x h allowed le =
     let more : step (in_body verb headers None done) b ≡ goes (in_body verb headers None (done ++ b ∷ [])) =
-      rw (ne_eqb b 0 h.0, allowed, ne_eqb (length done) 65536 (λ e. omega arith)) refl in
+    rw (ne_eqb b 0 h.0, allowed, ne_eqb (length done) 65536 (λ e. omega arith)) refl in
     go_run b (body ++ x) (in_body verb headers None done) (in_body verb headers None (done ++ b ∷ [])) more ∙ uncounted_run verb headers (done ++ b ∷ []) body x h.1 allowed (omega (arith, length-append done (b ∷ [])))
     ∙ ap (λ d. run x (in_body verb headers None d)) (append_assoc done (b ∷ []) body)
 
@@ -71,9 +70,9 @@ pub body_run : (verb : Verb) (headers : List (List ℕ × List ℕ)) (plan : Opt
     → run (body ++ x) (in_body verb headers plan []) ≡ run x (in_body verb headers plan body)
 body_run verb headers None body x part =
     elim (cases_Bool (has_body verb)) [
-      inl allowed ↦ uncounted_run verb headers [] body x part.0 allowed (omega (arith, part.1))
-    | inr bare ↦ let none = part.2 bare in
-        ap (λ z. run (z ++ x) (in_body verb headers None [])) none ∙ ap (λ z. run x (in_body verb headers None z)) (sym none)
+      | inl allowed ↦ uncounted_run verb headers [] body x part.0 allowed (omega (arith, part.1))
+      | inr bare ↦ let none = part.2 bare in
+          ap (λ z. run (z ++ x) (in_body verb headers None [])) none ∙ ap (λ z. run x (in_body verb headers None z)) (sym none)
     ]
 body_run verb headers (Some n) body x part = counted_run verb headers n [] body x (omega (arith, part))
 

@@ -1,8 +1,6 @@
-use Rattle.std.proofs.Common.{◌≡◌, ◌≢◌, ◌<◌, ◌≤◌, ◌+◌, ℕ, List, [], ◌∷◌, ◌++◌, Bool, true, false, cond, eqb, not, ◌&&◌, nat_lt, nat_le, Option, Some, None, ◌⊎◌, inl, inr, length, refl, sym, ap, ◌∙◌, subst, arith, append_assoc, length-append, codes}
-use Rattle.std.specs.List.{AllByRecursion}
+use Rattle.std.proofs.Common.{◌≡◌, ◌≢◌, ◌<◌, ◌+◌, ℕ, List, [], ◌∷◌, ◌++◌, Bool, true, false, eqb, ◌&&◌, Option, Some, None, ◌⊎◌, inl, inr, length, refl, sym, ap, ◌∙◌, subst, arith, append_assoc, length-append}
 use Rattle.std.specs.Str.{IsUtf8, is_utf8, bytes_eq}
-use Rattle.std.specs.Str.Parse.{digits_value}
-use Rattle.std.proofs.lemmas.Bool.{ne_eqb, eq-eqb, lt-ltb, le-ltb, and_from, and_left, and_right, false_from_ne_true}
+use Rattle.std.proofs.lemmas.Bool.{ne_eqb, eq-eqb, lt-ltb, le-ltb, and_left, and_right, false_from_ne_true}
 use Rattle.std.proofs.lemmas.List.{append-nil}
 use Rattle.std.proofs.lemmas.Slice.Eq.{bytes_eq-Decides}
 use Rattle.std.proofs.lemmas.Str.{is_utf8-from_IsUtf8, IsUtf8-from_is_utf8}
@@ -10,13 +8,12 @@ use Rattle.frame_core.specs.declared.frame.Verb.{Verb}
 use Rattle.frame_core.specs.declared.frame.Verb.TheVariants.{Connect, Stomp, Send, Subscribe, Unsubscribe, Ack, Nack, Begin, Commit, Abort, Disconnect, Connected, Message, Receipt, Error}
 use Rattle.frame_core.specs.declared.fault.FrameFault.{FrameFault}
 use Rattle.frame_core.specs.declared.fault.FrameFault.TheVariants.{Malformed, TooLarge, UndefinedEscape, UnknownCommand, BodyNotAllowed, BadHeaderValue}
-use Rattle.frame_core.specs.Verbs.{name_of, has_body}
-use Rattle.frame_core.specs.Heads.{IsInLine, eol, HeaderLine, line_of, IsHeaderLine, meaning, IsHeaderOf}
-use Rattle.frame_core.specs.Spelling.{announced}
-use Rattle.frame_core.specs.Parts.{IsPartOfHead, IsUnfinished, IsHeadAndPart}
+use Rattle.frame_core.specs.Verbs.{name_of}
+use Rattle.frame_core.specs.Heads.{eol, HeaderLine, line_of, meaning}
+use Rattle.frame_core.specs.Parts.{IsPartOfHead, IsUnfinished}
 use Rattle.frame_core.specs.Faults.{Faulty, HasStrayOctet, HasLongHead, IsFirstLine, IsNextLine, IsNextHeader, Announces, IsNextOctet}
 use Rattle.frame_core.proofs.OneHead.{verb_named}
-use Rattle.frame_core.proofs.Machine.{Known, At, in_line, in_body, Next, goes, skips, gives, fails, Outcome, waits, skipped, given, failed, next, is_number, plan_next, cut_colon, meant, line_parts, ended_line, line_step, step, run, start}
+use Rattle.frame_core.proofs.Machine.{Known, in_line, in_body, fails, waits, failed, next, plan_next, meant, ended_line, step, run, start}
 use Rattle.frame_core.proofs.MachineHeads.{line_run, begins_run, header_line_run, head_run, part_run, cut_colon-none, form_next}
 use Rattle.frame_core.proofs.MachineBodies.{number_passes, number_fails, head_body_run}
 
@@ -41,7 +38,7 @@ stray_run : (bytes x : List ℕ) → HasStrayOctet bytes → run (bytes ++ x) st
 stray_run bytes x h =
     let n : length bytes ≡ length h.front + 1 = ap length h.whole ∙ length-append h.front (h.last ∷ []) in
     behind_part bytes h.front x h.last h.part Malformed h.whole
-      (λ k. stray_step k h.part.part h.part.with_cr (length h.front) h.last (omega (arith, n, h.size)) h.plain h.behind_cr)
+    (λ k. stray_step k h.part.part h.part.with_cr (length h.front) h.last (omega (arith, n, h.size)) h.plain h.behind_cr)
 
 long_head_run : (bytes x : List ℕ) → HasLongHead bytes → run (bytes ++ x) start ≡ failed TooLarge x
 long_head_run bytes x h = behind_part bytes h.front x h.last h.part TooLarge h.whole (λ k. rw (eq-eqb (length h.front) 8192 h.full) refl)
@@ -112,17 +109,17 @@ pub faulty_run : (fault : FrameFault) (bytes x : List ℕ) → Faulty fault byte
 faulty_run Malformed bytes x (inl h) = stray_run bytes x h
 faulty_run Malformed bytes x (inr (inl (verb, headers, text, line, why))) =
     next_run verb headers text bytes x line Malformed (λ used. elim why [
-      inl none ↦ rw (some_text text line.some_octet, cut_colon-none text none) refl
-    | inr nameless ↦
-        let P : List ℕ → Type 0 = λ t. ended_line (Some (verb, headers)) t used ≡ fails Malformed in
-        subst P (sym nameless.1) (rw (some_text (58 ∷ nameless.0) (omega arith)) refl)
+      | inl none ↦ rw (some_text text line.some_octet, cut_colon-none text none) refl
+      | inr nameless ↦
+          let P : List ℕ → Type 0 = λ t. ended_line (Some (verb, headers)) t used ≡ fails Malformed in
+          subst P (sym nameless.1) (rw (some_text (58 ∷ nameless.0) (omega arith)) refl)
     ])
 faulty_run Malformed bytes x (inr (inr (verb, body, b, octet, ne))) =
     octet_run verb (Some (length body)) body b bytes x octet Malformed (rw (eq-eqb (length body) (length body) refl, ne_eqb b 0 ne) refl)
 faulty_run TooLarge bytes x (inl h) = long_head_run bytes x h
 faulty_run TooLarge bytes x (inr (inl (verb, headers, line, header, is_next, of, full))) =
     header_run verb headers line bytes x is_next TooLarge (λ used.
-      rw (of.name, of.value, is_utf8-from_IsUtf8 header.0 of.name_utf8, is_utf8-from_IsUtf8 header.1 of.value_utf8, le-ltb (length headers) 64 (omega (arith, full))) refl)
+    rw (of.name, of.value, is_utf8-from_IsUtf8 header.0 of.name_utf8, is_utf8-from_IsUtf8 header.1 of.value_utf8, le-ltb (length headers) 64 (omega (arith, full))) refl)
 faulty_run TooLarge bytes x (inr (inr (inl (verb, n, announces, large)))) =
     announced_run verb n bytes x announces TooLarge (rw (number_passes announces.1 announces.4.0 announces.5, announces.4.1, lt-ltb 65536 n large) refl)
 faulty_run TooLarge bytes x (inr (inr (inr (verb, body, b, octet, ne, allowed, full)))) =
@@ -133,7 +130,7 @@ faulty_run UnknownCommand bytes x (text, line, utf8, none) =
     first_run text bytes x line UnknownCommand (rw (some_text text line.some_octet, is_utf8-from_IsUtf8 text utf8, no_verb text none) refl)
 faulty_run BodyNotAllowed bytes x (inl (verb, n, announces, some, small, bare)) =
     announced_run verb n bytes x announces BodyNotAllowed
-      (rw (number_passes announces.1 announces.4.0 announces.5, announces.4.1, le-ltb 65536 n small, lt-ltb 0 n some, bare) refl)
+    (rw (number_passes announces.1 announces.4.0 announces.5, announces.4.1, le-ltb 65536 n small, lt-ltb 0 n some, bare) refl)
 faulty_run BodyNotAllowed bytes x (inr (verb, b, octet, ne, bare)) =
     octet_run verb None [] b bytes x octet BodyNotAllowed (rw (ne_eqb b 0 ne, bare) refl)
 faulty_run BadHeaderValue bytes x (inl (text, line, broken)) =

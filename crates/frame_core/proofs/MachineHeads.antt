@@ -1,18 +1,18 @@
-use Rattle.std.proofs.Common.{zero, suc, ◌&&◌, ◌≡◌, ◌≢◌, ◌<◌, ◌≤◌, ◌+◌, ◌-◌, ℕ, List, [], ◌∷◌, ◌++◌, Bool, true, false, cond, eqb, nat_lt, nat_le, Option, Some, None, ◌⊎◌, inl, inr, length, get_or, option_map, refl, sym, ap, ◌∙◌, subst, arith, append_assoc, length-append, codes}
+use Rattle.std.proofs.Common.{zero, suc, ◌&&◌, ◌≡◌, ◌≢◌, ◌<◌, ◌≤◌, ◌+◌, ℕ, List, [], ◌∷◌, ◌++◌, Bool, true, false, nat_lt, Some, None, inl, inr, length, get_or, refl, sym, ap, ◌∙◌, arith, append_assoc, length-append, codes}
 use Rattle.std.specs.List.{AllByRecursion}
-use Rattle.std.specs.Str.{IsUtf8, is_utf8}
-use Rattle.std.proofs.lemmas.Bool.{cases_eq, ne_eqb, eq-eqb, lt-ltb, and_from, and_parts, ltb-true, false_from_ne_true}
+use Rattle.std.specs.Str.{IsUtf8}
+use Rattle.std.proofs.lemmas.Bool.{ne_eqb, lt-ltb, and_parts, ltb-true}
 use Rattle.std.proofs.lemmas.List.{append-nil, nil_from_length}
-use Rattle.std.proofs.lemmas.Str.{is_utf8-from_IsUtf8, IsUtf8-from_is_utf8, IsUtf8-from_ascii}
+use Rattle.std.proofs.lemmas.Str.{is_utf8-from_IsUtf8, IsUtf8-from_ascii}
 use Rattle.frame_core.specs.declared.frame.Verb.{Verb}
 use Rattle.frame_core.specs.declared.frame.Verb.TheVariants.{Connect, Stomp, Send, Subscribe, Unsubscribe, Ack, Nack, Begin, Commit, Abort, Disconnect, Connected, Message, Receipt, Error}
 use Rattle.frame_core.specs.Verbs.{name_of}
-use Rattle.frame_core.specs.Heads.{IsInLine, eol, HeaderLine, line_of, IsHeaderLine, meaning, IsHeaderOf, HeaderLines, Begins, IsHead}
-use Rattle.frame_core.specs.Parts.{IsBegun, IsPartOfHead, IsBoundedHead}
+use Rattle.frame_core.specs.Heads.{IsInLine, eol, HeaderLine, line_of, IsHeaderLine, meaning, IsHeaderOf, HeaderLines, Begins}
+use Rattle.frame_core.specs.Parts.{IsPartOfHead, IsBoundedHead}
 use Rattle.frame_core.specs.Spelling.{announced}
 use Rattle.frame_core.proofs.OpenLines.{tail}
 use Rattle.frame_core.proofs.OneHead.{verb_named, named, name_in_line}
-use Rattle.frame_core.proofs.Machine.{Known, At, in_line, in_body, Next, goes, skips, gives, fails, Outcome, waits, skipped, given, failed, next, plan_next, cut_colon, meant, line_parts, verb_next, ended_line, line_step, step, run, start}
+use Rattle.frame_core.proofs.Machine.{Known, At, in_line, goes, next, plan_next, cut_colon, meant, ended_line, step, run, start}
 
 pub go_run : (b : ℕ) (bytes : List ℕ) (at then : At) → step at b ≡ goes then → run (b ∷ bytes) at ≡ run bytes then
 go_run b bytes at then e = ap (λ n. next n (run bytes) bytes) e
@@ -172,7 +172,7 @@ begins_run verb headers bytes x h few le =
     let name = name_of verb in
     let n : length bytes ≡ length (name ++ eol h.with_cr) + length h.lines = ap length h.whole ∙ length-append (name ++ eol h.with_cr) h.lines in
     let spread : bytes ++ x ≡ name ++ (eol h.with_cr ++ (h.lines ++ x)) =
-      ap (λ z. z ++ x) h.whole ∙ append_assoc (name ++ eol h.with_cr) h.lines x ∙ append_assoc name (eol h.with_cr) (h.lines ++ x) in
+    ap (λ z. z ++ x) h.whole ∙ append_assoc (name ++ eol h.with_cr) h.lines x ∙ append_assoc name (eol h.with_cr) (h.lines ++ x) in
     let u : 0 + length (name ++ eol h.with_cr) + length h.lines ≡ length bytes = omega (arith, n) in
     ap (λ z. run z start) spread ∙ line_run None name h.with_cr (h.lines ++ x) 0 (name_in_line verb) (omega (arith, n))
     ∙ ap (λ m. next m (run (h.lines ++ x)) (h.lines ++ x)) (command_next verb (0 + length (name ++ eol h.with_cr)))
@@ -208,13 +208,17 @@ part_run front x p =
     let n : length front ≡ length p.lines + length open_part = ap length p.whole ∙ length-append p.lines open_part in
     let spread : front ++ x ≡ p.lines ++ (open_part ++ x) = ap (λ z. z ++ x) p.whole ∙ append_assoc p.lines open_part x in
     elim p.begun [
-      inl none ↦
-        let u : 0 + length open_part ≡ length front = omega (arith, n, ap length none) in
-        (None, ap (λ z. run z start) (spread ∙ ap (λ z. z ++ (open_part ++ x)) none) ∙ open_run None p.part p.with_cr x 0 p.each (omega (arith, n, p.size))
-          ∙ ap (λ w. run x (in_line None p.part p.with_cr w)) u)
-    | inr some ↦
-        let u : length p.lines + length open_part ≡ length front = omega (arith, n) in
-        (Some (some.0, some.1), ap (λ z. run z start) spread ∙ begins_run some.0 some.1 p.lines (open_part ++ x) some.2 some.3 (omega (arith, n, p.size))
-          ∙ open_run (Some (some.0, some.1)) p.part p.with_cr x (length p.lines) p.each (omega (arith, n, p.size))
-          ∙ ap (λ w. run x (in_line (Some (some.0, some.1)) p.part p.with_cr w)) u)
+      | inl none ↦
+          let u : 0 + length open_part ≡ length front = omega (arith, n, ap length none) in (
+            None,
+            ap (λ z. run z start) (spread ∙ ap (λ z. z ++ (open_part ++ x)) none) ∙ open_run None p.part p.with_cr x 0 p.each (omega (arith, n, p.size))
+                ∙ ap (λ w. run x (in_line None p.part p.with_cr w)) u,
+          )
+      | inr some ↦
+          let u : length p.lines + length open_part ≡ length front = omega (arith, n) in (
+            Some (some.0, some.1),
+            ap (λ z. run z start) spread ∙ begins_run some.0 some.1 p.lines (open_part ++ x) some.2 some.3 (omega (arith, n, p.size))
+                ∙ open_run (Some (some.0, some.1)) p.part p.with_cr x (length p.lines) p.each (omega (arith, n, p.size))
+                ∙ ap (λ w. run x (in_line (Some (some.0, some.1)) p.part p.with_cr w)) u,
+          )
     ]

@@ -1,4 +1,4 @@
-use Rattle.std.proofs.Common.{◌≡◌, ◌+◌, ℕ, List, [], ◌∷◌, ◌++◌, true, false, length, sym}
+use Rattle.std.proofs.Common.{◌≡◌, ◌+◌, [], ◌∷◌, ◌++◌, false, length}
 use Rattle.frame_core.specs.declared.partial.Stage.{Stage}
 use Rattle.frame_core.specs.declared.partial.Partial.{Partial}
 use Rattle.frame_core.specs.Partials.{IsAt, IsKept, octets_of, IsNextLineOf}

@@ -1,11 +1,10 @@
-use Rattle.std.proofs.Common.{inl, ◌≡◌, ◌≤◌, ◌+◌, ℕ, List, [], ◌∷◌, ◌++◌, Bool, true, false, flat_map, length, None, refl, sym, ap, ◌∙◌, subst, arith, append_assoc}
+use Rattle.std.proofs.Common.{inl, ◌≡◌, ℕ, List, [], ◌∷◌, ◌++◌, Bool, true, false, flat_map, None, refl, sym, ap, ◌∙◌, subst, arith, append_assoc}
 use Rattle.std.specs.Bool.{⊤}
 use Rattle.std.proofs.lemmas.List.{append-nil}
 use Rattle.frame_core.specs.declared.frame.Frame.{Frame}
 use Rattle.frame_core.specs.declared.fault.FrameFault.{FrameFault}
 use Rattle.frame_core.specs.Heads.{eol}
 use Rattle.frame_core.specs.Spelling.{Spells, IsWithinLimits}
-use Rattle.frame_core.specs.Faults.{Faulty}
 use Rattle.frame_core.specs.Streams.{Frames, Reads, Fails, IsReadFirst}
 use Rattle.frame_core.proofs.OneHead.{one_line}
 use Rattle.frame_core.proofs.Joins.{joined, one_frame}
@@ -47,7 +46,7 @@ same_gaps [] h x y s e = (h, e)
 same_gaps (cr ∷ g) [] x y s e = absurd (no_gap y cr (flat_map eol g ++ x) s (sym e ∙ append_assoc (eol cr) (flat_map eol g) x))
 same_gaps (cr ∷ g) (other ∷ h) x y s e =
     let cut : [] ++ (eol cr ++ (flat_map eol g ++ x)) ≡ [] ++ (eol other ++ (flat_map eol h ++ y)) =
-      sym (append_assoc (eol cr) (flat_map eol g) x) ∙ e ∙ append_assoc (eol other) (flat_map eol h) y in
+    sym (append_assoc (eol cr) (flat_map eol g) x) ∙ e ∙ append_assoc (eol other) (flat_map eol h) y in
     same_gaps g h x y s (one_line [] [] cr other (flat_map eol g ++ x) (flat_map eol h ++ y) tt tt cut).2
 
 -- octets that begin with no EOL have none before others
@@ -129,9 +128,9 @@ fails_on stream more a b q f h k =
 pub read_first : (bytes : List ℕ) (frame : Frame) → Spells bytes frame → IsWithinLimits bytes frame → IsReadFirst bytes frame
 read_first bytes frame spells within =
     let alone : Reads bytes (frame ∷ []) [] =
-      (one_frame bytes frame spells within, inl (record { lines = []; part = []; with_cr = false; whole = refl; begun = inl refl; each = tt; size = omega arith })) in
+    (one_frame bytes frame spells within, inl (record { lines = []; part = []; with_cr = false; whole = refl; begun = inl refl; each = tt; size = omega arith })) in
     record {
       alone = alone;
       reads = λ more frames rest k. reads_on bytes more (frame ∷ []) frames [] rest alone k;
-      fails = λ more frames fault k. fails_on bytes more (frame ∷ []) frames [] fault alone k
+      fails = λ more frames fault k. fails_on bytes more (frame ∷ []) frames [] fault alone k;
     }

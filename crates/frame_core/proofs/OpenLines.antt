@@ -1,15 +1,14 @@
-use Rattle.std.proofs.Common.{◌≡◌, ◌≢◌, ◌<◌, ◌≤◌, ◌+◌, ◌-◌, ℕ, List, [], ◌∷◌, ◌++◌, Option, Some, None, Bool, true, false, cond, eqb, ◌⊎◌, inl, inr, length, take, drop, flat_map, refl, sym, ap, ◌∙◌, subst, arith, append_assoc, length-append}
+use Rattle.std.proofs.Common.{◌≡◌, ◌≢◌, ◌<◌, ◌≤◌, ◌+◌, ◌-◌, ℕ, List, [], ◌∷◌, ◌++◌, Bool, true, false, cond, eqb, inl, inr, length, take, drop, refl, sym, ap, ◌∙◌, subst, arith, append_assoc, length-append}
 use Rattle.std.specs.List.{AllByRecursion}
-use Rattle.std.proofs.lemmas.Bool.{cases_eq, ne_eqb, eq-eqb}
-use Rattle.std.proofs.lemmas.List.{append-nil, drop_at, take_at, nil_from_length}
-use Rattle.frame_core.specs.declared.frame.Verb.{Verb}
+use Rattle.std.proofs.lemmas.Bool.{cases_eq, ne_eqb}
+use Rattle.std.proofs.lemmas.List.{append-nil, drop_at, take_at}
 use Rattle.frame_core.specs.declared.partial.Stage.{Stage}
 use Rattle.frame_core.specs.declared.partial.Stage.TheVariants.{Command, HeaderLines, Body}
-use Rattle.frame_core.specs.Heads.{IsInLine, eol, Begins}
+use Rattle.frame_core.specs.Heads.{IsInLine, eol}
 use Rattle.frame_core.specs.Parts.{IsBegun, IsPartOfHead}
 use Rattle.frame_core.specs.Partials.{IsLine, IsAt, IsInHead}
 use Rattle.frame_core.specs.Streams.{Frames}
-use Rattle.frame_core.proofs.Lists.{all_push}
+use Rattle.frame_core.proofs.Lists.{all_push, all_append}
 
 -- what of its end stands behind an unfinished line
 abbrev pub tail : Bool → List ℕ
@@ -101,3 +100,28 @@ pub octet_reads : (head body : List ℕ) (b : ℕ) → body ≡ [] → Frames ((
 octet_reads head body b e =
     let P : List ℕ → Type 0 = λ x. Frames ((head ++ x) ++ b ∷ []) [] ((head ++ b ∷ []) ++ x) in
     subst P (sym e) ([], ap (λ x. x ++ b ∷ []) (append-nil head) ∙ sym (append-nil (head ++ b ∷ [])))
+
+-- octets of a line more
+more_run : (head : List ℕ) (line : ℕ) (lines run : List ℕ) → IsLine head line false lines → AllByRecursion IsInLine run → length head + length run ≤ 8192 → IsLine (head ++ run) line false lines
+more_run head line lines run l in_line room = record {
+  part = l.part ++ run;
+  whole = ap (λ x. x ++ run) l.whole ∙ simp (append_assoc, append-nil);
+  start = l.start;
+  each = all_append IsInLine l.part run l.each in_line;
+  size = omega (arith, length-append head run);
+}
+
+pub run_kept : (stage : Stage) (head : List ℕ) (line : ℕ) (cr : Bool) (headers : List (List ℕ × List ℕ)) (body run : List ℕ) → IsInHead stage → IsAt stage head line cr headers body
+    → cr ≡ false → AllByRecursion IsInLine run → length head + length run ≤ 8192 → IsAt stage (head ++ run) line false headers body
+run_kept Command head line cr headers body run i h no_cr in_line room =
+    let P : Bool → Type 0 = λ x. IsLine head line x [] in
+    (more_run head line [] run (subst P no_cr h.0) in_line room, h.1, h.2)
+run_kept (HeaderLines verb) head line cr headers body run i h no_cr in_line room =
+    let P : Bool → Type 0 = λ x. IsLine head line x h.0 in
+    (h.0, more_run head line h.0 run (subst P no_cr h.1) in_line room, h.2, h.3, h.4)
+run_kept (Body verb plan) head line cr headers body run i h no_cr in_line room = absurd i
+
+pub run_reads : (head body run : List ℕ) → body ≡ [] → Frames ((head ++ body) ++ run) [] ((head ++ run) ++ body)
+run_reads head body run e =
+    let P : List ℕ → Type 0 = λ x. Frames ((head ++ x) ++ run) [] ((head ++ run) ++ x) in
+    subst P (sym e) ([], ap (λ x. x ++ run) (append-nil head) ∙ sym (append-nil (head ++ run)))

@@ -1,4 +1,4 @@
-use Rattle.std.proofs.Common.{◌≡◌, ◌≢◌, ◌<◌, ◌+◌, ◌^◌, ℕ, List, [], ◌∷◌, ◌++◌, Bool, true, false, cond, Option, Some, None, MatchOption, length, take, get_or, decimal, flat_map, inl, inr, refl, sym, ap, subst, ◌∙◌, append_assoc, length-append, arith, codes}
+use Rattle.std.proofs.Common.{◌≡◌, ◌≢◌, ◌<◌, ◌+◌, ◌^◌, ℕ, List, [], ◌∷◌, ◌++◌, true, false, Option, Some, None, MatchOption, length, take, get_or, decimal, flat_map, inl, inr, refl, sym, ap, subst, ◌∙◌, append_assoc, length-append, arith}
 use Rattle.std.specs.List.{AllByRecursion}
 use Rattle.std.specs.Str.{IsUtf8}
 use Rattle.std.proofs.lemmas.Bool.{cases_eq, ne_eqb, cases_Bool}
@@ -9,10 +9,10 @@ use Rattle.escape_core.specs.Escapes as Escape
 use Rattle.escape_core.proofs.Reading.{unescaped-escaped}
 use Rattle.frame_core.specs.declared.frame.Frame.{Frame}
 use Rattle.frame_core.specs.declared.frame.Verb.{Verb}
-use Rattle.frame_core.specs.Verbs.{name_of, is_raw, has_body}
-use Rattle.frame_core.specs.Heads.{IsInLine, eol, HeaderLine, line_of, IsHeaderLine, meaning, IsHeaderOf, HeaderLines, Begins, IsHead}
-use Rattle.frame_core.specs.Spelling.{IsNumber, announced, HasBody, Spells}
-use Rattle.frame_core.specs.Writable.{HasNoNul, IsOneLine, IsHeader, IsRawHeader, Writable, first_of}
+use Rattle.frame_core.specs.Verbs.{name_of, is_raw}
+use Rattle.frame_core.specs.Heads.{IsInLine, HeaderLine, meaning, IsHeaderOf, HeaderLines, IsHead}
+use Rattle.frame_core.specs.Spelling.{IsNumber, announced, Spells}
+use Rattle.frame_core.specs.Writable.{HasNoNul, IsOneLine, IsHeader, IsRawHeader, Writable}
 use Rattle.frame_core.specs.Written.{IsText, code, written_header, written_head, written}
 use Rattle.frame_core.proofs.Lists.{all_append, all_push, all_weaker, all_both}
 

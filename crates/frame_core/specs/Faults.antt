@@ -8,7 +8,7 @@ use Rattle.frame_core.specs.declared.fault.FrameFault.TheVariants.{Malformed, To
 use Rattle.frame_core.specs.Verbs.{name_of, has_body}
 use Rattle.frame_core.specs.Heads.{IsInLine, eol, HeaderLine, line_of, IsHeaderLine, meaning, IsHeaderOf, Begins}
 use Rattle.frame_core.specs.Spelling.{IsNumber, announced}
-use Rattle.frame_core.specs.Parts.{IsPartOfHead, IsBoundedHead, IsAnnounced, IsPartOfBody, Plans}
+use Rattle.frame_core.specs.Parts.{IsPartOfHead, IsBoundedHead, IsPartOfBody, Plans}
 
 -- Each fact below says of octets that they end at the very octet that decides a fault.
 

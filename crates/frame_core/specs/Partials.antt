@@ -1,4 +1,4 @@
-use Rattle.std.specs.Prelude.{◌≡◌, ◌<◌, ◌≤◌, ◌+◌, List, [], ◌∷◌, ◌++◌, ℕ, Bool, true, false, Option, length, take, cond, ⊤}
+use Rattle.std.specs.Prelude.{◌≡◌, ◌<◌, ◌≤◌, ◌+◌, List, [], ◌∷◌, ◌++◌, ℕ, Bool, false, length, take, cond, ⊤}
 use Rattle.std.specs.List.{AllByRecursion}
 use Rattle.frame_core.specs.declared.frame.Frame.{Frame}
 use Rattle.frame_core.specs.declared.frame.Verb.{Verb}
@@ -48,6 +48,13 @@ pub record Advances (old new : Partial) (had have : List Frame) (piece : List �
   pub within : count ≤ length piece
   pub frames : have ≡ had ++ done
   pub reads : Frames (octets_of old ++ take count piece) done (octets_of new)
+  pub kept : IsKept new
+
+-- With so many octets of the piece no frame ends, and the new unfinished frame has them too.
+pub record AdvancesHead (old new : Partial) (piece : List ℕ) (count : ℕ) : Type 0 where
+  pub some_octet : 0 < count
+  pub within : count ≤ length piece
+  pub reads : Frames (octets_of old ++ take count piece) [] (octets_of new)
   pub kept : IsKept new
 
 -- the line is ended with its LF, and the next begins

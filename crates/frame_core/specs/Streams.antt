@@ -25,6 +25,6 @@ Fails stream frames fault = (bad : List ℕ) × (after : List ℕ) × Frames str
 pub record IsReadFirst (bytes : List ℕ) (frame : Frame) : Type 0 where
   pub alone : Reads bytes (frame ∷ []) []
   pub reads : (more : List ℕ) (frames : List Frame) (rest : List ℕ) → Reads (bytes ++ more) frames rest
-    → (others : List Frame) × (frames ≡ frame ∷ others) × Reads more others rest
+      → (others : List Frame) × (frames ≡ frame ∷ others) × Reads more others rest
   pub fails : (more : List ℕ) (frames : List Frame) (fault : FrameFault) → Fails (bytes ++ more) frames fault
-    → (others : List Frame) × (frames ≡ frame ∷ others) × Fails more others fault
+      → (others : List Frame) × (frames ≡ frame ∷ others) × Fails more others fault

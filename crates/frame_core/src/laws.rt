@@ -21,8 +21,7 @@ pub fn one_answer()
         → (a ≡ b) × (f ≡ g) }
     ensures apart { (stream : List ℕ) (a b : List Frame) (q : List ℕ) (f : FrameFault) → Reads stream a q
         → Fails stream b f → ⊥ }
-{
-}
+{}
 
 /// A longer stream keeps the frames of a shorter one, reads on behind them, and keeps its fault.
 pub fn answers_stay()
@@ -32,5 +31,4 @@ pub fn answers_stay()
         → Fails (stream ++ more) b f → (c : List Frame) × (b ≡ a ++ c) × Fails (q ++ more) c f }
     ensures fault { (stream more : List ℕ) (a : List Frame) (f : FrameFault) → Fails stream a f
         → Fails (stream ++ more) a f }
-{
-}
+{}

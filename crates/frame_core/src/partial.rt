@@ -5,7 +5,7 @@ use crate::fault::FrameFault;
 use crate::frame::{Frame, Verb};
 use crate::headers::Headers;
 use crate::lines::{body_plan, header_of, verb_of};
-use crate::search::run_before_nul;
+use crate::search::{run_before_nul, run_in_line};
 use crate::text::Text;
 use std::alloc::{AllocError, AllocFailed, Global};
 use std::mem;
@@ -91,7 +91,7 @@ impl Partial {
     ghost use Rattle.frame_core.specs.Streams.{Frames, Fails};
     ghost use Rattle.frame_core.specs.Faults.{Faulty};
     ghost use Rattle.frame_core.specs.Stops.{IfFault};
-    ghost use Rattle.frame_core.specs.Partials.{IsKept, IsKeptAt, IsInHead, octets_of, Advances, IsNextLineOf, frame_of};
+    ghost use Rattle.frame_core.specs.Partials.{IsKept, IsKeptAt, IsInHead, octets_of, Advances, AdvancesHead, IsNextLineOf, frame_of};
 
     /// Nothing yet. It takes no memory.
     pub(crate) fn new(alloc: Global) -> Partial
@@ -124,11 +124,28 @@ impl Partial {
         match self.stage {
             Stage::Body(verb, Some(n)) => self.take_counted(alloc, verb, n, frames, piece),
             Stage::Body(verb, None) => self.take_to_nul(alloc, verb, frames, piece),
-            _ => {
-                self.take_octet(alloc, piece[0])?;
-                Ok(1)
-            }
+            _ => self.take_head(alloc, piece),
         }
+    }
+
+    /// Takes octets of a line up to its end, or an octet of its end.
+    fn take_head(&mut self, alloc: Global, piece: &[u8]) -> Result<usize, Stop>
+        requires some_octet { 0 < length piece.now }
+        requires in_head { IsInHead self.old.stage }
+        requires kept { IsKept self.old }
+        ensures ok { IfOk result (λ count. AdvancesHead self.old self.new piece.now count) }
+        ensures fault { IfErr result (λ stop. IfFault stop (λ fault. Fails (octets_of self.old ++ piece.now) [] fault)) }
+    {
+        let count = run_in_line(piece);
+        if count == 0 || self.with_cr {
+            self.take_octet(alloc, piece[0])?;
+            return Ok(1);
+        }
+        if count > MAX_HEAD - self.head.len() {
+            return Err(Stop::Fault(FrameFault::TooLarge));
+        }
+        self.head.extend_from_slice(&piece[..count])?;
+        Ok(count)
     }
 
     /// Takes one octet of the head.

@@ -2,8 +2,9 @@
 
 ghost use Rattle.std.specs.Prelude.{◌≡◌, ◌≢◌, ◌<◌, ◌≤◌, MatchOption, length, take, slice_index};
 ghost use Rattle.std.specs.List.{AllByRecursion};
+ghost use Rattle.frame_core.specs.Heads.{IsInLine};
 
-use memchr::memchr;
+use memchr::{memchr, memchr3};
 
 /// The first place of the octet.
 pub(crate) fn place_of(octet: u8, octets: &[u8]) -> Option<usize>
@@ -21,6 +22,17 @@ pub(crate) fn run_before_nul(octets: &[u8]) -> usize
     ensures nul { result < length octets.now → slice_index octets.now result ≡ 0 }
 {
     match place_of(0, octets) {
+        Some(at) => at,
+        None => octets.len(),
+    }
+}
+
+/// How many octets stand before the first NUL, LF or CR.
+pub(crate) fn run_in_line(octets: &[u8]) -> usize
+    ensures within { result ≤ length octets.now }
+    ensures run { AllByRecursion IsInLine (take result octets.now) }
+{
+    match memchr3(0, b'\n', b'\r', octets) {
         Some(at) => at,
         None => octets.len(),
     }

@@ -1,6 +1,5 @@
 use Rattle.std.proofs.Common.{◌≡◌, Some, true, false, arith, sym, ◌∙◌, ap}
 use Rattle.std.specs.Str.{bytes_eq}
-use Rattle.frame_core.specs.Writable.{first_of}
 use Rattle.frame_core.proofs.Lookups.{first_found, first_passed}
 use Rattle.frame_core.proofs.frame.value_of.Goals as goal
 

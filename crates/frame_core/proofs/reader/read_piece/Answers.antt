@@ -1,7 +1,6 @@
-use Rattle.std.proofs.Common.{arith, ◌≡◌, ◌+◌, ◌-◌, ◌≤◌, ◌++◌, [], drop, take, length, sym, subst, ap, ◌∙◌, List, ℕ}
+use Rattle.std.proofs.Common.{arith, ◌+◌, ◌++◌, [], take, length, sym, subst, ap, List, ℕ}
 use Rattle.std.proofs.lemmas.Result.{err_from_is_err_and}
 use Rattle.std.proofs.lemmas.List.{take_rest, length-drop}
-use Rattle.frame_core.specs.declared.fault.FrameFault.{FrameFault}
 use Rattle.frame_core.specs.declared.frame.Frame.{Frame}
 use Rattle.frame_core.specs.Partials.{octets_of}
 use Rattle.frame_core.specs.Streams.{Frames, Fails}

@@ -1,6 +1,5 @@
-use Rattle.std.proofs.Common.{◌≡◌, ◌++◌, arith, refl, List, ℕ, Vec, Global}
+use Rattle.std.proofs.Common.{◌≡◌, ◌++◌, arith, ℕ, Vec, Global}
 use Rattle.std.proofs.lemmas.Grind.{common_steps}
-use Rattle.frame_core.specs.declared.frame.Frame.{Frame}
 use Rattle.frame_core.proofs.Pieces.{pieces_read, pieces_fail}
 use Rattle.frame_core.proofs.reader.read_pieces.Goals as goal
 

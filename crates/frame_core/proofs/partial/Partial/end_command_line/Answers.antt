@@ -1,9 +1,7 @@
-use Rattle.std.proofs.Common.{◌≡◌, ◌<◌, ◌-◌, cond, take, drop, length, subst, sym, ap, ◌∙◌, arith, List, ℕ}
+use Rattle.std.proofs.Common.{◌≡◌, ◌<◌, ◌-◌, cond, take, drop, length, subst, sym, ap, ◌∙◌, arith}
 use Rattle.std.proofs.lemmas.Result.{err_from_is_err_and, on_ok_weaker}
-use Rattle.frame_core.specs.declared.partial.Stage.{Stage}
-use Rattle.frame_core.specs.declared.partial.Stage.TheVariants.{Command, HeaderLines}
+use Rattle.frame_core.specs.declared.partial.Stage.TheVariants.{HeaderLines}
 use Rattle.frame_core.specs.Stops.{IsCommandFault}
-use Rattle.frame_core.specs.Partials.{IsAt}
 use Rattle.frame_core.proofs.OpenLines.{text_is}
 use Rattle.frame_core.proofs.HeadSteps.{gap_reads, gap_kept, command_ends}
 use Rattle.frame_core.proofs.HeadFaults.{command_refused}

@@ -1,14 +1,9 @@
-use Rattle.std.proofs.Common.{◌∷◌, [], ◌++◌, ◌+◌, false, ◌≡◌, ◌<◌, ◌-◌, cond, take, drop, length, subst, sym, ap, ◌∙◌, arith, List, ℕ}
-use Rattle.std.specs.List.{AllByRecursion}
+use Rattle.std.proofs.Common.{◌∷◌, [], ◌++◌, ◌+◌, false, ◌<◌, ◌-◌, take, drop, length, subst, sym, ap, ◌∙◌, arith}
 use Rattle.std.proofs.lemmas.Result.{err_from_is_err_and, on_ok_weaker}
-use Rattle.frame_core.specs.declared.fault.FrameFault.{FrameFault}
-use Rattle.frame_core.specs.declared.partial.Stage.{Stage}
-use Rattle.frame_core.specs.declared.partial.Stage.TheVariants.{Command, HeaderLines, Body}
+use Rattle.frame_core.specs.declared.partial.Stage.TheVariants.{HeaderLines, Body}
 use Rattle.frame_core.specs.declared.partial.Partial.{Partial}
-use Rattle.frame_core.specs.Heads.{IsInLine}
 use Rattle.frame_core.specs.Partials.{IsAt}
 use Rattle.frame_core.specs.Parts.{Plans}
-use Rattle.frame_core.specs.Faults.{Faulty}
 use Rattle.frame_core.specs.Stops.{IfFault, IsPlanFault, IsHeaderFault, IsHeaderText}
 use Rattle.frame_core.proofs.OpenLines.{text_is}
 use Rattle.frame_core.proofs.HeadSteps.{header_ends, body_begins}

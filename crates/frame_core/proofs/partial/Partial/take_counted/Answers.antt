@@ -1,9 +1,7 @@
-use Rattle.std.proofs.Common.{◌≡◌, ◌≤◌, ◌+◌, refl, arith, take, get_or, length, subst, sym, ap, ◌∙◌, ◌∷◌, [], ◌++◌, List, ℕ, Some, length-append}
+use Rattle.std.proofs.Common.{◌≡◌, ◌≤◌, refl, arith, take, get_or, length, sym, ap, ◌∙◌, ◌∷◌, [], ◌++◌, Some, length-append}
 use Rattle.std.proofs.lemmas.List.{append-nil, length-take-le}
 use Rattle.frame_core.specs.declared.fault.FrameFault.TheVariants.{Malformed}
-use Rattle.frame_core.specs.declared.partial.Stage.TheVariants.{Body}
-use Rattle.frame_core.specs.Partials.{octets_of, IsAt}
-use Rattle.frame_core.specs.Streams.{Frames}
+use Rattle.frame_core.specs.Partials.{octets_of}
 use Rattle.frame_core.proofs.Joins.{fails_first, take_first}
 use Rattle.frame_core.proofs.BodySteps.{body_reads, framed, frame_ends, no_end}
 use Rattle.frame_core.proofs.partial.Partial.take_counted.Goals as goal

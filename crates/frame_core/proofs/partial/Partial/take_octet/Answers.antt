@@ -1,4 +1,4 @@
-use Rattle.std.proofs.Common.{◌<◌, ◌≢◌, ◌≡◌, false, true, arith, length}
+use Rattle.std.proofs.Common.{◌<◌, ◌≡◌, false, arith, length}
 use Rattle.frame_core.proofs.OpenLines.{octet_reads, octet_kept, no_body, part_of_head}
 use Rattle.frame_core.proofs.HeadFaults.{stray, long_head}
 use Rattle.frame_core.proofs.partial.Partial.take_octet.Goals as goal

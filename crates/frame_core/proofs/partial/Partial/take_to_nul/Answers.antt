@@ -1,11 +1,9 @@
-use Rattle.std.proofs.Common.{◌≡◌, ◌≢◌, ◌<◌, ◌≤◌, ◌+◌, ◌-◌, refl, arith, take, get_or, length, subst, sym, ap, ◌∙◌, ◌∷◌, [], ◌++◌, List, ℕ, Some, None, true, false, length-append}
+use Rattle.std.proofs.Common.{◌≡◌, ◌≢◌, ◌<◌, ◌≤◌, ◌-◌, refl, arith, take, get_or, length, subst, sym, ap, ◌∙◌, ◌∷◌, [], ◌++◌, ℕ, None, true, false, length-append}
 use Rattle.std.proofs.lemmas.List.{append-nil, length-take-le}
 use Rattle.frame_core.specs.declared.fault.FrameFault.TheVariants.{BodyNotAllowed, TooLarge}
-use Rattle.frame_core.specs.declared.partial.Stage.TheVariants.{Body}
 use Rattle.frame_core.specs.Verbs.{has_body}
 use Rattle.frame_core.specs.Writable.{HasNoNul}
-use Rattle.frame_core.specs.Partials.{octets_of, IsAt}
-use Rattle.frame_core.specs.Streams.{Frames}
+use Rattle.frame_core.specs.Partials.{octets_of}
 use Rattle.frame_core.proofs.Joins.{fails_first, fails_at, take_first}
 use Rattle.frame_core.proofs.BodySteps.{body_reads, framed, frame_ends, wrong_body, run_kept, long_body, at_run, shorter_run}
 use Rattle.frame_core.proofs.partial.Partial.take_to_nul.Goals as goal
