@@ -43,14 +43,15 @@ impl Broker {
         }
     }
 
-    /// Carries out the command of the next number, and answers its outputs. `Memory` where memory is refused; from then
-    /// on `Broken`, and nothing is carried out any more.
+    /// Carries out the command of the next number, and answers its outputs. `Memory` where memory is refused: part of
+    /// the command may be done then, and from then on the answer is `Broken`, which changes nothing.
     pub fn step(&mut self, alloc: Global, command: Command) -> Result<Vec<Out>, BrokerFault>
         requires { self.old.state.count < 2 ^ 62 }
         ensures state { OnOk result (self.new.state ≡ step self.old.state command) }
         ensures outs { IfOk result (λ given. given.items ≡ outs self.old.state command) }
         ensures whole { OnOk result ((self.old.broken ≡ false) × (self.new.broken ≡ false)) }
         ensures broken { IfErr result (λ fault. (fault ≡ BrokerFault.Broken) ↔ (self.old.broken ≡ true)) }
+        ensures same { IfErr result (λ fault. fault ≡ BrokerFault.Broken → self.new ≡ self.old) }
         ensures err { OnErr result (self.new.broken ≡ true) }
         ensures count { OnErr result (self.new.state.count ≡ self.old.state.count) }
     {

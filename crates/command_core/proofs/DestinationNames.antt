@@ -1,4 +1,4 @@
-use Rattle.std.proofs.Common.{◌≡◌, ◌++◌, List, ℕ, inl, inr, sym, ◌∙◌}
+use Rattle.std.proofs.Common.{◌≡◌, List, ℕ, inl, inr}
 use Rattle.command_core.specs.Destinations.{Names}
 
 -- a destination has one name

@@ -1,9 +1,8 @@
-use Rattle.std.proofs.Common.{◌≡◌, ◌≢◌, ◌≤◌, ◌<◌, ◌^◌, ◌%◌, ◌+◌, ◌++◌, ◌∷◌, [], List, ℕ, true, false, arith, length, rules}
+use Rattle.std.proofs.Common.{◌≤◌, ◌<◌, ◌^◌, ◌%◌, ◌+◌, ◌++◌, ◌∷◌, [], List, ℕ, arith, rules}
 use Rattle.std.specs.List.{AllByRecursion}
 use Rattle.std.specs.Fmt.{decimal}
-use Rattle.std.proofs.lemmas.Fmt.{decimal_by_steps, decimal_nonempty}
-use Rattle.frame_core.specs.declared.frame.Frame.{Frame}
-use Rattle.frame_core.specs.Writable.{HasNoNul, IsOneLine, IsHeader, IsRawHeader, Writable}
+use Rattle.std.proofs.lemmas.Fmt.{decimal_by_steps}
+use Rattle.frame_core.specs.Writable.{HasNoNul, IsOneLine, Writable}
 use Rattle.command_core.specs.Replies.{connected}
 
 abbrev AllDigits : List ℕ → Type 0

@@ -1,7 +1,7 @@
 use Rattle.std.specs.Prelude.{◌≡◌, ℕ, List, Option, None}
-use Rattle.command_core.specs.declared.command.End.TheVariants.{Bye, Lost, Bad}
+use Rattle.command_core.specs.declared.command.End.TheVariants.{Lost}
 use Rattle.command_core.specs.declared.command.Op.{Op}
-use Rattle.command_core.specs.declared.command.Op.TheVariants.{Open, Send, End}
+use Rattle.command_core.specs.declared.command.Op.TheVariants.{Open, End}
 
 -- which session asks for what, and the receipt that it asks for
 pub record CommandValue : Type 0 where

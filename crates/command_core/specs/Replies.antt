@@ -10,7 +10,8 @@ abbrev pub connected : ℕ → Frame
 connected session = record {
   verb = verbs.Connected;
   headers = (codes "version", codes "1.2") ∷ (codes "session", decimal session) ∷ (codes "heart-beat", codes "0,0") ∷ [];
-  body = [] }
+  body = [];
+}
 
 -- the header that names the frame that asked for a receipt, where one did
 abbrev pub receipt_header : Option (List ℕ) → List (List ℕ × List ℕ)

@@ -3,11 +3,10 @@
 ghost use Rattle.std.specs.Prelude.{◌≡◌, Option};
 ghost use Rattle.command_core.specs.Commands.{IsCommand};
 
-use std::marker::Model;
-
 use crate::fault::Fault;
 use crate::header_text::HeaderText;
 use crate::sending::Sending;
+use std::marker::Model;
 
 /// How a session ends.
 #[derive(Clone, Copy, Debug, PartialEq, Eq)]

@@ -4,11 +4,10 @@ ghost use Rattle.std.specs.Prelude.{◌≡◌, ◌↔◌, ◌++◌, IsTrue, IfOk
 ghost use Rattle.std.specs.List.{list_all};
 ghost use Rattle.command_core.specs.Destinations.{IsDestination, IsName, Names, is_destination_byte, is_queue};
 
+use frame_core::Text;
 use std::alloc::{AllocError, Global};
 use std::cmp::Ordering;
 use std::marker::Model;
-
-use frame_core::Text;
 use thiserror::Error;
 
 /// A valid destination: `/topic/` or `/queue/` and a name of 1 to 200 bytes, each an ASCII letter, a digit, `.`, `-`,

@@ -102,7 +102,8 @@ pub fn fault_text(fault: Fault) -> &'static str
         Fault::UnknownAcknowledgement => "E11 unknown acknowledgement id",
         Fault::NoRoom => "E12 no room for the message",
         Fault::NoClientId => "E13 durable subscription without client-id",
-        Fault::DurableSubscription => "E14 durable subscription unknown, in use or of another topic",
+        Fault::DurableSubscription =>
+            "E14 durable subscription unknown, in use or of another topic",
         Fault::TransactionBegun => "E15 transaction already begun",
         Fault::TransactionNotBegun => "E16 transaction not begun",
         Fault::TransactionTooLarge => "E17 transaction too large",

@@ -3,9 +3,8 @@
 ghost use Rattle.std.specs.Prelude.{◌≡◌, ◌↔◌, IsTrue};
 ghost use Rattle.command_core.specs.Texts.{IsHeaderText};
 
-use std::marker::Model;
-
 use frame_core::Text;
+use std::marker::Model;
 
 /// A text that may stand in a header: UTF-8 without NUL, at most 8,192 bytes. Contracts see it as the list of its
 /// bytes.

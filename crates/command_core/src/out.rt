@@ -3,9 +3,8 @@
 ghost use Rattle.std.specs.Prelude.{◌≡◌};
 ghost use Rattle.frame_core.specs.Writable.{Writable};
 
-use std::marker::Model;
-
 use frame_core::Frame;
+use std::marker::Model;
 
 /// An output: a frame that a command gives, and the session that it goes to. Contracts see it as its three parts. Its
 /// frame can be written.

@@ -5,12 +5,10 @@ ghost use Rattle.frame_core.specs.Writable.{Writable};
 ghost use Rattle.command_core.specs.Replies.{connected, receipt_frame, receipt_header, error_frame};
 ghost use Rattle.command_core.specs.Texts.{IsHeaderText};
 
-use std::alloc::{AllocError, Global};
-
-use frame_core::{Bytes, Frame, Headers, Text, Verb};
-
 use crate::fault::{Fault, fault_text};
 use crate::header_text::HeaderText;
+use frame_core::{Bytes, Frame, Headers, Text, Verb};
+use std::alloc::{AllocError, Global};
 
 fn header(alloc: Global, name: &str, value: String) -> Result<(Text, Text), AllocError>
     ensures { IfOk result (λ h. h ≡ (name.now, string_bytes value)) }

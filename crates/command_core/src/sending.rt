@@ -4,11 +4,9 @@ ghost use Rattle.std.specs.Prelude.{◌≡◌, ◌≤◌, length};
 ghost use Rattle.std.specs.List.{AllByRecursion};
 ghost use Rattle.command_core.specs.Sendings.{IsKept, IsSending, is_kept};
 
-use std::marker::Model;
-
-use frame_core::{Bytes, Headers};
-
 use crate::destination::Dest;
+use frame_core::{Bytes, Headers};
+use std::marker::Model;
 
 /// What is sent where: a destination, the headers that go on with the message, and a body (STOMP 1.2, "SEND"). At most
 /// 64 headers, each a name that isn't empty and a value, both fit for a header; at most 65,536 bytes of body.

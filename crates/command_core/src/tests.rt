@@ -1,10 +1,9 @@
 ghost use Rattle.std.specs.Prelude.{◌≡◌, IfOk};
 
+use super::*;
 use frame_core::{Bytes, Frame, Headers, Text, Verb};
 use std::alloc::{AllocError, Global};
 use std::test::Fail;
-
-use super::*;
 
 fn text(alloc: Global, bytes: &str) -> Result<Text, AllocError>
     ensures { IfOk result (λ text. text ≡ bytes.now) }
@@ -17,10 +16,8 @@ fn is_frame(frame: &Frame, verb: Verb, headers: &[(&str, &str)]) -> bool {
     let own = frame.headers.as_slice();
     frame.verb == verb
         && own.len() == headers.len()
-        && own
-            .iter()
-            .zip(headers)
-            .all(|(h, (name, value))| h.0.as_str() == *name && h.1.as_str() == *value)
+        && own.iter().zip(headers).all(|(h, (name, value))| h.0.as_str() == *name
+            && h.1.as_str() == *value)
         && frame.body.as_slice().is_empty()
 }
 
@@ -50,7 +47,9 @@ fn reads_destinations_of_topics_and_queues(rt: HostRuntime) -> Result<(), Fail> 
 fn reads_nothing_else_as_a_destination(rt: HostRuntime) {
     let alloc = rt.alloc();
     assert!(rt; is_bad(alloc, "") && is_bad(alloc, "/queue/") && is_bad(alloc, "queue/a"));
-    assert!(rt; is_bad(alloc, "/Queue/a") && is_bad(alloc, "/topic/a b") && is_bad(alloc, "/queue/%"));
+    assert!(rt;
+        is_bad(alloc, "/Queue/a") && is_bad(alloc, "/topic/a b") && is_bad(alloc, "/queue/%")
+    );
 }
 
 #[test]
@@ -100,11 +99,7 @@ fn a_message_keeps_no_header_of_the_brokers_own(rt: HostRuntime) {
 fn greeting(alloc: Global) -> Result<Sending, DestFault> {
     let destination = Dest::read(alloc, "/queue/a")?;
     let body = Vec::from_slice(alloc, b"hi")?;
-    Ok(Sending::new(
-        destination,
-        Headers::new(Vec::new(alloc)),
-        Bytes::new(body),
-    ))
+    Ok(Sending::new(destination, Headers::new(Vec::new(alloc)), Bytes::new(body)))
 }
 
 #[test]

@@ -1,5 +1,4 @@
 use Rattle.std.proofs.Common.{◌≡◌, rules, arith, sym, subst}
-use Rattle.frame_core.specs.declared.frame.Frame.{Frame}
 use Rattle.frame_core.specs.declared.frame.Verb.TheVariants.{Connected}
 use Rattle.frame_core.specs.Writable.{Writable}
 use Rattle.command_core.specs.Replies.{connected}
