@@ -8,3 +8,4 @@ pub mod Receiving
 pub mod Running
 pub mod Pieces
 pub mod Turning
+pub mod Hearings

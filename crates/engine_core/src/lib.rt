@@ -5,6 +5,7 @@
 mod asking;
 mod desk;
 mod fault;
+mod laws;
 mod line;
 mod notice;
 mod printing;
@@ -14,4 +15,5 @@ mod session;
 mod shown;
 
 pub use fault::ScriptFault;
+pub use laws::pieces_are_heard_as_one;
 pub use run::run_script;
