@@ -8,3 +8,4 @@ pub mod Scripts
 pub mod Connections
 pub mod Runs
 pub mod OfDesk
+pub mod Worked

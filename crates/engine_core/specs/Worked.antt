@@ -1,0 +1,36 @@
+use Rattle.std.specs.Prelude.{List, [], ◌∷◌, ℕ, Some, None, codes}
+use Rattle.frame_core.specs.declared.frame.Frame.{Frame}
+use Rattle.frame_core.specs.declared.frame.Verb.TheVariants as verbs
+use Rattle.command_core.specs.declared.command.Op.TheVariants as ops
+use Rattle.broker_core.specs.States.{empty_state}
+use Rattle.engine_core.specs.Desks.{DeskValue}
+
+-- a CONNECT that offers these versions
+abbrev pub connect : List ℕ → Frame
+connect versions = record { verb = verbs.Connect; headers = (codes "accept-version", versions) ∷ []; body = [] }
+
+-- a SEND of `hi` with a receipt
+abbrev pub send : List ℕ → List ℕ → Frame
+send to receipt = record { verb = verbs.Send; headers = (codes "destination", to) ∷ (codes "receipt", receipt) ∷ []; body = codes "hi" }
+
+-- connection 0 has asked for a session
+abbrev pub waiting_open : DeskValue
+waiting_open = record {
+  waiting = record { connection = 0; command = record { session = 0; op = ops.Open None; receipt = None } } ∷ [];
+  openers = (0, 0) ∷ [];
+  state = empty_state }
+
+-- and has it
+abbrev pub opened_desk : DeskValue
+opened_desk = record {
+  waiting = [];
+  openers = (0, 0) ∷ [];
+  state = record { count = 1; next_delivery = 0; sessions = (0, None) ∷ []; queues = [] } }
+
+-- and has sent `hi` to `/queue/a`, and asked for a receipt
+abbrev pub waiting_send : DeskValue
+waiting_send = record opened_desk {
+  waiting = record { connection = 0; command = record {
+    session = 0;
+    op = ops.Send (record { destination = codes "/queue/a"; headers = []; body = codes "hi" });
+    receipt = Some (codes "r1") } } ∷ [] }
