@@ -7,14 +7,11 @@ mod command_line;
 mod tests;
 mod tool;
 
+use engine_core::ScriptFault;
 use std::alloc::AllocError;
-use std::env;
-use std::io;
 use std::io::{ErrorKind, Lock};
 use std::process::ExitCode;
-
-use engine_core::ScriptFault;
-
+use std::{env, io};
 use tool::{BAD_COMMAND_LINE, Failure, tool};
 
 /// Runs the program on its arguments, standard input, standard output and standard error. Arguments that are not UTF-8
