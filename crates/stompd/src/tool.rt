@@ -42,7 +42,7 @@ impl Failure {
 
     /// Tells the user: the text about the command line, or one line with the fault. Where that cannot be written, it is
     /// left out.
-    fn tell<E: Write>(&self, errors: &mut E) {
+    pub fn tell<E: Write>(&self, errors: &mut E) {
         let _told = match self {
             Failure::CommandLine(error) => write!(errors, "{error}"),
             Failure::Script(fault) => writeln!(errors, "stompd: {fault}"),
