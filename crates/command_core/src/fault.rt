@@ -3,10 +3,9 @@
 ghost use Rattle.std.specs.Prelude.{◌≡◌, Some};
 ghost use Rattle.command_core.specs.Faults.{code_of, text_of};
 
+use frame_core::FrameFault;
 use std::error::Error;
 use std::fmt;
-
-use frame_core::FrameFault;
 
 /// Why a frame or a command is refused. Its code and text stand in the `message` header of an ERROR frame (STOMP 1.2,
 /// "ERROR").

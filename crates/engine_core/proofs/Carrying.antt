@@ -27,7 +27,7 @@ pub more_text : (openers : List (ℕ × ℕ)) (s now : State) (waiting : List Wa
 more_text openers s now waiting w given old text new before state out more =
     let cs = commands_of waiting in
     let all : outs_of s (commands_of (waiting ++ w ∷ [])) ≡ outs_of s cs ++ given =
-        ap (outs_of s) (one_more_command waiting w) ∙ outs_of_more s cs w.command ∙ ap (λ x. outs_of s cs ++ outs x w.command) (sym state) ∙ ap (λ os. outs_of s cs ++ os) (sym out) in
+    ap (outs_of s) (one_more_command waiting w) ∙ outs_of_more s cs w.command ∙ ap (λ x. outs_of s cs ++ outs x w.command) (sym state) ∙ ap (λ os. outs_of s cs ++ os) (sym out) in
     more ∙ ap (λ x. x ++ flat_map (line_of_out openers) given) before
     ∙ append_assoc old (flat_map (line_of_out openers) (outs_of s cs)) (flat_map (line_of_out openers) given)
     ∙ ap (λ x. old ++ x) (sym (flat_map-append (line_of_out openers) (outs_of s cs) given) ∙ ap (flat_map (line_of_out openers)) (sym all))

@@ -21,11 +21,11 @@ phase_append phase (x ∷ f) g = phase_append (next phase x) f g
 
 both_frames : (s t u : Hearing) (a b : List ℕ) (acts more : List Act) → HearsFrames s a acts t → HearsFrames t b more u → HearsFrames s (a ++ b) (acts ++ more) u
 both_frames s t u a b acts more first second = record {
-    frames = first.frames ++ second.frames;
-    reads = (subst (λ stream. Frames stream (first.frames ++ second.frames) u.rest) (append_assoc s.rest a b) (joined (s.rest ++ a) b first.frames second.frames t.rest u.rest first.reads.0 second.reads.0), second.reads.1);
-    same_acts = ap (λ x. x ++ more) first.same_acts ∙ ap (λ x. acts_of s.phase first.frames ++ x) (second.same_acts ∙ ap (λ p. acts_of p second.frames) first.phase) ∙ sym (acts_append s.phase first.frames second.frames);
-    phase = second.phase ∙ ap (λ p. phase_of p second.frames) first.phase ∙ sym (phase_append s.phase first.frames second.frames);
-  }
+  frames = first.frames ++ second.frames;
+  reads = (subst (λ stream. Frames stream (first.frames ++ second.frames) u.rest) (append_assoc s.rest a b) (joined (s.rest ++ a) b first.frames second.frames t.rest u.rest first.reads.0 second.reads.0), second.reads.1);
+  same_acts = ap (λ x. x ++ more) first.same_acts ∙ ap (λ x. acts_of s.phase first.frames ++ x) (second.same_acts ∙ ap (λ p. acts_of p second.frames) first.phase) ∙ sym (acts_append s.phase first.frames second.frames);
+  phase = second.phase ∙ ap (λ p. phase_of p second.frames) first.phase ∙ sym (phase_append s.phase first.frames second.frames);
+}
 
 frames_fault : (s t u : Hearing) (a b : List ℕ) (acts more : List Act) → HearsFrames s a acts t → HearsFault t b more u → HearsFault s (a ++ b) (acts ++ more) u
 frames_fault s t u a b acts more first second =
@@ -35,9 +35,9 @@ frames_fault s t u a b acts more first second =
       fault = second.fault;
       fails = subst (λ stream. Fails stream (first.frames ++ second.frames) second.fault) (append_assoc s.rest a b) (joined_fault (s.rest ++ a) b first.frames second.frames t.rest second.fault first.reads.0 second.fails);
       same_acts = ap (λ x. x ++ more) first.same_acts ∙ ap (λ x. acts_of s.phase first.frames ++ x) (second.same_acts ∙ ap tail first.phase)
-        ∙ sym (append_assoc (acts_of s.phase first.frames) (acts_of (phase_of s.phase first.frames) second.frames) (refused (phase_of (phase_of s.phase first.frames) second.frames) (fault_of second.fault) None))
-        ∙ ap (λ x. x ++ refused (phase_of (phase_of s.phase first.frames) second.frames) (fault_of second.fault) None) (sym (acts_append s.phase first.frames second.frames))
-        ∙ ap (λ p. acts_of s.phase (first.frames ++ second.frames) ++ refused p (fault_of second.fault) None) (sym (phase_append s.phase first.frames second.frames));
+          ∙ sym (append_assoc (acts_of s.phase first.frames) (acts_of (phase_of s.phase first.frames) second.frames) (refused (phase_of (phase_of s.phase first.frames) second.frames) (fault_of second.fault) None))
+          ∙ ap (λ x. x ++ refused (phase_of (phase_of s.phase first.frames) second.frames) (fault_of second.fault) None) (sym (acts_append s.phase first.frames second.frames))
+          ∙ ap (λ p. acts_of s.phase (first.frames ++ second.frames) ++ refused p (fault_of second.fault) None) (sym (phase_append s.phase first.frames second.frames));
       phase = second.phase;
     }
 

@@ -55,7 +55,7 @@ other_octet text start at l h plain so =
     let no : (get_or text at 0 == 44) ≡ false = ne_eqb (get_or text at 0) 44 plain in
     let items : items_of (drop at text) ≡ on_first (get_or text at 0) (items_of (drop (at + 1) text)) = rw (drop_at text at h, no) refl in
     let more : on_front (between start (at + 1) text) (items_of (drop (at + 1) text)) ≡ on_front (between start at text) (items_of (drop at text)) =
-        rw (between_more text start at l h, items) (on_front_more (between start at text) (get_or text at 0) (items_of (drop (at + 1) text))) in
+    rw (between_more text start at l h, items) (on_front_more (between start at text) (get_or text at 0) (items_of (drop (at + 1) text))) in
     ap (list_any is_version) more ∙ so
 
 at_comma : (text : List ℕ) (start at : ℕ) → at < length text → get_or text at 0 ≡ 44 → on_front (between start at text) (items_of (drop at text)) ≡ between start at text ∷ items_of (drop (at + 1) text)
@@ -79,6 +79,6 @@ pub last_item : (text : List ℕ) (start at : ℕ) → start ≤ at → at ≡ l
 last_item text start at l e so =
     let none : drop at text ≡ [] = ap (λ k. drop k text) e ∙ drop-length text in
     let items : on_front (between start at text) (items_of (drop at text)) ≡ between start at text ∷ [] =
-        ap (λ rest. on_front (between start at text) (items_of rest)) none ∙ on_front_item (between start at text) [] [] ∙ ap (λ item. item ∷ []) (append-nil (between start at text)) in
+    ap (λ rest. on_front (between start at text) (items_of rest)) none ∙ on_front_item (between start at text) [] [] ∙ ap (λ item. item ∷ []) (append-nil (between start at text)) in
     let same : is_version (between start at text) ≡ list_any is_version (between start at text ∷ []) = sym (either_false (is_version (between start at text))) in
     ap (λ k. is_version (take (k - start) (drop start text))) (sym e) ∙ same ∙ ap (list_any is_version) (sym items) ∙ so

@@ -11,29 +11,33 @@ use Rattle.engine_core.proofs.Running.{takes_append, appends_append, takes_nothi
 
 pub goes_nothing : (run : Run) (contents : Option (List ℕ)) → IsLine run.begun.items → Goes run [] run contents contents
 goes_nothing run contents line = record {
-    lines = []; printed = [];
-    takes = subst (λ r. Takes run.script run.begun.items [] [] [] run.script r) (append-nil run.begun.items) (takes_nothing run.script run.begun.items []);
-    begun = line; count = omega arith; few = omega arith; writes = appends_nothing contents;
-  }
+  lines = [];
+  printed = [];
+  takes = subst (λ r. Takes run.script run.begun.items [] [] [] run.script r) (append-nil run.begun.items) (takes_nothing run.script run.begun.items []);
+  begun = line;
+  count = omega arith;
+  few = omega arith;
+  writes = appends_nothing contents;
+}
 
 pub goes_append : (old mid new : Run) (x y : List ℕ) (before middle after : Option (List ℕ)) → Goes old x mid before middle → Goes mid y new middle after → Goes old (x ++ y) new before after
 goes_append old mid new x y before middle after first second = record {
-    lines = first.lines ++ second.lines;
-    printed = first.printed ++ second.printed;
-    takes = takes_append old.script mid.script new.script old.begun.items x y first.lines second.lines first.printed second.printed mid.begun.items new.begun.items first.takes second.takes;
-    begun = second.begun;
-    count = omega (arith, first.count, second.count, length-append first.lines second.lines);
-    few = omega (arith, first.few, second.few, length-append first.lines second.lines, length-append x y);
-    writes = appends_append before middle after first.printed second.printed first.writes second.writes;
-  }
+  lines = first.lines ++ second.lines;
+  printed = first.printed ++ second.printed;
+  takes = takes_append old.script mid.script new.script old.begun.items x y first.lines second.lines first.printed second.printed mid.begun.items new.begun.items first.takes second.takes;
+  begun = second.begun;
+  count = omega (arith, first.count, second.count, length-append first.lines second.lines);
+  few = omega (arith, first.few, second.few, length-append first.lines second.lines, length-append x y);
+  writes = appends_append before middle after first.printed second.printed first.writes second.writes;
+}
 
 halts_later : (old mid : Run) (x y : List ℕ) (lines : List (List ℕ)) (rest : List ℕ) (before middle after : Option (List ℕ)) (g : Goes old x mid before middle) → Halts mid y lines rest middle after → Halts old (x ++ y) (g.lines ++ lines) rest before after
 halts_later old mid x y lines rest before middle after g h = record {
-    printed = g.printed ++ h.printed;
-    end = h.end;
-    takes = takes_append old.script mid.script h.end old.begun.items x y g.lines lines g.printed h.printed mid.begun.items rest g.takes h.takes;
-    writes = appends_append before middle after g.printed h.printed g.writes h.writes;
-  }
+  printed = g.printed ++ h.printed;
+  end = h.end;
+  takes = takes_append old.script mid.script h.end old.begun.items x y g.lines lines g.printed h.printed mid.begun.items rest g.takes h.takes;
+  writes = appends_append before middle after g.printed h.printed g.writes h.writes;
+}
 
 pub stops_later : (fault : ScriptFault) (old mid : Run) (x y : List ℕ) (before middle after : Option (List ℕ)) → Goes old x mid before middle → StopsIn fault mid y middle after → StopsIn fault old (x ++ y) before after
 stops_later (NotUnderstood k) old mid x y before middle after g (lines, rest, h, e, none) =
@@ -45,15 +49,15 @@ stops_later Output old mid x y before middle after g h = tt
 
 halts_before : (old : Run) (x z : List ℕ) (lines : List (List ℕ)) (rest : List ℕ) (before after : Option (List ℕ)) → Halts old x lines rest before after → Halts old (x ++ z) lines (rest ++ z) before after
 halts_before old x z lines rest before after h = record {
-    printed = h.printed;
-    end = h.end;
-    takes = record {
-      whole = sym (append_assoc old.begun.items x z) ∙ ap (λ l. l ++ z) h.takes.whole ∙ append_assoc (text_of_lines lines) rest z;
-      each = h.takes.each;
-      prints = h.takes.prints;
-    };
-    writes = h.writes;
-  }
+  printed = h.printed;
+  end = h.end;
+  takes = record {
+    whole = sym (append_assoc old.begun.items x z) ∙ ap (λ l. l ++ z) h.takes.whole ∙ append_assoc (text_of_lines lines) rest z;
+    each = h.takes.each;
+    prints = h.takes.prints;
+  };
+  writes = h.writes;
+}
 
 no_line_before : (rest z : List ℕ) → HasNoLine rest → HasNoLine (rest ++ z)
 no_line_before rest z (inl (line, behind, whole, no_lf, long)) = inl (line, behind ++ z, ap (λ l. l ++ z) whole ∙ append_assoc line behind z, no_lf, long)
@@ -120,8 +124,12 @@ pub goes_to_end : (old mid new : Run) (piece : List ℕ) (at : ℕ) (before afte
     → new.script ≡ mid.script → new.lines ≡ mid.lines → new.begun.items ≡ mid.begun.items ++ left_of piece at → IsLine new.begun.items → Goes old piece new before after
 goes_to_end old mid new piece at before after first script lines begun line =
     let more : Goes mid (drop at piece) new after after = record {
-        lines = []; printed = [];
-        takes = record { whole = ap (λ x. mid.begun.items ++ x) (sym (all_left piece at)) ∙ sym begun; each = tt; prints = (refl, script) };
-        begun = line; count = omega (arith, lines); few = omega arith; writes = appends_nothing after;
-      } in
+      lines = [];
+      printed = [];
+      takes = record { whole = ap (λ x. mid.begun.items ++ x) (sym (all_left piece at)) ∙ sym begun; each = tt; prints = (refl, script) };
+      begun = line;
+      count = omega (arith, lines);
+      few = omega arith;
+      writes = appends_nothing after;
+    } in
     subst (λ x. Goes old x new before after) (take-append-drop at piece) (goes_append old mid new (take at piece) (drop at piece) before after after first more)

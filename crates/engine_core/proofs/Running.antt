@@ -27,11 +27,11 @@ each_append (line ∷ a) b first second = (first.0, each_append a b first.1 seco
 pub takes_append : (s t u : ScriptValue) (begun x y : List ℕ) (a b : List (List ℕ)) (p q middle rest : List ℕ)
     → Takes s begun x a p t middle → Takes t middle y b q u rest → Takes s begun (x ++ y) (a ++ b) (p ++ q) u rest
 takes_append s t u begun x y a b p q middle rest first second = record {
-    whole = sym (append_assoc begun x y) ∙ ap (λ z. z ++ y) first.whole ∙ append_assoc (text_of_lines a) middle y ∙ ap (λ z. text_of_lines a ++ z) second.whole
-        ∙ sym (append_assoc (text_of_lines a) (text_of_lines b) rest) ∙ ap (λ z. z ++ rest) (sym (flat_map-append (λ (line : List ℕ). line ++ 10 ∷ []) a b));
-    each = each_append a b first.each second.each;
-    prints = prints_append s t u a b p q first.prints second.prints;
-  }
+  whole = sym (append_assoc begun x y) ∙ ap (λ z. z ++ y) first.whole ∙ append_assoc (text_of_lines a) middle y ∙ ap (λ z. text_of_lines a ++ z) second.whole
+      ∙ sym (append_assoc (text_of_lines a) (text_of_lines b) rest) ∙ ap (λ z. z ++ rest) (sym (flat_map-append (λ (line : List ℕ). line ++ 10 ∷ []) a b));
+  each = each_append a b first.each second.each;
+  prints = prints_append s t u a b p q first.prints second.prints;
+}
 
 pub appends_append : (old now new : Option (List ℕ)) (p q : List ℕ) → Appends old now p → Appends now new q → Appends old new (p ++ q)
 appends_append None now new p q first second = tt
@@ -50,10 +50,10 @@ takes_nothing s begun x = record { whole = refl; each = tt; prints = (refl, refl
 -- one line
 pub takes_line : (s t : ScriptValue) (begun x printed : List ℕ) → IsLine (begun ++ x) → Prints s (begun ++ x) printed t → Takes s begun (x ++ 10 ∷ []) ((begun ++ x) ∷ []) printed t []
 takes_line s t begun x printed line prints = record {
-    whole = sym (append_assoc begun x (10 ∷ [])) ∙ sym (append-nil ((begun ++ x) ++ 10 ∷ [])) ∙ ap (λ z. z ++ []) (sym (append-nil ((begun ++ x) ++ 10 ∷ [])));
-    each = (line, tt);
-    prints = (printed, [], t, prints, (refl, refl), sym (append-nil printed));
-  }
+  whole = sym (append_assoc begun x (10 ∷ [])) ∙ sym (append-nil ((begun ++ x) ++ 10 ∷ [])) ∙ ap (λ z. z ++ []) (sym (append-nil ((begun ++ x) ++ 10 ∷ [])));
+  each = (line, tt);
+  prints = (printed, [], t, prints, (refl, refl), sym (append-nil printed));
+}
 
 no_lf_append : (a b : List ℕ) → HasNoLf a → HasNoLf b → HasNoLf (a ++ b)
 no_lf_append [] b first second = second
@@ -68,18 +68,26 @@ stops_at_desk (desk.Memory refused) given old bytes contents e = subst (λ f. St
 stops_at_desk desk.CountTooLarge given old bytes contents e = subst (λ f. StopsIn f old bytes contents contents) (sym e) ([], old.begun.items ++ bytes, halts_nothing old bytes contents)
 
 pub stops_too_long : (fault : ScriptFault) (old : Run) (bytes after : List ℕ) (contents : Option (List ℕ)) → IsLine old.begun.items → HasNoLf bytes → IsTooLong fault old bytes → StopsIn fault old (bytes ++ after) contents contents
-stops_too_long (NotUnderstood k) old bytes after contents line no_lf (e, long) =
-    ([], old.begun.items ++ (bytes ++ after), halts_nothing old (bytes ++ after) contents, omega (arith, e),
-      inl (old.begun.items ++ bytes, after, sym (append_assoc old.begun.items bytes after), no_lf_append old.begun.items bytes line.no_lf no_lf, long))
+stops_too_long (NotUnderstood k) old bytes after contents line no_lf (e, long) = (
+  [],
+  old.begun.items ++ (bytes ++ after),
+  halts_nothing old (bytes ++ after) contents,
+  omega (arith, e),
+  inl (old.begun.items ++ bytes, after, sym (append_assoc old.begun.items bytes after), no_lf_append old.begun.items bytes line.no_lf no_lf, long),
+)
 stops_too_long (Memory refused) old bytes after contents line no_lf h = ([], old.begun.items ++ (bytes ++ after), halts_nothing old (bytes ++ after) contents)
 stops_too_long CountTooLarge old bytes after contents line no_lf h = absurd h
 stops_too_long Input old bytes after contents line no_lf h = absurd h
 stops_too_long Output old bytes after contents line no_lf h = absurd h
 
 pub stops_at_no_form : (old : Run) (bytes line : List ℕ) (k : ℕ) (contents : Option (List ℕ)) → IsLine old.begun.items → HasNoLf bytes → line ≡ old.begun.items ++ bytes → IsOfNoForm line → k ≡ old.lines + 1 → StopsIn (NotUnderstood k) old (bytes ++ 10 ∷ []) contents contents
-stops_at_no_form old bytes line k contents begun no_lf same form e =
-    ([], old.begun.items ++ (bytes ++ 10 ∷ []), halts_nothing old (bytes ++ 10 ∷ []) contents, omega (arith, e),
-      inr (line, [], sym (append_assoc old.begun.items bytes (10 ∷ [])) ∙ ap (λ l. l ++ 10 ∷ []) (sym same), subst HasNoLf (sym same) (no_lf_append old.begun.items bytes begun.no_lf no_lf), form))
+stops_at_no_form old bytes line k contents begun no_lf same form e = (
+  [],
+  old.begun.items ++ (bytes ++ 10 ∷ []),
+  halts_nothing old (bytes ++ 10 ∷ []) contents,
+  omega (arith, e),
+  inr (line, [], sym (append_assoc old.begun.items bytes (10 ∷ [])) ∙ ap (λ l. l ++ 10 ∷ []) (sym same), subst HasNoLf (sym same) (no_lf_append old.begun.items bytes begun.no_lf no_lf), form),
+)
 
 pub goes_on_line : (old new : Run) (bytes line printed : List ℕ) (before after : Option (List ℕ))
     → line ≡ old.begun.items ++ bytes → IsLine line → Prints old.script line printed new.script → new.begun.items ≡ [] → new.lines ≡ old.lines + 1 → Appends before after printed

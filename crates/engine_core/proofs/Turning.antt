@@ -33,11 +33,11 @@ turned_nothing run unread contents line = record { bytes = []; reads = consumes_
 
 pub turned_later : (end : Bool) (old mid new : Run) (unread middle left before between after : Option (List ℕ)) → Turned false old mid unread middle before between → Turned end mid new middle left between after → Turned end old new unread left before after
 turned_later end old mid new unread middle left before between after first second = record {
-    bytes = first.bytes ++ second.bytes;
-    reads = consumes_append unread middle left first.bytes second.bytes first.reads second.reads;
-    goes = goes_append old mid new first.bytes second.bytes before between after first.goes second.goes;
-    at_end = second.at_end;
-  }
+  bytes = first.bytes ++ second.bytes;
+  reads = consumes_append unread middle left first.bytes second.bytes first.reads second.reads;
+  goes = goes_append old mid new first.bytes second.bytes before between after first.goes second.goes;
+  at_end = second.at_end;
+}
 
 ends_later : (fault : ScriptFault) (old mid : Run) (x y : List ℕ) (left before between after : Option (List ℕ)) → Goes old x mid before between → EndsWithin fault mid y left between after → EndsWithin fault old (x ++ y) left before after
 ends_later (NotUnderstood k) old mid x y left before between after first (new, second, at_end, some, e) = (new, goes_append old mid new x y before between after first second, at_end, some, e)
@@ -48,12 +48,13 @@ ends_later Output old mid x y left before between after first h = absurd h
 
 pub stopped_later : (fault : ScriptFault) (old mid : Run) (unread middle left before between after : Option (List ℕ)) → Turned false old mid unread middle before between → Stopped fault mid middle left between after → Stopped fault old unread left before after
 stopped_later fault old mid unread middle left before between after first second = record {
-    bytes = first.bytes ++ second.bytes;
-    reads = consumes_append unread middle left first.bytes second.bytes first.reads second.reads;
-    stops = elim second.stops [
-        inl s ↦ inl (stops_later fault old mid first.bytes second.bytes before between after first.goes s)
-      | inr e ↦ inr (ends_later fault old mid first.bytes second.bytes left before between after first.goes e) ];
-  }
+  bytes = first.bytes ++ second.bytes;
+  reads = consumes_append unread middle left first.bytes second.bytes first.reads second.reads;
+  stops = elim second.stops [
+    | inl s ↦ inl (stops_later fault old mid first.bytes second.bytes before between after first.goes s)
+    | inr e ↦ inr (ends_later fault old mid first.bytes second.bytes left before between after first.goes e)
+  ];
+}
 
 ends_here : (run : Run) (k : ℕ) (bytes : List ℕ) (left contents : Option (List ℕ)) → IsLine run.begun.items → bytes ≡ [] → IsAtEnd left → run.begun.items ≢ [] → k ≡ run.lines + 1 → EndsWithin (NotUnderstood k) run bytes left contents contents
 ends_here run k bytes left contents line none at_end some e = (run, subst (λ x. Goes run x run contents contents) (sym none) (goes_nothing run contents line), at_end, some, e)
@@ -91,13 +92,14 @@ ends_in Output start bytes unread left before after script none first reads h = 
 
 pub stops_script : (fault : ScriptFault) (start : Run) (unread left before after : Option (List ℕ)) → start.script ≡ beginning → start.begun.items ≡ [] → start.lines ≡ 0 → Stopped fault start unread left before after → Stops fault unread left before after
 stops_script fault start unread left before after script none first s = elim s.stops [
-    inl h ↦ stops_in fault start s.bytes unread left before after script none first s.reads h
-  | inr h ↦ ends_in fault start s.bytes unread left before after script none first s.reads h ]
+  | inl h ↦ stops_in fault start s.bytes unread left before after script none first s.reads h
+  | inr h ↦ ends_in fault start s.bytes unread left before after script none first s.reads h
+]
 
 pub stops_at_once : (refused : ScriptFault) (unread contents : Option (List ℕ)) (e : AllocError) → refused ≡ Memory e → Stops refused unread unread contents contents
 stops_at_once refused unread contents e is =
     subst (λ f. Stops f unread unread contents contents) (sym is)
-      ([], [], record { input = []; printed = []; end = beginning; reads = consumes_nothing unread; takes = takes_nothing beginning [] []; writes = appends_nothing contents })
+    ([], [], record { input = []; printed = []; end = beginning; reads = consumes_nothing unread; takes = takes_nothing beginning [] []; writes = appends_nothing contents })
 
 -- a script that was read to its end
 pub record Whole (unread left before after : Option (List ℕ)) : Type 0 where

@@ -48,8 +48,8 @@ some_text _ = None
 abbrev pub connects : Frame → Result Op Fault
 connects frame =
     cond (offers (unwrap_or (first_of (codes "accept-version") frame.headers) []))
-        (Ok (ops.Open (some_text (first_of (codes "client-id") frame.headers))))
-        (Err faults.UnsupportedVersion)
+    (Ok (ops.Open (some_text (first_of (codes "client-id") frame.headers))))
+    (Err faults.UnsupportedVersion)
 
 -- `/topic/` or `/queue/`, and 1 to 200 octets that may stand there
 abbrev pub is_destination : List ℕ → Bool

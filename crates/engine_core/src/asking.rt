@@ -7,12 +7,10 @@ ghost use Rattle.command_core.specs.Texts.{IsHeaderText};
 ghost use Rattle.engine_core.specs.Versions.{offers, is_version, without_blanks};
 ghost use Rattle.engine_core.specs.Sessions.{IsRead, asked, connects, sends, kept, receipt_of, some_text};
 
-use std::alloc::{AllocError, Global};
-
+use crate::session::Phase;
 use command_core::{Dest, DestFault, Fault, HeaderText, Op, Sending, is_kept_name};
 use frame_core::{Frame, Headers, Text, Verb, first};
-
-use crate::session::Phase;
+use std::alloc::{AllocError, Global};
 
 /// What a frame asks for in a session that stands so, or why it is refused. In this order: a server's frame, a frame
 /// that may not come now, a header that isn't there, a value.

@@ -5,17 +5,14 @@ ghost use Rattle.std.specs.List.{flat_map};
 ghost use Rattle.frame_core.specs.Writable.{Writable};
 ghost use Rattle.command_core.specs.Commands.{Fits};
 
+use crate::fault::DeskFault;
+use crate::printing::carry_out;
+use broker_core::Broker;
+use command_core::{Command, HeaderText, Op};
 use std::alloc::Global;
 use std::collections::BTreeMap;
 use std::marker::Model;
 use std::mem;
-
-use broker_core::Broker;
-use command_core::{Command, HeaderText, Op};
-
-
-use crate::fault::DeskFault;
-use crate::printing::carry_out;
 
 /// A command that waits for the next flush, and the connection that it came from.
 #[derive(Debug, Drop)]
@@ -113,7 +110,10 @@ impl Desk {
             self.openers.insert(next, connection)?;
         }
         let command = Command::new(session, op, receipt);
-        self.waiting.push(Waiting { connection, command })?;
+        self.waiting.push(Waiting {
+            connection,
+            command,
+        })?;
         Ok(number)
     }
 }
@@ -121,5 +121,8 @@ impl Desk {
 fn count_of(waiting: &[Waiting], connection: u8) -> usize
     ensures { result ≡ count_by (λ w. nat_eq w.connection connection) waiting.now }
 {
-    waiting.iter().filter(|w| w.connection == connection).count()
+    waiting
+        .iter()
+        .filter(|w| w.connection == connection)
+        .count()
 }

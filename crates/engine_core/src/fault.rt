@@ -2,12 +2,10 @@
 
 ghost use Rattle.std.specs.Prelude.{◌≡◌};
 
-use std::alloc::AllocError;
-
-use broker_core::BrokerFault;
-use thiserror::Error;
-
 use crate::session::SessionFault;
+use broker_core::BrokerFault;
+use std::alloc::AllocError;
+use thiserror::Error;
 
 /// Why the desk can't take or flush a command.
 #[derive(Debug, Drop, Error)]

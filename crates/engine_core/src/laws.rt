@@ -10,5 +10,4 @@ pub fn pieces_are_heard_as_one()
         → (IsOver t.phase → ⊥) → Hears s a acts t → Hears t b more u → Hears s (a ++ b) (acts ++ more) u }
     ensures over { (s t : Hearing) (a : List ℕ) (acts : List Act)
         → IsOver s.phase → Hears s a acts t → (acts ≡ []) × (t ≡ s) }
-{
-}
+{}

@@ -25,10 +25,16 @@ pub fn read_line(line: &[u8]) -> Option<Line<'_>>
         return Some(Line::Flush);
     }
     if let Some(connection) = one_digit(line) {
-        return Some(Line::Receive { connection, text: &line[2..] });
+        return Some(Line::Receive {
+            connection,
+            text: &line[2..],
+        });
     }
     match two_digits(line) {
-        Some(connection) => Some(Line::Receive { connection, text: &line[3..] }),
+        Some(connection) => Some(Line::Receive {
+            connection,
+            text: &line[3..],
+        }),
         None => None,
     }
 }
@@ -64,5 +70,9 @@ fn two_digits(line: &[u8]) -> Option<u8>
 fn digit(byte: u8) -> Option<u8>
     ensures { MatchOption result (¬ (IsDigit byte)) (λ d. (byte ≡ 48 + d) × (d < 10)) }
 {
-    if byte.is_ascii_digit() { Some(byte - b'0') } else { None }
+    if byte.is_ascii_digit() {
+        Some(byte - b'0')
+    } else {
+        None
+    }
 }

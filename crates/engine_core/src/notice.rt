@@ -3,9 +3,8 @@
 ghost use Rattle.std.specs.Prelude.{◌≡◌};
 ghost use Rattle.frame_core.specs.Writable.{Writable};
 
-use std::marker::Model;
-
 use frame_core::Frame;
+use std::marker::Model;
 
 /// A frame for the client that can be written. Contracts see the frame.
 #[derive(Debug, Drop)]

@@ -6,16 +6,14 @@ ghost use Rattle.frame_core.specs.Writable.{Writable};
 ghost use Rattle.broker_core.specs.Steps.{state_after, outs_of};
 ghost use Rattle.engine_core.specs.Desks.{line_for, line_of_out, commands_of};
 
-use std::alloc::{AllocError, Global};
-use std::collections::BTreeMap;
-
-use broker_core::Broker;
-use command_core::Out;
-use frame_core::{Frame, write_frame};
-
 use crate::desk::Waiting;
 use crate::fault::DeskFault;
 use crate::shown::show;
+use broker_core::Broker;
+use command_core::Out;
+use frame_core::{Frame, write_frame};
+use std::alloc::{AllocError, Global};
+use std::collections::BTreeMap;
 
 /// Adds a line for a frame to the text: the connection's number, a blank, and the frame's bytes as text.
 pub fn print_frame(

@@ -6,13 +6,11 @@ ghost use Rattle.std.specs.Io.KnownBytes.{Appends, Consumes, IsAtEnd};
 ghost use Rattle.engine_core.specs.Scripts.{IsLine, HasNoLf, IsScript};
 ghost use Rattle.engine_core.specs.Runs.{Goes, StopsIn, Stops, IsTooLong, Turned, Stopped};
 
-use std::alloc::Global;
-use std::io::{ErrorKind, Read, Write};
-
-use memchr::memchr;
-
 use crate::fault::ScriptFault;
 use crate::script::Script;
+use memchr::memchr;
+use std::alloc::Global;
+use std::io::{ErrorKind, Read, Write};
 
 /// How many bytes are read at once.
 const PIECE: usize = 65_536;
@@ -121,7 +119,9 @@ fn end(run: &Run) -> Result<(), ScriptFault>
     if run.begun.is_empty() {
         Ok(())
     } else {
-        Err(ScriptFault::NotUnderstood { line: run.lines + 1 })
+        Err(ScriptFault::NotUnderstood {
+            line: run.lines + 1,
+        })
     }
 }
 
@@ -166,7 +166,9 @@ fn begin_line(run: &mut Run, bytes: &[u8]) -> Result<(), ScriptFault>
     ensures err { IfErr result (λ fault. IsTooLong fault run.old bytes.now) }
 {
     if bytes.len() > LONGEST_LINE - run.begun.len() {
-        return Err(ScriptFault::NotUnderstood { line: run.lines + 1 });
+        return Err(ScriptFault::NotUnderstood {
+            line: run.lines + 1,
+        });
     }
     run.begun.extend_from_slice(bytes)?;
     Ok(())
@@ -187,7 +189,9 @@ fn end_line<W: Write>(
 {
     begin_line(run, bytes)?;
     match run.script.perform(alloc, run.begun.as_slice())? {
-        None => Err(ScriptFault::NotUnderstood { line: run.lines + 1 }),
+        None => Err(ScriptFault::NotUnderstood {
+            line: run.lines + 1,
+        }),
         Some(text) => {
             write_text(writer, text.as_str())?;
             run.begun.clear();

@@ -10,16 +10,15 @@ ghost use Rattle.std.specs.Ordering.{nat_cmp};
 ghost use Rattle.engine_core.specs.Connections.{new_connection};
 ghost use Rattle.engine_core.specs.Desks.{Progress, acted};
 
-use std::alloc::Global;
-use std::collections::BTreeMap;
-use std::marker::Model;
-
 use crate::desk::Desk;
 use crate::fault::DeskFault;
 use crate::line::{Line, read_line};
 use crate::printing::print_frame;
 use crate::session::{Act, Session};
 use crate::shown::unshow;
+use std::alloc::Global;
+use std::collections::BTreeMap;
+use std::marker::Model;
 
 /// A connection of a script: its session, and that session's number once it has one.
 #[derive(Drop)]
@@ -81,7 +80,10 @@ impl Script {
     fn receive(&mut self, alloc: Global, n: u8, bytes: &[u8]) -> Result<String, DeskFault>
         ensures { IfOk result (λ text. Receives self.old n bytes.now (string_bytes text) self.new) }
     {
-        let Connection { mut session, number } = take_connection(alloc, &mut self.connections, n);
+        let Connection {
+            mut session,
+            number,
+        } = take_connection(alloc, &mut self.connections, n);
         let acts = session.feed(alloc, bytes)?;
         let mut text = String::new(alloc);
         let number = do_acts(alloc, &mut self.desk, n, number, acts, &mut text)?;

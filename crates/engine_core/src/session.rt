@@ -5,15 +5,13 @@ ghost use Rattle.std.specs.List.{AllByRecursion};
 ghost use Rattle.frame_core.specs.Streams.{Reads, Fails};
 ghost use Rattle.engine_core.specs.Sessions.{IsRead, asked, receipt_of, refused, told, next, acts_of, phase_of, HasForm, Hears};
 
-use std::alloc::{AllocError, Global};
-use std::marker::Model;
-
-use command_core::{End, Fault, HeaderText, Op, error_reply};
-use frame_core::{FeedFault, Frame, FrameReader, Text, first};
-use thiserror::Error;
-
 use crate::asking::{ask, receipt};
 use crate::notice::Notice;
+use command_core::{End, Fault, HeaderText, Op, error_reply};
+use frame_core::{FeedFault, Frame, FrameReader, Text, first};
+use std::alloc::{AllocError, Global};
+use std::marker::Model;
+use thiserror::Error;
 
 /// Where a session stands.
 #[derive(Clone, Copy, Debug, PartialEq, Eq)]
@@ -111,19 +109,28 @@ impl Session {
             Err(_) => return Err(SessionFault::Memory),
         };
         let mut acts = Vec::new(alloc);
-        let phase = answer_all(alloc, phase, fed.frames, &mut acts).map_err(|_| SessionFault::Memory)?;
+        let phase = answer_all(alloc, phase, fed.frames, &mut acts).map_err(
+            |_| SessionFault::Memory,
+        )?;
         let Some(fault) = fed.fault else {
             self.phase = phase;
             return Ok(acts);
         };
-        refuse(alloc, phase, Fault::from(fault), None, &mut acts).map_err(|_| SessionFault::Memory)?;
+        refuse(alloc, phase, Fault::from(fault), None, &mut acts).map_err(
+            |_| SessionFault::Memory,
+        )?;
         self.phase = Phase::Ended;
         Ok(acts)
     }
 }
 
 /// What is to be done for frames, one after another; answers where the session stands then.
-fn answer_all(alloc: Global, phase: Phase, frames: Vec<Frame>, acts: &mut Vec<Act>) -> Result<Phase, AllocError>
+fn answer_all(
+    alloc: Global,
+    phase: Phase,
+    frames: Vec<Frame>,
+    acts: &mut Vec<Act>,
+) -> Result<Phase, AllocError>
     requires { AllByRecursion IsRead frames.items }
     ensures acts { OnOk result (acts.new.items ≡ acts.old.items ++ acts_of phase frames.items) }
     ensures phase { IfOk result (λ end. end ≡ phase_of phase frames.items) }
@@ -137,7 +144,12 @@ fn answer_all(alloc: Global, phase: Phase, frames: Vec<Frame>, acts: &mut Vec<Ac
 }
 
 /// What is to be done for a frame; answers where the session stands then.
-fn answer(alloc: Global, phase: Phase, frame: Frame, acts: &mut Vec<Act>) -> Result<Phase, AllocError>
+fn answer(
+    alloc: Global,
+    phase: Phase,
+    frame: Frame,
+    acts: &mut Vec<Act>,
+) -> Result<Phase, AllocError>
     requires { IsRead frame }
     ensures acts { OnOk result (acts.new.items ≡ acts.old.items ++ told phase frame) }
     ensures phase { IfOk result (λ end. end ≡ next phase frame) }

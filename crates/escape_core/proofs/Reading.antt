@@ -1,4 +1,5 @@
 use Rattle.std.proofs.Common.{◌≡◌, ◌≢◌, ℕ, List, [], ◌∷◌, ◌++◌, Option, Some, None, Bool, true, false, cond, inl, inr, length, get_or, drop, ◌<◌, ◌+◌, refl, sym, ap, ◌∙◌, subst, append_assoc, append-nil}
+use Rattle.std.specs.List.{AllByRecursion}
 use Rattle.std.proofs.lemmas.Bool.{cases_eq, ne_eqb}
 use Rattle.std.proofs.lemmas.List.{drop_more}
 use Rattle.escape_core.specs.Escapes.{code_of, escaped, escape_of, behind, unescaped}
@@ -86,3 +87,8 @@ read_plain bytes text next in_escape then_in_escape i lt was is ne n h =
     let plain = unescaped_plain (get_or bytes i 0) (drop (i + 1) bytes) ne in
     let moved = after-behind text (get_or bytes i 0) (unescaped (drop (i + 1) bytes)) in
     h ∙ ap (after text) (ap unescaped whole ∙ plain) ∙ moved ∙ rw (n, rest) refl
+
+-- octets with no backslash mean themselves
+pub unescaped_whole : (text : List ℕ) → AllByRecursion (λ b. b ≢ 92) text → unescaped text ≡ Some text
+unescaped_whole [] h = refl
+unescaped_whole (b ∷ text) h = unescaped_plain b text h.0 ∙ ap (behind (Some b)) (unescaped_whole text h.1)

@@ -14,7 +14,7 @@ ghost use Rattle.frame_core.specs.Stops.{IfFault, IsCommandFault, IsHeaderText, 
 use crate::fault::FrameFault;
 use crate::frame::{Verb, value_of};
 use crate::partial::{MAX_BODY, Stop};
-use crate::search::place_of;
+use crate::search::{has_octet, place_of};
 use crate::text::Text;
 use escape_core::{EscapeFault, unescape};
 use std::alloc::Global;
@@ -41,6 +41,10 @@ fn meaning_of(alloc: Global, verb: Verb, octets: &[u8]) -> Result<Vec<u8>, Stop>
     ensures fault { IfErr result (λ stop. IfFault stop (λ fault. (fault ≡ UndefinedEscape) × (meaning verb octets.now ≡ None))) }
 {
     if verb.is_raw() {
+        return Ok(Vec::from_slice(alloc, octets)?);
+    }
+    // Most names and values have no escape, and are copied at once.
+    if !has_octet(b'\\', octets) {
         return Ok(Vec::from_slice(alloc, octets)?);
     }
     match unescape(alloc, octets) {

@@ -1,4 +1,4 @@
-//! The frame that isn't whole yet, octet by octet of its head and slice by slice of its body.
+//! The frame that isn't whole yet: lines of its head and octets of its body, taken in slices.
 
 use crate::bytes::Bytes;
 use crate::fault::FrameFault;

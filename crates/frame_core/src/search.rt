@@ -1,6 +1,6 @@
 //! Where an octet stands first.
 
-ghost use Rattle.std.specs.Prelude.{◌≡◌, ◌≢◌, ◌<◌, ◌≤◌, MatchOption, length, take, slice_index};
+ghost use Rattle.std.specs.Prelude.{◌≡◌, ◌≢◌, ◌<◌, ◌≤◌, false, MatchOption, length, take, slice_index};
 ghost use Rattle.std.specs.List.{AllByRecursion};
 ghost use Rattle.frame_core.specs.Heads.{IsInLine};
 
@@ -35,5 +35,15 @@ pub(crate) fn run_in_line(octets: &[u8]) -> usize
     match memchr3(0, b'\n', b'\r', octets) {
         Some(at) => at,
         None => octets.len(),
+    }
+}
+
+/// Whether the octet stands there.
+pub(crate) fn has_octet(octet: u8, octets: &[u8]) -> bool
+    ensures { result ≡ false → AllByRecursion (λ b. b ≢ octet) octets.now }
+{
+    match place_of(octet, octets) {
+        Some(_) => true,
+        None => false,
     }
 }

@@ -8,10 +8,15 @@ returns-then-is_version_item c = found c.args.text.now c.loop-at.start c.loop-at
 
 pub loop-at-preserved : goal.loop-at-preserved
 loop-at-preserved c = elim c.if-text-at-eq44.branch [
-    then-text-at-eq44+else-is_version_item w ↦ (omega arith,
-        subst (λ n. SoFar c.args.text.now n (c.loop-at.at + 1)) (sym w.start-is) (next_item c.args.text.now c.loop-at.start c.loop-at.at c.loop-at-test.true w.if-text-at-eq44.true (sym w.is_version_item.ensures ∙ w.if-is_version_item.false) c.loop-at.invariant.1))
-  | else-text-at-eq44 w ↦ (omega arith,
-        subst (λ n. SoFar c.args.text.now n (c.loop-at.at + 1)) (sym w.start-is) (other_octet c.args.text.now c.loop-at.start c.loop-at.at c.loop-at.invariant.0 c.loop-at-test.true w.if-text-at-eq44.false c.loop-at.invariant.1)) ]
+  | then-text-at-eq44+else-is_version_item w ↦ (
+    omega arith,
+    subst (λ n. SoFar c.args.text.now n (c.loop-at.at + 1)) (sym w.start-is) (next_item c.args.text.now c.loop-at.start c.loop-at.at c.loop-at-test.true w.if-text-at-eq44.true (sym w.is_version_item.ensures ∙ w.if-is_version_item.false) c.loop-at.invariant.1),
+  )
+  | else-text-at-eq44 w ↦ (
+    omega arith,
+    subst (λ n. SoFar c.args.text.now n (c.loop-at.at + 1)) (sym w.start-is) (other_octet c.args.text.now c.loop-at.start c.loop-at.at c.loop-at.invariant.0 c.loop-at-test.true w.if-text-at-eq44.false c.loop-at.invariant.1),
+  )
+]
 
 pub returns : goal.returns
 returns c = c.is_version_item-2.ensures ∙ last_item c.args.text.now c.loop-at.start c.loop-at.at c.loop-at.invariant.0 (omega arith) c.loop-at.invariant.1

@@ -13,6 +13,6 @@ loop-command-preserved c =
     record {
       state = more_state c.args.broker.now.state c.loop-command.broker.state c.step.new.self.state c.loop-command.yielded c.in-Some.field-0 before.state made.state;
       text = more_text c.args.openers.now.entries c.args.broker.now.state c.loop-command.broker.state c.loop-command.yielded c.in-Some.field-0 c.in_ok-outs.outs.items _ _ _ before.text before.state made.outs
-        (c.in_ok-print_outs.ensures ∙ ap (λ os. string_bytes c.loop-command.text ++ flat_map (line_of_out c.args.openers.now.entries) os) c.as_slice.ensures.value);
+          (c.in_ok-print_outs.ensures ∙ ap (λ os. string_bytes c.loop-command.text ++ flat_map (line_of_out c.args.openers.now.entries) os) c.as_slice.ensures.value);
       room = omega (arith, counted, rest.1, before.room);
     }

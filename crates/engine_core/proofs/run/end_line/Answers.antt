@@ -38,7 +38,7 @@ returns-in_ok-write_text-in-Some-clause-ok g c =
     let line = c.as_slice.result.now in
     let some = option_some (IsOfNoForm line) (λ t. Prints c.begin_line.new.run.script line (string_bytes t) c.perform.new.self) c.in_ok-perform.field-0 text c.in-Some.is c.in_ok-perform.ensures in
     goes_on_line c.args.run.now _ c.args.bytes.now line (string_bytes text) _ _ (c.as_slice.ensures.value ∙ begun.ok.0)
-      (subst IsLine (sym c.as_slice.ensures.value) begun.ok.1)
-      (subst (λ s. Prints s line (string_bytes text) c.perform.new.self) begun.same.0 some)
-      c.clear.ensures.items (ap (λ n. n + 1) begun.same.1)
-      (subst (λ t. Appends (g.W.Write.contents c.args.writer.now) (g.W.Write.contents c.write_text.new.writer) t) c.as_str.ensures.value c.in_ok-write_text-in-Some.ensures.ok)
+    (subst IsLine (sym c.as_slice.ensures.value) begun.ok.1)
+    (subst (λ s. Prints s line (string_bytes text) c.perform.new.self) begun.same.0 some)
+    c.clear.ensures.items (ap (λ n. n + 1) begun.same.1)
+    (subst (λ t. Appends (g.W.Write.contents c.args.writer.now) (g.W.Write.contents c.write_text.new.writer) t) c.as_str.ensures.value c.in_ok-write_text-in-Some.ensures.ok)

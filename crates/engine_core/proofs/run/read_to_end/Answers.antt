@@ -15,11 +15,11 @@ returns-in_err-read_piece-clause-err g c =
 pub returns-then-branch-clause-ok : goal.returns-then-branch-clause-ok
 returns-then-branch-clause-ok g c =
     turned_later true c.args.run.now c.loop-read.run c.read_piece.new.run _ _ _ _ _ _ c.loop-read.invariant.turned
-      (subst (λ end. Turned end c.loop-read.run c.read_piece.new.run (g.R.Read.remaining c.loop-read.reader) (g.R.Read.remaining c.read_piece.new.reader) (g.W.Write.contents c.loop-read.writer) (g.W.Write.contents c.read_piece.new.writer)) c.if-branch.true c.in_ok-read_piece.ensures.ok)
+    (subst (λ end. Turned end c.loop-read.run c.read_piece.new.run (g.R.Read.remaining c.loop-read.reader) (g.R.Read.remaining c.read_piece.new.reader) (g.W.Write.contents c.loop-read.writer) (g.W.Write.contents c.read_piece.new.writer)) c.if-branch.true c.in_ok-read_piece.ensures.ok)
 
 pub loop-read-preserved : goal.loop-read-preserved
 loop-read-preserved g c = record {
-    turned = turned_later false c.args.run.now c.loop-read.run c.read_piece.new.run _ _ _ _ _ _ c.loop-read.invariant.turned
+  turned = turned_later false c.args.run.now c.loop-read.run c.read_piece.new.run _ _ _ _ _ _ c.loop-read.invariant.turned
       (subst (λ end. Turned end c.loop-read.run c.read_piece.new.run (g.R.Read.remaining c.loop-read.reader) (g.R.Read.remaining c.read_piece.new.reader) (g.W.Write.contents c.loop-read.writer) (g.W.Write.contents c.read_piece.new.writer)) c.if-branch.false c.in_ok-read_piece.ensures.ok);
-    few = omega (arith, c.loop-read.invariant.few, c.in_ok-read_piece.ensures.few);
-  }
+  few = omega (arith, c.loop-read.invariant.few, c.in_ok-read_piece.ensures.few);
+}

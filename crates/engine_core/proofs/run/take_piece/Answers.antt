@@ -21,4 +21,4 @@ pub returns-clause-err : goal.returns-clause-err
 returns-clause-err g c =
     let so_far = c.loop-front.invariant in
     IfErr-weaker c.begin_line.result (λ fault. IsTooLong fault c.loop-front.run (left_of c.args.piece.now c.loop-front.at)) _
-      (λ fault long. stops_at_end fault c.args.run.now c.loop-front.run c.args.piece.now c.loop-front.at _ _ so_far.1 c.in_default.ensures long) c.begin_line.ensures.err
+    (λ fault long. stops_at_end fault c.args.run.now c.loop-front.run c.args.piece.now c.loop-front.at _ _ so_far.1 c.in_default.ensures long) c.begin_line.ensures.err

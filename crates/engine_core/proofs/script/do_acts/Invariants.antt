@@ -7,6 +7,6 @@ use Rattle.engine_core.proofs.script.do_acts.Given as goal
 abbrev pub invariant-loop-act : goal.invariant-loop-act
 invariant-loop-act l = record {
   done : record { number = l.number; desk = l.desk; text = string_bytes l.text }
-    ≡ fold (acted l.connection) (record { number = l.fn.number; desk = l.fn.desk; text = string_bytes l.fn.text }) l.yielded;
+      ≡ fold (acted l.connection) (record { number = l.fn.number; desk = l.fn.desk; text = string_bytes l.fn.text }) l.yielded;
   rest : AllByRecursion HasForm l.act-iterator.rest.items;
 }

@@ -1,0 +1,291 @@
+use crate::tool::tool;
+use std::alloc::Global;
+use std::io;
+use std::io::{ErrorKind, Read, Write};
+use std::process::Abort;
+use std::test::Fail;
+
+const CONNECT: &str = "0 CONNECT%0Aaccept-version:1.2%0A%0A%00\n";
+
+const CONNECTED: &str = "0 CONNECTED%0Aversion:1.2%0Asession:0%0Aheart-beat:0,0%0A%0A%00\n";
+
+const SEND_WITH_RECEIPT: &str = "0 SEND%0Adestination:/queue/a%0Areceipt:r1%0A%0Ahi%00\n";
+
+const RECEIPT: &str = "0 RECEIPT%0Areceipt-id:r1%0A%0A%00\n";
+
+const FLUSH: &str = "flush\n";
+
+/// The longest line that a script may have.
+const LONGEST_LINE: usize = 1_048_576;
+
+/// A stream that cannot be read or written.
+#[derive(Drop)]
+struct Failing;
+
+impl Read for Failing {
+    fn read(&mut self, _buf: &mut [u8]) -> io::Result<usize> {
+        Err(io::Error::from(ErrorKind::BrokenPipe))
+    }
+}
+
+impl Write for Failing {
+    fn write(&mut self, _buf: &[u8]) -> io::Result<usize> {
+        Err(io::Error::from(ErrorKind::BrokenPipe))
+    }
+
+    fn flush(&mut self) -> io::Result<()> {
+        Ok(())
+    }
+}
+
+fn expect(
+    rt: &impl Abort,
+    alloc: Global,
+    script: &[u8],
+    status: u8,
+    printed: &str,
+    told: &str,
+) -> Result<(), Fail> {
+    let mut reader = script;
+    let mut writer = Vec::new(alloc);
+    let mut errors = Vec::new(alloc);
+    let words = ["stompd", "script"];
+    let ended = tool(alloc, &words, &mut reader, &mut writer, &mut errors);
+    assert_eq!(rt; String::from_utf8(writer)?.as_str(), printed);
+    assert_eq!(rt; String::from_utf8(errors)?.as_str(), told);
+    assert_eq!(rt; ended, status);
+    Ok(())
+}
+
+/// How many bytes of a script's text stand for its first octet.
+fn octet_length(text: &[u8]) -> usize {
+    match text {
+        [b'%', high, low, ..] if high.is_ascii_hexdigit() && low.is_ascii_hexdigit() => 3,
+        _ => 1,
+    }
+}
+
+/// The script with each line of connection 0 cut into lines of one octet.
+fn in_octets(alloc: Global, script: &str) -> Result<String, Fail> {
+    let mut cut = String::new(alloc);
+    for line in script.lines() {
+        match line.strip_prefix("0 ") {
+            None => {
+                cut.push_str(line)?;
+                cut.push('\n')?;
+            }
+            Some(text) => {
+                let mut at = 0;
+                for _ in 0..text.len() {
+                    if at < text.len() {
+                        let end = at
+                            .saturating_add(octet_length(&text.as_bytes()[at..]))
+                            .min(text.len());
+                        cut.push_str("0 ")?;
+                        cut.push_str(text.get(at..end).unwrap_or(""))?;
+                        cut.push('\n')?;
+                        at = end;
+                    }
+                }
+            }
+        }
+    }
+    Ok(cut)
+}
+
+/// The script as it stands, and with one octet a line.
+fn expect_whole_and_octets(
+    rt: &impl Abort,
+    alloc: Global,
+    script: &str,
+    printed: &str,
+) -> Result<(), Fail> {
+    expect(rt, alloc, script.as_bytes(), 0, printed, "")?;
+    let octets = in_octets(alloc, script)?;
+    expect(rt, alloc, octets.as_bytes(), 0, printed, "")
+}
+
+/// Text after a CONNECT, and a flush: CONNECTED comes first.
+fn expect_after_connect(
+    rt: &impl Abort,
+    alloc: Global,
+    text: &str,
+    printed: &str,
+) -> Result<(), Fail> {
+    let script = format!(in alloc; "{CONNECT}0 {text}\n{FLUSH}")?;
+    let all = format!(in alloc; "{CONNECTED}0 {printed}%0A%0A%00\n")?;
+    expect_whole_and_octets(rt, alloc, &script, &all)
+}
+
+#[test]
+fn a_receipt_comes_with_the_flush_after_its_frame(rt: HostRuntime) -> Result<(), Fail> {
+    let alloc = rt.alloc();
+    let connect = "0 CONNECT%0Aaccept-version:1.2,1.1,1.0%0A%0A%00\n";
+    expect_whole_and_octets(&rt, alloc, connect, "")?;
+    let connected = format!(in alloc; "{connect}{FLUSH}")?;
+    expect_whole_and_octets(&rt, alloc, &connected, CONNECTED)?;
+    let sent = format!(in alloc; "{connected}{SEND_WITH_RECEIPT}")?;
+    expect_whole_and_octets(&rt, alloc, &sent, CONNECTED)?;
+    let script = format!(in alloc; "{sent}\n{FLUSH}{FLUSH}")?;
+    let printed = format!(in alloc; "{CONNECTED}{RECEIPT}")?;
+    expect_whole_and_octets(&rt, alloc, &script, &printed)?;
+    expect_after_connect(
+        &rt,
+        alloc,
+        r"SEND%0Adestination:/queue/a%0Areceipt:a\cb%0A%0A%00",
+        r"RECEIPT%0Areceipt-id:a\cb",
+    )?;
+    expect_after_connect(
+        &rt,
+        alloc,
+        "SEND%0Adestination:/queue/a%0Areceipt:%zz%0A%0A%00",
+        "RECEIPT%0Areceipt-id:%25zz",
+    )
+}
+
+#[test]
+fn each_fault_has_its_code(rt: HostRuntime) -> Result<(), Fail> {
+    let alloc = rt.alloc();
+    let many = format!(in alloc;
+        "SEND%0Adestination:/queue/a{}%0A%0A%00",
+        "%0Ah:v".repeat(alloc, 64)?
+    )?;
+    let faults = [
+        ("%00", "E1 malformed frame"),
+        (many.as_str(), "E2 frame too large"),
+        ("HELLO%0A%0A%00", "E4 unknown command"),
+        (
+            "RECEIPT%0Areceipt:r7%0A%0A%00",
+            "E4 unknown command%0Areceipt-id:r7",
+        ),
+        (
+            "SEND%0Areceipt:r5%0A%0Ahi%00",
+            "E5 missing header%0Areceipt-id:r5",
+        ),
+        (
+            "CONNECT%0Aaccept-version:1.2%0A%0A%00",
+            "E7 frame not expected here",
+        ),
+        ("SEND%0Adestination:/queue/%0A%0A%00", "E8 bad destination"),
+        ("ACK%0Aid:0%0A%0Ax%00", "E19 body not allowed"),
+        (
+            "SEND%0Adestination:/queue/a%0Acontent-length:abc%0A%0A%00",
+            "E20 bad header value",
+        ),
+    ];
+    for (text, fault) in faults {
+        let printed = format!(in alloc; "ERROR%0Amessage:{fault}")?;
+        expect_after_connect(&rt, alloc, text, &printed)?;
+    }
+    let escape = r"0 SEND%0Adestination:/queue/a%0Areceipt:r1%0Ax:a\tb%0A%0Ahi%00";
+    let script = format!(in alloc; "{CONNECT}{escape}\n{FLUSH}{SEND_WITH_RECEIPT}{FLUSH}")?;
+    let printed = format!(in alloc; "{CONNECTED}0 ERROR%0Amessage:E3 undefined escape%0A%0A%00\n")?;
+    expect_whole_and_octets(&rt, alloc, &script, &printed)
+}
+
+#[test]
+fn a_fault_before_the_connect_is_printed_at_once(rt: HostRuntime) -> Result<(), Fail> {
+    let alloc = rt.alloc();
+    expect_whole_and_octets(
+        &rt,
+        alloc,
+        "0 SEND%0Adestination:/queue/a%0Areceipt:r1%0A%0A%00\n",
+        "0 ERROR%0Amessage:E7 frame not expected here%0Areceipt-id:r1%0A%0A%00\n",
+    )?;
+    expect_whole_and_octets(
+        &rt,
+        alloc,
+        "0 CONNECT%0Aaccept-version:1.1%0A%0A%00\n",
+        "0 ERROR%0Amessage:E6 only version 1.2 is spoken%0A%0A%00\n",
+    )
+}
+
+#[test]
+fn a_line_that_says_nothing_ends_the_script(rt: HostRuntime) -> Result<(), Fail> {
+    let alloc = rt.alloc();
+    let zeros = "00 CONNECT%0Aaccept-version:1.2%0A%0A%00\n".as_bytes();
+    expect(&rt, alloc, zeros, 1, "", "stompd: line 1 not understood\n")?;
+    expect(
+        &rt,
+        alloc,
+        b"0 \n\nflush",
+        1,
+        "",
+        "stompd: line 3 not understood\n",
+    )?;
+    expect(&rt, alloc, b"0\n", 1, "", "stompd: line 1 not understood\n")?;
+    let script = format!(in alloc; "{CONNECT}{FLUSH}32 a\n{SEND_WITH_RECEIPT}{FLUSH}")?;
+    let told = "stompd: line 3 not understood\n";
+    expect(&rt, alloc, script.as_bytes(), 1, CONNECTED, told)?;
+    let longest = format!(in alloc; "0 {}\n", "a".repeat(alloc, LONGEST_LINE - 2)?)?;
+    let fault = "0 ERROR%0Amessage:E2 frame too large%0A%0A%00\n";
+    expect(&rt, alloc, longest.as_bytes(), 0, fault, "")?;
+    let longer = format!(in alloc; "{FLUSH}0 {}\n", "a".repeat(alloc, LONGEST_LINE - 1)?)?;
+    expect(
+        &rt,
+        alloc,
+        longer.as_bytes(),
+        1,
+        "",
+        "stompd: line 2 not understood\n",
+    )
+}
+
+#[test]
+fn a_stream_that_fails_is_told(rt: HostRuntime) -> Result<(), Fail> {
+    let alloc = rt.alloc();
+    let words = ["stompd", "script"];
+    let script = format!(in alloc; "{CONNECT}{FLUSH}")?;
+    let mut written = Vec::new(alloc);
+    let mut told = Vec::new(alloc);
+    assert_eq!(rt;
+        tool(alloc, &words, &mut Failing, &mut written, &mut told),
+        1
+    );
+    assert_eq!(rt;
+        told.as_slice(),
+        b"stompd: input or output failed\n".as_slice()
+    );
+    assert!(rt; written.is_empty());
+    told.clear();
+    let mut reader = script.as_bytes();
+    assert_eq!(rt;
+        tool(alloc, &words, &mut reader, &mut Failing, &mut told),
+        1
+    );
+    assert_eq!(rt;
+        told.as_slice(),
+        b"stompd: input or output failed\n".as_slice()
+    );
+    let mut nothing = b"0\n".as_slice();
+    assert_eq!(rt;
+        tool(alloc, &words, &mut nothing, &mut written, &mut Failing),
+        1
+    );
+    Ok(())
+}
+
+#[test]
+fn words_that_ask_for_nothing_are_refused(rt: HostRuntime) -> Result<(), Fail> {
+    let alloc = rt.alloc();
+    let unknown =
+        "error: unrecognized subcommand 'serve'\n\nUsage: stompd <COMMAND>\n\nFor more information, try '--help'.\n";
+    let cases: [&[&str]; 5] = [
+        &["stompd", "serve"],
+        &["stompd"],
+        &["stompd", "--help"],
+        &["stompd", "script", "more"],
+        &["stompd", "help"],
+    ];
+    for words in cases {
+        let mut reader = FLUSH.as_bytes();
+        let mut written = Vec::new(alloc);
+        let mut told = Vec::new(alloc);
+        assert_eq!(rt; tool(alloc, words, &mut reader, &mut written, &mut told), 2);
+        assert!(rt; written.is_empty() && reader.len() == FLUSH.len() && !told.is_empty());
+        if words.last() == Some(&"serve") {
+            assert_eq!(rt; String::from_utf8(told)?.as_str(), unknown);
+        }
+    }
+    Ok(())
+}

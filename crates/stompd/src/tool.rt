@@ -1,0 +1,110 @@
+//! The program as a function of its words and streams.
+
+ghost use Rattle.std.specs.Prelude.{◌≡◌, ◌≤◌, IfErr, OnOk, map};
+ghost use Rattle.stompd.specs.CommandLines.{AsksForScript};
+ghost use Rattle.stompd.specs.Failures.{RunsToEnd, StopsBy, Tells, status_of};
+
+use crate::command_line::{Subcommand, subcommand_of};
+use clap::error::ErrorKind;
+use engine_core::{ScriptFault, run_script};
+use std::alloc::{AllocError, Global};
+use std::convert::AsStr;
+use std::io::{Read, Write};
+
+/// The status where the program did what it was asked for.
+pub const DONE: u8 = 0;
+
+/// The status where it could not do it.
+pub const FAILED: u8 = 1;
+
+/// The status where the words ask for nothing that it does, or for help.
+pub const BAD_COMMAND_LINE: u8 = 2;
+
+/// Why the program did not do what it was asked for.
+#[derive(Debug, Drop)]
+pub enum Failure {
+    /// The words ask for nothing that the program does, or for help; the error holds the text for the user.
+    CommandLine(clap::Error),
+    /// The script did not run to its end, or memory was refused before it began.
+    Script(ScriptFault),
+}
+
+impl Failure {
+    /// The status that the program ends with.
+    pub fn status(&self) -> u8
+        ensures { result ≡ status_of self.now }
+    {
+        match self {
+            Failure::CommandLine(_) => BAD_COMMAND_LINE,
+            Failure::Script(_) => FAILED,
+        }
+    }
+
+    /// Tells the user: the text about the command line, or one line with the fault. Where that cannot be written, it is
+    /// left out.
+    pub fn tell<E: Write>(&self, errors: &mut E) {
+        let _told = match self {
+            Failure::CommandLine(error) => write!(errors, "{error}"),
+            Failure::Script(fault) => writeln!(errors, "stompd: {fault}"),
+        };
+    }
+}
+
+/// Does what the words ask for, of which the first is the program's name, and answers the status to end with: 0 where it
+/// is done, 1 on a fault, 2 on a bad command line. A fault and a bad command line are told on `errors`.
+pub fn tool<S: AsStr, R: Read, W: Write, E: Write>(
+    alloc: Global,
+    words: &[S],
+    reader: &mut R,
+    writer: &mut W,
+    errors: &mut E,
+) -> u8
+    ensures status { result ≤ 2 }
+    // It is done: the script was read to its end, what it prints is written, and there is nothing to tell.
+    ensures done { result ≡ 0 → RunsToEnd (R.remaining reader.old) (R.remaining reader.new) (W.contents writer.old) (W.contents writer.new)
+        × (errors.new ≡ errors.old) }
+    // Words that ask for the script are no bad command line, and a bad one leaves the script unread and writes nothing.
+    ensures refused { result ≡ 2 → (AsksForScript (map S.text words.now) → ⊥) × (reader.new ≡ reader.old) × (writer.new ≡ writer.old) }
+{
+    match run(alloc, words, reader, writer) {
+        Ok(()) => DONE,
+        Err(failure) => {
+            failure.tell(errors);
+            failure.status()
+        }
+    }
+}
+
+/// Does what the words ask for, of which the first is the program's name.
+///
+/// On a bad command line nothing is read or written. Where the script stops, what was written is what the lines before
+/// the fault print, unless it is the writer that failed.
+pub fn run<S: AsStr, R: Read, W: Write>(
+    alloc: Global,
+    words: &[S],
+    reader: &mut R,
+    writer: &mut W,
+) -> Result<(), Failure>
+    ensures ok { OnOk result (RunsToEnd (R.remaining reader.old) (R.remaining reader.new) (W.contents writer.old) (W.contents writer.new)) }
+    ensures command_line { IfErr result (λ failure. status_of failure ≡ 2
+        → (AsksForScript (map S.text words.now) → ⊥) × (reader.new ≡ reader.old) × (writer.new ≡ writer.old)) }
+    ensures script { IfErr result (λ failure. StopsBy failure (R.remaining reader.old) (R.remaining reader.new) (W.contents writer.old) (W.contents writer.new)) }
+{
+    match subcommand_of(alloc, words) {
+        Ok(Subcommand::Script) => match run_script(alloc, reader, writer) {
+            Ok(()) => Ok(()),
+            Err(fault) => Err(Failure::Script(fault)),
+        },
+        Err(error) => Err(refusal(error)),
+    }
+}
+
+/// Why the words were refused: want of memory is told as of a script.
+fn refusal(error: clap::Error) -> Failure
+    ensures { Tells error result }
+{
+    match error.kind() {
+        ErrorKind::OutOfMemory => Failure::Script(ScriptFault::Memory(AllocError)),
+        _ => Failure::CommandLine(error),
+    }
+}
