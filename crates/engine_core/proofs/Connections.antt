@@ -1,11 +1,11 @@
 -- How a line begins that names a connection.
-use Rattle.std.proofs.Common.{◌≡◌, ◌≢◌, ℕ, ◌+◌, ◌-◌, ◌*◌, ◌/◌, ◌%◌, ◌<◌, ◌≤◌, ◌^◌, ◌⊎◌, List, [], ◌∷◌, ◌++◌, length, get_or, take, drop, refl, ap, sym, ◌∙◌, arith, rules, append_assoc, inl, inr, subst}
+use Rattle.std.proofs.Common.{◌≡◌, ◌≢◌, ℕ, ◌+◌, ◌-◌, ◌/◌, ◌%◌, ◌<◌, ◌≤◌, ◌^◌, List, [], ◌∷◌, ◌++◌, length, take, drop, sym, ◌∙◌, arith, inl, inr, subst}
 use Rattle.std.specs.Fmt.{decimal}
 use Rattle.std.proofs.lemmas.Fmt.{decimal_digit, decimal_step}
 use Rattle.std.proofs.lemmas.Bool.{cases_lt}
 use Rattle.engine_core.specs.ScriptLines.{IsOfNoForm, HasDigit, HasNoDigit, HasDigits, HasNoDigits}
 use Rattle.std.specs.Prelude.{codes}
-use Rattle.std.proofs.Common.{take_all, length-drop, Bool, true, false, ◌==◌}
+use Rattle.std.proofs.Common.{take_all, length-drop, false, ◌==◌}
 use Rattle.std.specs.Str.{bytes_eq}
 
 pub one_digit : (n : ℕ) (s : List ℕ) → n < 10 → decimal n ++ s ≡ (48 + n) ∷ s

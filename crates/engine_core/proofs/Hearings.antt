@@ -1,13 +1,11 @@
 -- What a session hears in pieces.
-use Rattle.std.proofs.Common.{◌≡◌, ◌⊎◌, List, [], ◌∷◌, ◌++◌, ℕ, refl, ap, sym, ◌∙◌, append_assoc, subst, inl, inr}
+use Rattle.std.proofs.Common.{◌≡◌, List, [], ◌∷◌, ◌++◌, ℕ, refl, ap, sym, ◌∙◌, append_assoc, subst, inl, inr}
 use Rattle.frame_core.specs.declared.frame.Frame.{Frame}
-use Rattle.frame_core.specs.declared.fault.FrameFault.{FrameFault}
-use Rattle.frame_core.specs.Streams.{Frames, Reads, Fails}
+use Rattle.frame_core.specs.Streams.{Frames, Fails}
 use Rattle.frame_core.proofs.Joins.{joined, joined_fault}
 use Rattle.command_core.specs.Faults.{fault_of}
 use Rattle.std.specs.Prelude.{None}
 use Rattle.engine_core.specs.declared.session.Phase.{Phase}
-use Rattle.engine_core.specs.declared.session.Phase.TheVariants.{Ended}
 use Rattle.engine_core.specs.declared.session.Act.{Act}
 use Rattle.engine_core.specs.Sessions.{Hearing, Hears, HearsFrames, HearsFault, IsOver, acts_of, phase_of, told, next, refused}
 

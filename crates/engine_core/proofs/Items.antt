@@ -1,5 +1,5 @@
 -- The items of an `accept-version`, as a loop over its octets meets them.
-use Rattle.std.proofs.Common.{◌≡◌, ℕ, ◌+◌, ◌-◌, ◌<◌, ◌≤◌, Bool, true, false, ◌==◌, ◌||◌, List, [], ◌∷◌, ◌++◌, length, take, drop, get_or, refl, ap, sym, ◌∙◌, arith, if◌then◌else◌, rules, drop-cons, add-one, append-nil, length-drop, ◌≢◌, suc}
+use Rattle.std.proofs.Common.{◌≡◌, ℕ, ◌+◌, ◌-◌, ◌<◌, ◌≤◌, Bool, true, false, ◌==◌, ◌||◌, List, [], ◌∷◌, ◌++◌, length, take, drop, get_or, refl, ap, sym, ◌∙◌, arith, drop-cons, add-one, append-nil, length-drop, ◌≢◌, suc}
 use Rattle.std.proofs.Math.Seq.{take-suc, drop-length}
 use Rattle.std.proofs.Math.Nat.{sub_self}
 use Rattle.std.proofs.lemmas.List.{get_or-drop}

@@ -1,8 +1,8 @@
 -- A run over a piece, line by line.
-use Rattle.std.proofs.Common.{◌≡◌, ◌≢◌, ◌+◌, ◌-◌, ◌≤◌, ◌<◌, List, [], ◌∷◌, ◌++◌, ℕ, Option, length, take, drop, refl, ap, sym, ◌∙◌, append_assoc, append-nil, arith, subst, length-append, length-drop, inl, inr, take_all}
+use Rattle.std.proofs.Common.{◌≡◌, ◌+◌, ◌-◌, ◌≤◌, List, [], ◌∷◌, ◌++◌, ℕ, Option, length, take, drop, refl, ap, sym, ◌∙◌, append_assoc, append-nil, arith, subst, length-append, length-drop, inl, inr, take_all}
 use Rattle.std.proofs.Math.Seq.{take-add, take-append_seam}
 use Rattle.std.proofs.lemmas.List.{take-append-drop}
-use Rattle.engine_core.specs.Scripts.{ScriptValue, Takes, IsLine, HasNoLf, HasNoLine, text_of_lines}
+use Rattle.engine_core.specs.Scripts.{Takes, IsLine, HasNoLf, HasNoLine, text_of_lines}
 use Rattle.engine_core.specs.Runs.{Goes, Halts, StopsIn, IsTooLong}
 use Rattle.engine_core.specs.declared.run.Run.{Run}
 use Rattle.engine_core.specs.declared.fault.ScriptFault.{ScriptFault}

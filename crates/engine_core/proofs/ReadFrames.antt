@@ -1,5 +1,5 @@
 -- What the texts of a frame that was read may be used for.
-use Rattle.std.proofs.Common.{◌≡◌, ◌≢◌, ◌⊎◌, ℕ, ◌+◌, ◌<◌, Bool, true, false, ◌==◌, if◌then◌else◌, List, [], ◌∷◌, ◌++◌, Option, Some, None, length, filter, refl, arith, cond, ◌≤◌, subst, sym, length-append, inl, inr}
+use Rattle.std.proofs.Common.{◌≡◌, ◌≢◌, ℕ, ◌+◌, ◌<◌, Bool, true, false, ◌==◌, if◌then◌else◌, List, [], ◌∷◌, ◌++◌, Option, Some, None, length, refl, arith, cond, ◌≤◌, subst, sym, length-append}
 use Rattle.std.specs.List.{AllByRecursion}
 use Rattle.std.specs.Str.{bytes_eq}
 use Rattle.escape_core.specs.Escapes.{unescaped, escape_of, behind}
@@ -7,7 +7,7 @@ use Rattle.frame_core.specs.declared.frame.Frame.{Frame}
 use Rattle.frame_core.specs.declared.frame.Verb.{Verb}
 use Rattle.frame_core.specs.Verbs.{is_raw, name_of}
 use Rattle.frame_core.specs.Writable.{first_of, HasNoNul}
-use Rattle.frame_core.specs.Heads.{IsInLine, HeaderLine, line_of, eol, meaning, IsHeaderOf, HeaderLines, Begins, IsHead}
+use Rattle.frame_core.specs.Heads.{IsInLine, HeaderLine, line_of, eol, IsHeaderOf, HeaderLines}
 use Rattle.frame_core.specs.Spelling.{Spells, IsWithinLimits}
 use Rattle.frame_core.specs.Streams.{Frames}
 use Rattle.command_core.specs.Texts.{IsHeaderText}

@@ -1,5 +1,5 @@
 -- What a connection receives, from what its parts do.
-use Rattle.std.proofs.Common.{◌≡◌, List, [], ℕ, refl, sym, ap, ◌∙◌, subst}
+use Rattle.std.proofs.Common.{◌≡◌, List, [], ℕ, refl, ap, ◌∙◌, subst}
 use Rattle.std.specs.BTreeMap.{insert_entry, is_at}
 use Rattle.std.specs.List.{fold}
 use Rattle.std.specs.Map.{remove_entry}
@@ -8,7 +8,7 @@ use Rattle.engine_core.specs.declared.script.Connection.{Connection}
 use Rattle.engine_core.specs.declared.session.Act.{Act}
 use Rattle.engine_core.specs.Sessions.{Hearing, Hears}
 use Rattle.engine_core.specs.Desks.{DeskValue, Progress, acted}
-use Rattle.engine_core.specs.Scripts.{ScriptValue, connection_at, Receives}
+use Rattle.engine_core.specs.Scripts.{connection_at, Receives}
 
 pub received : (connections : List (ℕ × Connection)) (desk after : DeskValue) (n : ℕ) (bytes start text : List ℕ) (taken : Connection) (others all : List (ℕ × Connection)) (acts : List Act) (session : Hearing) (number : ℕ)
     → taken ≡ connection_at n (record { connections = connections; desk = desk })

@@ -1,7 +1,7 @@
 -- How a run goes on, piece by piece.
-use Rattle.std.proofs.Common.{◌≡◌, ◌≢◌, ◌+◌, ◌≤◌, ◌<◌, List, [], ◌∷◌, ◌++◌, ℕ, Option, Some, None, length, refl, ap, sym, ◌∙◌, append_assoc, append-nil, arith, subst, length-append, inl, inr}
-use Rattle.std.specs.List.{AllByRecursion, flat_map}
-use Rattle.std.specs.Io.KnownBytes.{Appends, Consumes}
+use Rattle.std.proofs.Common.{◌≡◌, ◌+◌, List, [], ◌∷◌, ◌++◌, ℕ, Option, Some, None, refl, ap, sym, ◌∙◌, append_assoc, append-nil, arith, subst, length-append, inl, inr}
+use Rattle.std.specs.List.{AllByRecursion}
+use Rattle.std.specs.Io.KnownBytes.{Appends}
 use Rattle.std.proofs.lemmas.Grind.{flat_map-append}
 use Rattle.engine_core.specs.ScriptLines.{IsOfNoForm}
 use Rattle.engine_core.specs.OfDesk.{of_desk}
@@ -11,7 +11,7 @@ use Rattle.engine_core.specs.declared.fault.DeskFault.{DeskFault}
 use Rattle.engine_core.specs.declared.fault.DeskFault.TheVariants as desk
 use Rattle.engine_core.specs.declared.fault.ScriptFault.{ScriptFault}
 use Rattle.engine_core.specs.declared.fault.ScriptFault.TheVariants.{Memory, NotUnderstood, CountTooLarge, Input, Output}
-use Rattle.engine_core.specs.Scripts.{ScriptValue, beginning, Prints, PrintsAll, Takes, IsLine, HasNoLf, HasNoLine, text_of_lines}
+use Rattle.engine_core.specs.Scripts.{ScriptValue, Prints, PrintsAll, Takes, IsLine, HasNoLf, text_of_lines}
 
 pub prints_append : (s t u : ScriptValue) (a b : List (List ℕ)) (p q : List ℕ) → PrintsAll s a p t → PrintsAll t b q u → PrintsAll s (a ++ b) (p ++ q) u
 prints_append s t u [] b p q first second =

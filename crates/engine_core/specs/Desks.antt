@@ -1,7 +1,6 @@
-use Rattle.std.specs.Prelude.{◌+◌, ◌≡◌, List, [], ◌∷◌, ◌++◌, ℕ, Bool, Option, if◌then◌else◌, cond, length, nat_le, nat_eq, map, flat_map, unwrap_or, count_by}
+use Rattle.std.specs.Prelude.{◌+◌, List, [], ◌∷◌, ◌++◌, ℕ, Bool, Option, cond, length, nat_le, nat_eq, map, flat_map, unwrap_or, count_by}
 use Rattle.std.specs.BTreeMap.{insert_entry, is_at}
 use Rattle.std.specs.Fmt.{decimal}
-use Rattle.std.specs.List.{fold}
 use Rattle.std.specs.Map.{lookup}
 use Rattle.std.specs.Ordering.{nat_cmp}
 use Rattle.frame_core.specs.declared.frame.Frame.{Frame}
@@ -10,7 +9,7 @@ use Rattle.command_core.specs.declared.command.Op.{Op}
 use Rattle.command_core.specs.declared.command.Op.TheVariants.{Open}
 use Rattle.command_core.specs.Commands.{CommandValue}
 use Rattle.command_core.specs.Outs.{OutValue}
-use Rattle.broker_core.specs.States.{State, empty_state}
+use Rattle.broker_core.specs.States.{State}
 use Rattle.broker_core.specs.Steps.{state_after, outs_of}
 use Rattle.engine_core.specs.Shown.{shown}
 use Rattle.engine_core.specs.declared.desk.Waiting.{Waiting}

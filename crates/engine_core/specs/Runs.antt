@@ -2,7 +2,7 @@ use Rattle.std.specs.Prelude.{◌≡◌, ◌≢◌, ◌+◌, ◌<◌, ◌≤◌,
 use Rattle.std.specs.Io.KnownBytes.{Appends, Consumes, IsAtEnd}
 use Rattle.engine_core.specs.Scripts.{ScriptValue, beginning, Takes, IsLine, HasNoLf, HasNoLine}
 use Rattle.engine_core.specs.declared.fault.ScriptFault.{ScriptFault}
-use Rattle.engine_core.specs.declared.fault.ScriptFault.TheVariants.{Memory, NotUnderstood, CountTooLarge, Input, Output}
+use Rattle.engine_core.specs.declared.fault.ScriptFault.TheVariants.{Memory, NotUnderstood, Output}
 use Rattle.engine_core.specs.declared.run.Run.{Run}
 
 -- octets lead a run on: the lines that end in them print, and what follows begins a line

@@ -1,4 +1,4 @@
-use Rattle.std.specs.Prelude.{List, ℕ, Bool, ◌||◌, ◌==◌, ◌∷◌, [], not, nat_lt, if◌then◌else◌}
+use Rattle.std.specs.Prelude.{List, ℕ, Bool, ◌||◌, ◌==◌, ◌∷◌, [], nat_lt, if◌then◌else◌}
 use Rattle.std.specs.List.{flat_map}
 use Rattle.percent_encoding.specs.Percent.{percent_encode_byte, percent_decode}
 

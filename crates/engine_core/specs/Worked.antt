@@ -18,19 +18,26 @@ abbrev pub waiting_open : DeskValue
 waiting_open = record {
   waiting = record { connection = 0; command = record { session = 0; op = ops.Open None; receipt = None } } ∷ [];
   openers = (0, 0) ∷ [];
-  state = empty_state }
+  state = empty_state;
+}
 
 -- and has it
 abbrev pub opened_desk : DeskValue
 opened_desk = record {
   waiting = [];
   openers = (0, 0) ∷ [];
-  state = record { count = 1; next_delivery = 0; sessions = (0, None) ∷ []; queues = [] } }
+  state = record { count = 1; next_delivery = 0; sessions = (0, None) ∷ []; queues = [] };
+}
 
 -- and has sent `hi` to `/queue/a`, and asked for a receipt
 abbrev pub waiting_send : DeskValue
 waiting_send = record opened_desk {
-  waiting = record { connection = 0; command = record {
-    session = 0;
-    op = ops.Send (record { destination = codes "/queue/a"; headers = []; body = codes "hi" });
-    receipt = Some (codes "r1") } } ∷ [] }
+  waiting = record {
+    connection = 0;
+    command = record {
+      session = 0;
+      op = ops.Send (record { destination = codes "/queue/a"; headers = []; body = codes "hi" });
+      receipt = Some (codes "r1");
+    };
+  } ∷ [];
+}

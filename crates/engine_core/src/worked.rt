@@ -25,13 +25,11 @@ pub fn frames_are_answered()
         ≡ acts.Do (ops.End (ends.Bad faults.BadDestination)) (Some (codes "r1")) ∷ acts.Close closes.ProtocolError ∷ [] }
     ensures sends { told phases.Open (send (codes "/queue/a") (codes "r1"))
         ≡ acts.Do (ops.Send (record { destination = codes "/queue/a"; headers = []; body = codes "hi" })) (Some (codes "r1")) ∷ [] }
-{
-}
+{}
 
 /// What flushes print: CONNECTED at the first one, and RECEIPT at the next.
 pub fn flushes_print_what_is_answered()
     ensures connected { flush_text waiting_open ≡ codes "0 CONNECTED%0Aversion:1.2%0Asession:0%0Aheart-beat:0,0%0A%0A%00" ++ 10 ∷ [] }
     ensures opened { flushed waiting_open ≡ opened_desk }
     ensures receipt { flush_text waiting_send ≡ codes "0 RECEIPT%0Areceipt-id:r1%0A%0A%00" ++ 10 ∷ [] }
-{
-}
+{}

@@ -1,6 +1,5 @@
-use Rattle.std.proofs.Common.{◌≡◌, ◌==◌, ◌-◌, ◌≤◌, List, ℕ, length, drop, take, take_all, length-drop, arith, rules}
+use Rattle.std.proofs.Common.{◌≡◌, ◌-◌, length, drop, take, take_all, length-drop, arith}
 use Rattle.std.proofs.lemmas.Grind.{common_steps}
-use Rattle.std.specs.List.{list_all}
 use Rattle.engine_core.proofs.asking.is_version_item.Goals as goal
 
 pub returns-then-starts_with : goal.returns-then-starts_with

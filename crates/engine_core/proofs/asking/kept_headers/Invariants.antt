@@ -1,4 +1,4 @@
-use Rattle.std.proofs.Common.{◌≡◌, ◌≤◌, length}
+use Rattle.std.proofs.Common.{◌≡◌}
 use Rattle.engine_core.specs.Sessions.{kept}
 use Rattle.engine_core.proofs.asking.kept_headers.Given as goal
 

@@ -1,4 +1,4 @@
-use Rattle.std.proofs.Common.{◌≡◌, ◌≤◌, ◌+◌, arith, sym, ◌∙◌, rules, subst}
+use Rattle.std.proofs.Common.{◌+◌, arith, sym, ◌∙◌, subst}
 use Rattle.engine_core.proofs.Items.{SoFar, found, next_item, other_octet, last_item}
 use Rattle.engine_core.proofs.asking.offers_version.Goals.{then-text-at-eq44+else-is_version_item, else-text-at-eq44}
 use Rattle.engine_core.proofs.asking.offers_version.Goals as goal

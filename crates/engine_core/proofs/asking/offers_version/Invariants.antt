@@ -1,4 +1,4 @@
-use Rattle.std.proofs.Common.{◌≡◌, ◌≤◌}
+use Rattle.std.proofs.Common.{◌≤◌}
 use Rattle.engine_core.proofs.Items.{SoFar}
 use Rattle.engine_core.proofs.asking.offers_version.Given as goal
 

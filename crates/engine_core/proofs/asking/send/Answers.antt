@@ -1,4 +1,4 @@
-use Rattle.std.proofs.Common.{◌≡◌, ◌≤◌, length, arith, subst, sym, List, ℕ}
+use Rattle.std.proofs.Common.{◌≤◌, length, arith, subst, sym, List, ℕ}
 use Rattle.std.specs.List.{AllByRecursion}
 use Rattle.command_core.specs.Sendings.{IsKept}
 use Rattle.engine_core.proofs.ReadFrames.{all_kept, few_kept}

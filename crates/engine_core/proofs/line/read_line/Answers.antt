@@ -1,5 +1,3 @@
-use Rattle.std.proofs.Common.{◌≡◌, ◌≢◌, List, [], arith, rules}
-use Rattle.std.proofs.lemmas.Grind.{common_steps}
 use Rattle.engine_core.proofs.Connections.{received_digit, received_digits, of_no_form, not_empty, not_flush}
 use Rattle.engine_core.proofs.line.read_line.Goals as goal
 

@@ -1,4 +1,4 @@
-use Rattle.std.proofs.Common.{◌≡◌, ◌+◌, ◌≤◌, ◌++◌, arith, ap, ◌∙◌, string_bytes}
+use Rattle.std.proofs.Common.{◌≡◌, ◌+◌, ◌++◌, arith, ap, ◌∙◌, string_bytes}
 use Rattle.std.specs.List.{flat_map}
 use Rattle.engine_core.specs.Desks.{line_of_out}
 use Rattle.engine_core.proofs.Carrying.{more_state, more_text}

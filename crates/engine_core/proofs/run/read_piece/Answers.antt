@@ -1,4 +1,4 @@
-use Rattle.std.proofs.Common.{◌≡◌, ◌<◌, refl, arith, ap, take, length}
+use Rattle.std.proofs.Common.{◌≡◌, ◌<◌, arith, ap, take, length}
 use Rattle.std.proofs.lemmas.Result.{err_from_is_err_and}
 use Rattle.engine_core.proofs.Turning.{stopped_at_end, turned_kept}
 use Rattle.engine_core.proofs.run.read_piece.Goals as goal

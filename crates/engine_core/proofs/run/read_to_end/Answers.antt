@@ -1,4 +1,4 @@
-use Rattle.std.proofs.Common.{◌≡◌, refl, arith, subst, true, false}
+use Rattle.std.proofs.Common.{arith, subst, true, false}
 use Rattle.std.proofs.lemmas.Result.{err_from_is_err_and}
 use Rattle.engine_core.specs.Runs.{Turned}
 use Rattle.engine_core.proofs.Turning.{turned_nothing, turned_later, stopped_later}

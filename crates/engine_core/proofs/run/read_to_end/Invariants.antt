@@ -1,4 +1,4 @@
-use Rattle.std.proofs.Common.{◌≡◌, ◌≤◌, ◌*◌, false}
+use Rattle.std.proofs.Common.{◌≤◌, ◌*◌, false}
 use Rattle.engine_core.specs.Runs.{Turned}
 use Rattle.engine_core.proofs.run.read_to_end.Given as goal
 

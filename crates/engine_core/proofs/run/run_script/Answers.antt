@@ -1,4 +1,4 @@
-use Rattle.std.proofs.Common.{◌≡◌, refl}
+use Rattle.std.proofs.Common.{refl}
 use Rattle.std.proofs.lemmas.Result.{err_from_is_err_and, IfErr-weaker, on_ok_weaker}
 use Rattle.engine_core.specs.Runs.{Stopped}
 use Rattle.engine_core.proofs.Turning.{stops_script, stops_at_once, whole}

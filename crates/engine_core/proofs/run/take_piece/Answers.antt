@@ -1,6 +1,5 @@
-use Rattle.std.proofs.Common.{◌≡◌, ◌++◌, length}
 use Rattle.std.proofs.lemmas.Result.{err_from_is_err_and, IfErr-weaker}
-use Rattle.engine_core.specs.Runs.{StopsIn, IsTooLong}
+use Rattle.engine_core.specs.Runs.{IsTooLong}
 use Rattle.engine_core.proofs.Pieces.{line_at, goes_on, stops_on, stops_at_end, left_of}
 use Rattle.engine_core.proofs.run.take_piece.Goals as goal
 

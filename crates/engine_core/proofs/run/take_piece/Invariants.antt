@@ -1,4 +1,4 @@
-use Rattle.std.proofs.Common.{◌≡◌, ◌≤◌, ◌+◌, ◌-◌, length, take}
+use Rattle.std.proofs.Common.{◌≤◌, ◌-◌, length, take}
 use Rattle.engine_core.specs.Runs.{Goes}
 use Rattle.engine_core.proofs.run.take_piece.Given as goal
 

@@ -1,7 +1,7 @@
 use Rattle.std.proofs.Common.{◌≡◌, string_bytes}
 use Rattle.std.specs.List.{fold, AllByRecursion}
 use Rattle.engine_core.specs.Sessions.{HasForm}
-use Rattle.engine_core.specs.Desks.{Progress, acted}
+use Rattle.engine_core.specs.Desks.{acted}
 use Rattle.engine_core.proofs.script.do_acts.Given as goal
 
 abbrev pub invariant-loop-act : goal.invariant-loop-act

@@ -1,4 +1,3 @@
-use Rattle.std.proofs.Common.{rules, ◌≡◌, ◌++◌, List, ℕ, OnOk, string_bytes, refl}
 use Rattle.engine_core.proofs.Showing.{encodes}
 use Rattle.engine_core.proofs.shown.show.Goals as goal
 

@@ -1,4 +1,4 @@
-use Rattle.std.proofs.Common.{◌≡◌, refl, arith, List, [], ◌∷◌, ℕ}
+use Rattle.std.proofs.Common.{◌≡◌, refl, arith, [], ◌∷◌}
 use Rattle.std.specs.Fmt.{decimal}
 use Rattle.std.proofs.lemmas.Fmt.{decimal_digit}
 use Rattle.percent_encoding.specs.Percent.{percent_encode_byte}

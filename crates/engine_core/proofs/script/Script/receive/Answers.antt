@@ -1,4 +1,4 @@
-use Rattle.std.proofs.Common.{◌≡◌, subst, string_bytes}
+use Rattle.std.proofs.Common.{subst, string_bytes}
 use Rattle.engine_core.specs.Scripts.{Receives}
 use Rattle.engine_core.proofs.Receiving.{received}
 use Rattle.engine_core.proofs.script.Script.receive.Goals as goal

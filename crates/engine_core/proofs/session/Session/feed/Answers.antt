@@ -1,4 +1,4 @@
-use Rattle.std.proofs.Common.{◌≡◌, ◌++◌, List, ℕ, Option, Some, None, MatchOption, true, false}
+use Rattle.std.proofs.Common.{◌≡◌, List, ℕ, Option, Some, None, MatchOption, true, false}
 use Rattle.std.specs.List.{AllByRecursion}
 use Rattle.frame_core.specs.declared.frame.Frame.{Frame}
 use Rattle.frame_core.specs.declared.fault.FrameFault.{FrameFault}
