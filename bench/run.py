@@ -1,0 +1,330 @@
+#!/usr/bin/env python3
+"""Measures the built program `stompd script`, and compares it with a plain Rust reader. README.md says what each figure means.
+
+    python3 bench/run.py [PROGRAM] [--runs N]
+
+PROGRAM is the built program; without it, the one that bin/stompd leaves in crates/stompd/out. Inputs and outputs are made
+in a temporary folder. Every output is compared with what the protocol says that it is.
+"""
+
+import argparse
+import os
+import pathlib
+import platform
+import resource
+import shutil
+import statistics
+import subprocess
+import sys
+import tempfile
+import threading
+import time
+
+HERE = pathlib.Path(__file__).resolve().parent
+PROGRAM = HERE.parent / "crates" / "stompd" / "out" / "stompd"
+
+MB = 1_000_000
+LONGEST_LINE = 1_048_576
+# A run that takes longer is stopped, and a case whose runs took as long together is not run again.
+MOST_SECONDS = 55
+
+CONNECT = b"CONNECT\naccept-version:1.2\n\n\0"
+CONNECTED = b"0 CONNECTED%0Aversion:1.2%0Asession:0%0Aheart-beat:0,0%0A%0A%00\n"
+LAST = b"SEND\ndestination:/topic/bench\nreceipt:last\n\nend\0"
+
+
+def show(octets):
+    """Bytes as the text of a script."""
+    plain = range(0x20, 0x7F)
+    return b"".join(b"%c" % o if o in plain and o != 0x25 else b"%%%02X" % o for o in octets)
+
+
+def receipt(name):
+    return b"0 RECEIPT%0Areceipt-id:" + name + b"%0A%0A%00\n"
+
+
+def small_frame(number):
+    """A SEND of 100 bytes to a topic."""
+    head = b"SEND\ndestination:/topic/bench\ncontent-type:text/plain\n\n"
+    return head + b"message %d " % number + b"x" * (100 - len(head) - len(b"message %d " % number) - 1) + b"\0"
+
+
+def large_frame(number):
+    """A SEND to a topic with 60,000 letters announced."""
+    head = b"SEND\ndestination:/topic/bench\ncontent-length:60000\n\n"
+    return head + bytes([97 + number % 26]) * 60_000 + b"\0"
+
+
+class Input:
+    """A script of SENDs between a CONNECT and a SEND with a receipt, the stream of its bytes, and what it prints.
+
+    `piece` is in which pieces the plain reader gets the stream."""
+
+    def __init__(self, folder, name, lines, stream, piece=65_536):
+        self.name = name
+        self.piece = piece
+        self.script = folder / (name + ".script")
+        self.script.write_bytes(b"0 " + show(CONNECT) + b"\nflush\n" + lines + b"0 " + show(LAST) + b"\nflush\n")
+        self.stream = folder / (name + ".stream")
+        self.stream.write_bytes(CONNECT + stream + LAST)
+        self.frames = stream.count(b"SEND\n") + 2
+        self.expected = CONNECTED + receipt(b"last")
+
+    def megabytes(self):
+        return self.script.stat().st_size / MB
+
+    def stream_megabytes(self):
+        return self.stream.stat().st_size / MB
+
+
+def whole_frames(folder, name, make_frame, size, longest=LONGEST_LINE):
+    """A script of about so many bytes, with as many whole frames on a line as it takes."""
+    lines, frames, line, total = [], [], b"", 0
+    while total < size:
+        frame = make_frame(len(frames))
+        shown = show(frame) if len(frame) < 1_000 else show(frame[:100]) + frame[100:-1] + b"%00"
+        if len(line) + len(shown) + 2 > longest:
+            lines.append(b"0 " + line + b"\n")
+            line = b""
+        frames.append(frame)
+        line += shown
+        total += len(shown)
+    lines.append(b"0 " + line + b"\n")
+    return Input(folder, name, b"".join(lines), b"".join(frames))
+
+
+def single_bytes(folder, name, size):
+    """A script of about so many bytes, with one byte of the stream on a line."""
+    shown = [b"0 " + show(bytes([octet])) + b"\n" for octet in range(256)]
+    lines, frames, total = [], [], 0
+    while total < size:
+        frame = small_frame(len(frames))
+        text = b"".join(shown[octet] for octet in frame)
+        frames.append(frame)
+        lines.append(text)
+        total += len(text)
+    return Input(folder, name, b"".join(lines), b"".join(frames), piece=1)
+
+
+class Times:
+    """What the runs of one case took."""
+
+    def __init__(self):
+        self.wall = []
+        self.cpu = []
+
+    def best(self):
+        return min(self.wall)
+
+    def median(self):
+        return statistics.median(self.wall)
+
+
+def cpu_seconds():
+    used = resource.getrusage(resource.RUSAGE_CHILDREN)
+    return used.ru_utime + used.ru_stime
+
+
+def run(command, path, times, output):
+    """Runs a command once on an input, and answers what it printed."""
+    with open(path, "rb") as source, open(output, "wb") as sink:
+        cpu, start = cpu_seconds(), time.perf_counter()
+        done = subprocess.run(command, stdin=source, stdout=sink, stderr=subprocess.PIPE, timeout=MOST_SECONDS)
+        times.wall.append(time.perf_counter() - start)
+        times.cpu.append(cpu_seconds() - cpu)
+    if done.returncode != 0:
+        sys.exit(f"{command}: status {done.returncode}: {done.stderr.decode(errors='replace').strip()}")
+    return output.read_bytes()
+
+
+def rounds(runs):
+    """The rounds of a case: as many as asked for, fewer where they take long."""
+    start = time.perf_counter()
+    for number in range(runs):
+        if number and time.perf_counter() - start > MOST_SECONDS:
+            return
+        yield number
+
+
+def measure(bench, case, is_compared):
+    """Runs the program on an input, and the plain reader in turn with it where it is compared."""
+    program, plain, raw = Times(), Times(), Times()
+    for _ in rounds(bench.runs):
+        if run([bench.program, "script"], case.script, program, bench.output) != case.expected:
+            sys.exit(f"{case.name}: the program printed something else than expected")
+        if not is_compared:
+            continue
+        for words, path, times in ((["script"], case.script, plain), (["raw", str(case.piece)], case.stream, raw)):
+            said = run([bench.plain, *words], path, times, bench.output)
+            if not said.startswith(b"%d frames," % case.frames):
+                sys.exit(f"{case.name}: the plain reader found {said.decode()}")
+    return case, program, plain, raw
+
+
+def tell_speed(text, size, times, start=None):
+    """Tells a speed; less what the program takes on an empty script, where that is given."""
+    wall, cpu = (start.best(), min(start.cpu)) if start else (0, 0)
+    print(
+        f"  {text:<42} {size / (times.best() - wall):8.1f} MB/s best {size / (times.median() - wall):8.1f} median"
+        f"   cpu {(min(times.cpu) - cpu) / size * 1000:8.2f} ns/byte"
+    )
+
+
+def tell_ratio(text, program, plain):
+    by_wall, by_cpu = plain.best() / program.best(), min(plain.cpu) / min(program.cpu)
+    print(f"  {text:<42} {by_wall:8.2f} by time {by_cpu:10.2f} by cpu")
+
+
+def start_times(bench, folder):
+    """What the program takes on an empty script."""
+    empty, times = folder / "empty.script", Times()
+    empty.write_bytes(b"")
+    for _ in rounds(4 * bench.runs):
+        run([bench.program, "script"], empty, times, bench.output)
+    return times
+
+
+def speeds(bench, folder):
+    compared = (
+        ("small frames", whole_frames(folder, "small-50", small_frame, 50 * MB)),
+        ("large bodies", whole_frames(folder, "large-50", large_frame, 50 * MB)),
+        ("one byte a piece", single_bytes(folder, "single-5", 5 * MB - 200)),
+    )
+    others = (
+        ("SENDs of 100 bytes, lines of 1 MB, 10 MB", whole_frames(folder, "small-10", small_frame, 10 * MB)),
+        ("SENDs of 100 bytes, lines of 1 MB, 1 MB", whole_frames(folder, "small-1", small_frame, MB)),
+        ("the same, lines of 20,000 bytes, 50 MB", whole_frames(folder, "short-50", small_frame, 50 * MB, 20_000)),
+        ("the same, lines of 20,000 bytes, 1 MB", whole_frames(folder, "short-1", small_frame, MB, 20_000)),
+        ("the same, one byte a line, 1 MB", single_bytes(folder, "single-1", MB)),
+    )
+    measured = {text: measure(bench, case, bench.plain is not None) for text, case in compared}
+    small, large, single = measured.values()
+    rest = [(text, measure(bench, case, False)) for text, case in others]
+    start = start_times(bench, folder)
+    print(f"start, an empty script: {start.best() * 1000:.2f} ms best, {start.median() * 1000:.2f} median")
+    print("stompd script, MB of script, less the start:")
+    shown = [("SENDs of 100 bytes, lines of 1 MB, 50 MB", small), *rest[:4]]
+    shown += [("the same, one byte a line, 5 MB", single), *rest[4:], ("bodies of 60,000 bytes, 50 MB", large)]
+    for text, (case, program, _, _) in shown:
+        tell_speed(text, case.megabytes(), program, start)
+    case, program, _, _ = small
+    print(f"  {'frames a second of the first':<42} {case.frames / program.best():8.0f} best {case.frames / program.median():8.0f} median")
+    if bench.plain:
+        tell_plain(measured)
+
+
+def tell_plain(measured):
+    print("plain reader on the same scripts, MB of script:")
+    for text, (case, _, plain, _) in measured.items():
+        tell_speed(text, case.megabytes(), plain)
+    print("plain reader on the bytes alone, in pieces of 65,536 or of one, MB of stream:")
+    for text, (case, _, _, raw) in measured.items():
+        tell_speed(text, case.stream_megabytes(), raw)
+    print("speed of stompd script as a part of the plain reader's on the same script:")
+    for text, (_, program, plain, _) in measured.items():
+        tell_ratio(text, program, plain)
+
+
+COMMANDS = 200_000
+WINDOW = 10_000
+FLUSH_EVERY = 8
+
+
+def commands_script(folder):
+    """A script of SENDs with receipts to one queue, where all stay, and what it prints."""
+    lines, expected = [b"0 " + show(CONNECT) + b"\nflush\n"], [CONNECTED]
+    for number in range(COMMANDS):
+        lines.append(b"0 SEND%%0Adestination:/queue/bench%%0Areceipt:r%d%%0A%%0Amessage %d%%00\n" % (number, number))
+        if (number + 1) % FLUSH_EVERY == 0:
+            lines.append(b"flush\n")
+        expected.append(receipt(b"r%d" % number))
+    script = folder / "commands.script"
+    script.write_bytes(b"".join(lines))
+    return script, b"".join(expected)
+
+
+def run_commands(bench, script, expected, marks):
+    """Runs the script, and answers when as many receipts had come as each mark says, counted from the start."""
+    with open(script, "rb") as source:
+        start = time.perf_counter()
+        child = subprocess.Popen([bench.program, "script"], stdin=source, stdout=subprocess.PIPE)
+    watch = threading.Timer(MOST_SECONDS, child.kill)
+    watch.start()
+    printed, count, waiting, reached = [], -1, list(marks), {}
+    while block := os.read(child.stdout.fileno(), 65_536):
+        now = time.perf_counter() - start
+        printed.append(block)
+        count += block.count(b"\n")
+        while waiting and count >= waiting[0]:
+            reached[waiting.pop(0)] = now
+    child.stdout.close()
+    status = child.wait()
+    watch.cancel()
+    if status != 0 or b"".join(printed) != expected:
+        sys.exit(f"commands: status {status}, or something else was printed than expected")
+    return reached
+
+
+def commands(bench, folder):
+    script, expected = commands_script(folder)
+    windows = [held for held in (1_000, 10_000, 100_000, 190_000) if held + WINDOW <= COMMANDS]
+    marks = sorted({*windows, *(held + WINDOW for held in windows), COMMANDS})
+    found = [run_commands(bench, script, expected, marks) for _ in rounds(bench.runs)]
+    whole = [reached[COMMANDS] for reached in found]
+    print(f"commands: {COMMANDS:,} SENDs with receipt to a queue, one a line, a flush every {FLUSH_EVERY}:")
+    print(f"  {'commands a second':<42} {COMMANDS / min(whole):8.0f} best {COMMANDS / statistics.median(whole):8.0f} median")
+    for held in windows:
+        costs = [(reached[held + WINDOW] - reached[held]) / WINDOW * 1e6 for reached in found]
+        print(f"  {f'a command, {held:,} to {held + WINDOW:,} held':<42} {min(costs):8.2f} us best   {statistics.median(costs):8.2f} median")
+
+
+def machine():
+    model = platform.processor() or "unknown processor"
+    try:
+        for line in open("/proc/cpuinfo", encoding="ascii", errors="replace"):
+            if line.startswith("model name"):
+                model = line.split(":", 1)[1].strip()
+                break
+    except OSError:
+        pass
+    return f"{os.cpu_count()} cores, {model}, load {os.getloadavg()[0]:.1f}"
+
+
+def build_plain(folder):
+    """The plain reader, where there is a Rust compiler."""
+    if not shutil.which("rustc"):
+        print("no rustc here: the plain reader is left out")
+        return None
+    built = folder / "plain_reader"
+    subprocess.run(["rustc", "--edition", "2024", "-O", HERE / "plain_reader.rs", "-o", built], check=True)
+    return built
+
+
+class Bench:
+    def __init__(self, program, runs, folder):
+        self.program = program
+        self.runs = runs
+        self.output = folder / "output"
+        self.plain = build_plain(folder)
+
+
+def main():
+    parser = argparse.ArgumentParser(description="Measures stompd script.")
+    parser.add_argument("program", nargs="?", type=pathlib.Path, default=PROGRAM)
+    parser.add_argument("--runs", type=int, default=5, help="how often each case is run (5)")
+    words = parser.parse_args()
+    if words.runs < 1:
+        parser.error("a case is run once at least")
+    program = words.program.resolve()
+    if not os.access(program, os.X_OK):
+        sys.exit(f"no program at {program}: bin/stompd builds it (bin/stompd script < examples/receipt.script)")
+    print(machine())
+    with tempfile.TemporaryDirectory() as folder:
+        bench = Bench(program, words.runs, pathlib.Path(folder))
+        speeds(bench, pathlib.Path(folder))
+        commands(bench, pathlib.Path(folder))
+    print(machine())
+
+
+if __name__ == "__main__":
+    main()
