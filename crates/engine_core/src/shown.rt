@@ -21,7 +21,7 @@ pub fn show(text: &mut String, bytes: &[u8]) -> Result<(), AllocError>
 pub fn unshow(alloc: Global, text: &[u8]) -> Result<Vec<u8>, AllocError>
     ensures { IfOk result (λ bytes. bytes.items ≡ meant text.now) }
 {
-    let mut bytes = Vec::with_capacity(alloc, text.len())?;
+    let mut bytes = Vec::new(alloc);
     percent_decode(text).append_to(&mut bytes)?;
     Ok(bytes)
 }
