@@ -1,7 +1,7 @@
 #!/usr/bin/env python3
 """Measures the built program `stompd script`, and compares it with a plain Rust reader. README.md says what each figure means.
 
-    python3 bench/run.py [PROGRAM] [--runs N]
+    python3 bench/run.py [PROGRAM] [--runs N] [--broker]
 
 PROGRAM is the built program; without it, the one that bin/stompd leaves in crates/stompd/out. Inputs and outputs are made
 in a temporary folder. Every output is compared with what the protocol says that it is.
@@ -231,10 +231,10 @@ FLUSH_EVERY = 8
 
 
 def commands_script(folder):
-    """A script of SENDs with receipts to one queue, where all stay, and what it prints."""
+    """A script of SENDs with receipts to a topic where nobody listens, and what it prints."""
     lines, expected = [b"0 " + show(CONNECT) + b"\nflush\n"], [CONNECTED]
     for number in range(COMMANDS):
-        lines.append(b"0 SEND%%0Adestination:/queue/bench%%0Areceipt:r%d%%0A%%0Amessage %d%%00\n" % (number, number))
+        lines.append(b"0 SEND%%0Adestination:/topic/bench%%0Areceipt:r%d%%0A%%0Amessage %d%%00\n" % (number, number))
         if (number + 1) % FLUSH_EVERY == 0:
             lines.append(b"flush\n")
         expected.append(receipt(b"r%d" % number))
@@ -271,11 +271,137 @@ def commands(bench, folder):
     marks = sorted({*windows, *(held + WINDOW for held in windows), COMMANDS})
     found = [run_commands(bench, script, expected, marks) for _ in rounds(bench.runs)]
     whole = [reached[COMMANDS] for reached in found]
-    print(f"commands: {COMMANDS:,} SENDs with receipt to a queue, one a line, a flush every {FLUSH_EVERY}:")
+    print(f"commands: {COMMANDS:,} SENDs with receipt to a topic, one a line, a flush every {FLUSH_EVERY}:")
     print(f"  {'commands a second':<42} {COMMANDS / min(whole):8.0f} best {COMMANDS / statistics.median(whole):8.0f} median")
     for held in windows:
         costs = [(reached[held + WINDOW] - reached[held]) / WINDOW * 1e6 for reached in found]
-        print(f"  {f'a command, {held:,} to {held + WINDOW:,} held':<42} {min(costs):8.2f} us best   {statistics.median(costs):8.2f} median")
+        print(f"  {f'a command, {held:,} to {held + WINDOW:,} before':<42} {min(costs):8.2f} us best   {statistics.median(costs):8.2f} median")
+
+
+class Talk:
+    """A script of whole frames, one on a line, and what it prints. Every frame that asks the broker for something has the
+    next command number; BEGIN and the members of a transaction ask it for nothing."""
+
+    def __init__(self, connections=1):
+        self.lines, self.printed, self.number = [], [], 0
+        for connection in range(connections):
+            self.say(connection, "CONNECT%0Aaccept-version:1.2%0A%0A%00")
+            self.hear(connection, f"CONNECTED%0Aversion:1.2%0Asession:{connection}%0Aheart-beat:0,0%0A%0A%00")
+
+    def say(self, connection, text, commands=1):
+        self.lines.append(f"{connection} {text}\n")
+        self.number += commands
+
+    def hear(self, connection, text):
+        self.printed.append(f"{connection} {text}\n")
+
+    def subscribe(self, connection, destination, mode):
+        self.say(connection, f"SUBSCRIBE%0Aid:s%0Adestination:{destination}%0Aack:{mode}%0A%0A%00")
+
+    def send(self, connection, destination):
+        self.say(connection, f"SEND%0Adestination:{destination}%0A%0Ax%00")
+
+    def message(self, connection, destination, number, ack=""):
+        self.hear(connection, f"MESSAGE%0Asubscription:s%0Amessage-id:{number}.0%0Adestination:{destination}{ack}%0Acontent-length:1%0A%0Ax%00")
+
+
+def sends(turns):
+    """SENDs to a topic where nobody listens."""
+    talk = Talk()
+    for _ in range(turns):
+        talk.send(0, "/topic/t")
+    return talk
+
+
+def deliveries(turns, held):
+    """SENDs to a queue whose subscriber takes each at once, beside a queue that holds so many."""
+    talk = Talk()
+    for _ in range(held):
+        talk.send(0, "/queue/held")
+    talk.subscribe(0, "/queue/q", "auto")
+    for _ in range(turns):
+        talk.message(0, "/queue/q", talk.number)
+        talk.send(0, "/queue/q")
+    return talk
+
+
+def acknowledgements(turns, held):
+    """A subscriber with 16 unacknowledged messages and so many more in the queue: in each round a SEND, and an ACK, which
+    has the next message handed out."""
+    talk = Talk()
+    talk.subscribe(0, "/queue/q", "client-individual")
+    first = talk.number
+    for place in range(held + 16):
+        if place < 16:
+            talk.message(0, "/queue/q", first + place, f"%0Aack:{place}")
+        talk.send(0, "/queue/q")
+    numbers = list(range(first, talk.number))
+    for number in range(turns):
+        numbers.append(talk.number)
+        talk.send(0, "/queue/q")
+        talk.say(0, f"ACK%0Aid:{number}%0A%0A%00")
+        talk.message(0, "/queue/q", numbers[number + 16], f"%0Aack:{number + 16}")
+    return talk
+
+
+def transactions(turns):
+    """Transactions of four SENDs to a topic where nobody listens, each with a receipt of its COMMIT."""
+    talk = Talk()
+    for number in range(turns):
+        talk.say(0, "BEGIN%0Atransaction:t%0A%0A%00", 0)
+        for _ in range(4):
+            talk.say(0, "SEND%0Adestination:/topic/t%0Atransaction:t%0A%0Ax%00", 0)
+        talk.say(0, f"COMMIT%0Atransaction:t%0Areceipt:r{number}%0A%0A%00")
+        talk.hear(0, f"RECEIPT%0Areceipt-id:r{number}%0A%0A%00")
+    return talk
+
+
+def fan_out(turns, subscribers):
+    """SENDs to a topic with so many subscribers, each on a connection of its own."""
+    talk = Talk(subscribers)
+    for connection in range(subscribers):
+        talk.subscribe(connection, "/topic/t", "auto")
+    for _ in range(turns):
+        for place in range(subscribers):
+            talk.message(place, "/topic/t", talk.number)
+        talk.send(0, "/topic/t")
+    return talk
+
+
+def seconds_of(bench, folder, talk):
+    """The least time that the program takes for a talk."""
+    script, times = folder / "talk.script", Times()
+    script.write_text("".join([*talk.lines, "flush\n"]), encoding="ascii")
+    expected = "".join(talk.printed).encode("ascii")
+    for _ in rounds(bench.runs):
+        if run([bench.program, "script"], script, times, bench.output) != expected:
+            sys.exit("deliveries: the program printed something else than expected")
+    return times.best()
+
+
+ROUNDS = 20_000
+
+
+def cost(bench, folder, make, *words):
+    """What a round costs: the time for so many, less that for none, by their number."""
+    return (seconds_of(bench, folder, make(ROUNDS, *words)) - seconds_of(bench, folder, make(0, *words))) / ROUNDS
+
+
+def broker(bench, folder):
+    print(f"the broker, {ROUNDS:,} rounds each:")
+    for text, commands, make, words in (
+        ("SENDs", 1, sends, ()),
+        ("SENDs, each delivered at once", 1, deliveries, (0,)),
+        ("SENDs and ACKs, client-individual", 2, acknowledgements, (40,)),
+        ("BEGIN, four SENDs and COMMIT, frames", 6, transactions, ()),
+    ):
+        print(f"  {text:<42} {commands / cost(bench, folder, make, *words):8.0f} a second")
+    for text, make in (("SEND and its delivery", deliveries), ("SEND, ACK and the next delivery", acknowledgements)):
+        few, many = (cost(bench, folder, make, held) for held in (40, 4_000))
+        print(f"  {text:<42} {few * 1e6:8.2f} us with 40 held {many * 1e6:8.2f} with 4,000   ratio {many / few:.2f}")
+    for subscribers in (1, 4, 16):
+        each = cost(bench, folder, fan_out, subscribers) / subscribers
+        print(f"  {f'a MESSAGE of a topic to {subscribers}':<42} {each * 1e6:8.2f} us")
 
 
 def machine():
@@ -312,6 +438,7 @@ def main():
     parser = argparse.ArgumentParser(description="Measures stompd script.")
     parser.add_argument("program", nargs="?", type=pathlib.Path, default=PROGRAM)
     parser.add_argument("--runs", type=int, default=5, help="how often each case is run (5)")
+    parser.add_argument("--broker", action="store_true", help="measure the broker alone")
     words = parser.parse_args()
     if words.runs < 1:
         parser.error("a case is run once at least")
@@ -321,8 +448,10 @@ def main():
     print(machine())
     with tempfile.TemporaryDirectory() as folder:
         bench = Bench(program, words.runs, pathlib.Path(folder))
-        speeds(bench, pathlib.Path(folder))
-        commands(bench, pathlib.Path(folder))
+        if not words.broker:
+            speeds(bench, pathlib.Path(folder))
+            commands(bench, pathlib.Path(folder))
+        broker(bench, pathlib.Path(folder))
     print(machine())
 
 

@@ -1,4 +1,10 @@
-pub mod Messages
+pub mod Lists
 pub mod States
+pub mod HandOut
+pub mod Operations
 pub mod Steps
+pub mod Orders
 pub mod Tables
+pub mod Parts
+pub mod Settles
+pub mod Trials

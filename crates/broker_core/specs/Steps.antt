@@ -1,85 +1,75 @@
-use Rattle.std.specs.Prelude.{◌+◌, List, [], ◌∷◌, ◌++◌, ℕ, Bool, true, false, Option, Some, None, map, if◌then◌else◌}
-use Rattle.std.specs.BTreeMap.{insert_entry, is_at}
+use Rattle.std.specs.Prelude.{◌+◌, ◌||◌, List, [], ◌∷◌, ◌++◌, ℕ, Bool, true, false, Option, Some, None, Result, Ok, Err, map, if◌then◌else◌}
 use Rattle.std.specs.List.{fold}
-use Rattle.std.specs.Map.{remove_entry}
-use Rattle.std.specs.Ordering.{nat_cmp}
 use Rattle.frame_core.specs.declared.frame.Frame.{Frame}
+use Rattle.command_core.specs.declared.command.End.{End}
 use Rattle.command_core.specs.declared.command.End.TheVariants.{Bye, Lost, Bad}
 use Rattle.command_core.specs.declared.command.Op.{Op}
-use Rattle.command_core.specs.declared.command.Op.TheVariants.{Open, Send, End}
+use Rattle.command_core.specs.declared.command.Op.TheVariants.{Open, End as ends}
+use Rattle.command_core.specs.declared.fault.Fault.{Fault}
 use Rattle.command_core.specs.Commands.{CommandValue}
-use Rattle.command_core.specs.Destinations.{is_queue}
 use Rattle.command_core.specs.Outs.{OutValue}
 use Rattle.command_core.specs.Replies.{connected, receipt_frame, error_frame}
-use Rattle.command_core.specs.Sendings.{SendingValue}
-use Rattle.broker_core.specs.declared.message.Message.{Message}
-use Rattle.broker_core.specs.States.{State, is_open, with_message}
+use Rattle.broker_core.specs.States.{State, is_open}
+use Rattle.broker_core.specs.HandOut.{Settling, settled}
+use Rattle.broker_core.specs.Operations.{carried, ended, opened}
 
--- An Open opens the session whose number is this command's number.
-abbrev pub opened : State → Option (List ℕ) → State
-opened s client_id = record s { sessions = insert_entry nat_cmp s.sessions s.count client_id }
+-- a refused operation acts as the end of its session
+abbrev pub accepted_or_ended : State → ℕ → Result State Fault → State
+accepted_or_ended s session (Ok t) = t
+accepted_or_ended s session (Err fault) = ended s session
 
--- The message that this command sends.
-abbrev pub message_of : State → SendingValue → Message
-message_of s sending = record { number = record { command = s.count; place = 0 }; sending = sending }
-
--- A Send to a queue puts its message behind the others of that queue. One to a topic reaches nobody.
-abbrev pub sent : State → SendingValue → State
-sent s sending = if is_queue sending.destination then record s { queues = with_message (message_of s sending) s.queues } else s
-
--- An End ends the session.
-abbrev pub ended : State → ℕ → State
-ended s session = record s { sessions = remove_entry (is_at (nat_cmp session)) s.sessions }
-
--- what an operation does, apart from the count: nothing where it is one of a session that isn't open
+-- what an operation does before anything is handed out: nothing where its session isn't open
 abbrev pub done : State → ℕ → Op → State
 done s session (Open client_id) = opened s client_id
-done s session (Send sending) = if is_open s session then sent s sending else s
-done s session (End _) = if is_open s session then ended s session else s
-
--- what a command does: what its operation does, and one more command is counted
-abbrev pub step : State → CommandValue → State
-step s c = record (done s c.session c.op) { count = s.count + 1 }
-
--- the message that an operation puts into a line, if it does
-abbrev pub taken_by : State → ℕ → Op → List Message
-taken_by s session (Send sending) = if is_open s session then (if is_queue sending.destination then message_of s sending ∷ [] else []) else []
-taken_by s session _ = []
-
--- the message that a command puts into a line, if it does
-abbrev pub taken : State → CommandValue → List Message
-taken s c = taken_by s c.session c.op
+done s session op = if is_open s session then accepted_or_ended s session (carried s session op) else s
 
 -- whether an operation opens a session
 abbrev pub is_opening : Op → Bool
 is_opening (Open _) = true
 is_opening _ = false
 
+-- what an operation leads to with what is then handed out; an operation of a session that isn't open leads to nothing
+abbrev pub led_to : State → ℕ → Op → Settling
+led_to s session op = if is_opening op || is_open s session then settled (done s session op) else record { state = s; outs = [] }
+
+-- what a command does: what its operation leads to, and one more command is counted
+abbrev pub step : State → CommandValue → State
+step s c = record (led_to s c.session c.op).state { count = s.count + 1 }
+
 -- RECEIPT where one was asked for
 abbrev pub receipts : Option (List ℕ) → List Frame
 receipts None = []
 receipts (Some id) = receipt_frame id ∷ []
 
+-- what the end of a session is answered with: RECEIPT where one was asked for, nothing where the connection is lost, or
+-- ERROR (STOMP 1.2, "DISCONNECT" and "ERROR")
+abbrev pub farewell : End → Option (List ℕ) → List Frame
+farewell Bye receipt = receipts receipt
+farewell Lost receipt = []
+farewell (Bad fault) receipt = error_frame fault receipt ∷ []
+
+-- what an operation that was refused is answered with, or one that was not: ERROR, or RECEIPT where one was asked for
+abbrev pub verdict : Result State Fault → Option (List ℕ) → List Frame
+verdict (Ok _) receipt = receipts receipt
+verdict (Err fault) receipt = error_frame fault receipt ∷ []
+
 -- the frames that answer an operation of an open session
-abbrev pub answers : Op → Option (List ℕ) → List Frame
-answers (Open _) receipt = []
-answers (Send _) receipt = receipts receipt
-answers (End Bye) receipt = receipts receipt
-answers (End Lost) receipt = []
-answers (End (Bad fault)) receipt = error_frame fault receipt ∷ []
+abbrev pub replies : State → ℕ → Op → Option (List ℕ) → List Frame
+replies s session (ends end) receipt = farewell end receipt
+replies s session op receipt = verdict (carried s session op) receipt
 
 -- frames to a session, as outputs of the command of that number
 abbrev pub outs_to : ℕ → ℕ → List Frame → List OutValue
 outs_to number session frames = map (λ frame. record { number = number; session = session; frame = frame }) frames
 
--- the outputs of an operation
-abbrev pub outs_by : State → ℕ → Option (List ℕ) → Op → List OutValue
-outs_by s session receipt (Open _) = outs_to s.count s.count (connected s.count ∷ [])
-outs_by s session receipt op = if is_open s session then outs_to s.count session (answers op receipt) else []
+-- what answers an operation itself
+abbrev pub answers : State → ℕ → Option (List ℕ) → Op → List OutValue
+answers s session receipt (Open _) = outs_to s.count s.count (connected s.count ∷ [])
+answers s session receipt op = if is_open s session then outs_to s.count session (replies s session op receipt) else []
 
--- the outputs of a command
+-- the outputs of a command: the MESSAGEs that are handed out, and then what answers it
 abbrev pub outs : State → CommandValue → List OutValue
-outs s c = outs_by s c.session c.receipt c.op
+outs s c = (led_to s c.session c.op).outs ++ answers s c.session c.receipt c.op
 
 -- the state after commands in turn
 abbrev pub state_after : State → List CommandValue → State

@@ -1,14 +1,34 @@
-use Rattle.std.specs.Prelude.{◌≡◌, ◌≤◌, ◌*◌, ◌^◌, ℕ}
+use Rattle.std.specs.Prelude.{◌≡◌, ◌+◌, ◌≤◌, ◌^◌, ℕ}
+use Rattle.std.specs.List.{AllByRecursion}
+use Rattle.line_core.specs.Flights.{IsOver}
 use Rattle.broker_core.specs.declared.tables.Tables.{Tables}
-use Rattle.broker_core.specs.States.{State, count_of, bytes_of}
+use Rattle.broker_core.specs.States.{State, held_bytes, held_messages}
 
 -- the state that the tables show before the command of that number
 abbrev pub state_of : ℕ → Tables → State
-state_of number t = record { count = number; next_delivery = t.next_delivery; sessions = t.sessions.entries; queues = t.queues.entries }
+state_of number t = record {
+  count = number;
+  next_delivery = t.next_delivery;
+  sessions = t.sessions.entries;
+  queues = t.queues.entries;
+  subscriptions = t.order.subscriptions;
+}
 
--- What is counted is what waits. No command adds more than one message, and no message has 2 MiB.
+-- What is counted is what is held.
+pub record IsCounted (number : ℕ) (t : Tables) : Type 0 where
+  pub messages : t.held.messages ≡ held_messages (state_of number t)
+  pub bytes : t.held.bytes ≡ held_bytes (state_of number t)
+
+-- The next delivery is over all that are not acknowledged.
+abbrev pub IsNext : State → Type 0
+IsNext s = AllByRecursion (λ sub. IsOver s.next_delivery sub.unacknowledged) s.subscriptions
+
+-- What is counted is what is held, which is within the limits; the next delivery has a new number; and no command and no
+-- delivery gives more than one slot.
 pub record IsTallied (number : ℕ) (t : Tables) : Type 0 where
-  pub messages : t.held.messages ≡ count_of t.queues.entries
-  pub bytes : t.held.bytes ≡ bytes_of t.queues.entries
-  pub few : t.held.messages ≤ number
-  pub small : t.held.bytes ≤ t.held.messages * 2 ^ 21
+  pub counted : IsCounted number t
+  pub few : t.held.messages ≤ 4096
+  pub small : t.held.bytes ≤ 16777216
+  pub next : IsNext (state_of number t)
+  pub deliveries : t.next_delivery ≤ 2 ^ 63
+  pub added : t.order.added ≤ number + t.next_delivery

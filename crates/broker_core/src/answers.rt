@@ -1,55 +1,68 @@
 //! What a command answers to its own session.
 
-ghost use Rattle.std.specs.Prelude.{◌≡◌, ◌∷◌, [], IfOk};
-ghost use Rattle.command_core.specs.declared.command.Op.TheVariants.{End as ends};
-ghost use Rattle.command_core.specs.Replies.{connected};
-ghost use Rattle.broker_core.specs.Steps.{answers, outs_to, receipts};
+ghost use Rattle.std.specs.Prelude.{◌≡◌, ◌++◌, ◌∷◌, [], OnOk};
+ghost use Rattle.command_core.specs.Replies.{connected, error_frame};
+ghost use Rattle.broker_core.specs.Steps.{farewell, outs_to, receipts};
 
-use command_core::{End, HeaderText, Out, connected_reply, error_reply, receipt_reply};
+use command_core::{End, Fault, HeaderText, Out, connected_reply, error_reply, receipt_reply};
 use std::alloc::{AllocError, Global};
 
 /// CONNECTED, to the session that the command of that number opens.
-pub fn opening(alloc: Global, number: u64) -> Result<Vec<Out>, AllocError>
-    ensures { IfOk result (λ outs. outs.items ≡ outs_to number number (connected number ∷ [])) }
+pub fn answer_open(alloc: Global, number: u64, outs: &mut Vec<Out>) -> Result<(), AllocError>
+    ensures { OnOk result (outs.new.items ≡ outs.old.items ++ outs_to number number (connected number ∷ [])) }
 {
     let frame = connected_reply(alloc, number)?;
-    Ok(vec![in alloc; Out::new(number, number, frame)]?)
+    outs.push(Out::new(number, number, frame))?;
+    Ok(())
 }
 
 /// RECEIPT where one was asked for.
-pub fn receipt(
+pub fn answer_done(
     alloc: Global,
     number: u64,
     session: u64,
     receipt: Option<HeaderText>,
-) -> Result<Vec<Out>, AllocError>
-    ensures { IfOk result (λ outs. outs.items ≡ outs_to number session (receipts receipt)) }
+    outs: &mut Vec<Out>,
+) -> Result<(), AllocError>
+    ensures { OnOk result (outs.new.items ≡ outs.old.items ++ outs_to number session (receipts receipt)) }
 {
-    match receipt {
-        None => Ok(Vec::new(alloc)),
-        Some(id) => {
-            let frame = receipt_reply(alloc, id)?;
-            Ok(vec![in alloc; Out::new(number, session, frame)]?)
-        }
+    if let Some(id) = receipt {
+        let frame = receipt_reply(alloc, id)?;
+        outs.push(Out::new(number, session, frame))?;
     }
+    Ok(())
+}
+
+/// ERROR, with the receipt where one was asked for.
+pub fn answer_refused(
+    alloc: Global,
+    number: u64,
+    session: u64,
+    fault: Fault,
+    receipt: Option<HeaderText>,
+    outs: &mut Vec<Out>,
+) -> Result<(), AllocError>
+    ensures { OnOk result (outs.new.items ≡ outs.old.items ++ outs_to number session (error_frame fault receipt ∷ [])) }
+{
+    let frame = error_reply(alloc, fault, receipt)?;
+    outs.push(Out::new(number, session, frame))?;
+    Ok(())
 }
 
 /// What the end of a session answers.
-pub fn ending(
+pub fn answer_end(
     alloc: Global,
     number: u64,
     session: u64,
     end: End,
-    asked: Option<HeaderText>,
-) -> Result<Vec<Out>, AllocError>
-    ensures { IfOk result (λ outs. outs.items ≡ outs_to number session (answers (ends end) asked)) }
+    receipt: Option<HeaderText>,
+    outs: &mut Vec<Out>,
+) -> Result<(), AllocError>
+    ensures { OnOk result (outs.new.items ≡ outs.old.items ++ outs_to number session (farewell end receipt)) }
 {
     match end {
-        End::Bye => receipt(alloc, number, session, asked),
-        End::Lost => Ok(Vec::new(alloc)),
-        End::Bad(fault) => {
-            let frame = error_reply(alloc, fault, asked)?;
-            Ok(vec![in alloc; Out::new(number, session, frame)]?)
-        }
+        End::Bye => answer_done(alloc, number, session, receipt, outs),
+        End::Lost => Ok(()),
+        End::Bad(fault) => answer_refused(alloc, number, session, fault, receipt, outs),
     }
 }

@@ -1,10 +1,19 @@
 //! What follows from the definitions of the broker's states and outputs. Nothing is run.
 
-ghost use Rattle.std.specs.Prelude.{◌≡◌, ◌+◌, ◌++◌, List, [], false, length};
-ghost use Rattle.std.specs.List.{AllByRecursion};
+ghost use Rattle.std.specs.Prelude.{◌≡◌, ◌≤◌, ◌+◌, ◌∷◌, ◌++◌, List, [], ℕ, Err, None, Option, Some, false, true, if◌then◌else◌, length};
+ghost use Rattle.std.specs.List.{AllByRecursion, sum_by};
 ghost use Rattle.command_core.specs.Commands.{CommandValue};
-ghost use Rattle.broker_core.specs.States.{State, IsInOrder, empty_state, is_open, held_messages, held_bytes, line_size, waiting};
-ghost use Rattle.broker_core.specs.Steps.{is_opening, step, outs, state_after, outs_of, taken};
+ghost use Rattle.command_core.specs.Destinations.{is_queue};
+ghost use Rattle.command_core.specs.Sendings.{SendingValue};
+ghost use Rattle.command_core.specs.declared.command.Op.{Op};
+ghost use Rattle.command_core.specs.declared.fault.Fault.{Fault};
+ghost use Rattle.line_core.specs.declared.message.Message.{Message};
+ghost use Rattle.broker_core.specs.declared.subscription.Subscription.{Subscription};
+ghost use Rattle.broker_core.specs.HandOut.{can_take, hand_out, handed, is_auto, line_for, settled};
+ghost use Rattle.broker_core.specs.Lists.{picked};
+ghost use Rattle.broker_core.specs.Operations.{carried, ended, message_of, spread};
+ghost use Rattle.broker_core.specs.States.{State, IsInOrder, bytes, empty_state, held_bytes, held_messages, is_open, standing, weight_of};
+ghost use Rattle.broker_core.specs.Steps.{answers, done, is_opening, led_to, step, outs, state_after, outs_of};
 
 /// Commands and then others do what the others do after the first, and give the outputs of both in turn.
 pub fn commands_follow_one_another()
@@ -12,6 +21,12 @@ pub fn commands_follow_one_another()
         → state_after s (a ++ b) ≡ state_after (state_after s a) b }
     ensures outputs { (s : State) (a b : List CommandValue)
         → outs_of s (a ++ b) ≡ outs_of s a ++ outs_of (state_after s a) b }
+{}
+
+/// The first state is in order, and each command keeps it so.
+pub fn states_stay_in_order()
+    ensures first { IsInOrder empty_state }
+    ensures step { (s : State) (c : CommandValue) → IsInOrder s → IsInOrder (step s c) }
 {}
 
 /// A command of a session that is not open is counted and changes nothing else, and nothing is answered.
@@ -24,26 +39,41 @@ pub fn closed_sessions_change_nothing()
 
 /// Each output has the number of the command that gives it.
 pub fn outputs_have_the_number_of_their_command()
-    ensures { (s : State) (c : CommandValue)
+    ensures { (s : State) (c : CommandValue) → IsInOrder s
         → AllByRecursion (λ out. out.number ≡ s.count) (outs s c) }
 {}
 
-/// The first state is in order, and each command keeps it so.
-pub fn states_stay_in_order()
-    ensures first { IsInOrder empty_state }
-    ensures step { (s : State) (c : CommandValue) → IsInOrder s → IsInOrder (step s c) }
+/// What an operation does that is refused, a transaction too, is the end of its session and nothing else.
+pub fn refused_operations_end_their_session()
+    ensures { (s : State) (session : ℕ) (op : Op) (fault : Fault) → is_opening op ≡ false → is_open s session ≡ true
+        → carried s session op ≡ Err fault → done s session op ≡ ended s session }
 {}
 
-/// What the broker holds is what stands in its lines.
-pub fn held_counts_what_waits()
-    ensures messages { (s : State) → held_messages s ≡ length (waiting s) }
-    ensures bytes { (s : State) → held_bytes s ≡ line_size (waiting s) }
+/// Once all is handed out nothing is left to be handed out.
+pub fn handing_out_ends()
+    ensures { (s : State) → IsInOrder s → hand_out (settled s).state ≡ None }
 {}
 
-/// What a command puts into a line is held from then on, and nothing else changes what is held.
-pub fn held_grows_by_what_is_taken()
-    ensures messages { (s : State) (c : CommandValue) → IsInOrder s
-        → held_messages (step s c) ≡ held_messages s + length (taken s c) }
-    ensures bytes { (s : State) (c : CommandValue) → IsInOrder s
-        → held_bytes (step s c) ≡ held_bytes s + line_size (taken s c) }
+/// A delivery takes its message out of the state where the mode is `auto`, and leaves it there as it was with the others:
+/// whatever a message may weigh.
+pub fn deliveries_in_auto_leave_the_state()
+    ensures { (weight : Message → ℕ) (s : State) (sub : Subscription) (others : List Subscription) (m : Message) (rest : List Message)
+        → IsInOrder s → picked (can_take s) s.subscriptions ≡ Some (sub, others) → line_for s.queues sub ≡ m ∷ rest
+        → (hand_out s ≡ Some (handed s sub others m rest))
+        × (weight_of weight (handed s sub others m rest).state + (if is_auto sub.mode then weight m else 0) ≡ weight_of weight s) }
+{}
+
+/// What the broker holds is what stands in its lines and unacknowledged.
+pub fn held_counts_what_stands()
+    ensures messages { (s : State) → held_messages s ≡ length (standing s) }
+    ensures bytes { (s : State) → held_bytes s ≡ sum_by bytes (standing s) }
+{}
+
+/// A message to a queue is put into one place, and later commands make no more of it, whatever a message may weigh.
+pub fn messages_of_queues_are_in_one_place()
+    ensures once { (weight : Message → ℕ) (s : State) (m : Message) → IsInOrder s → is_queue m.sending.destination ≡ true
+        → weight_of weight (spread s m) ≡ weight_of weight s + weight m }
+    ensures later { (weight : Message → ℕ) (s : State) (c : CommandValue) → IsInOrder s
+        → ((place : ℕ) (sending : SendingValue) → weight (message_of s.count place sending) ≡ 0)
+        → weight_of weight (step s c) ≤ weight_of weight s }
 {}

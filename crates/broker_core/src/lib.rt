@@ -1,23 +1,32 @@
-//! The broker: what each command does to the sessions and the lines of messages, and what it answers.
+//! The broker: what each command does to sessions, subscriptions and lines of messages, and what it answers.
 
 #![tactic(auto)]
 
+mod acknowledging;
 mod answers;
 mod broker;
+mod carrying;
+mod committing;
 mod fault;
+mod hand_out;
 mod laws;
-mod line;
-mod message;
+mod order;
 mod queues;
+mod sending;
+mod subscribing;
+mod subscription;
 mod tables;
+mod trial;
 
 pub use broker::Broker;
 pub use fault::BrokerFault;
 pub use laws::{
-    closed_sessions_change_nothing, commands_follow_one_another, held_counts_what_waits,
-    held_grows_by_what_is_taken, outputs_have_the_number_of_their_command, states_stay_in_order,
+    closed_sessions_change_nothing, commands_follow_one_another,
+    deliveries_in_auto_leave_the_state, handing_out_ends, held_counts_what_stands,
+    messages_of_queues_are_in_one_place, outputs_have_the_number_of_their_command,
+    refused_operations_end_their_session, states_stay_in_order,
 };
-pub use message::{Message, MessageNumber};
+pub use subscription::Subscription;
 pub use tables::Held;
 
 #[cfg(test)]

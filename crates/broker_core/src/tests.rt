@@ -1,152 +1,301 @@
-ghost use Rattle.std.specs.Prelude.{◌≡◌, IfOk};
-
 use super::*;
-use command_core::{Command, Dest, End, Fault, HeaderText, Op, Out, Sending};
+use command_core::{
+    AckMode, Command, Dest, End, Fault, HeaderText, Member, Members, Op, Out, Sending,
+};
 use frame_core::{Bytes, Headers, Text, Verb};
 use std::alloc::Global;
 use std::test::Fail;
 
-fn header_text(alloc: Global, text: &str) -> Result<Option<HeaderText>, Fail> {
+// What happens to a broker: by which session, and what is named.
+#[derive(Drop)]
+enum Event<'a> {
+    Connect,
+    Subscribe(u64, &'a str, &'a str, AckMode),
+    Unsubscribe(u64, &'a str),
+    // Sends `hi` there.
+    Send(u64, &'a str),
+    Ack(u64, u64),
+    // Sends `hi` there, and acknowledges that delivery, in a transaction.
+    Commit(u64, &'a str, u64),
+    End(u64, End),
+}
+
+fn header_text(alloc: Global, text: &str) -> Result<HeaderText, Fail> {
     let text = Text::new(String::from_str(alloc, text)?);
     if !command_core::is_header_text(text.as_str()) {
-        return Ok(None);
+        return Err(Fail::from("no text of a header"));
     }
-    Ok(Some(HeaderText::new(text)))
+    Ok(HeaderText::new(text))
+}
+
+fn greeting(alloc: Global, to: &str) -> Result<Sending, Fail> {
+    let destination = Dest::read(alloc, to)?;
+    let body = Bytes::new(Vec::from_slice(alloc, b"hi")?);
+    Ok(Sending::new(destination, Headers::new(Vec::new(alloc)), body))
+}
+
+fn subscription(
+    alloc: Global,
+    session: u64,
+    id: &str,
+    to: &str,
+    mode: AckMode,
+) -> Result<Command, Fail> {
+    let id = header_text(alloc, id)?;
+    let destination = Dest::read(alloc, to)?;
+    let op = Op::Subscribe {
+        id,
+        destination,
+        mode,
+        durable: None,
+    };
+    Ok(Command::new(session, op, None))
+}
+
+fn end_of_subscription(alloc: Global, session: u64, id: &str) -> Result<Command, Fail> {
+    let id = header_text(alloc, id)?;
+    let op = Op::Unsubscribe {
+        id: Some(id),
+        durable: None,
+    };
+    Ok(Command::new(session, op, None))
+}
+
+fn transaction(alloc: Global, session: u64, to: &str, delivery: u64) -> Result<Command, Fail> {
+    let sent = Member::Send(greeting(alloc, to)?);
+    let members = vec![in alloc; sent, Member::Ack(delivery)]?;
+    let op = Op::Commit(Members::new(members));
+    Ok(Command::new(session, op, None))
+}
+
+fn command_of(alloc: Global, event: &Event<'_>) -> Result<Command, Fail> {
+    match event {
+        Event::Connect => Ok(Command::new(0, Op::Open { client_id: None }, None)),
+        Event::Subscribe(session, id, to, mode) => subscription(alloc, *session, id, to, *mode),
+        Event::Unsubscribe(session, id) => end_of_subscription(alloc, *session, id),
+        Event::Send(session, to) => {
+            let op = Op::Send(greeting(alloc, to)?);
+            Ok(Command::new(*session, op, None))
+        }
+        Event::Ack(session, delivery) => Ok(Command::new(*session, Op::Ack(*delivery), None)),
+        Event::Commit(session, to, delivery) => transaction(alloc, *session, to, *delivery),
+        Event::End(session, end) => Ok(Command::new(*session, Op::End(*end), None)),
+    }
 }
 
 // Carries the command out, where the broker can count one more.
-fn carry_out(alloc: Global, broker: &mut Broker, command: Command) -> Result<Vec<Out>, Fail> {
-    if broker.count() >= 1000 {
+fn carry_out(alloc: Global, broker: &mut Broker, event: &Event<'_>) -> Result<Vec<Out>, Fail> {
+    if broker.count() >= 10_000 {
         return Err(Fail::from("too many commands"));
     }
+    let command = command_of(alloc, event)?;
     Ok(broker.step(alloc, command)?)
 }
 
-fn connect(alloc: Global, broker: &mut Broker) -> Result<Vec<Out>, Fail> {
-    let op = Op::Open { client_id: None };
-    carry_out(alloc, broker, Command::new(0, op, None))
+// Carries all out, and gives what the last one gives.
+fn last_of(alloc: Global, broker: &mut Broker, events: &[Event<'_>]) -> Result<Vec<Out>, Fail> {
+    let mut outs = Vec::new(alloc);
+    for event in events {
+        outs = carry_out(alloc, broker, event)?;
+    }
+    Ok(outs)
 }
 
-// Sends `hi` there, and asks for the receipt r1.
-fn send(alloc: Global, broker: &mut Broker, session: u64, to: &str) -> Result<Vec<Out>, Fail> {
-    let sending = Sending::new(
-        Dest::read(alloc, to)?,
-        Headers::new(Vec::new(alloc)),
-        Bytes::new(Vec::from_slice(alloc, b"hi")?),
-    );
-    let receipt = header_text(alloc, "r1")?;
-    carry_out(
-        alloc,
-        broker,
-        Command::new(session, Op::Send(sending), receipt),
-    )
+// Carries one out again and again, and gives how many outputs there are in all.
+fn many(
+    alloc: Global,
+    broker: &mut Broker,
+    event: &Event<'_>,
+    times: usize,
+) -> Result<usize, Fail> {
+    let mut count: usize = 0;
+    for _ in 0..times {
+        count = count.wrapping_add(carry_out(alloc, broker, event)?.len());
+    }
+    Ok(count)
 }
 
-fn lose(alloc: Global, broker: &mut Broker, session: u64) -> Result<Vec<Out>, Fail> {
-    carry_out(
-        alloc,
-        broker,
-        Command::new(session, Op::End(End::Lost), None),
-    )
-}
-
-// Whether it is one output of that command to that session, of that verb, whose last header has that value.
-fn is_one(outs: &[Out], number: u64, session: u64, verb: Verb, value: &str) -> bool {
+// Whether it is one output to that session, of that verb, whose last header has that value.
+fn is_one(outs: &[Out], session: u64, verb: Verb, value: &str) -> bool {
     match outs {
         [out] => {
             let told = match out.frame().headers.as_slice() {
                 [.., last] => last.1.as_str() == value,
                 [] => false,
             };
-            out.number() == number && out.session() == session && out.frame().verb == verb && told
+            out.session() == session && out.frame().verb == verb && told
+        }
+        _ => false,
+    }
+}
+
+// Whether these are MESSAGEs, in order: to which session, for which subscription, which message.
+fn are_messages(outs: &[Out], expected: &[(u64, &str, &str)]) -> bool {
+    outs.len() == expected.len()
+        && outs.iter().zip(expected).all(|(out, (session, id, name))| is_message(
+            out, *session, id, name,
+        ))
+}
+
+fn is_message(out: &Out, session: u64, id: &str, name: &str) -> bool {
+    match out.frame().headers.as_slice() {
+        [subscription, message, ..] => {
+            out.session() == session
+                && out.frame().verb == Verb::Message
+                && subscription.1.as_str() == id
+                && message.1.as_str() == name
         }
         _ => false,
     }
 }
 
 #[test]
-fn opens_a_session_by_the_number_of_its_command(rt: HostRuntime) -> Result<(), Fail> {
+fn a_session_is_opened_and_ended(rt: HostRuntime) -> Result<(), Fail> {
     let mut broker = Broker::new(rt.alloc());
-    assert!(rt;
-        broker.count() == 0
-            && broker.held()
-                == Held {
-                    messages: 0,
-                    bytes: 0
-                }
+    assert!(rt; broker.count() == 0 && broker.held().messages == 0 && broker.held().bytes == 0);
+    let outs = last_of(rt.alloc(), &mut broker, &[Event::Connect, Event::Connect])?;
+    assert!(rt; is_one(outs.as_slice(), 1, Verb::Connected, "0,0"));
+    let bad = Event::End(0, End::Bad(Fault::UndefinedEscape));
+    let outs = last_of(rt.alloc(), &mut broker, &[bad])?;
+    assert!(rt; is_one(outs.as_slice(), 0, Verb::Error, "E3 undefined escape"));
+    let outs = last_of(rt.alloc(), &mut broker, &[Event::Send(0, "/queue/q")])?;
+    assert!(rt; outs.is_empty() && broker.held().messages == 0 && broker.count() == 4);
+    Ok(())
+}
+
+#[test]
+fn a_topic_reaches_all_who_listen_to_it(rt: HostRuntime) -> Result<(), Fail> {
+    let mut broker = Broker::new(rt.alloc());
+    let events = [
+        Event::Connect,
+        Event::Subscribe(0, "a", "/topic/t", AckMode::Auto),
+        Event::Subscribe(0, "b", "/topic/u", AckMode::Auto),
+        Event::Subscribe(0, "c", "/topic/t", AckMode::Auto),
+        Event::Send(0, "/topic/t"),
+    ];
+    let outs = last_of(rt.alloc(), &mut broker, &events)?;
+    assert!(rt; are_messages(outs.as_slice(), &[(0, "a", "4.0"), (0, "c", "4.0")]));
+    assert_eq!(rt; broker.held().messages, 0);
+    Ok(())
+}
+
+#[test]
+fn sixteen_may_be_unacknowledged(rt: HostRuntime) -> Result<(), Fail> {
+    let mut broker = Broker::new(rt.alloc());
+    let mode = AckMode::ClientIndividual;
+    let events = [Event::Connect, Event::Subscribe(0, "s", "/queue/q", mode)];
+    let _ = last_of(rt.alloc(), &mut broker, &events)?;
+    assert_eq!(rt;
+        many(rt.alloc(), &mut broker, &Event::Send(0, "/queue/q"), 17)?,
+        16
     );
-    let first = connect(rt.alloc(), &mut broker)?;
-    assert!(rt; is_one(first.as_slice(), 0, 0, Verb::Connected, "0,0"));
-    let second = connect(rt.alloc(), &mut broker)?;
-    assert!(rt; is_one(second.as_slice(), 1, 1, Verb::Connected, "0,0"));
-    assert_eq!(rt; broker.count(), 2);
+    let outs = last_of(rt.alloc(), &mut broker, &[Event::Ack(0, 3)])?;
+    assert!(rt; are_messages(outs.as_slice(), &[(0, "s", "18.0")]));
+    assert_eq!(rt; broker.held().messages, 16);
     Ok(())
 }
 
 #[test]
-fn keeps_what_is_sent_to_a_queue(rt: HostRuntime) -> Result<(), Fail> {
+fn what_a_lost_session_had_goes_to_others(rt: HostRuntime) -> Result<(), Fail> {
     let mut broker = Broker::new(rt.alloc());
-    let _ = connect(rt.alloc(), &mut broker)?;
-    let outs = send(rt.alloc(), &mut broker, 0, "/queue/a")?;
-    assert!(rt; is_one(outs.as_slice(), 1, 0, Verb::Receipt, "r1"));
-    let _ = send(rt.alloc(), &mut broker, 0, "/queue/a")?;
-    let _ = send(rt.alloc(), &mut broker, 0, "/queue/bc")?;
+    let events = [
+        Event::Connect,
+        Event::Connect,
+        Event::Subscribe(0, "a", "/queue/q", AckMode::Client),
+        Event::Send(1, "/queue/q"),
+        Event::Send(1, "/queue/q"),
+        Event::Subscribe(1, "b", "/queue/q", AckMode::Client),
+        Event::End(0, End::Lost),
+    ];
+    let outs = last_of(rt.alloc(), &mut broker, &events)?;
+    assert!(rt; are_messages(outs.as_slice(), &[(1, "b", "3.0"), (1, "b", "4.0")]));
+    Ok(())
+}
+
+#[test]
+fn a_transaction_is_carried_out_wholly_or_not_at_all(rt: HostRuntime) -> Result<(), Fail> {
+    let mut broker = Broker::new(rt.alloc());
+    let events = [
+        Event::Connect,
+        Event::Connect,
+        Event::Commit(0, "/queue/q", 7),
+    ];
+    let outs = last_of(rt.alloc(), &mut broker, &events)?;
     assert!(rt;
-        broker.held()
-            == Held {
-                messages: 3,
-                bytes: 31
-            }
+        is_one(
+            outs.as_slice(),
+            0,
+            Verb::Error,
+            "E11 unknown acknowledgement id"
+        )
+    );
+    assert_eq!(rt; broker.held().messages, 0);
+    let events = [
+        Event::Subscribe(1, "s", "/queue/q", AckMode::Client),
+        Event::Send(1, "/queue/q"),
+        Event::Commit(1, "/queue/q", 0),
+    ];
+    let outs = last_of(rt.alloc(), &mut broker, &events)?;
+    assert!(rt; are_messages(outs.as_slice(), &[(1, "s", "5.0")]));
+    assert_eq!(rt; broker.held().messages, 1);
+    Ok(())
+}
+
+#[test]
+fn subscriptions_are_known_by_their_ids(rt: HostRuntime) -> Result<(), Fail> {
+    let mut broker = Broker::new(rt.alloc());
+    let events = [
+        Event::Connect,
+        Event::Connect,
+        Event::Subscribe(0, "a", "/queue/q", AckMode::Auto),
+        Event::Subscribe(0, "a", "/queue/r", AckMode::Auto),
+    ];
+    let outs = last_of(rt.alloc(), &mut broker, &events)?;
+    assert!(rt; is_one(outs.as_slice(), 0, Verb::Error, "E9 subscription id in use"));
+    let outs = last_of(rt.alloc(), &mut broker, &[Event::Unsubscribe(1, "z")])?;
+    assert!(rt;
+        is_one(
+            outs.as_slice(),
+            1,
+            Verb::Error,
+            "E10 unknown subscription id"
+        )
     );
     Ok(())
 }
 
 #[test]
-fn what_is_sent_to_a_topic_reaches_nobody(rt: HostRuntime) -> Result<(), Fail> {
+fn no_more_than_4096_messages_are_held(rt: HostRuntime) -> Result<(), Fail> {
     let mut broker = Broker::new(rt.alloc());
-    let _ = connect(rt.alloc(), &mut broker)?;
-    let outs = send(rt.alloc(), &mut broker, 0, "/topic/a")?;
-    assert!(rt; is_one(outs.as_slice(), 1, 0, Verb::Receipt, "r1"));
+    let _ = last_of(rt.alloc(), &mut broker, &[Event::Connect, Event::Connect])?;
+    let _ = many(rt.alloc(), &mut broker, &Event::Send(0, "/queue/q"), 4095)?;
+    let events = [
+        Event::Subscribe(1, "a", "/topic/t", AckMode::Auto),
+        Event::Subscribe(1, "b", "/topic/t", AckMode::Auto),
+        Event::Send(1, "/topic/t"),
+    ];
+    let outs = last_of(rt.alloc(), &mut broker, &events)?;
     assert!(rt;
-        broker.held()
-            == Held {
-                messages: 0,
-                bytes: 0
-            }
+        is_one(
+            outs.as_slice(),
+            1,
+            Verb::Error,
+            "E12 no room for the message"
+        )
     );
-    Ok(())
-}
-
-#[test]
-fn a_session_that_is_not_open_is_only_counted(rt: HostRuntime) -> Result<(), Fail> {
-    let mut broker = Broker::new(rt.alloc());
-    assert!(rt; send(rt.alloc(), &mut broker, 0, "/queue/a")?.is_empty());
-    let _ = connect(rt.alloc(), &mut broker)?;
-    assert!(rt; lose(rt.alloc(), &mut broker, 1)?.is_empty());
-    assert!(rt; send(rt.alloc(), &mut broker, 1, "/queue/a")?.is_empty());
-    assert!(rt; broker.count() == 4 && broker.held().messages == 0);
-    Ok(())
-}
-
-#[test]
-fn a_client_that_says_goodbye_gets_its_receipt(rt: HostRuntime) -> Result<(), Fail> {
-    let mut broker = Broker::new(rt.alloc());
-    let _ = connect(rt.alloc(), &mut broker)?;
-    let receipt = header_text(rt.alloc(), "r2")?;
-    let bye = Command::new(0, Op::End(End::Bye), receipt);
-    let outs = carry_out(rt.alloc(), &mut broker, bye)?;
-    assert!(rt; is_one(outs.as_slice(), 1, 0, Verb::Receipt, "r2"));
-    assert!(rt; send(rt.alloc(), &mut broker, 0, "/queue/a")?.is_empty());
-    Ok(())
-}
-
-#[test]
-fn a_client_that_did_wrong_gets_an_error(rt: HostRuntime) -> Result<(), Fail> {
-    let mut broker = Broker::new(rt.alloc());
-    let _ = connect(rt.alloc(), &mut broker)?;
-    let bad = Command::new(0, Op::End(End::Bad(Fault::UndefinedEscape)), None);
-    let outs = carry_out(rt.alloc(), &mut broker, bad)?;
-    assert!(rt; is_one(outs.as_slice(), 1, 0, Verb::Error, "E3 undefined escape"));
-    assert!(rt; lose(rt.alloc(), &mut broker, 0)?.is_empty());
+    assert_eq!(rt;
+        many(rt.alloc(), &mut broker, &Event::Send(0, "/queue/q"), 1)?,
+        0
+    );
+    let outs = last_of(rt.alloc(), &mut broker, &[Event::Send(0, "/queue/q")])?;
+    assert!(rt;
+        is_one(
+            outs.as_slice(),
+            0,
+            Verb::Error,
+            "E12 no room for the message"
+        )
+    );
+    assert_eq!(rt; broker.held().messages, 4096);
     Ok(())
 }

@@ -1,2 +1,1 @@
-pub mod DestinationNames
 pub mod WritableReplies

@@ -1,9 +1,16 @@
-use Rattle.std.proofs.Common.{◌≤◌, ◌<◌, ◌^◌, ◌%◌, ◌+◌, ◌++◌, ◌∷◌, [], List, ℕ, arith, rules}
-use Rattle.std.specs.List.{AllByRecursion}
+use Rattle.std.proofs.Common.{◌≡◌, ◌≢◌, ◌≤◌, ◌<◌, ◌^◌, ◌%◌, ◌+◌, ◌++◌, ◌∷◌, ◌&&◌, ◌||◌, ◌⊎◌, [], Bool, false, List, ℕ, Option, None, Some, IfSome, MatchOption, arith, codes, drop, inl, inr, length, nat_eq, nat_le, refl, rules, subst, sym, true, zero, suc}
+use Rattle.std.specs.List.{AllByRecursion, list_all, starts_with}
 use Rattle.std.specs.Fmt.{decimal}
+use Rattle.std.proofs.lemmas.Bool.{and_parts}
 use Rattle.std.proofs.lemmas.Fmt.{decimal_by_steps}
-use Rattle.frame_core.specs.Writable.{HasNoNul, IsOneLine, Writable}
-use Rattle.command_core.specs.Replies.{connected}
+use Rattle.std.proofs.lemmas.Bool.Decides.{Decides-eqb}
+use Rattle.std.proofs.lemmas.Slice.Eq.{starts_is}
+use Rattle.frame_core.proofs.Lists.{all_append}
+use Rattle.frame_core.specs.Writable.{HasNoNul, IsHeader, IsOneLine, Writable, first_of}
+use Rattle.command_core.specs.Texts.{IsHeaderText}
+use Rattle.command_core.specs.Destinations.{IsDestination, is_destination_byte, is_name, is_queue, is_topic}
+use Rattle.command_core.specs.Sendings.{SendingValue, IsSending, IsKept}
+use Rattle.command_core.specs.Replies.{ack_header, connected, message_frame, message_id, own_headers}
 
 abbrev AllDigits : List ℕ → Type 0
 AllDigits ds = AllByRecursion (λ b. (48 ≤ b) × (b ≤ 57)) ds
@@ -32,3 +39,80 @@ connected_writable n h =
     let plain : HasNoNul (decimal n) = no_nul _ digits in
     let line : IsOneLine (decimal n) = one_line _ digits in
     search (rules, plain, line)
+
+no_nul_append : (a b : List ℕ) → HasNoNul a → HasNoNul b → HasNoNul (a ++ b)
+no_nul_append [] b h k = k
+no_nul_append (x ∷ a) b h k = (h.0, no_nul_append a b h.1 k)
+
+-- what may stand in a destination is no NUL
+byte_is_no_nul : (b : ℕ) → is_destination_byte b ≡ true → b ≢ 0
+byte_is_no_nul zero h = absurd cc
+byte_is_no_nul (suc b) h = λ e. cc
+
+name_has_no_nul : (name : List ℕ) → list_all is_destination_byte name ≡ true → HasNoNul name
+name_has_no_nul [] h = tt
+name_has_no_nul (b ∷ name) h =
+    let p = and_parts (is_destination_byte b) (list_all is_destination_byte name) h in
+    (byte_is_no_nul b p.0, name_has_no_nul name p.1)
+
+behind_prefix : (p d : List ℕ) → HasNoNul p → starts_with nat_eq d p ≡ true → HasNoNul (drop (length p) d) → HasNoNul d
+behind_prefix p d plain starts rest = subst HasNoNul (sym ((starts_is Decides-eqb d p _ refl).0 starts)) (no_nul_append p _ plain rest)
+
+behind_name : (d : List ℕ) → is_name (drop 7 d) ≡ true → HasNoNul (drop 7 d)
+behind_name d h =
+    let name = drop 7 d in
+    name_has_no_nul name (and_parts (nat_le 1 (length name) && nat_le (length name) 200) (list_all is_destination_byte name) h).1
+
+either_true : (x y : Bool) → (x || y) ≡ true → (x ≡ true) ⊎ (y ≡ true)
+either_true true y h = inl refl
+either_true false y h = inr h
+
+by_kind : (d : List ℕ) → (is_topic d ≡ true) ⊎ (is_queue d ≡ true) → HasNoNul (drop 7 d) → HasNoNul d
+by_kind d (inl topic) rest = behind_prefix (codes "/topic/") d (search rules) topic rest
+by_kind d (inr queue) rest = behind_prefix (codes "/queue/") d (search rules) queue rest
+
+dest_no_nul : (d : List ℕ) → IsDestination d → HasNoNul d
+dest_no_nul d h =
+    let p = and_parts (is_topic d || is_queue d) (is_name (drop 7 d)) h.valid in
+    by_kind d (either_true (is_topic d) (is_queue d) p.0) (behind_name d p.1)
+
+kept_headers_fit : (hs : List (List ℕ × List ℕ)) → AllByRecursion IsKept hs → AllByRecursion IsHeader hs
+kept_headers_fit [] each = tt
+kept_headers_fit (h ∷ hs) each = (record { named = each.0.named; name = each.0.name.no_nul; value = each.0.value.no_nul }, kept_headers_fit hs each.1)
+
+-- a number's header can be written
+number_header : (name : List ℕ) (n : ℕ) → 0 < length name → HasNoNul name → n < 2 ^ 64 → IsHeader (name, decimal n)
+number_header name n named plain fits = record { named = named; name = plain; value = no_nul _ (digits_of_decimal n fits) }
+
+ack_fits : (d : Option ℕ) → IfSome d (λ x. x < 2 ^ 64) → AllByRecursion IsHeader (ack_header d)
+ack_fits None fits = tt
+ack_fits (Some d) fits = (number_header (codes "ack") d (omega arith) (search rules) fits, tt)
+
+id_no_nul : (n k : ℕ) → n < 2 ^ 64 → k < 2 ^ 64 → HasNoNul (message_id n k)
+id_no_nul n k n_fits k_fits =
+    no_nul_append (decimal n) _ (no_nul _ (digits_of_decimal n n_fits)) (omega arith, no_nul _ (digits_of_decimal k k_fits))
+
+length_is_told : (id name : List ℕ) (d : Option ℕ) (s : SendingValue) → first_of (codes "content-length") (own_headers id name d s ++ s.headers) ≡ Some (decimal (length s.body))
+length_is_told id name None s = refl
+length_is_told id name (Some d) s = refl
+
+-- a MESSAGE can be written
+pub message_writable : (id : List ℕ) (n k : ℕ) (d : Option ℕ) (s : SendingValue) → IsHeaderText id → n < 2 ^ 64 → k < 2 ^ 64 → IfSome d (λ x. x < 2 ^ 64) → IsSending s → Writable (message_frame id n k d s)
+message_writable id n k d s i n_fits k_fits d_fits form =
+    let small : length s.body < 2 ^ 64 = omega (arith, form.short) in
+    let told : AllByRecursion IsHeader (own_headers id (message_id n k) d s) = (
+      record { named = omega arith; name = search rules; value = i.no_nul },
+      (
+        record { named = omega arith; name = search rules; value = id_no_nul n k n_fits k_fits },
+        (
+          record { named = omega arith; name = search rules; value = dest_no_nul s.destination form.destination },
+          all_append IsHeader (ack_header d) _ (ack_fits d d_fits) (number_header (codes "content-length") (length s.body) (omega arith) (search rules) small, tt),
+        ),
+      ),
+    ) in
+    record {
+      headers = all_append IsHeader (own_headers id (message_id n k) d s) s.headers told (kept_headers_fit s.headers form.each);
+      raw = λ e. absurd cc;
+      body = λ e. absurd cc;
+      ends = subst (λ o. MatchOption o (HasNoNul s.body) (λ text. text ≡ decimal (length s.body))) (sym (length_is_told id (message_id n k) d s)) refl;
+    }

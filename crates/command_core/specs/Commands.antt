@@ -2,6 +2,7 @@ use Rattle.std.specs.Prelude.{◌≡◌, ℕ, List, Option, None}
 use Rattle.command_core.specs.declared.command.End.TheVariants.{Lost}
 use Rattle.command_core.specs.declared.command.Op.{Op}
 use Rattle.command_core.specs.declared.command.Op.TheVariants.{Open, End}
+use Rattle.command_core.specs.Operations.{IsOp}
 
 -- which session asks for what, and the receipt that it asks for
 pub record CommandValue : Type 0 where
@@ -16,5 +17,6 @@ Fits (End Lost) session receipt = receipt ≡ None
 Fits _ session receipt = Unit {0}
 
 -- the form of a command
-abbrev pub IsCommand : CommandValue → Type 0
-IsCommand c = Fits c.op c.session c.receipt
+pub record IsCommand (c : CommandValue) : Type 0 where
+  pub op : IsOp c.op
+  pub fits : Fits c.op c.session c.receipt

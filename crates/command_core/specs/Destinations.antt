@@ -1,4 +1,4 @@
-use Rattle.std.specs.Prelude.{◌≡◌, ◌≤◌, ◌⊎◌, ◌++◌, ◌==◌, ◌&&◌, ◌||◌, List, ℕ, Bool, IsTrue, length, codes, nat_eq, nat_le}
+use Rattle.std.specs.Prelude.{◌≡◌, ◌==◌, ◌&&◌, ◌||◌, List, ℕ, Bool, true, codes, drop, length, nat_eq, nat_le}
 use Rattle.std.specs.List.{list_all, starts_with}
 
 -- an ASCII letter, a digit, `.`, `-`, `_` or `/`
@@ -7,19 +7,21 @@ is_destination_byte b =
     (nat_le 97 b && nat_le b 122) || (nat_le 65 b && nat_le b 90) || (nat_le 48 b && nat_le b 57) || (b == 46) || (b == 45) || (b == 95) || (b == 47)
 
 -- 1 to 200 such bytes
-pub record IsName (name : List ℕ) : Type 0 where
-  pub some_byte : 1 ≤ length name
-  pub short : length name ≤ 200
-  pub bytes : IsTrue (list_all is_destination_byte name)
+abbrev pub is_name : List ℕ → Bool
+is_name name = nat_le 1 (length name) && nat_le (length name) 200 && list_all is_destination_byte name
 
--- the destination of the topic or the queue of that name
-abbrev pub Names : List ℕ → List ℕ → Type 0
-Names destination name = (destination ≡ codes "/topic/" ++ name) ⊎ (destination ≡ codes "/queue/" ++ name)
-
--- a valid destination: that of a topic or a queue
-abbrev pub IsDestination : List ℕ → Type 0
-IsDestination destination = (name : List ℕ) × Names destination name × IsName name
+-- whether it is a topic's
+abbrev pub is_topic : List ℕ → Bool
+is_topic destination = starts_with nat_eq destination (codes "/topic/")
 
 -- whether it is a queue's
 abbrev pub is_queue : List ℕ → Bool
 is_queue destination = starts_with nat_eq destination (codes "/queue/")
+
+-- whether it is a valid destination: `/topic/` or `/queue/`, and a name
+abbrev pub is_destination : List ℕ → Bool
+is_destination destination = (is_topic destination || is_queue destination) && is_name (drop 7 destination)
+
+-- a valid destination
+pub record IsDestination (destination : List ℕ) : Type 0 where
+  pub valid : is_destination destination ≡ true

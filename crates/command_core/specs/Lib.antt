@@ -2,6 +2,8 @@ pub mod Faults
 pub mod Texts
 pub mod Destinations
 pub mod Sendings
+pub mod Operations
+pub mod Sizes
 pub mod Commands
 pub mod Outs
 pub mod Replies

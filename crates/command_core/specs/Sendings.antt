@@ -1,4 +1,4 @@
-use Rattle.std.specs.Prelude.{◌<◌, ◌≤◌, List, [], ◌∷◌, ℕ, Bool, not, IsTrue, length, codes}
+use Rattle.std.specs.Prelude.{◌<◌, ◌≤◌, List, [], ◌∷◌, ℕ, Bool, not, IsTrue, filter, length, codes}
 use Rattle.std.specs.List.{AllByRecursion, list_any}
 use Rattle.std.specs.Str.{bytes_eq}
 use Rattle.command_core.specs.Texts.{IsHeaderText}
@@ -12,6 +12,10 @@ own_names =
 -- whether a message keeps the headers of that name
 abbrev pub is_kept : List ℕ → Bool
 is_kept name = not (list_any (bytes_eq name) own_names)
+
+-- the headers that a message keeps, in their order
+abbrev pub kept_headers : List (List ℕ × List ℕ) → List (List ℕ × List ℕ)
+kept_headers headers = filter (λ (h : List ℕ × List ℕ). is_kept h.0) headers
 
 -- a header that a message keeps
 pub record IsKept (h : List ℕ × List ℕ) : Type 0 where

@@ -3,8 +3,11 @@
 ghost use Rattle.std.specs.Prelude.{◌≡◌, Option};
 ghost use Rattle.command_core.specs.Commands.{IsCommand};
 
+use crate::ack_mode::AckMode;
+use crate::destination::Dest;
 use crate::fault::Fault;
 use crate::header_text::HeaderText;
+use crate::member::{Member, Members};
 use crate::sending::Sending;
 use std::marker::Model;
 
@@ -23,16 +26,56 @@ pub enum End {
 #[derive(Clone, Debug, Drop)]
 pub enum Op {
     /// It begins, for a client that may have named itself for durable subscriptions.
-    Open { client_id: Option<HeaderText> },
+    Open {
+        client_id: Option<HeaderText>,
+    },
     /// A message goes out.
     Send(Sending),
+    /// A subscription begins, under an id of the session's own. With a name, which is not empty and comes with a topic
+    /// alone, it is a durable one: its messages are kept under that name while nobody listens.
+    Subscribe {
+        id: HeaderText,
+        destination: Dest,
+        mode: AckMode,
+        durable: Option<HeaderText>,
+    },
+    /// The subscription of that id ends; with a name, the durable subscription of that name is given up. One of them at
+    /// least is there.
+    Unsubscribe {
+        id: Option<HeaderText>,
+        durable: Option<HeaderText>,
+    },
+    /// The delivery of that number is acknowledged.
+    Ack(u64),
+    /// The delivery of that number is refused.
+    Nack(u64),
+    /// The members of a transaction are carried out in their order, all of them or none.
+    Commit(Members),
+    /// Nothing: it stands for a frame that does nothing yet and whose receipt is asked for.
+    Note,
     /// It ends.
     End(End),
 }
 
+impl From<Member> for Op {
+    ghost use Rattle.std.specs.Prelude.{◌≡◌};
+    ghost use Rattle.command_core.specs.Operations.{op_of};
+
+    ghost from_gives = { λ member r. r ≡ op_of member };
+
+    fn from(member: Member) -> Op {
+        match member {
+            Member::Send(sending) => Op::Send(sending),
+            Member::Ack(delivery) => Op::Ack(delivery),
+            Member::Nack(delivery) => Op::Nack(delivery),
+        }
+    }
+}
+
 /// A command: which session asks for what, and the receipt that it asks for with it. Contracts see it as these three.
 /// Of an Open the session is 0, since its number is given by the broker, and no receipt goes with an Open (STOMP 1.2,
-/// "Header receipt") nor with the end of a lost connection.
+/// "Header receipt") nor with the end of a lost connection. A client's name and a durable one are not empty, a durable
+/// name comes with a topic alone, and what ends a subscription has an id or a name.
 #[derive(Clone, Debug, Drop)]
 pub struct Command {
     session: u64,

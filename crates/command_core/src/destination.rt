@@ -2,7 +2,7 @@
 
 ghost use Rattle.std.specs.Prelude.{◌≡◌, ◌↔◌, ◌++◌, IsTrue, IfOk, IfErr, MatchOption, List, ℕ};
 ghost use Rattle.std.specs.List.{list_all};
-ghost use Rattle.command_core.specs.Destinations.{IsDestination, IsName, Names, is_destination_byte, is_queue};
+ghost use Rattle.command_core.specs.Destinations.{IsDestination, is_destination, is_destination_byte, is_name, is_queue};
 
 use frame_core::Text;
 use std::alloc::{AllocError, Global};
@@ -45,17 +45,6 @@ fn may_name(byte: u8) -> bool
     matches!(byte, b'a'..=b'z' | b'A'..=b'Z' | b'0'..=b'9' | b'.' | b'-' | b'_' | b'/')
 }
 
-/// What follows `/topic/` or `/queue/`.
-fn name_of(bytes: &[u8]) -> Option<&[u8]>
-    ensures { MatchOption result ((name : List ℕ) → ¬ Names bytes.now name)
-        (λ name. Names bytes.now name.now) }
-{
-    match bytes.strip_prefix(b"/topic/") {
-        Some(name) => Some(name),
-        None => bytes.strip_prefix(b"/queue/"),
-    }
-}
-
 fn all_may_name(bytes: &[u8]) -> bool
     ensures { result ≡ list_all is_destination_byte bytes.now }
 {
@@ -64,18 +53,16 @@ fn all_may_name(bytes: &[u8]) -> bool
 
 /// Whether a topic or a queue may have the name.
 fn is_name(name: &[u8]) -> bool
-    ensures { IsTrue result ↔ IsName name.now }
+    ensures { result ≡ is_name name.now }
 {
     !name.is_empty() && name.len() <= 200 && all_may_name(name)
 }
 
 fn is_destination(text: &str) -> bool
-    ensures { IsTrue result ↔ IsDestination text.now }
+    ensures { result ≡ is_destination text.now }
 {
-    match name_of(text.as_bytes()) {
-        Some(name) => is_name(name),
-        None => false,
-    }
+    let bytes = text.as_bytes();
+    (bytes.starts_with(b"/topic/") || bytes.starts_with(b"/queue/")) && is_name(&bytes[7..])
 }
 
 impl Dest {

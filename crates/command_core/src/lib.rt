@@ -3,21 +3,27 @@
 
 #![tactic(auto)]
 
+mod ack_mode;
 mod command;
 mod destination;
 mod fault;
 mod header_text;
+mod member;
 mod out;
 mod replies;
 mod sending;
+mod sizes;
 
+pub use ack_mode::AckMode;
 pub use command::{Command, End, Op};
 pub use destination::{Dest, DestFault};
 pub use fault::{Fault, fault_text};
 pub use header_text::{HeaderText, is_header_text};
+pub use member::{Member, Members};
 pub use out::Out;
-pub use replies::{connected_reply, error_reply, receipt_reply};
+pub use replies::{connected_reply, error_reply, message_reply, receipt_reply};
 pub use sending::{Sending, is_kept_name};
+pub use sizes::{member_size, op_size};
 
 #[cfg(test)]
 mod tests;

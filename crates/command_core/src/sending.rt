@@ -1,16 +1,17 @@
 //! What a SEND asks for.
 
-ghost use Rattle.std.specs.Prelude.{◌≡◌, ◌≤◌, length};
+ghost use Rattle.std.specs.Prelude.{◌≡◌, ◌≤◌, IfOk, length};
 ghost use Rattle.std.specs.List.{AllByRecursion};
 ghost use Rattle.command_core.specs.Sendings.{IsKept, IsSending, is_kept};
 
 use crate::destination::Dest;
 use frame_core::{Bytes, Headers};
+use std::alloc::AllocError;
 use std::marker::Model;
 
 /// What is sent where: a destination, the headers that go on with the message, and a body (STOMP 1.2, "SEND"). At most
 /// 64 headers, each a name that isn't empty and a value, both fit for a header; at most 65,536 bytes of body.
-#[derive(Clone, Debug, Drop)]
+#[derive(Debug, Drop)]
 pub struct Sending {
     destination: Dest,
     headers: Headers,
@@ -87,5 +88,24 @@ impl Sending {
         ensures form { IsSending self }
     {
         (self.destination, self.headers, self.body)
+    }
+}
+
+fn copy_headers(headers: &Headers) -> Result<Headers, AllocError>
+    ensures { IfOk result (λ copy. copy ≡ headers.now) }
+{
+    headers.clone()
+}
+
+impl Clone for Sending {
+    ghost use Rattle.std.specs.Prelude.{◌≡◌};
+
+    ghost is_clone = { λ old copy. copy ≡ old };
+
+    fn clone(&self) -> Result<Sending, AllocError> {
+        let destination = self.destination().clone()?;
+        let headers = copy_headers(self.headers())?;
+        let body = self.body().clone()?;
+        Ok(Sending::new(destination, headers, body))
     }
 }

@@ -149,3 +149,52 @@ fn an_error_tells_the_fault_and_what_asked(rt: HostRuntime) -> Result<(), Fail> 
     assert!(rt; is_frame(&frame, Verb::Error, &headers));
     Ok(())
 }
+
+#[test]
+fn a_message_tells_to_whom_it_goes_and_which_it_is(rt: HostRuntime) -> Result<(), Fail> {
+    let id = HeaderText::new(text(rt.alloc(), "s")?);
+    let frame = message_reply(rt.alloc(), &id, 12, 3, Some(40), greeting(rt.alloc())?)?;
+    assert!(rt; frame.verb == Verb::Message);
+    assert_eq!(rt; frame.body.as_slice(), b"hi".as_slice());
+    let headers = [
+        ("subscription", "s"),
+        ("message-id", "12.3"),
+        ("destination", "/queue/a"),
+        ("ack", "40"),
+        ("content-length", "2"),
+    ];
+    let own = frame.headers.as_slice();
+    assert_eq!(rt; own.len(), headers.len());
+    assert!(rt;
+        own.iter().zip(headers.as_slice()).all(|(h, (name, value))| h.0.as_str() == *name
+            && h.1.as_str() == *value)
+    );
+    Ok(())
+}
+
+// The kind 1, the destination 4 and 8, the count of headers 2, the body 4 and 2.
+#[test]
+fn an_operation_has_the_size_of_its_record(rt: HostRuntime) -> Result<(), Fail> {
+    let member = Member::Send(greeting(rt.alloc())?);
+    assert_eq!(rt; member_size(&member), 21);
+    assert_eq!(rt; op_size(&Op::from(member)), 21);
+    assert_eq!(rt; op_size(&Op::Ack(7)), 9);
+    assert_eq!(rt; op_size(&Op::Note), 1);
+    assert_eq!(rt; op_size(&Op::End(End::Bad(Fault::NoRoom))), 3);
+    Ok(())
+}
+
+#[test]
+fn members_are_those_of_the_list(rt: HostRuntime) -> Result<(), Fail> {
+    let members = Members::new(vec![in rt.alloc(); Member::Ack(3), Member::Nack(5)]?);
+    assert_eq!(rt; members.as_slice().len(), 2);
+    assert!(rt; matches!(members.as_slice(), [Member::Ack(3), Member::Nack(5)]));
+    assert_eq!(rt; op_size(&Op::Commit(members.clone()?)), 21);
+    assert!(rt;
+        matches!(
+            members.into_vec().as_slice(),
+            [Member::Ack(3), Member::Nack(5)]
+        )
+    );
+    Ok(())
+}

@@ -1,11 +1,8 @@
 pub mod Connections
 pub mod Showing
-pub mod ReadFrames
-pub mod Items
-pub mod Acting
 pub mod Carrying
 pub mod Receiving
+pub mod Counting
 pub mod Running
 pub mod Pieces
 pub mod Turning
-pub mod Hearings

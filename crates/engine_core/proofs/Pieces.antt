@@ -2,7 +2,7 @@
 use Rattle.std.proofs.Common.{◌≡◌, ◌+◌, ◌-◌, ◌≤◌, List, [], ◌∷◌, ◌++◌, ℕ, Option, length, take, drop, refl, ap, sym, ◌∙◌, append_assoc, append-nil, arith, subst, length-append, length-drop, inl, inr, take_all}
 use Rattle.std.proofs.Math.Seq.{take-add, take-append_seam}
 use Rattle.std.proofs.lemmas.List.{take-append-drop}
-use Rattle.engine_core.specs.Scripts.{Takes, IsLine, HasNoLf, HasNoLine, text_of_lines}
+use Rattle.engine_core.specs.Scripts.{ScriptValue, Takes, IsLine, HasNoLf, HasNoLine, HasLineTooFar, HasLineThatPrints, text_of_lines}
 use Rattle.engine_core.specs.Runs.{Goes, Halts, StopsIn, IsTooLong}
 use Rattle.engine_core.specs.declared.run.Run.{Run}
 use Rattle.engine_core.specs.declared.fault.ScriptFault.{ScriptFault}
@@ -31,7 +31,7 @@ goes_append old mid new x y before middle after first second = record {
   writes = appends_append before middle after first.printed second.printed first.writes second.writes;
 }
 
-halts_later : (old mid : Run) (x y : List ℕ) (lines : List (List ℕ)) (rest : List ℕ) (before middle after : Option (List ℕ)) (g : Goes old x mid before middle) → Halts mid y lines rest middle after → Halts old (x ++ y) (g.lines ++ lines) rest before after
+abbrev halts_later : (old mid : Run) (x y : List ℕ) (lines : List (List ℕ)) (rest : List ℕ) (before middle after : Option (List ℕ)) (g : Goes old x mid before middle) → Halts mid y lines rest middle after → Halts old (x ++ y) (g.lines ++ lines) rest before after
 halts_later old mid x y lines rest before middle after g h = record {
   printed = g.printed ++ h.printed;
   end = h.end;
@@ -43,19 +43,29 @@ pub stops_later : (fault : ScriptFault) (old mid : Run) (x y : List ℕ) (before
 stops_later (NotUnderstood k) old mid x y before middle after g (lines, rest, h, e, none) =
     (g.lines ++ lines, rest, halts_later old mid x y lines rest before middle after g h, omega (arith, e, g.count, length-append g.lines lines), none)
 stops_later (Memory refused) old mid x y before middle after g (lines, rest, h) = (g.lines ++ lines, rest, halts_later old mid x y lines rest before middle after g h)
-stops_later CountTooLarge old mid x y before middle after g (lines, rest, h) = (g.lines ++ lines, rest, halts_later old mid x y lines rest before middle after g h)
+stops_later CountTooLarge old mid x y before middle after g (lines, rest, h, far) = (g.lines ++ lines, rest, halts_later old mid x y lines rest before middle after g h, far)
 stops_later Input old mid x y before middle after g (lines, rest, h) = (g.lines ++ lines, rest, halts_later old mid x y lines rest before middle after g h)
-stops_later Output old mid x y before middle after g h = tt
+stops_later Output old mid x y before middle after g h = record {
+  lines = g.lines ++ h.lines;
+  rest = h.rest;
+  printed = g.printed ++ h.printed;
+  end = h.end;
+  takes = takes_append old.script mid.script h.end old.begun.items x y g.lines h.lines g.printed h.printed mid.begun.items h.rest g.takes h.takes;
+  tried = h.tried;
+}
 
-halts_before : (old : Run) (x z : List ℕ) (lines : List (List ℕ)) (rest : List ℕ) (before after : Option (List ℕ)) → Halts old x lines rest before after → Halts old (x ++ z) lines (rest ++ z) before after
+takes_before : (s t : ScriptValue) (begun x z : List ℕ) (lines : List (List ℕ)) (printed rest : List ℕ) → Takes s begun x lines printed t rest → Takes s begun (x ++ z) lines printed t (rest ++ z)
+takes_before s t begun x z lines printed rest takes = record {
+  whole = sym (append_assoc begun x z) ∙ ap (λ l. l ++ z) takes.whole ∙ append_assoc (text_of_lines lines) rest z;
+  each = takes.each;
+  prints = takes.prints;
+}
+
+abbrev halts_before : (old : Run) (x z : List ℕ) (lines : List (List ℕ)) (rest : List ℕ) (before after : Option (List ℕ)) → Halts old x lines rest before after → Halts old (x ++ z) lines (rest ++ z) before after
 halts_before old x z lines rest before after h = record {
   printed = h.printed;
   end = h.end;
-  takes = record {
-    whole = sym (append_assoc old.begun.items x z) ∙ ap (λ l. l ++ z) h.takes.whole ∙ append_assoc (text_of_lines lines) rest z;
-    each = h.takes.each;
-    prints = h.takes.prints;
-  };
+  takes = takes_before old.script h.end old.begun.items x z lines h.printed rest h.takes;
   writes = h.writes;
 }
 
@@ -63,12 +73,25 @@ no_line_before : (rest z : List ℕ) → HasNoLine rest → HasNoLine (rest ++ z
 no_line_before rest z (inl (line, behind, whole, no_lf, long)) = inl (line, behind ++ z, ap (λ l. l ++ z) whole ∙ append_assoc line behind z, no_lf, long)
 no_line_before rest z (inr (line, behind, whole, no_lf, form)) = inr (line, behind ++ z, ap (λ l. l ++ z) whole ∙ append_assoc line (10 ∷ behind) z, no_lf, form)
 
+too_far_before : (s : ScriptValue) (rest z : List ℕ) → HasLineTooFar s rest → HasLineTooFar s (rest ++ z)
+too_far_before s rest z (line, behind, whole, is_line, far) = (line, behind ++ z, ap (λ l. l ++ z) whole ∙ append_assoc line (10 ∷ behind) z, is_line, far)
+
+prints_before : (s : ScriptValue) (rest z : List ℕ) → HasLineThatPrints s rest → HasLineThatPrints s (rest ++ z)
+prints_before s rest z (line, behind, text, t, whole, is_line, prints) = (line, behind ++ z, text, t, ap (λ l. l ++ z) whole ∙ append_assoc line (10 ∷ behind) z, is_line, prints)
+
 pub stops_before : (fault : ScriptFault) (old : Run) (x z : List ℕ) (before after : Option (List ℕ)) → StopsIn fault old x before after → StopsIn fault old (x ++ z) before after
 stops_before (NotUnderstood k) old x z before after (lines, rest, h, e, none) = (lines, rest ++ z, halts_before old x z lines rest before after h, e, no_line_before rest z none)
 stops_before (Memory refused) old x z before after (lines, rest, h) = (lines, rest ++ z, halts_before old x z lines rest before after h)
-stops_before CountTooLarge old x z before after (lines, rest, h) = (lines, rest ++ z, halts_before old x z lines rest before after h)
+stops_before CountTooLarge old x z before after (lines, rest, h, far) = (lines, rest ++ z, halts_before old x z lines rest before after h, too_far_before h.end rest z far)
 stops_before Input old x z before after (lines, rest, h) = (lines, rest ++ z, halts_before old x z lines rest before after h)
-stops_before Output old x z before after h = tt
+stops_before Output old x z before after h = record {
+  lines = h.lines;
+  rest = h.rest ++ z;
+  printed = h.printed;
+  end = h.end;
+  takes = takes_before old.script h.end old.begun.items x z h.lines h.printed h.rest h.takes;
+  tried = prints_before h.end h.rest z h.tried;
+}
 
 -- what is left of a piece from a place on
 abbrev pub left_of : List ℕ → ℕ → List ℕ

@@ -5,8 +5,8 @@ use Rattle.std.specs.List.{fold}
 use Rattle.std.specs.Map.{remove_entry}
 use Rattle.std.specs.Ordering.{nat_cmp}
 use Rattle.engine_core.specs.declared.script.Connection.{Connection}
-use Rattle.engine_core.specs.declared.session.Act.{Act}
-use Rattle.engine_core.specs.Sessions.{Hearing, Hears}
+use Rattle.session_core.specs.declared.act.Act.{Act}
+use Rattle.session_core.specs.Sessions.{Hearing, Hears}
 use Rattle.engine_core.specs.Desks.{DeskValue, Progress, acted}
 use Rattle.engine_core.specs.Scripts.{connection_at, Receives}
 

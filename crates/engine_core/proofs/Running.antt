@@ -11,7 +11,7 @@ use Rattle.engine_core.specs.declared.fault.DeskFault.{DeskFault}
 use Rattle.engine_core.specs.declared.fault.DeskFault.TheVariants as desk
 use Rattle.engine_core.specs.declared.fault.ScriptFault.{ScriptFault}
 use Rattle.engine_core.specs.declared.fault.ScriptFault.TheVariants.{Memory, NotUnderstood, CountTooLarge, Input, Output}
-use Rattle.engine_core.specs.Scripts.{ScriptValue, Prints, PrintsAll, Takes, IsLine, HasNoLf, text_of_lines}
+use Rattle.engine_core.specs.Scripts.{ScriptValue, Prints, PrintsAll, Takes, IsLine, HasNoLf, RunsTooFar, Tries, text_of_lines}
 
 pub prints_append : (s t u : ScriptValue) (a b : List (List ℕ)) (p q : List ℕ) → PrintsAll s a p t → PrintsAll t b q u → PrintsAll s (a ++ b) (p ++ q) u
 prints_append s t u [] b p q first second =
@@ -60,12 +60,20 @@ no_lf_append [] b first second = second
 no_lf_append (x ∷ a) b first second = (first.0, no_lf_append a b first.1 second)
 
 -- nothing more is printed
-pub halts_nothing : (old : Run) (bytes : List ℕ) (contents : Option (List ℕ)) → Halts old bytes [] (old.begun.items ++ bytes) contents contents
+abbrev pub halts_nothing : (old : Run) (bytes : List ℕ) (contents : Option (List ℕ)) → Halts old bytes [] (old.begun.items ++ bytes) contents contents
 halts_nothing old bytes contents = record { printed = []; end = old.script; takes = takes_nothing old.script old.begun.items bytes; writes = appends_nothing contents }
 
-pub stops_at_desk : (fault : DeskFault) (given : ScriptFault) (old : Run) (bytes : List ℕ) (contents : Option (List ℕ)) → given ≡ of_desk fault → StopsIn given old bytes contents contents
-stops_at_desk (desk.Memory refused) given old bytes contents e = subst (λ f. StopsIn f old bytes contents contents) (sym e) ([], old.begun.items ++ bytes, halts_nothing old bytes contents)
-stops_at_desk desk.CountTooLarge given old bytes contents e = subst (λ f. StopsIn f old bytes contents contents) (sym e) ([], old.begun.items ++ bytes, halts_nothing old bytes contents)
+pub stops_at_desk : (fault : DeskFault) (given : ScriptFault) (old : Run) (bytes line : List ℕ) (contents : Option (List ℕ))
+    → line ≡ old.begun.items ++ bytes → IsLine line → (fault ≡ desk.CountTooLarge → RunsTooFar old.script line) → given ≡ of_desk fault → StopsIn given old (bytes ++ 10 ∷ []) contents contents
+stops_at_desk (desk.Memory refused) given old bytes line contents same is_line far e =
+    subst (λ f. StopsIn f old (bytes ++ 10 ∷ []) contents contents) (sym e) ([], old.begun.items ++ (bytes ++ 10 ∷ []), halts_nothing old (bytes ++ 10 ∷ []) contents)
+stops_at_desk desk.CountTooLarge given old bytes line contents same is_line far e =
+    subst (λ f. StopsIn f old (bytes ++ 10 ∷ []) contents contents) (sym e) (
+      [],
+      old.begun.items ++ (bytes ++ 10 ∷ []),
+      halts_nothing old (bytes ++ 10 ∷ []) contents,
+      (line, [], sym (append_assoc old.begun.items bytes (10 ∷ [])) ∙ ap (λ l. l ++ 10 ∷ []) (sym same), is_line, far refl),
+    )
 
 pub stops_too_long : (fault : ScriptFault) (old : Run) (bytes after : List ℕ) (contents : Option (List ℕ)) → IsLine old.begun.items → HasNoLf bytes → IsTooLong fault old bytes → StopsIn fault old (bytes ++ after) contents contents
 stops_too_long (NotUnderstood k) old bytes after contents line no_lf (e, long) = (
@@ -88,6 +96,18 @@ stops_at_no_form old bytes line k contents begun no_lf same form e = (
   omega (arith, e),
   inr (line, [], sym (append_assoc old.begun.items bytes (10 ∷ [])) ∙ ap (λ l. l ++ 10 ∷ []) (sym same), subst HasNoLf (sym same) (no_lf_append old.begun.items bytes begun.no_lf no_lf), form),
 )
+
+-- the line is one, but what it prints could not be written
+pub stops_at_writer : (old : Run) (bytes line printed : List ℕ) (new : ScriptValue)
+    → line ≡ old.begun.items ++ bytes → IsLine line → Prints old.script line printed new → Tries old.script old.begun.items (bytes ++ 10 ∷ [])
+stops_at_writer old bytes line printed new same is_line prints = record {
+  lines = [];
+  rest = old.begun.items ++ (bytes ++ 10 ∷ []);
+  printed = [];
+  end = old.script;
+  takes = takes_nothing old.script old.begun.items (bytes ++ 10 ∷ []);
+  tried = (line, [], printed, new, sym (append_assoc old.begun.items bytes (10 ∷ [])) ∙ ap (λ l. l ++ 10 ∷ []) (sym same), is_line, prints);
+}
 
 pub goes_on_line : (old new : Run) (bytes line printed : List ℕ) (before after : Option (List ℕ))
     → line ≡ old.begun.items ++ bytes → IsLine line → Prints old.script line printed new.script → new.begun.items ≡ [] → new.lines ≡ old.lines + 1 → Appends before after printed

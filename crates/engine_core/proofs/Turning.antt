@@ -2,7 +2,7 @@
 use Rattle.std.proofs.Common.{◌≡◌, ◌≢◌, ◌+◌, List, [], ◌++◌, ℕ, Option, Some, None, Bool, true, false, refl, ap, sym, ◌∙◌, append_assoc, append-nil, arith, subst, inl, inr}
 use Rattle.std.specs.Io.KnownBytes.{Appends, Consumes, IsAtEnd, Keeps}
 use Rattle.std.specs.declared.alloc.AllocError.{AllocError}
-use Rattle.engine_core.specs.Scripts.{ScriptValue, beginning, Takes, IsLine, IsScript, text_of_lines}
+use Rattle.engine_core.specs.Scripts.{ScriptValue, beginning, Takes, IsLine, IsScript, Tries, text_of_lines}
 use Rattle.engine_core.specs.Runs.{Goes, Halts, StopsIn, Turned, Stopped, EndsWithin, Begins, Stops}
 use Rattle.engine_core.specs.declared.run.Run.{Run}
 use Rattle.engine_core.specs.declared.fault.ScriptFault.{ScriptFault}
@@ -67,7 +67,7 @@ stopped_at_end fault run bytes unread left contents line reads none at_end is so
 from_start : (start : Run) (bytes : List ℕ) (lines : List (List ℕ)) (printed rest : List ℕ) (end : ScriptValue) → start.script ≡ beginning → start.begun.items ≡ [] → Takes start.script start.begun.items bytes lines printed end rest → Takes beginning [] bytes lines printed end rest
 from_start start bytes lines printed rest end script none t = subst (λ b. Takes beginning b bytes lines printed end rest) none (subst (λ s. Takes s start.begun.items bytes lines printed end rest) script t)
 
-begins : (start : Run) (bytes : List ℕ) (lines : List (List ℕ)) (rest : List ℕ) (unread left before after : Option (List ℕ)) → start.script ≡ beginning → start.begun.items ≡ [] → Consumes unread left bytes → Halts start bytes lines rest before after → Begins lines rest unread left before after
+abbrev begins : (start : Run) (bytes : List ℕ) (lines : List (List ℕ)) (rest : List ℕ) (unread left before after : Option (List ℕ)) → start.script ≡ beginning → start.begun.items ≡ [] → Consumes unread left bytes → Halts start bytes lines rest before after → Begins lines rest unread left before after
 begins start bytes lines rest unread left before after script none reads h =
     record { input = bytes; printed = h.printed; end = h.end; reads = reads; takes = from_start start bytes lines h.printed rest h.end script none h.takes; writes = h.writes }
 
@@ -78,9 +78,9 @@ stops_in : (fault : ScriptFault) (start : Run) (bytes : List ℕ) (unread left b
 stops_in (NotUnderstood k) start bytes unread left before after script none first reads (lines, rest, h, e, no_line) =
     (lines, rest, begins start bytes lines rest unread left before after script none reads h, omega (arith, e, first), inl no_line)
 stops_in (Memory refused) start bytes unread left before after script none first reads (lines, rest, h) = (lines, rest, begins start bytes lines rest unread left before after script none reads h)
-stops_in CountTooLarge start bytes unread left before after script none first reads (lines, rest, h) = (lines, rest, begins start bytes lines rest unread left before after script none reads h)
+stops_in CountTooLarge start bytes unread left before after script none first reads (lines, rest, h, far) = (lines, rest, begins start bytes lines rest unread left before after script none reads h, far)
 stops_in Input start bytes unread left before after script none first reads (lines, rest, h) = (lines, rest, begins start bytes lines rest unread left before after script none reads h)
-stops_in Output start bytes unread left before after script none first reads h = tt
+stops_in Output start bytes unread left before after script none first reads h = (bytes, reads, subst (λ b. Tries beginning b bytes) none (subst (λ s. Tries s start.begun.items bytes) script h))
 
 ends_in : (fault : ScriptFault) (start : Run) (bytes : List ℕ) (unread left before after : Option (List ℕ)) → start.script ≡ beginning → start.begun.items ≡ [] → start.lines ≡ 0 → Consumes unread left bytes → EndsWithin fault start bytes left before after → Stops fault unread left before after
 ends_in (NotUnderstood k) start bytes unread left before after script none first reads (new, g, at_end, some, e) =

@@ -1,4 +1,4 @@
-use Rattle.engine_core.specs.Sessions.{fresh}
+use Rattle.session_core.specs.Sessions.{fresh}
 use Rattle.engine_core.specs.declared.script.Connection.{Connection}
 
 -- a connection that has received nothing

@@ -1,6 +1,7 @@
-use Rattle.std.specs.Prelude.{◌+◌, List, [], ◌∷◌, ◌++◌, ℕ, Bool, Option, cond, length, nat_le, nat_eq, map, flat_map, unwrap_or, count_by}
+use Rattle.std.specs.Prelude.{◌≡◌, ◌≤◌, ◌^◌, ◌+◌, List, [], ◌∷◌, ◌++◌, ℕ, Bool, Option, Some, None, cond, length, nat_le, nat_eq, map, flat_map, unwrap_or, count_by}
 use Rattle.std.specs.BTreeMap.{insert_entry, is_at}
 use Rattle.std.specs.Fmt.{decimal}
+use Rattle.std.specs.List.{fold}
 use Rattle.std.specs.Map.{lookup}
 use Rattle.std.specs.Ordering.{nat_cmp}
 use Rattle.frame_core.specs.declared.frame.Frame.{Frame}
@@ -13,8 +14,8 @@ use Rattle.broker_core.specs.States.{State}
 use Rattle.broker_core.specs.Steps.{state_after, outs_of}
 use Rattle.engine_core.specs.Shown.{shown}
 use Rattle.engine_core.specs.declared.desk.Waiting.{Waiting}
-use Rattle.engine_core.specs.declared.session.Act.{Act}
-use Rattle.engine_core.specs.declared.session.Act.TheVariants.{Do, Direct, Close}
+use Rattle.session_core.specs.declared.act.Act.{Act}
+use Rattle.session_core.specs.declared.act.Act.TheVariants.{Do, Direct, Close}
 
 -- Between the connections and the broker: the commands that wait for the next flush, in their order, each with the
 -- connection that it came from; which connection opened which session; and the broker as it was last flushed.
@@ -58,6 +59,10 @@ with_room connection desk = cond (is_full connection desk) (flushed desk) desk
 abbrev pub room_text : ℕ → DeskValue → List ℕ
 room_text connection desk = cond (is_full connection desk) (flush_text desk) []
 
+-- a command of the connection comes once as many have been carried out as may be: 2^60
+abbrev pub CountsTooFar : ℕ → DeskValue → Type 0
+CountsTooFar connection desk = 2 ^ 60 ≤ (with_room connection desk).state.count
+
 -- the number that the next command gets
 abbrev pub next_number : DeskValue → ℕ
 next_number desk = desk.state.count + length desk.waiting
@@ -99,3 +104,21 @@ abbrev pub acted : ℕ → Progress → Act → Progress
 acted connection p (Do op receipt) = submitted connection op receipt p
 acted connection p (Direct frame) = record p { text = p.text ++ line_for connection frame }
 acted connection p (Close code) = p
+
+-- what the act leads to that is to be done, where there is one
+abbrev pub acted_on : ℕ → Progress → Option Act → Progress
+acted_on connection p None = p
+acted_on connection p (Some act) = acted connection p act
+
+-- an act is a command that comes once as many have been carried out as may be
+abbrev pub IsTooFar : ℕ → DeskValue → Act → Type 0
+IsTooFar connection desk (Do op receipt) = CountsTooFar connection desk
+IsTooFar connection desk _ = ⊥
+
+-- one of a connection's acts, behind what those before it lead to, is such a command
+pub record GoTooFar (connection : ℕ) (start : Progress) (acts : List Act) : Type 0 where
+  pub before : List Act
+  pub act : Act
+  pub behind : List Act
+  pub split : acts ≡ before ++ act ∷ behind
+  pub too_far : IsTooFar connection (fold (acted connection) start before).desk act

@@ -1,11 +1,9 @@
 pub mod ScriptLines
 pub mod Shown
-pub mod Versions
-pub mod Verbs
-pub mod Sessions
 pub mod Desks
 pub mod Scripts
 pub mod Connections
 pub mod Runs
 pub mod OfDesk
+pub mod FaultTexts
 pub mod Worked

@@ -1,8 +1,8 @@
 use Rattle.std.specs.Prelude.{◌≡◌, ◌≢◌, ◌+◌, ◌<◌, ◌≤◌, ◌⊎◌, List, [], ◌++◌, ℕ, Bool, true, Option, length}
 use Rattle.std.specs.Io.KnownBytes.{Appends, Consumes, IsAtEnd}
-use Rattle.engine_core.specs.Scripts.{ScriptValue, beginning, Takes, IsLine, HasNoLf, HasNoLine}
+use Rattle.engine_core.specs.Scripts.{ScriptValue, beginning, Takes, IsLine, HasNoLf, HasNoLine, HasLineTooFar, Tries}
 use Rattle.engine_core.specs.declared.fault.ScriptFault.{ScriptFault}
-use Rattle.engine_core.specs.declared.fault.ScriptFault.TheVariants.{Memory, NotUnderstood, Output}
+use Rattle.engine_core.specs.declared.fault.ScriptFault.TheVariants.{Memory, NotUnderstood, CountTooLarge, Output}
 use Rattle.engine_core.specs.declared.run.Run.{Run}
 
 -- octets lead a run on: the lines that end in them print, and what follows begins a line
@@ -22,11 +22,14 @@ pub record Halts (old : Run) (bytes : List ℕ) (lines : List (List ℕ)) (rest 
   pub takes : Takes old.script old.begun.items bytes lines printed end rest
   pub writes : Appends before after printed
 
--- A fault stops a run within octets: unless it is the writer's, what is written is what the lines before print.
+-- A fault stops a run within octets: unless it is the writer's, what is written is what the lines before print. The
+-- commands are too many only where the next line is one that runs too far, and the writer fails only where the next line prints.
 abbrev pub StopsIn : ScriptFault → Run → List ℕ → Option (List ℕ) → Option (List ℕ) → Type 0
-StopsIn Output old bytes before after = Unit {0}
+StopsIn Output old bytes before after = Tries old.script old.begun.items bytes
 StopsIn (NotUnderstood k) old bytes before after =
     (lines : List (List ℕ)) × (rest : List ℕ) × Halts old bytes lines rest before after × (k ≡ old.lines + length lines + 1) × HasNoLine rest
+StopsIn CountTooLarge old bytes before after =
+    (lines : List (List ℕ)) × (rest : List ℕ) × (h : Halts old bytes lines rest before after) × HasLineTooFar h.end rest
 StopsIn _ old bytes before after = (lines : List (List ℕ)) × (rest : List ℕ) × Halts old bytes lines rest before after
 
 -- a line gets longer than a line may be, or memory is refused
@@ -64,10 +67,13 @@ pub record Begins (lines : List (List ℕ)) (rest : List ℕ) (unread left befor
   pub writes : Appends before after printed
 
 -- A fault stops a script. Unless it is the writer's, what is written is what the lines before print, and a line is told
--- only where it is none: it has too many octets, is of no form, or ends the script with no LF.
+-- only where it is none: it has too many octets, is of no form, or ends the script with no LF. The commands are too many
+-- only where the next line is one that runs too far, and the writer fails only where the next line prints.
 abbrev pub Stops : ScriptFault → Option (List ℕ) → Option (List ℕ) → Option (List ℕ) → Option (List ℕ) → Type 0
-Stops Output unread left before after = Unit {0}
+Stops Output unread left before after = (input : List ℕ) × Consumes unread left input × Tries beginning [] input
 Stops (NotUnderstood k) unread left before after =
     (lines : List (List ℕ)) × (rest : List ℕ) × Begins lines rest unread left before after × (k ≡ length lines + 1)
     × (HasNoLine rest ⊎ (IsAtEnd left × (rest ≢ []) × HasNoLf rest))
+Stops CountTooLarge unread left before after =
+    (lines : List (List ℕ)) × (rest : List ℕ) × (b : Begins lines rest unread left before after) × HasLineTooFar b.end rest
 Stops _ unread left before after = (lines : List (List ℕ)) × (rest : List ℕ) × Begins lines rest unread left before after

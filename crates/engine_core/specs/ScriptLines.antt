@@ -1,18 +1,34 @@
 use Rattle.std.specs.Prelude.{◌≡◌, ◌≢◌, ◌+◌, ◌/◌, ◌%◌, ◌<◌, ◌≤◌, List, [], ◌∷◌, ◌++◌, ℕ, codes, drop, length}
 use Rattle.std.specs.Fmt.{decimal}
 use Rattle.engine_core.specs.declared.line.Line.{Line}
-use Rattle.engine_core.specs.declared.line.Line.TheVariants.{Blank, Flush, Receive}
+use Rattle.engine_core.specs.declared.line.Line.TheVariants.{Blank, Flush, Lose, Receive}
 
--- the line says that: nothing, `flush`, or a connection's number in decimal, a blank and a text
+-- the number of a connection in decimal
+abbrev pub IsNumber : List ℕ → ℕ → Type 0
+IsNumber text n = (n < 32) × (text ≡ decimal n)
+
+abbrev pub IsNoNumber : List ℕ → Type 0
+IsNoNumber text = (n : ℕ) → n < 32 → text ≢ decimal n
+
+-- the line is `lost`, a blank and a connection's number
+abbrev pub IsLoss : List ℕ → ℕ → Type 0
+IsLoss line n = (n < 32) × (line ≡ codes "lost " ++ decimal n)
+
+abbrev pub IsNoLoss : List ℕ → Type 0
+IsNoLoss line = (n : ℕ) → n < 32 → line ≢ codes "lost " ++ decimal n
+
+-- the line says that: nothing, `flush`, `lost` with a connection's number, or such a number, a blank and a text
 abbrev pub Says : List ℕ → Line → Type 0
 Says line Blank = line ≡ []
 Says line Flush = line ≡ codes "flush"
+Says line (Lose n) = IsLoss line n
 Says line (Receive n text) = (n < 32) × (line ≡ decimal n ++ 32 ∷ text.now)
 
 -- the line is of none of these forms
 pub record IsOfNoForm (line : List ℕ) : Type 0 where
   pub not_blank : line ≢ []
   pub not_flush : line ≢ codes "flush"
+  pub not_lost : IsNoLoss line
   pub not_received : (n : ℕ) (text : List ℕ) → n < 32 → line ≢ decimal n ++ 32 ∷ text
 
 -- a decimal digit
@@ -26,6 +42,13 @@ HasDigit line n = (n < 10) × (2 ≤ length line) × (line ≡ (48 + n) ∷ 32 �
 -- the line begins with no digit and a blank
 abbrev pub HasNoDigit : List ℕ → Type 0
 HasNoDigit line = (n : ℕ) (text : List ℕ) → n < 10 → line ≢ (48 + n) ∷ 32 ∷ text
+
+-- these are the two digits of that number of a connection
+abbrev pub AreDigits : ℕ → ℕ → ℕ → Type 0
+AreDigits tens units n = (10 ≤ n) × (n < 32) × (tens ≡ 48 + n / 10) × (units ≡ 48 + n % 10)
+
+abbrev pub AreNoDigits : ℕ → ℕ → Type 0
+AreNoDigits tens units = (n : ℕ) → AreDigits tens units n → ⊥
 
 -- the line begins with the two digits of this number and a blank
 abbrev pub HasDigits : List ℕ → ℕ → Type 0

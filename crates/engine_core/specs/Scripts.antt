@@ -1,4 +1,4 @@
-use Rattle.std.specs.Prelude.{◌≡◌, ◌≢◌, ◌⊎◌, ◌<◌, ◌≤◌, List, [], ◌∷◌, ◌++◌, ℕ, codes, length, unwrap_or, flat_map}
+use Rattle.std.specs.Prelude.{◌≡◌, ◌≢◌, ◌⊎◌, ◌<◌, ◌≤◌, List, [], ◌∷◌, ◌++◌, ℕ, Some, codes, length, unwrap_or, flat_map}
 use Rattle.std.specs.BTreeMap.{insert_entry, is_at}
 use Rattle.std.specs.Fmt.{decimal}
 use Rattle.std.specs.List.{fold, AllByRecursion}
@@ -6,11 +6,11 @@ use Rattle.std.specs.Map.{lookup, remove_entry}
 use Rattle.std.specs.Ordering.{nat_cmp}
 use Rattle.broker_core.specs.States.{empty_state}
 use Rattle.engine_core.specs.Shown.{meant}
-use Rattle.engine_core.specs.ScriptLines.{IsOfNoForm}
-use Rattle.engine_core.specs.Sessions.{Hearing, Hears}
+use Rattle.engine_core.specs.ScriptLines.{IsOfNoForm, IsLoss}
+use Rattle.session_core.specs.Sessions.{Hearing, Hears, loss_of}
 use Rattle.engine_core.specs.Connections.{new_connection}
-use Rattle.engine_core.specs.Desks.{DeskValue, Progress, acted, flush_text, flushed}
-use Rattle.engine_core.specs.declared.session.Act.{Act}
+use Rattle.engine_core.specs.Desks.{DeskValue, Progress, acted, acted_on, flush_text, flushed, IsTooFar, GoTooFar}
+use Rattle.session_core.specs.declared.act.Act.{Act}
 use Rattle.engine_core.specs.declared.script.Connection.{Connection}
 
 -- a script as far as it has run: its connections by rising number, and the desk
@@ -40,13 +40,40 @@ pub record Receives (s : ScriptValue) (n : ℕ) (bytes printed : List ℕ) (t : 
   pub same_text : printed ≡ progress.text
   pub after : t ≡ record { connections = with_connection n (record { session = session; number = progress.number }) s.connections; desk = progress.desk }
 
--- What a line prints, and what it leaves: an empty line nothing, `flush` what waits, a connection's number with a blank
--- and a text what the connection receives.
+-- a connection receives octets that ask for a command once as many have been carried out as may be
+pub record ReceivesTooFar (s : ScriptValue) (n : ℕ) (bytes : List ℕ) : Type 0 where
+  pub acts : List Act
+  pub session : Hearing
+  pub hears : Hears (connection_at n s).session bytes acts session
+  pub go_too_far : GoTooFar n (record { number = (connection_at n s).number; desk = s.desk; text = [] }) acts
+
+-- A connection is gone: the end of its session is done, where one is to come, and it is none of the connections.
+pub record Loses (s : ScriptValue) (n : ℕ) (printed : List ℕ) (t : ScriptValue) : Type 0 where
+  pub progress : Progress
+  pub done : progress ≡ acted_on n (record { number = (connection_at n s).number; desk = s.desk; text = [] }) (loss_of (connection_at n s).session.phase)
+  pub same_text : printed ≡ progress.text
+  pub after : t ≡ record { connections = remove_entry (is_at (nat_cmp n)) s.connections; desk = progress.desk }
+
+-- a connection is gone, and the end of its session comes once as many commands have been carried out as may be
+pub record LosesTooFar (s : ScriptValue) (n : ℕ) : Type 0 where
+  pub act : Act
+  pub is_loss : loss_of (connection_at n s).session.phase ≡ Some act
+  pub too_far : IsTooFar n s.desk act
+
+-- a line has a connection receive such octets, or be gone so: it runs too far
+abbrev pub RunsTooFar : ScriptValue → List ℕ → Type 0
+RunsTooFar s line =
+    ((n : ℕ) × IsLoss line n × LosesTooFar s n)
+    ⊎ ((n : ℕ) × (text : List ℕ) × (n < 32) × (line ≡ decimal n ++ 32 ∷ text) × ReceivesTooFar s n (meant text))
+
+-- What a line prints, and what it leaves: an empty line nothing, `flush` what waits, `lost` with a connection's number
+-- what the loss brings, such a number with a blank and a text what the connection receives.
 abbrev pub Prints : ScriptValue → List ℕ → List ℕ → ScriptValue → Type 0
 Prints s line printed t =
     ((line ≡ []) × (printed ≡ []) × (t ≡ s))
     ⊎ (((line ≡ codes "flush") × (printed ≡ flush_text s.desk) × (t ≡ record s { desk = flushed s.desk }))
-    ⊎ ((n : ℕ) × (text : List ℕ) × (n < 32) × (line ≡ decimal n ++ 32 ∷ text) × Receives s n (meant text) printed t))
+    ⊎ (((n : ℕ) × IsLoss line n × Loses s n printed t)
+    ⊎ ((n : ℕ) × (text : List ℕ) × (n < 32) × (line ≡ decimal n ++ 32 ∷ text) × Receives s n (meant text) printed t)))
 
 -- what lines print, one after another
 abbrev pub PrintsAll : ScriptValue → List (List ℕ) → List ℕ → ScriptValue → Type 0
@@ -80,6 +107,24 @@ pub record IsScript (input printed : List ℕ) : Type 0 where
   pub each : AllByRecursion IsLine lines
   pub end : ScriptValue
   pub prints : PrintsAll beginning lines printed end
+
+-- octets with a line at their front that runs too far
+abbrev pub HasLineTooFar : ScriptValue → List ℕ → Type 0
+HasLineTooFar s bytes = (line : List ℕ) × (behind : List ℕ) × (bytes ≡ line ++ 10 ∷ behind) × IsLine line × RunsTooFar s line
+
+-- octets with a line at their front that prints
+abbrev pub HasLineThatPrints : ScriptValue → List ℕ → Type 0
+HasLineThatPrints s bytes =
+    (line : List ℕ) × (behind : List ℕ) × (text : List ℕ) × (t : ScriptValue) × (bytes ≡ line ++ 10 ∷ behind) × IsLine line × Prints s line text t
+
+-- a part of a script leads as far as a line that prints
+pub record Tries (s : ScriptValue) (begun bytes : List ℕ) : Type 0 where
+  pub lines : List (List ℕ)
+  pub rest : List ℕ
+  pub printed : List ℕ
+  pub end : ScriptValue
+  pub takes : Takes s begun bytes lines printed end rest
+  pub tried : HasLineThatPrints end rest
 
 -- Octets with no line of a script at their front: one has more octets than a line may have, or is of no form.
 abbrev pub HasNoLine : List ℕ → Type 0

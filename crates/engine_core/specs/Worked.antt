@@ -1,17 +1,7 @@
-use Rattle.std.specs.Prelude.{List, [], ◌∷◌, ℕ, Some, None, codes}
-use Rattle.frame_core.specs.declared.frame.Frame.{Frame}
-use Rattle.frame_core.specs.declared.frame.Verb.TheVariants as verbs
+use Rattle.std.specs.Prelude.{[], ◌∷◌, Some, None, codes}
 use Rattle.command_core.specs.declared.command.Op.TheVariants as ops
 use Rattle.broker_core.specs.States.{empty_state}
 use Rattle.engine_core.specs.Desks.{DeskValue}
-
--- a CONNECT that offers these versions
-abbrev pub connect : List ℕ → Frame
-connect versions = record { verb = verbs.Connect; headers = (codes "accept-version", versions) ∷ []; body = [] }
-
--- a SEND of `hi` with a receipt
-abbrev pub send : List ℕ → List ℕ → Frame
-send to receipt = record { verb = verbs.Send; headers = (codes "destination", to) ∷ (codes "receipt", receipt) ∷ []; body = codes "hi" }
 
 -- connection 0 has asked for a session
 abbrev pub waiting_open : DeskValue
@@ -26,7 +16,7 @@ abbrev pub opened_desk : DeskValue
 opened_desk = record {
   waiting = [];
   openers = (0, 0) ∷ [];
-  state = record { count = 1; next_delivery = 0; sessions = (0, None) ∷ []; queues = [] };
+  state = record { count = 1; next_delivery = 0; sessions = (0, None) ∷ []; queues = []; subscriptions = [] };
 }
 
 -- and has sent `hi` to `/queue/a`, and asked for a receipt

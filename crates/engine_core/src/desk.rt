@@ -1,9 +1,10 @@
 //! The desk between the connections and the broker: what waits for the next flush, and what a flush prints.
 
-ghost use Rattle.std.specs.Prelude.{◌≡◌, ◌++◌, ◌<◌, ◌^◌, OnOk, IfOk, string_bytes, nat_eq, count_by};
+ghost use Rattle.std.specs.Prelude.{◌≡◌, ◌≢◌, ◌++◌, ◌<◌, ◌≤◌, ◌^◌, OnOk, IfOk, IfErr, string_bytes, nat_eq, count_by};
 ghost use Rattle.std.specs.List.{flat_map};
 ghost use Rattle.frame_core.specs.Writable.{Writable};
 ghost use Rattle.command_core.specs.Commands.{Fits};
+ghost use Rattle.command_core.specs.Operations.{IsOp};
 
 use crate::fault::DeskFault;
 use crate::printing::carry_out;
@@ -48,7 +49,7 @@ const MOST_WAITING: usize = 8;
 const LAST_COUNT: u64 = 1 << 60;
 
 impl Desk {
-    ghost use Rattle.engine_core.specs.Desks.{DeskValue, flushed, flush_text, with_room, room_text, number_for, as_command, is_full};
+    ghost use Rattle.engine_core.specs.Desks.{DeskValue, flushed, flush_text, with_room, room_text, CountsTooFar, number_for, as_command, is_full};
     ghost use Rattle.broker_core.specs.States.{empty_state};
     ghost use Rattle.std.specs.Prelude.{[]};
 
@@ -67,6 +68,7 @@ impl Desk {
     pub fn flush(&mut self, alloc: Global, text: &mut String) -> Result<(), DeskFault>
         ensures state { OnOk result (self.new ≡ flushed self.old) }
         ensures text { OnOk result (string_bytes text.new ≡ string_bytes text.old ++ flush_text self.old) }
+        ensures err { IfErr result (λ fault. fault ≢ DeskFault.CountTooLarge) }
     {
         let waiting = mem::replace(&mut self.waiting, Vec::new(alloc));
         carry_out(alloc, &mut self.broker, &self.openers, waiting, text)
@@ -90,10 +92,12 @@ impl Desk {
         receipt: Option<HeaderText>,
         text: &mut String,
     ) -> Result<u64, DeskFault>
-        requires { Fits op 0 receipt }
+        requires { Fits op 0 receipt × IsOp op }
         ensures number { IfOk result (λ n. n ≡ number_for op number (with_room connection self.old)) }
         ensures desk { OnOk result (self.new ≡ as_command connection op receipt number (with_room connection self.old)) }
         ensures text { OnOk result (string_bytes text.new ≡ string_bytes text.old ++ room_text connection self.old) }
+        ensures counts { OnOk result (CountsTooFar connection self.old → ⊥) }
+        ensures err { IfErr result (λ fault. fault ≡ DeskFault.CountTooLarge → CountsTooFar connection self.old) }
     {
         if self.is_full(connection) {
             self.flush(alloc, text)?;
@@ -104,7 +108,14 @@ impl Desk {
         let next = self.broker.count() + self.waiting.len() as u64;
         let (number, session) = match op {
             Op::Open { .. } => (next, 0),
-            Op::Send(_) | Op::End(_) => (number, number),
+            Op::Send(_)
+            | Op::Subscribe { .. }
+            | Op::Unsubscribe { .. }
+            | Op::Ack(_)
+            | Op::Nack(_)
+            | Op::Commit(_)
+            | Op::Note
+            | Op::End(_) => (number, number),
         };
         if let Op::Open { .. } = op {
             self.openers.insert(next, connection)?;

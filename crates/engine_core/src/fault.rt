@@ -2,9 +2,10 @@
 
 ghost use Rattle.std.specs.Prelude.{◌≡◌};
 
-use crate::session::SessionFault;
 use broker_core::BrokerFault;
-use std::alloc::AllocError;
+use session_core::SessionFault;
+use std::alloc::{AllocError, AllocFailed};
+use std::{error, fmt};
 use thiserror::Error;
 
 /// Why the desk can't take or flush a command.
@@ -12,13 +13,40 @@ use thiserror::Error;
 pub enum DeskFault {
     /// Memory was refused.
     #[error("no memory")]
-    Memory(#[from(alloc)] AllocError),
+    Memory(AllocError),
     /// As many commands have been carried out as may be: 2^60.
     #[error("J5 count too large")]
     CountTooLarge,
 }
 
+impl From<AllocError> for DeskFault {
+    ghost use Rattle.std.specs.Prelude.{◌≡◌};
+    ghost use Rattle.engine_core.specs.declared.fault.DeskFault.TheVariants as faults;
+
+    ghost from_gives = { λ refused r. r ≡ faults.Memory refused };
+
+    fn from(refused: AllocError) -> DeskFault {
+        DeskFault::Memory(refused)
+    }
+}
+
+impl<Lost: Drop> From<AllocFailed<Lost>> for DeskFault {
+    ghost use Rattle.std.specs.Prelude.{◌≢◌};
+    ghost use Rattle.engine_core.specs.declared.fault.DeskFault.TheVariants as faults;
+
+    ghost from_gives = { λ _ r. r ≢ faults.CountTooLarge };
+
+    fn from(failed: AllocFailed<Lost>) -> DeskFault {
+        DeskFault::Memory(AllocError::from(failed))
+    }
+}
+
 impl From<BrokerFault> for DeskFault {
+    ghost use Rattle.std.specs.Prelude.{◌≢◌};
+    ghost use Rattle.engine_core.specs.declared.fault.DeskFault.TheVariants as faults;
+
+    ghost from_gives = { λ _ r. r ≢ faults.CountTooLarge };
+
     fn from(fault: BrokerFault) -> DeskFault {
         match fault {
             BrokerFault::Memory(refused) => DeskFault::Memory(refused),
@@ -28,31 +56,50 @@ impl From<BrokerFault> for DeskFault {
 }
 
 impl From<SessionFault> for DeskFault {
+    ghost use Rattle.std.specs.Prelude.{◌≢◌};
+    ghost use Rattle.engine_core.specs.declared.fault.DeskFault.TheVariants as faults;
+
+    ghost from_gives = { λ _ r. r ≢ faults.CountTooLarge };
+
     fn from(_: SessionFault) -> DeskFault {
         DeskFault::Memory(AllocError)
     }
 }
 
 /// Why a script does not run to its end. What it printed before stays.
-#[derive(Debug, Drop, Error)]
+#[derive(Debug, Drop)]
 pub enum ScriptFault {
     /// Memory was refused.
-    #[error("no memory")]
     Memory(AllocError),
     /// The line of that number, counted from 1, says nothing that a script can say, is longer than 1,048,576 bytes, or
     /// is the last one and has no LF.
-    #[error("line {line} not understood")]
     NotUnderstood { line: u64 },
     /// As many commands have been carried out as may be: 2^60.
-    #[error("J5 count too large")]
     CountTooLarge,
     /// The script can't be read, or was read 4,294,967,296 times.
-    #[error("input or output failed")]
     Input,
     /// What it prints can't be written.
-    #[error("input or output failed")]
     Output,
 }
+
+/// The text for the user.
+impl fmt::Display for ScriptFault {
+    ghost use Rattle.std.specs.Prelude.{Some};
+    ghost use Rattle.engine_core.specs.FaultTexts.{fault_text};
+
+    ghost output = { λ fault. Some (fault_text fault) };
+
+    fn fmt<W: fmt::Write>(&self, f: &mut fmt::Formatter<W>) -> fmt::Result {
+        match self {
+            ScriptFault::Memory(_) => f.write_str("no memory"),
+            ScriptFault::NotUnderstood { line } => write!(f, "line {line} not understood"),
+            ScriptFault::CountTooLarge => f.write_str("J5 count too large"),
+            ScriptFault::Input | ScriptFault::Output => f.write_str("input or output failed"),
+        }
+    }
+}
+
+impl error::Error for ScriptFault {}
 
 impl From<DeskFault> for ScriptFault {
     ghost use Rattle.engine_core.specs.OfDesk.{of_desk};

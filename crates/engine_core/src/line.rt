@@ -1,7 +1,7 @@
 //! What a line of a script says.
 
 ghost use Rattle.std.specs.Prelude.{◌≡◌, ◌+◌, ◌<◌, ◌≤◌, MatchOption};
-ghost use Rattle.engine_core.specs.ScriptLines.{Says, IsOfNoForm, HasNoDigit, HasDigit, HasNoDigits, HasDigits, IsDigit};
+ghost use Rattle.engine_core.specs.ScriptLines.{Says, IsOfNoForm, IsLoss, IsNoLoss, IsNumber, IsNoNumber, HasNoDigit, HasDigit, HasNoDigits, HasDigits, IsDigit, AreDigits, AreNoDigits};
 
 /// What a line of a script says.
 #[derive(Clone, Copy, Debug)]
@@ -10,6 +10,8 @@ pub enum Line<'a> {
     Blank,
     /// All waiting commands are applied, and their outputs printed.
     Flush,
+    /// A connection, from 0 to 31, is gone.
+    Lose { connection: u8 },
     /// A connection, from 0 to 31, receives what the text stands for.
     Receive { connection: u8, text: &'a [u8] },
 }
@@ -24,6 +26,9 @@ pub fn read_line(line: &[u8]) -> Option<Line<'_>>
     if line == b"flush".as_slice() {
         return Some(Line::Flush);
     }
+    if let Some(connection) = lost(line) {
+        return Some(Line::Lose { connection });
+    }
     if let Some(connection) = one_digit(line) {
         return Some(Line::Receive {
             connection,
@@ -36,6 +41,27 @@ pub fn read_line(line: &[u8]) -> Option<Line<'_>>
             text: &line[3..],
         }),
         None => None,
+    }
+}
+
+// the number of the connection that the line says is gone
+fn lost(line: &[u8]) -> Option<u8>
+    ensures { MatchOption result (IsNoLoss line.now) (IsLoss line.now) }
+{
+    match line.strip_prefix(b"lost ".as_slice()) {
+        Some(text) => connection_number(text),
+        None => None,
+    }
+}
+
+// the number of a connection, in decimal without leading zeros
+fn connection_number(text: &[u8]) -> Option<u8>
+    ensures { MatchOption result (IsNoNumber text.now) (IsNumber text.now) }
+{
+    match text.len() {
+        1 => digit(text[0]),
+        2 => from_ten(text[0], text[1]),
+        _ => None,
     }
 }
 
@@ -56,7 +82,14 @@ fn two_digits(line: &[u8]) -> Option<u8>
     if line.len() < 3 || line[2] != b' ' {
         return None;
     }
-    let (Some(tens), Some(units)) = (digit(line[0]), digit(line[1])) else {
+    from_ten(line[0], line[1])
+}
+
+// the number from 10 to 31 of two digits
+fn from_ten(tens: u8, units: u8) -> Option<u8>
+    ensures { MatchOption result (AreNoDigits tens units) (AreDigits tens units) }
+{
+    let (Some(tens), Some(units)) = (digit(tens), digit(units)) else {
         return None;
     };
     let number = 10 * tens + units;

@@ -1,6 +1,6 @@
 //! What a script prints for the frames that go to its connections.
 
-ghost use Rattle.std.specs.Prelude.{◌≡◌, ◌+◌, ◌++◌, ◌≤◌, ◌^◌, OnOk, string_bytes, length};
+ghost use Rattle.std.specs.Prelude.{◌≡◌, ◌+◌, ◌++◌, ◌≤◌, ◌≢◌, ◌^◌, IfErr, OnOk, string_bytes, length};
 ghost use Rattle.std.specs.List.{flat_map};
 ghost use Rattle.frame_core.specs.Writable.{Writable};
 ghost use Rattle.broker_core.specs.Steps.{state_after, outs_of};
@@ -64,6 +64,7 @@ pub fn carry_out(
     ensures state { OnOk result (broker.new.state ≡ state_after broker.old.state (commands_of waiting.items)) }
     ensures text { OnOk result (string_bytes text.new ≡ string_bytes text.old ++ flat_map (line_of_out openers.now.entries) (outs_of broker.old.state (commands_of waiting.items))) }
     ensures count { broker.new.state.count ≤ 2 ^ 62 }
+    ensures err { IfErr result (λ fault. fault ≢ DeskFault.CountTooLarge) }
 {
     for Waiting { command, .. } in waiting {
         let outs = broker.step(alloc, command)?;

@@ -43,7 +43,9 @@ pub fn run_script<R: Read, W: Write>(
     ensures ok { OnOk result ((input : List ℕ) × (printed : List ℕ)
         × Consumes (R.remaining reader.old) (R.remaining reader.new) input × IsAtEnd (R.remaining reader.new)
         × IsScript input printed × Appends (W.contents writer.old) (W.contents writer.new) printed) }
-    // On a fault other than the writer's, it is what the lines before print; and a line is told only where it is none.
+    // On a fault other than the writer's, it is what the lines before print; a line is told only where it is none, and a
+    // count too large only where the next line asks for a command once 2^60 have been carried out. The writer's fault comes
+    // only where the next line prints.
     ensures err { IfErr result (λ fault. Stops fault (R.remaining reader.old) (R.remaining reader.new) (W.contents writer.old) (W.contents writer.new)) }
 {
     let mut piece = vec![in alloc; 0u8; PIECE]?;

@@ -1,21 +1,21 @@
 //! A script as far as it has run: its connections and the desk.
 
-ghost use Rattle.std.specs.Prelude.{◌≡◌, ◌++◌, ◌<◌, [], IfOk, OnOk, MatchOption, string_bytes};
+ghost use Rattle.std.specs.Prelude.{◌≡◌, ◌++◌, ◌<◌, [], IfOk, IfErr, OnOk, MatchOption, string_bytes};
 ghost use Rattle.std.specs.List.{AllByRecursion, fold};
-ghost use Rattle.engine_core.specs.Sessions.{HasForm};
+ghost use Rattle.session_core.specs.Sessions.{HasForm};
 ghost use Rattle.std.specs.Prelude.{unwrap_or};
 ghost use Rattle.std.specs.BTreeMap.{is_at};
 ghost use Rattle.std.specs.Map.{lookup, remove_entry};
 ghost use Rattle.std.specs.Ordering.{nat_cmp};
 ghost use Rattle.engine_core.specs.Connections.{new_connection};
-ghost use Rattle.engine_core.specs.Desks.{Progress, acted};
+ghost use Rattle.engine_core.specs.Desks.{Progress, acted, IsTooFar, GoTooFar};
 
 use crate::desk::Desk;
 use crate::fault::DeskFault;
 use crate::line::{Line, read_line};
 use crate::printing::print_frame;
-use crate::session::{Act, Session};
 use crate::shown::unshow;
+use session_core::{Act, Session};
 use std::alloc::Global;
 use std::collections::BTreeMap;
 use std::marker::Model;
@@ -43,7 +43,7 @@ impl Model for Script {
 }
 
 impl Script {
-    ghost use Rattle.engine_core.specs.Scripts.{beginning, Receives, Prints};
+    ghost use Rattle.engine_core.specs.Scripts.{beginning, Loses, Receives, Prints, LosesTooFar, ReceivesTooFar, RunsTooFar};
     ghost use Rattle.engine_core.specs.ScriptLines.{IsOfNoForm};
 
     /// A script before its first line. No memory is taken.
@@ -58,8 +58,9 @@ impl Script {
 
     /// Does what a line says, and answers what it prints; `None` where the line says nothing that a script can say.
     pub fn perform(&mut self, alloc: Global, line: &[u8]) -> Result<Option<String>, DeskFault>
-        ensures { IfOk result (λ printed. MatchOption printed (IsOfNoForm line.now)
+        ensures ok { IfOk result (λ printed. MatchOption printed (IsOfNoForm line.now)
             (λ text. Prints self.old line.now (string_bytes text) self.new)) }
+        ensures err { IfErr result (λ fault. fault ≡ DeskFault.CountTooLarge → RunsTooFar self.old line.now) }
     {
         match read_line(line) {
             None => Ok(None),
@@ -69,6 +70,7 @@ impl Script {
                 self.desk.flush(alloc, &mut text)?;
                 Ok(Some(text))
             }
+            Some(Line::Lose { connection }) => Ok(Some(self.lose(alloc, connection)?)),
             Some(Line::Receive { connection, text }) => {
                 let bytes = unshow(alloc, text)?;
                 Ok(Some(self.receive(alloc, connection, bytes.as_slice())?))
@@ -78,7 +80,8 @@ impl Script {
 
     /// A connection receives bytes; answers what is printed.
     fn receive(&mut self, alloc: Global, n: u8, bytes: &[u8]) -> Result<String, DeskFault>
-        ensures { IfOk result (λ text. Receives self.old n bytes.now (string_bytes text) self.new) }
+        ensures ok { IfOk result (λ text. Receives self.old n bytes.now (string_bytes text) self.new) }
+        ensures err { IfErr result (λ fault. fault ≡ DeskFault.CountTooLarge → ReceivesTooFar self.old n bytes.now) }
     {
         let Connection {
             mut session,
@@ -88,6 +91,23 @@ impl Script {
         let mut text = String::new(alloc);
         let number = do_acts(alloc, &mut self.desk, n, number, acts, &mut text)?;
         self.connections.insert(n, Connection { session, number })?;
+        Ok(text)
+    }
+
+    /// A connection is gone; answers what is printed.
+    fn lose(&mut self, alloc: Global, n: u8) -> Result<String, DeskFault>
+        ensures ok { IfOk result (λ text. Loses self.old n (string_bytes text) self.new) }
+        ensures err { IfErr result (λ fault. fault ≡ DeskFault.CountTooLarge → LosesTooFar self.old n) }
+    {
+        let Connection {
+            mut session,
+            number,
+        } = take_connection(alloc, &mut self.connections, n);
+        let mut text = String::new(alloc);
+        let Some(act) = session.lost() else {
+            return Ok(text);
+        };
+        do_act(alloc, &mut self.desk, n, number, act, &mut text)?;
         Ok(text)
     }
 }
@@ -116,8 +136,10 @@ fn do_acts(
     text: &mut String,
 ) -> Result<u64, DeskFault>
     requires { AllByRecursion HasForm acts.items }
-    ensures { IfOk result (λ n. record { number = n; desk = desk.new; text = string_bytes text.new }
+    ensures ok { IfOk result (λ n. record { number = n; desk = desk.new; text = string_bytes text.new }
         ≡ fold (acted connection) (record { number = number; desk = desk.old; text = string_bytes text.old }) acts.items) }
+    ensures err { IfErr result (λ fault. fault ≡ DeskFault.CountTooLarge
+        → GoTooFar connection (record { number = number; desk = desk.old; text = string_bytes text.old }) acts.items) }
 {
     let mut number = number;
     for act in acts {
@@ -135,8 +157,9 @@ fn do_act(
     text: &mut String,
 ) -> Result<u64, DeskFault>
     requires { HasForm act }
-    ensures { IfOk result (λ n. record { number = n; desk = desk.new; text = string_bytes text.new }
+    ensures ok { IfOk result (λ n. record { number = n; desk = desk.new; text = string_bytes text.new }
         ≡ acted connection (record { number = number; desk = desk.old; text = string_bytes text.old }) act) }
+    ensures err { IfErr result (λ fault. fault ≡ DeskFault.CountTooLarge → IsTooFar connection desk.old act) }
 {
     match act {
         Act::Do(op, receipt) => desk.submit(alloc, connection, number, op, receipt, text),

@@ -1,9 +1,10 @@
-use Rattle.std.specs.Prelude.{◌≡◌, ◌≢◌, List, ℕ, Option}
+use Rattle.std.specs.Prelude.{◌≡◌, ◌≢◌, List, [], ◌∷◌, ◌++◌, ℕ, Option, codes}
 use Rattle.std.specs.Io.KnownBytes.{Appends, Consumes, IsAtEnd}
 use Rattle.clap.specs.Values.{kind_of}
 use Rattle.clap.specs.declared.error.Error.{Error}
 use Rattle.clap.specs.declared.error.kind.ErrorKind.TheVariants.{OutOfMemory}
 use Rattle.engine_core.specs.Scripts.{IsScript}
+use Rattle.engine_core.specs.FaultTexts.{fault_text}
 use Rattle.engine_core.specs.Runs.{Stops}
 use Rattle.engine_core.specs.declared.fault.ScriptFault.TheVariants.{Memory}
 use Rattle.stompd.specs.declared.tool.Failure.{Failure}
@@ -27,6 +28,11 @@ status_of (Script fault) = 1
 abbrev pub StopsBy : Failure → Option (List ℕ) → Option (List ℕ) → Option (List ℕ) → Option (List ℕ) → Type 0
 StopsBy (CommandLine error) unread left before after = (left ≡ unread) × (after ≡ before)
 StopsBy (Script fault) unread left before after = Stops fault unread left before after
+
+-- a script's fault is told in one line
+abbrev pub IsTold : Failure → Option (List ℕ) → Option (List ℕ) → Type 0
+IsTold (CommandLine error) before after = Unit {0}
+IsTold (Script fault) before after = Appends before after (codes "stompd: " ++ fault_text fault ++ 10 ∷ [])
 
 -- the failure tells of a refused command line, or of want of memory there
 abbrev pub Tells : Error → Failure → Type 0

@@ -4,6 +4,8 @@
 
 mod command_line;
 #[cfg(test)]
+mod delivery_tests;
+#[cfg(test)]
 mod tests;
 mod tool;
 
@@ -30,7 +32,7 @@ fn main(rt: HostRuntime) -> ExitCode {
         ),
         Err(error) if error.kind() == ErrorKind::OutOfMemory => {
             let failure = Failure::Script(ScriptFault::Memory(AllocError));
-            failure.tell(&mut errors);
+            let _told = failure.tell(&mut errors);
             failure.status()
         }
         Err(_) => BAD_COMMAND_LINE,

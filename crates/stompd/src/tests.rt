@@ -7,7 +7,7 @@ use std::test::Fail;
 
 const CONNECT: &str = "0 CONNECT%0Aaccept-version:1.2%0A%0A%00\n";
 
-const CONNECTED: &str = "0 CONNECTED%0Aversion:1.2%0Asession:0%0Aheart-beat:0,0%0A%0A%00\n";
+pub const CONNECTED: &str = "0 CONNECTED%0Aversion:1.2%0Asession:0%0Aheart-beat:0,0%0A%0A%00\n";
 
 const SEND_WITH_RECEIPT: &str = "0 SEND%0Adestination:/queue/a%0Areceipt:r1%0A%0Ahi%00\n";
 
@@ -38,7 +38,7 @@ impl Write for Failing {
     }
 }
 
-fn expect(
+pub fn expect(
     rt: &impl Abort,
     alloc: Global,
     script: &[u8],
@@ -65,28 +65,35 @@ fn octet_length(text: &[u8]) -> usize {
     }
 }
 
-/// The script with each line of connection 0 cut into lines of one octet.
+/// Adds a line for each octet that a connection receives.
+fn push_octets(cut: &mut String, connection: &str, text: &str) -> Result<(), Fail> {
+    let mut at = 0;
+    for _ in 0..text.len() {
+        if at < text.len() {
+            let end = at
+                .saturating_add(octet_length(&text.as_bytes()[at..]))
+                .min(text.len());
+            cut.push_str(connection)?;
+            cut.push(' ')?;
+            cut.push_str(text.get(at..end).unwrap_or(""))?;
+            cut.push('\n')?;
+            at = end;
+        }
+    }
+    Ok(())
+}
+
+/// The script with each line that a connection receives cut into lines of one octet.
 fn in_octets(alloc: Global, script: &str) -> Result<String, Fail> {
     let mut cut = String::new(alloc);
     for line in script.lines() {
-        match line.strip_prefix("0 ") {
-            None => {
+        match line.split_once(' ') {
+            Some((connection, text)) if connection != "lost" => {
+                push_octets(&mut cut, connection, text)?;
+            }
+            _ => {
                 cut.push_str(line)?;
                 cut.push('\n')?;
-            }
-            Some(text) => {
-                let mut at = 0;
-                for _ in 0..text.len() {
-                    if at < text.len() {
-                        let end = at
-                            .saturating_add(octet_length(&text.as_bytes()[at..]))
-                            .min(text.len());
-                        cut.push_str("0 ")?;
-                        cut.push_str(text.get(at..end).unwrap_or(""))?;
-                        cut.push('\n')?;
-                        at = end;
-                    }
-                }
             }
         }
     }
@@ -94,7 +101,7 @@ fn in_octets(alloc: Global, script: &str) -> Result<String, Fail> {
 }
 
 /// The script as it stands, and with one octet a line.
-fn expect_whole_and_octets(
+pub fn expect_whole_and_octets(
     rt: &impl Abort,
     alloc: Global,
     script: &str,
@@ -115,6 +122,53 @@ fn expect_after_connect(
     let script = format!(in alloc; "{CONNECT}0 {text}\n{FLUSH}")?;
     let all = format!(in alloc; "{CONNECTED}0 {printed}%0A%0A%00\n")?;
     expect_whole_and_octets(rt, alloc, &script, &all)
+}
+
+/// Lines, where `~` stands for the end of a frame with no body: a line end, an empty line and a NUL.
+pub fn text_of(alloc: Global, lines: &[&str]) -> Result<String, Fail> {
+    let mut text = String::new(alloc);
+    for line in lines {
+        text.push_str(line)?;
+        text.push('\n')?;
+    }
+    Ok(text.replace(alloc, '~', "%0A%0A%00")?)
+}
+
+/// The script of these lines as it stands, and with one octet a line.
+pub fn expect_lines(
+    rt: &impl Abort,
+    alloc: Global,
+    script: &[&str],
+    printed: &[&str],
+) -> Result<(), Fail> {
+    let script = text_of(alloc, script)?;
+    let printed = text_of(alloc, printed)?;
+    expect_whole_and_octets(rt, alloc, &script, &printed)
+}
+
+/// Frames of connection 0 after a CONNECT, and a flush: CONNECTED comes first, and all goes to connection 0.
+pub fn expect_frames(
+    rt: &impl Abort,
+    alloc: Global,
+    frames: &[&str],
+    printed: &[&str],
+) -> Result<(), Fail> {
+    let mut script = String::from_str(alloc, CONNECT)?;
+    for frame in frames {
+        script.push_str("0 ")?;
+        script.push_str(frame)?;
+        script.push('\n')?;
+    }
+    script.push_str(FLUSH)?;
+    let mut answers = String::from_str(alloc, CONNECTED)?;
+    for answer in printed {
+        answers.push_str("0 ")?;
+        answers.push_str(answer)?;
+        answers.push('\n')?;
+    }
+    let script = script.replace(alloc, '~', "%0A%0A%00")?;
+    let answers = answers.replace(alloc, '~', "%0A%0A%00")?;
+    expect_whole_and_octets(rt, alloc, &script, &answers)
 }
 
 #[test]

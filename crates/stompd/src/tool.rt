@@ -2,13 +2,14 @@
 
 ghost use Rattle.std.specs.Prelude.{◌≡◌, ◌≤◌, IfErr, OnOk, map};
 ghost use Rattle.stompd.specs.CommandLines.{AsksForScript};
-ghost use Rattle.stompd.specs.Failures.{RunsToEnd, StopsBy, Tells, status_of};
+ghost use Rattle.stompd.specs.Failures.{RunsToEnd, StopsBy, IsTold, Tells, status_of};
 
 use crate::command_line::{Subcommand, subcommand_of};
 use clap::error::ErrorKind;
 use engine_core::{ScriptFault, run_script};
 use std::alloc::{AllocError, Global};
 use std::convert::AsStr;
+use std::io;
 use std::io::{Read, Write};
 
 /// The status where the program did what it was asked for.
@@ -40,18 +41,20 @@ impl Failure {
         }
     }
 
-    /// Tells the user: the text about the command line, or one line with the fault. Where that cannot be written, it is
-    /// left out.
-    pub fn tell<E: Write>(&self, errors: &mut E) {
-        let _told = match self {
+    /// Tells the user: the text about the command line, or one line with the fault. The error is the writer's.
+    pub fn tell<E: Write>(&self, errors: &mut E) -> io::Result<()>
+        ensures { OnOk result (IsTold self.now (E.contents errors.old) (E.contents errors.new)) }
+    {
+        match self {
             Failure::CommandLine(error) => write!(errors, "{error}"),
             Failure::Script(fault) => writeln!(errors, "stompd: {fault}"),
-        };
+        }
     }
 }
 
 /// Does what the words ask for, of which the first is the program's name, and answers the status to end with: 0 where it
-/// is done, 1 on a fault, 2 on a bad command line. A fault and a bad command line are told on `errors`.
+/// is done, 1 on a fault, 2 on a bad command line. A fault and a bad command line are told on `errors`; where that cannot
+/// be written, it is left out.
 pub fn tool<S: AsStr, R: Read, W: Write, E: Write>(
     alloc: Global,
     words: &[S],
@@ -69,7 +72,7 @@ pub fn tool<S: AsStr, R: Read, W: Write, E: Write>(
     match run(alloc, words, reader, writer) {
         Ok(()) => DONE,
         Err(failure) => {
-            failure.tell(errors);
+            let _told = failure.tell(errors);
             failure.status()
         }
     }

@@ -1,20 +1,15 @@
-use Rattle.std.proofs.Common.{◌≡◌, ◌++◌, ◌∷◌, [], rules}
-use Rattle.broker_core.specs.States.{line_of, with_line}
-use Rattle.broker_core.proofs.QueueCounts.{count_of-put, bytes_of-put}
+use Rattle.std.proofs.Common.{◌≡◌}
+use Rattle.std.proofs.lemmas.Result.{on_ok_weaker}
+use Rattle.broker_core.specs.States.{with_message}
+use Rattle.broker_core.proofs.QueueLines.{put_more, weight_of-with_message}
 use Rattle.broker_core.proofs.queues.put.Goals as goal
 
-pub returns-clause-count : goal.returns-clause-count
-returns-clause-count c =
+pub returns-clause-weight : goal.returns-clause-weight
+returns-clause-weight c =
     let es = c.args.queues.now.entries in
-    let absent = rw c.remove.ensures.entries at c.remove.ensures.updates.1 in
-    let sorted = rw c.remove.ensures.entries at c.remove.ensures.ordered in
-    let is : c.insert.new.self.entries ≡ with_line c.args.to (line_of c.args.to es ++ c.args.message ∷ []) es = search rules in
-    rw is (count_of-put c.args.to c.args.message es absent sorted)
-
-pub returns-clause-bytes : goal.returns-clause-bytes
-returns-clause-bytes c =
-    let es = c.args.queues.now.entries in
-    let absent = rw c.remove.ensures.entries at c.remove.ensures.updates.1 in
-    let sorted = rw c.remove.ensures.entries at c.remove.ensures.ordered in
-    let is : c.insert.new.self.entries ≡ with_line c.args.to (line_of c.args.to es ++ c.args.message ∷ []) es = search rules in
-    rw is (bytes_of-put c.args.to c.args.message es absent sorted)
+    let absent = rw c.take_line-line.ensures.others at c.take_line-line.ensures.absent in
+    let sorted = rw c.take_line-line.ensures.others at c.take_line-line.ensures.ordered in
+    on_ok_weaker c.put_line.result
+    (λ put. let is : c.put_line.new.queues.entries ≡ with_message c.args.to c.args.message es = put_more c.args.to c.args.message c.take_line-line.result c.put.new.self es c.take_line-line.new.queues.entries c.put_line.new.queues.entries c.take_line-line.ensures.others c.take_line-line.ensures.line c.in_ok-put.ensures.ok put in
+    rw is (λ weight. weight_of-with_message weight c.args.to c.args.message es absent sorted))
+    c.put_line.ensures

@@ -1,11 +1,11 @@
 use Rattle.engine_core.proofs.Connections.{received_digit, received_digits, of_no_form, not_empty, not_flush}
 use Rattle.engine_core.proofs.line.read_line.Goals as goal
 
-pub returns-in-Some : goal.returns-in-Some
-returns-in-Some c = received_digit _ _ c.in-Some.ensures
+pub returns-in-Some-one_digit : goal.returns-in-Some-one_digit
+returns-in-Some-one_digit c = received_digit _ _ c.in-Some-one_digit.ensures
 
 pub returns-in-Some-two_digits : goal.returns-in-Some-two_digits
 returns-in-Some-two_digits c = received_digits _ _ c.in-Some-two_digits.ensures
 
 pub returns-in-None : goal.returns-in-None
-returns-in-None c = of_no_form _ (not_empty _ (cc)) (not_flush _ (cc)) c.in_default.ensures c.in-None.ensures
+returns-in-None c = of_no_form _ (not_empty _ (cc)) (not_flush _ (cc)) c.in_default.ensures c.in_default-one_digit.ensures c.in-None.ensures

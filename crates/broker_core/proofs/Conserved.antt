@@ -1,0 +1,229 @@
+use Rattle.std.proofs.Common.{◌≡◌, ◌<◌, ◌≤◌, ◌+◌, ◌||◌, ◌++◌, List, [], ◌∷◌, ℕ, Bool, true, false, cond, not, Option, Some, None, Result, Ok, Err, count_by, filter, fold, map, nat_le, refl, sym, subst, ◌∙◌, arith, if◌then◌else◌}
+use Rattle.std.specs.BTreeMap.{is_at}
+use Rattle.std.specs.List.{AllByRecursion, list_any, sum_by}
+use Rattle.std.specs.List.Sorted.{IsStrictlySortedBy}
+use Rattle.std.specs.Map.{keys_of}
+use Rattle.std.specs.Ordering.{nat_cmp}
+use Rattle.std.proofs.lemmas.Cmp.{nat_cmp_total}
+use Rattle.std.proofs.lemmas.List.Sums.{sum_by-cons, sum_by_push}
+use Rattle.command_core.specs.declared.ack_mode.AckMode.{AckMode}
+use Rattle.command_core.specs.declared.command.Op.{Op}
+use Rattle.command_core.specs.declared.command.Op.TheVariants.{Open, Send, Subscribe, Unsubscribe, Ack, Nack, Commit, Note, End}
+use Rattle.command_core.specs.declared.fault.Fault.{Fault}
+use Rattle.command_core.specs.declared.fault.Fault.TheVariants.{NoRoom, SubscriptionIdInUse, TooManyEntries, UnknownAcknowledgement}
+use Rattle.command_core.specs.declared.member.Member.{Member}
+use Rattle.command_core.specs.declared.member.Member.TheVariants as members
+use Rattle.command_core.specs.Commands.{CommandValue}
+use Rattle.command_core.specs.Destinations.{is_queue}
+use Rattle.command_core.specs.Sendings.{SendingValue}
+use Rattle.line_core.specs.declared.message.Message.{Message}
+use Rattle.broker_core.specs.declared.subscription.Subscription.{Subscription}
+use Rattle.broker_core.specs.Lists.{picked, with_first}
+use Rattle.broker_core.specs.States.{Queues, State, is_open, weight_of, weight_of_queues, weight_of_subscription, with_message}
+use Rattle.broker_core.specs.States as states
+use Rattle.broker_core.specs.HandOut.{settled}
+use Rattle.broker_core.specs.Operations.{acknowledged, applied, awaits, carried, committed, copied, ended, ended_one, fresh, is_named, is_of, is_within, message_of, returned, sent, settled_by, spread, subscribed, unsubscribed}
+use Rattle.broker_core.specs.Steps.{accepted_or_ended, done, is_opening, led_to, step}
+use Rattle.broker_core.proofs.Deliveries.{settled_in_order, settled_sessions, settled_weight, sum_picked}
+use Rattle.broker_core.proofs.SortedEntries.{all_inserted, all_removed, sorted_inserted, sorted_removed}
+use Rattle.broker_core.proofs.SortedQueues.{IsInOrder, in_order-with_message, weight-with_message}
+use Rattle.broker_core.proofs.Weights.{weight-copied, weight-settled_by}
+
+-- The queues are in order, no more is held than that, and no command is counted yet.
+pub record IsKept (weight : Message → ℕ) (most number : ℕ) (t : State) : Type 0 where
+  pub order : IsInOrder t.queues
+  pub light : weight_of weight t ≤ most
+  pub count : t.count ≡ number
+  pub sessions : IsStrictlySortedBy nat_cmp (keys_of t.sessions) × AllByRecursion (λ e. e.0 < number + 1) t.sessions
+
+-- what an operation gives keeps to it, unless it is refused
+abbrev pub GivesKept : (Message → ℕ) → ℕ → ℕ → Result State Fault → Type 0
+GivesKept weight most number (Ok t) = IsKept weight most number t
+GivesKept weight most number (Err fault) = Unit {0}
+
+module _ (weight : Message → ℕ) where
+  -- what goes back into the lines was held
+  put_back_weight : (to : List ℕ) (flight : List (ℕ × Message)) (q : Queues) → IsInOrder q → IsInOrder (fold (λ more delivery. with_message to delivery.1 more) q flight) × (weight_of_queues weight (fold (λ more delivery. with_message to delivery.1 more) q flight) ≡ weight_of_queues weight q + sum_by (λ (d : ℕ × Message). weight d.1) flight)
+  put_back_weight to [] q sorted = (sorted, omega arith)
+  put_back_weight to (d ∷ flight) q sorted =
+      let rest = put_back_weight to flight (with_message to d.1 q) (in_order-with_message to d.1 q sorted) in
+      (rest.0, omega (arith, rest.1, weight-with_message to weight d.1 q sorted, sum_by-cons (λ (x : ℕ × Message). weight x.1) d flight))
+
+  returned_weight : (q : Queues) (sub : Subscription) → IsInOrder q → IsInOrder (returned q sub) × (weight_of_queues weight (returned q sub) ≤ weight_of_queues weight q + weight_of_subscription weight sub)
+  returned_weight q sub sorted = by (is_queue sub.destination) (put_back_weight sub.destination sub.unacknowledged q sorted)
+    where
+      by : (b : Bool) → IsInOrder (fold (λ more delivery. with_message sub.destination delivery.1 more) q sub.unacknowledged) × (weight_of_queues weight (fold (λ more delivery. with_message sub.destination delivery.1 more) q sub.unacknowledged) ≡ weight_of_queues weight q + sum_by (λ (d : ℕ × Message). weight d.1) sub.unacknowledged)
+          → IsInOrder (if b then fold (λ more delivery. with_message sub.destination delivery.1 more) q sub.unacknowledged else q) × (weight_of_queues weight (if b then fold (λ more delivery. with_message sub.destination delivery.1 more) q sub.unacknowledged else q) ≤ weight_of_queues weight q + weight_of_subscription weight sub)
+      by true back = (back.0, omega (arith, back.1))
+      by false back = (sorted, omega arith)
+
+  all_returned : (p : Subscription → Bool) (subs : List Subscription) (q : Queues) → IsInOrder q → IsInOrder (fold returned q (filter p subs)) × (weight_of_queues weight (fold returned q (filter p subs)) + sum_by (weight_of_subscription weight) (filter (λ x. not (p x)) subs) ≤ weight_of_queues weight q + sum_by (weight_of_subscription weight) subs)
+  all_returned p [] q sorted = (sorted, omega arith)
+  all_returned p (x ∷ subs) q sorted =
+      let one_back = returned_weight q x sorted in
+      let more = all_returned p subs (returned q x) one_back.0 in
+      let others = all_returned p subs q sorted in
+      let sum = sum_by-cons (weight_of_subscription weight) x subs in
+      elim (p x) as (λ b. IsInOrder (fold returned q (cond b (x ∷ filter p subs) (filter p subs))) × (weight_of_queues weight (fold returned q (cond b (x ∷ filter p subs) (filter p subs))) + sum_by (weight_of_subscription weight) (cond (not b) (x ∷ filter (λ y. not (p y)) subs) (filter (λ y. not (p y)) subs)) ≤ weight_of_queues weight q + sum_by (weight_of_subscription weight) (x ∷ subs))) [
+        | true ↦ (more.0, omega (arith, more.1, one_back.1, sum))
+        | false ↦ (others.0, omega (arith, others.1, sum, sum_by-cons (weight_of_subscription weight) x (filter (λ y. not (p y)) subs)))
+      ]
+
+  module _ (most number : ℕ) where
+    ended_kept : (s : State) (session : ℕ) → IsKept weight most number s → IsKept weight most number (ended s session)
+    ended_kept s session kept =
+        let back = all_returned (is_of session) s.subscriptions s.queues kept.order in
+        record {
+          order = back.0;
+          light = omega (arith, back.1, kept.light);
+          count = kept.count;
+          sessions = (sorted_removed nat_cmp (is_at (nat_cmp session)) s.sessions kept.sessions.0, all_removed (λ e. e.0 < number + 1) (is_at (nat_cmp session)) s.sessions kept.sessions.1);
+        }
+
+    -- one more message that weighs nothing
+    spread_kept : (s : State) (m : Message) → weight m ≡ 0 → IsKept weight most number s → IsKept weight most number (spread s m)
+    spread_kept s m none kept = by (is_queue m.sending.destination)
+      where
+        by : (b : Bool) → IsKept weight most number (if b then record s { queues = with_message m.sending.destination m s.queues } else record s { subscriptions = map (copied m) s.subscriptions })
+        by true =
+            record { order = in_order-with_message m.sending.destination m s.queues kept.order; light = omega (arith, weight-with_message m.sending.destination weight m s.queues kept.order, none, kept.light); count = kept.count; sessions = kept.sessions }
+        by false =
+            let copies = rw none at (weight-copied weight m s.subscriptions) in
+            record { order = kept.order; light = omega (arith, copies, kept.light); count = kept.count; sessions = kept.sessions }
+
+    unless_full : (t : State) (b : Bool) → IsKept weight most number t → GivesKept weight most number (if b then Ok t else Err NoRoom)
+    unless_full t true kept = kept
+    unless_full t false kept = tt
+
+    acknowledged_weight : (p : Subscription → Bool) (delivery : ℕ) (subs : List Subscription) → sum_by (weight_of_subscription weight) (with_first p (settled_by delivery) subs) ≤ sum_by (weight_of_subscription weight) subs
+    acknowledged_weight p delivery [] = omega arith
+    acknowledged_weight p delivery (x ∷ subs) =
+        let rest = acknowledged_weight p delivery subs in
+        elim (p x) as (λ b. sum_by (weight_of_subscription weight) (if b then settled_by delivery x ∷ subs else x ∷ with_first p (settled_by delivery) subs) ≤ sum_by (weight_of_subscription weight) (x ∷ subs)) [
+          | true ↦ omega (arith, weight-settled_by weight delivery x, sum_by-cons (weight_of_subscription weight) (settled_by delivery x) subs, sum_by-cons (weight_of_subscription weight) x subs)
+          | false ↦ omega (arith, rest, sum_by-cons (weight_of_subscription weight) x subs, sum_by-cons (weight_of_subscription weight) x (with_first p (settled_by delivery) subs))
+        ]
+
+    acknowledged_kept : (s : State) (session delivery : ℕ) → IsKept weight most number s → GivesKept weight most number (acknowledged s session delivery)
+    acknowledged_kept s session delivery kept = by (list_any (awaits session delivery) s.subscriptions)
+      where
+        by : (b : Bool) → GivesKept weight most number (if b then Ok (record s { subscriptions = with_first (awaits session delivery) (settled_by delivery) s.subscriptions }) else Err UnknownAcknowledgement)
+        by true = record { order = kept.order; light = omega (arith, acknowledged_weight (awaits session delivery) delivery s.subscriptions, kept.light); count = kept.count; sessions = kept.sessions }
+        by false = tt
+
+    subscribed_kept : (s : State) (session : ℕ) (id to : List ℕ) (mode : AckMode) → IsKept weight most number s → GivesKept weight most number (subscribed s session id to mode)
+    subscribed_kept s session id to mode kept = by (list_any (is_named session id) s.subscriptions) (nat_le 16 (count_by (is_of session) s.subscriptions))
+      where
+        by : (a b : Bool) → GivesKept weight most number (if a then Err SubscriptionIdInUse else (if b then Err TooManyEntries else Ok (record s { subscriptions = s.subscriptions ++ fresh session id to mode ∷ [] })))
+        by true b = tt
+        by false true = tt
+        by false false = record { order = kept.order; light = omega (arith, sum_by_push (weight_of_subscription weight) s.subscriptions (fresh session id to mode), kept.light); count = kept.count; sessions = kept.sessions }
+
+    unsubscribed_kept : (s : State) (session : ℕ) (id : List ℕ) → IsKept weight most number s → GivesKept weight most number (unsubscribed s session id)
+    unsubscribed_kept s session id kept = by (picked (is_named session id) s.subscriptions) refl
+      where
+        by : (o : Option (Subscription × List Subscription)) → picked (is_named session id) s.subscriptions ≡ o → GivesKept weight most number (ended_one s o)
+        by None is = tt
+        by (Some p) is =
+            let back = returned_weight s.queues p.0 kept.order in
+            record { order = back.0; light = omega (arith, back.1, sum_picked (is_named session id) (weight_of_subscription weight) s.subscriptions p.0 p.1 is, kept.light); count = kept.count; sessions = kept.sessions }
+
+    module _ (new : (place : ℕ) (sending : SendingValue) → weight (message_of number place sending) ≡ 0) where
+      sent_kept : (s : State) (place : ℕ) (sending : SendingValue) → IsKept weight most number s → GivesKept weight most number (sent s place sending)
+      sent_kept s place sending kept =
+          let none : weight (message_of s.count place sending) ≡ 0 = rw kept.count (new place sending) in
+          let t = spread s (message_of s.count place sending) in
+          unless_full t (is_within t) (spread_kept s (message_of s.count place sending) none kept)
+
+      applied_kept : (s : State) (session place : ℕ) (m : Member) → IsKept weight most number s → GivesKept weight most number (applied s session place m)
+      applied_kept s session place (members.Send sending) kept = sent_kept s place sending kept
+      applied_kept s session place (members.Ack delivery) kept = acknowledged_kept s session delivery kept
+      applied_kept s session place (members.Nack delivery) kept = acknowledged_kept s session delivery kept
+
+      committed_kept : (s : State) (session place : ℕ) (ms : List Member) → IsKept weight most number s → GivesKept weight most number (committed s session place ms)
+      committed_kept s session place [] kept = kept
+      committed_kept s session place (m ∷ ms) kept =
+          by (λ t now. committed_kept t session (place + 1) ms now) (applied s session place m) (applied_kept s session place m kept)
+        where
+          by : ((t : State) → IsKept weight most number t → GivesKept weight most number (committed t session (place + 1) ms)) → (r : Result State Fault) → GivesKept weight most number r → GivesKept weight most number (elim r as (λ x. Result State Fault) [ Ok t ↦ committed t session (place + 1) ms | Err fault ↦ Err fault ])
+          by next (Ok t) now = next t now
+          by next (Err fault) now = tt
+
+      carried_kept : (s : State) (session : ℕ) (op : Op) → IsKept weight most number s → GivesKept weight most number (carried s session op)
+      carried_kept s session (Open client_id) kept = kept
+      carried_kept s session (Send sending) kept = sent_kept s 0 sending kept
+      carried_kept s session (Subscribe id to mode name) kept = subscribed_kept s session id to mode kept
+      carried_kept s session (Unsubscribe None name) kept = tt
+      carried_kept s session (Unsubscribe (Some id) None) kept = unsubscribed_kept s session id kept
+      carried_kept s session (Unsubscribe (Some id) (Some name)) kept = tt
+      carried_kept s session (Ack delivery) kept = acknowledged_kept s session delivery kept
+      carried_kept s session (Nack delivery) kept = acknowledged_kept s session delivery kept
+      carried_kept s session (Commit ms) kept = committed_kept s session 0 ms kept
+      carried_kept s session Note kept = kept
+      carried_kept s session (End end) kept = ended_kept s session kept
+
+      accepted_kept : (s : State) (session : ℕ) (r : Result State Fault) → IsKept weight most number s → GivesKept weight most number r → IsKept weight most number (accepted_or_ended s session r)
+      accepted_kept s session (Ok t) kept now = now
+      accepted_kept s session (Err fault) kept now = ended_kept s session kept
+
+      if_open : (b : Bool) (s t : State) → IsKept weight most number s → IsKept weight most number t → IsKept weight most number (if b then t else s)
+      if_open true s t kept now = now
+      if_open false s t kept now = kept
+
+      heard_kept : (s : State) (session : ℕ) (op : Op) → IsKept weight most number s → IsKept weight most number (if is_open s session then accepted_or_ended s session (carried s session op) else s)
+      heard_kept s session op kept =
+          if_open (is_open s session) s (accepted_or_ended s session (carried s session op)) kept (accepted_kept s session (carried s session op) kept (carried_kept s session op kept))
+
+      done_kept : (s : State) (session : ℕ) (op : Op) → IsKept weight most number s → IsKept weight most number (done s session op)
+      done_kept s session (Open client_id) kept = record {
+        order = kept.order;
+        light = kept.light;
+        count = kept.count;
+        sessions = (sorted_inserted nat_cmp nat_cmp_total s.count client_id s.sessions kept.sessions.0, all_inserted (λ e. e.0 < number + 1) nat_cmp s.count client_id (omega (arith, kept.count)) (λ e under. under) s.sessions kept.sessions.1);
+      }
+      done_kept s session (Send sending) kept = heard_kept s session (Send sending) kept
+      done_kept s session (Subscribe id to mode name) kept = heard_kept s session (Subscribe id to mode name) kept
+      done_kept s session (Unsubscribe id name) kept = heard_kept s session (Unsubscribe id name) kept
+      done_kept s session (Ack delivery) kept = heard_kept s session (Ack delivery) kept
+      done_kept s session (Nack delivery) kept = heard_kept s session (Nack delivery) kept
+      done_kept s session (Commit ms) kept = heard_kept s session (Commit ms) kept
+      done_kept s session Note kept = heard_kept s session Note kept
+      done_kept s session (End end) kept = heard_kept s session (End end) kept
+
+      led_kept : (s : State) (session : ℕ) (op : Op) → IsKept weight most number s → IsKept weight most number (led_to s session op).state
+      led_kept s session op kept = by (is_opening op || is_open s session)
+        where
+          by : (b : Bool) → IsKept weight most number (if b then settled (done s session op) else record { state = s; outs = [] }).state
+          by true =
+              let now = done_kept s session op kept in
+              let same = settled_sessions (done s session op) in
+              record {
+                order = settled_in_order (done s session op) now.order;
+                light = omega (arith, settled_weight weight (done s session op) now.order, now.light);
+                count = same.1 ∙ now.count;
+                sessions = subst (λ (es : List (ℕ × Option (List ℕ))). IsStrictlySortedBy nat_cmp (keys_of es) × AllByRecursion (λ e. e.0 < number + 1) es) (sym same.0) now.sessions;
+              }
+          by false = kept
+
+later : (n : ℕ) (es : List (ℕ × Option (List ℕ))) → AllByRecursion (λ (session : ℕ × Option (List ℕ)). session.0 < n) es → AllByRecursion (λ (session : ℕ × Option (List ℕ)). session.0 < n + 1) es
+later n [] all = tt
+later n (e ∷ es) all = (omega (arith, all.0), later n es all.1)
+
+at_first : (weight : Message → ℕ) (s : State) → states.IsInOrder s → IsKept weight (weight_of weight s) s.count s
+at_first weight s order = record { order = order.queues; light = omega arith; count = refl; sessions = (order.sessions, later s.count s.sessions order.opened) }
+
+-- What weighs nothing when it is sent weighs nothing later: no step makes more of what is held.
+pub step_light : (weight : Message → ℕ) (s : State) (c : CommandValue) → states.IsInOrder s → ((place : ℕ) (sending : SendingValue) → weight (message_of s.count place sending) ≡ 0) → weight_of weight (step s c) ≤ weight_of weight s
+step_light weight s c order new =
+    (led_kept weight (weight_of weight s) s.count new s c.session c.op (at_first weight s order)).light
+
+-- a step keeps the state in order
+pub step_in_order : (s : State) (c : CommandValue) → states.IsInOrder s → states.IsInOrder (step s c)
+step_in_order s c order =
+    let now = led_kept (λ m. 0) (weight_of (λ m. 0) s) s.count (λ place sending. refl) s c.session c.op (at_first (λ m. 0) s order) in
+    record { sessions = now.sessions.0; opened = now.sessions.1; queues = now.order }
+
+-- what an operation does leaves the count
+pub done_count : (s : State) (session : ℕ) (op : Op) → states.IsInOrder s → (done s session op).count ≡ s.count
+done_count s session op order =
+    (done_kept (λ m. 0) (weight_of (λ m. 0) s) s.count (λ place sending. refl) s session op (at_first (λ m. 0) s order)).count

@@ -1,0 +1,229 @@
+use Rattle.std.proofs.Common.{◌≡◌, ◌≤◌, ◌+◌, ◌++◌, ◌&&◌, ◌||◌, List, [], ◌∷◌, ℕ, suc, zero, Bool, true, false, cond, Some, count_by, filter, length, map, refl, slice_get, slice_set, sym, ap, ◌∙◌, subst, arith, take}
+use Rattle.std.specs.List.{AllByRecursion, list_any, sum_by}
+use Rattle.std.specs.List.Sorted.{IsStrictlySortedBy}
+use Rattle.std.specs.Map.{keys_of}
+use Rattle.std.specs.Ordering.{nat_cmp}
+use Rattle.std.specs.Str.{bytes_eq}
+use Rattle.std.specs.declared.cmp.Ordering.TheVariants.{Less}
+use Rattle.std.proofs.lemmas.Cmp.{ranked}
+use Rattle.std.proofs.lemmas.List.Elements.{filter_more}
+use Rattle.std.proofs.lemmas.List.Sums.{sum_by-cons}
+use Rattle.std.proofs.lemmas.Option.{get_or_from_slice_get, none-some, same_Some, slice_get_within}
+use Rattle.command_core.specs.Destinations.{is_queue}
+use Rattle.line_core.proofs.Flights.{has_delivery-mapped, length-settled, sum_by-settled, unsettled-mapped}
+use Rattle.line_core.specs.declared.message.Message.{Message}
+use Rattle.line_core.specs.Flights.{IsOver, IsRising, has_delivery, mapped, settled, unsettled}
+use Rattle.line_core.specs.Lines.{inserted}
+use Rattle.broker_core.specs.declared.subscription.Subscription.{Subscription}
+use Rattle.broker_core.specs.declared.trial.TrialFlight.{TrialFlight}
+use Rattle.broker_core.specs.Lists.{changed, with_first}
+use Rattle.broker_core.specs.Operations.{awaits, copied, is_of, settled_by}
+use Rattle.broker_core.specs.Parts.{NonePass, copies_to}
+use Rattle.broker_core.specs.States.{bytes, one, weight_of_subscription}
+use Rattle.broker_core.specs.Trials.{bytes_in, deliveries_in, flight_of, flights_of, has, left_by}
+use Rattle.broker_core.proofs.Weights.{ones, sum_by-changed}
+
+-- what a flight's deliveries before a place have is under the number there
+module _ {X Y : Type 0} (f : X → Y) where
+  key_at : (P : ℕ → Type 0) (flight : List (ℕ × X)) (at : ℕ) (item : ℕ × X) → slice_get flight at ≡ Some item → AllByRecursion P (keys_of flight) → P item.0
+  key_at P [] at item is all = absurd (none-some item is)
+  key_at P (x ∷ flight) zero item is all = subst (λ (y : ℕ × X). P y.0) (same_Some x item is) all.0
+  key_at P (x ∷ flight) (suc at) item is all = key_at P flight at item is all.1
+
+  pub over_before : (flight : List (ℕ × X)) (at : ℕ) (item : ℕ × X) → IsRising flight → slice_get flight at ≡ Some item → IsOver item.0 (mapped f (take at flight))
+  unfolding IsStrictlySortedBy
+  over_before flight zero item rising is = tt
+  over_before [] (suc at) item rising is = tt
+  over_before (x ∷ flight) (suc at) item rising is =
+      (ranked x.0 item.0 Less (sym (key_at (λ n. nat_cmp x.0 n ≡ Less) flight at item is rising.0)), over_before flight at item rising.1 is)
+
+-- another item in a place
+pub set_changed : {X : Type 0} (f : X → X) (xs : List X) (at : ℕ) (x y : X) → slice_get xs at ≡ Some x → y ≡ f x → slice_set xs at y ≡ changed at f xs
+set_changed f [] at x y is same = absurd (none-some x is)
+set_changed f (z ∷ xs) zero x y is same =
+    ap (λ w. w ∷ xs) (same ∙ sym (ap f (same_Some z x is)))
+set_changed f (z ∷ xs) (suc at) x y is same = ap (λ ws. z ∷ ws) (set_changed f xs at x y is same)
+
+-- where none passes, none is changed
+pub with_first-none : {X : Type 0} (p : X → Bool) (f : X → X) (xs : List X) → NonePass p xs → with_first p f xs ≡ xs
+with_first-none p f [] none = refl
+with_first-none p f (x ∷ xs) none =
+    ap (λ b. cond b (f x ∷ xs) (x ∷ with_first p f xs)) none.0 ∙ ap (λ ys. x ∷ ys) (with_first-none p f xs none.1)
+
+-- one subscription more
+module _ (session : ℕ) (subs : List Subscription) (at : ℕ) (sub : Subscription) (is : slice_get subs at ≡ Some sub) where
+  more_by : (b : Bool) → is_of session sub ≡ b → flights_of session (take (at + 1) subs) ≡ map flight_of (filter (is_of session) (take at subs) ++ cond b (sub ∷ []) [])
+  more_by b mine =
+      ap (map flight_of) (filter_more (is_of session) subs at sub (slice_get_within subs at sub is) ∙ ap (λ x. filter (is_of session) (take at subs) ++ cond (is_of session x) (x ∷ []) []) (get_or_from_slice_get subs at sub sub is) ∙ ap (λ c. filter (is_of session) (take at subs) ++ cond c (sub ∷ []) []) mine)
+
+  pushed : (xs : List Subscription) → map flight_of (xs ++ sub ∷ []) ≡ map flight_of xs ++ flight_of sub ∷ []
+  pushed [] = refl
+  pushed (x ∷ xs) = ap (λ l. flight_of x ∷ l) (pushed xs)
+
+  nothing : (xs : List Subscription) → map flight_of (xs ++ []) ≡ map flight_of xs
+  nothing [] = refl
+  nothing (x ∷ xs) = ap (λ l. flight_of x ∷ l) (nothing xs)
+
+  pub flights_more : is_of session sub ≡ true → flights_of session (take (at + 1) subs) ≡ flights_of session (take at subs) ++ flight_of sub ∷ []
+  flights_more mine = more_by true mine ∙ pushed (filter (is_of session) (take at subs))
+
+  pub flights_same : is_of session sub ≡ false → flights_of session (take (at + 1) subs) ≡ flights_of session (take at subs)
+  flights_same other = more_by false other ∙ nothing (filter (is_of session) (take at subs))
+
+-- what is settled is in the flights no more
+pub settled_counts : (delivery : ℕ) (flights new : List TrialFlight) (at : ℕ) (flight : TrialFlight) (out : List (ℕ × ℕ)) → slice_get flights at ≡ Some flight → out ≡ settled flight.mode delivery flight.deliveries → new ≡ changed at (left_by delivery) flights → (length out + deliveries_in new ≡ deliveries_in flights) × (sum_by (λ item. item.1) out + bytes_in new ≡ bytes_in flights)
+settled_counts delivery flights new at flight out is given left =
+    let long = λ (f : TrialFlight). length f.deliveries in
+    let wide = λ (f : TrialFlight). sum_by (λ (item : ℕ × ℕ). item.1) f.deliveries in (
+      omega (arith, sum_by-changed long (left_by delivery) flights at flight is, length-settled flight.mode delivery flight.deliveries, ap length given, ap deliveries_in left),
+      omega (arith, sum_by-changed wide (left_by delivery) flights at flight is, sum_by-settled (λ (item : ℕ × ℕ). item.1) flight.mode delivery flight.deliveries, ap (sum_by (λ (item : ℕ × ℕ). item.1)) given, ap bytes_in left),
+    )
+
+module _ (session delivery : ℕ) where
+  -- a flight has a delivery where its subscription has it
+  pub any_flight : (subs : List Subscription) → list_any (has delivery) (flights_of session subs) ≡ list_any (awaits session delivery) subs
+  any_flight [] = refl
+  any_flight (sub ∷ subs) =
+      elim (is_of session sub) as (λ b. list_any (has delivery) (map flight_of (cond b (sub ∷ filter (is_of session) subs) (filter (is_of session) subs))) ≡ ((b && has_delivery delivery sub.unacknowledged) || list_any (awaits session delivery) subs)) [
+        | true ↦ ap (λ b. b || list_any (has delivery) (flights_of session subs)) (has_delivery-mapped bytes delivery sub.unacknowledged) ∙ ap (λ b. has_delivery delivery sub.unacknowledged || b) (any_flight subs)
+        | false ↦ any_flight subs
+      ]
+
+  left_settled : (sub : Subscription) → left_by delivery (flight_of sub) ≡ flight_of (settled_by delivery sub)
+  left_settled sub =
+      ap (λ l. record (flight_of sub) { deliveries = l }) (unsettled-mapped bytes sub.mode delivery sub.unacknowledged)
+
+  abbrev after : List Subscription → List Subscription
+  after subs = with_first (awaits session delivery) (settled_by delivery) subs
+
+  heads : (sub : Subscription) (subs : List Subscription) (b : Bool) → is_of session sub ≡ b → flights_of session (sub ∷ subs) ≡ cond b (flight_of sub ∷ flights_of session subs) (flights_of session subs)
+  heads sub subs true is =
+      ap (λ b. map flight_of (cond b (sub ∷ filter (is_of session) subs) (filter (is_of session) subs))) is
+  heads sub subs false is =
+      ap (λ b. map flight_of (cond b (sub ∷ filter (is_of session) subs) (filter (is_of session) subs))) is
+
+  after_is : (sub : Subscription) (subs : List Subscription) (b h : Bool) → is_of session sub ≡ b → has_delivery delivery sub.unacknowledged ≡ h → after (sub ∷ subs) ≡ cond (b && h) (settled_by delivery sub ∷ subs) (sub ∷ after subs)
+  after_is sub subs b h is held =
+      ap (λ c. cond (c && has_delivery delivery sub.unacknowledged) (settled_by delivery sub ∷ subs) (sub ∷ after subs)) is ∙ ap (λ c. cond (b && c) (settled_by delivery sub ∷ subs) (sub ∷ after subs)) held
+
+  first_is : (sub : Subscription) (fs : List TrialFlight) (h : Bool) → has_delivery delivery sub.unacknowledged ≡ h → with_first (has delivery) (left_by delivery) (flight_of sub ∷ fs) ≡ cond h (flight_of (settled_by delivery sub) ∷ fs) (flight_of sub ∷ with_first (has delivery) (left_by delivery) fs)
+  first_is sub fs h held =
+      ap (λ c. cond c (left_by delivery (flight_of sub) ∷ fs) (flight_of sub ∷ with_first (has delivery) (left_by delivery) fs)) (has_delivery-mapped bytes delivery sub.unacknowledged ∙ held)
+      ∙ ap (λ f. cond h (f ∷ fs) (flight_of sub ∷ with_first (has delivery) (left_by delivery) fs)) (left_settled sub)
+
+  first_by : (sub : Subscription) (subs : List Subscription) (b h : Bool) → is_of session sub ≡ b → has_delivery delivery sub.unacknowledged ≡ h → with_first (has delivery) (left_by delivery) (flights_of session subs) ≡ flights_of session (after subs) → with_first (has delivery) (left_by delivery) (flights_of session (sub ∷ subs)) ≡ flights_of session (after (sub ∷ subs))
+  first_by sub subs true true is held rest =
+      ap (with_first (has delivery) (left_by delivery)) (heads sub subs true is) ∙ first_is sub (flights_of session subs) true held
+      ∙ sym (ap (flights_of session) (after_is sub subs true true is held) ∙ heads (settled_by delivery sub) subs true is)
+  first_by sub subs true false is held rest =
+      ap (with_first (has delivery) (left_by delivery)) (heads sub subs true is) ∙ first_is sub (flights_of session subs) false held ∙ ap (λ fs. flight_of sub ∷ fs) rest
+      ∙ sym (ap (flights_of session) (after_is sub subs true false is held) ∙ heads sub (after subs) true is)
+  first_by sub subs false h is held rest =
+      ap (with_first (has delivery) (left_by delivery)) (heads sub subs false is) ∙ rest
+      ∙ sym (ap (flights_of session) (after_is sub subs false h is held) ∙ heads sub (after subs) false is)
+
+  -- the flights once a delivery is acknowledged are those of the subscriptions then
+  pub first_flight : (subs : List Subscription) → with_first (has delivery) (left_by delivery) (flights_of session subs) ≡ flights_of session (after subs)
+  first_flight [] = refl
+  first_flight (sub ∷ subs) =
+      first_by sub subs (is_of session sub) (has_delivery delivery sub.unacknowledged) refl refl (first_flight subs)
+
+  -- what subscriptions weigh beside their flights stays
+  module _ (weight : Subscription → ℕ) (part : TrialFlight → ℕ) (each : (sub : Subscription) → weight (settled_by delivery sub) + part (flight_of sub) ≡ weight sub + part (flight_of (settled_by delivery sub))) where
+    kept_by : (sub : Subscription) (subs : List Subscription) (b h : Bool) → is_of session sub ≡ b → has_delivery delivery sub.unacknowledged ≡ h → sum_by weight (after subs) + sum_by part (flights_of session subs) ≡ sum_by weight subs + sum_by part (flights_of session (after subs)) → sum_by weight (after (sub ∷ subs)) + sum_by part (flights_of session (sub ∷ subs)) ≡ sum_by weight (sub ∷ subs) + sum_by part (flights_of session (after (sub ∷ subs)))
+    kept_by sub subs true true is held rest =
+        omega (arith, each sub, ap (sum_by weight) (after_is sub subs true true is held), ap (sum_by part) (heads sub subs true is), ap (sum_by part) (ap (flights_of session) (after_is sub subs true true is held) ∙ heads (settled_by delivery sub) subs true is), sum_by-cons weight sub subs, sum_by-cons weight (settled_by delivery sub) subs, sum_by-cons part (flight_of sub) (flights_of session subs), sum_by-cons part (flight_of (settled_by delivery sub)) (flights_of session subs))
+    kept_by sub subs true false is held rest =
+        omega (arith, rest, ap (sum_by weight) (after_is sub subs true false is held), ap (sum_by part) (heads sub subs true is), ap (sum_by part) (ap (flights_of session) (after_is sub subs true false is held) ∙ heads sub (after subs) true is), sum_by-cons weight sub subs, sum_by-cons weight sub (after subs), sum_by-cons part (flight_of sub) (flights_of session subs), sum_by-cons part (flight_of sub) (flights_of session (after subs)))
+    kept_by sub subs false h is held rest =
+        omega (arith, rest, ap (sum_by weight) (after_is sub subs false h is held), ap (sum_by part) (heads sub subs false is), ap (sum_by part) (ap (flights_of session) (after_is sub subs false h is held) ∙ heads sub (after subs) false is), sum_by-cons weight sub subs, sum_by-cons weight sub (after subs))
+
+    kept : (subs : List Subscription) → sum_by weight (after subs) + sum_by part (flights_of session subs) ≡ sum_by weight subs + sum_by part (flights_of session (after subs))
+    kept [] = refl
+    kept (sub ∷ subs) =
+        kept_by sub subs (is_of session sub) (has_delivery delivery sub.unacknowledged) refl refl (kept subs)
+
+-- the bytes of deliveries stand for their messages
+pub sum_by-mapped : (flight : List (ℕ × Message)) → sum_by (λ (item : ℕ × ℕ). item.1) (mapped bytes flight) ≡ sum_by (λ (item : ℕ × Message). bytes item.1) flight
+sum_by-mapped [] = refl
+sum_by-mapped (x ∷ flight) =
+    omega (arith, sum_by-mapped flight, sum_by-cons (λ (item : ℕ × ℕ). item.1) (x.0, bytes x.1) (mapped bytes flight), sum_by-cons (λ (item : ℕ × Message). bytes item.1) x flight)
+
+pub length-mapped : (flight : List (ℕ × Message)) → length (mapped bytes flight) ≡ length flight
+length-mapped [] = refl
+length-mapped (x ∷ flight) = ap suc (length-mapped flight)
+
+abbrev pub long : TrialFlight → ℕ
+long flight = length flight.deliveries
+
+abbrev pub wide : TrialFlight → ℕ
+wide flight = sum_by (λ (item : ℕ × ℕ). item.1) flight.deliveries
+
+module _ (session delivery : ℕ) (subs : List Subscription) where
+  pub kept_messages : sum_by (weight_of_subscription one) (after session delivery subs) + deliveries_in (flights_of session subs) ≡ sum_by (weight_of_subscription one) subs + deliveries_in (flights_of session (after session delivery subs))
+  kept_messages =
+      kept session delivery (weight_of_subscription one) long (λ sub. omega (arith, ones sub.unacknowledged, ones (unsettled sub.mode delivery sub.unacknowledged), length-mapped sub.unacknowledged, length-mapped (unsettled sub.mode delivery sub.unacknowledged))) subs
+
+  pub kept_bytes : sum_by (weight_of_subscription bytes) (after session delivery subs) + bytes_in (flights_of session subs) ≡ sum_by (weight_of_subscription bytes) subs + bytes_in (flights_of session (after session delivery subs))
+  kept_bytes =
+      kept session delivery (weight_of_subscription bytes) wide (λ sub. omega (arith, sum_by-mapped sub.unacknowledged, sum_by-mapped (unsettled sub.mode delivery sub.unacknowledged))) subs
+
+module _ (session : ℕ) (weight : Subscription → ℕ) (part : TrialFlight → ℕ) (each : (sub : Subscription) → part (flight_of sub) ≤ weight sub) where
+  flights_part : (subs : List Subscription) → sum_by part (flights_of session subs) ≤ sum_by weight subs
+  flights_part [] = omega arith
+  flights_part (sub ∷ subs) =
+      elim (is_of session sub) as (λ b. sum_by part (map flight_of (cond b (sub ∷ filter (is_of session) subs) (filter (is_of session) subs))) ≤ sum_by weight (sub ∷ subs)) [
+        | true ↦ omega (arith, each sub, flights_part subs, sum_by-cons weight sub subs, sum_by-cons part (flight_of sub) (flights_of session subs))
+        | false ↦ omega (arith, flights_part subs, sum_by-cons weight sub subs)
+      ]
+
+-- what is in the flights is among what the subscriptions weigh
+pub few_deliveries : (session : ℕ) (subs : List Subscription) → deliveries_in (flights_of session subs) ≤ sum_by (weight_of_subscription one) subs
+few_deliveries session subs =
+    flights_part session (weight_of_subscription one) long (λ sub. omega (arith, ones sub.unacknowledged, length-mapped sub.unacknowledged)) subs
+
+pub few_bytes : (session : ℕ) (subs : List Subscription) → bytes_in (flights_of session subs) ≤ sum_by (weight_of_subscription bytes) subs
+few_bytes session subs =
+    flights_part session (weight_of_subscription bytes) wide (λ sub. omega (arith, sum_by-mapped sub.unacknowledged)) subs
+
+-- copies change no flight
+pub flights-copied : (session : ℕ) (m : Message) (subs : List Subscription) → flights_of session (map (copied m) subs) ≡ flights_of session subs
+flights-copied session m [] = refl
+flights-copied session m (sub ∷ subs) =
+    let rest = ap (λ (fs : List TrialFlight). cond (is_of session sub) (flight_of sub ∷ fs) fs) (flights-copied session m subs) ∙ sym (heads session 0 sub subs (is_of session sub) refl) in
+    let more = record sub { line = inserted m sub.line } in
+    elim (bytes_eq sub.destination m.sending.destination) as (λ b. flights_of session (cond b more sub ∷ map (copied m) subs) ≡ flights_of session (sub ∷ subs)) [
+      | true ↦ heads session 0 more (map (copied m) subs) (is_of session sub) refl ∙ rest
+      | false ↦ heads session 0 sub (map (copied m) subs) (is_of session sub) refl ∙ rest
+    ]
+
+-- copies and acknowledgements leave the destinations
+module _ (to : List ℕ) where
+  abbrev goes : Subscription → Bool
+  goes sub = bytes_eq sub.destination to
+
+  goes-copied : (m : Message) (subs : List Subscription) → count_by goes (map (copied m) subs) ≡ count_by goes subs
+  goes-copied m [] = refl
+  goes-copied m (sub ∷ subs) =
+      let one_of : Subscription → ℕ = λ s. cond (goes s) 1 0 in
+      let more = record sub { line = inserted m sub.line } in
+      elim (bytes_eq sub.destination m.sending.destination) as (λ b. count_by goes (cond b more sub ∷ map (copied m) subs) ≡ count_by goes (sub ∷ subs)) [
+        | true ↦ omega (arith, goes-copied m subs, sum_by-cons one_of more (map (copied m) subs), sum_by-cons one_of sub subs)
+        | false ↦ omega (arith, goes-copied m subs, sum_by-cons one_of sub (map (copied m) subs), sum_by-cons one_of sub subs)
+      ]
+
+  goes-after : (session delivery : ℕ) (subs : List Subscription) → count_by goes (after session delivery subs) ≡ count_by goes subs
+  goes-after session delivery [] = refl
+  goes-after session delivery (sub ∷ subs) =
+      let one_of : Subscription → ℕ = λ s. cond (goes s) 1 0 in
+      elim (awaits session delivery sub) as (λ b. count_by goes (cond b (settled_by delivery sub ∷ subs) (sub ∷ after session delivery subs)) ≡ count_by goes (sub ∷ subs)) [
+        | true ↦ omega (arith, sum_by-cons one_of (settled_by delivery sub) subs, sum_by-cons one_of sub subs)
+        | false ↦ omega (arith, goes-after session delivery subs, sum_by-cons one_of sub (after session delivery subs), sum_by-cons one_of sub subs)
+      ]
+
+  pub copies-copied : (m : Message) (subs : List Subscription) → copies_to to (map (copied m) subs) ≡ copies_to to subs
+  copies-copied m subs = ap (λ n. cond (is_queue to) 1 n) (goes-copied m subs)
+
+  pub copies-after : (session delivery : ℕ) (subs : List Subscription) → copies_to to (with_first (awaits session delivery) (settled_by delivery) subs) ≡ copies_to to subs
+  copies-after session delivery subs =
+      ap (λ n. cond (is_queue to) 1 n) (goes-after session delivery subs)

@@ -1,0 +1,10 @@
+use Rattle.std.proofs.Common.{◌≡◌, drop}
+use Rattle.broker_core.specs.Operations.{committed}
+use Rattle.broker_core.specs.States.{State}
+use Rattle.broker_core.specs.Tables.{state_of}
+use Rattle.broker_core.specs.Trials.{StandsFor}
+use Rattle.broker_core.proofs.trial.try_members.Given as goal
+
+abbrev pub invariant-loop-member : goal.invariant-loop-member
+invariant-loop-member l =
+    (s : State) × StandsFor l.session l.tables.order.subscriptions l.trial s × (committed s l.session l.member-index (drop l.member-index l.members) ≡ committed (state_of l.number l.tables) l.session 0 l.members)

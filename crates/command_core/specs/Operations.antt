@@ -1,0 +1,24 @@
+use Rattle.std.specs.Prelude.{◌≡◌, ◌<◌, ◌⊎◌, List, ℕ, Option, IfSome, IsSome, false, length}
+use Rattle.command_core.specs.declared.command.Op.{Op}
+use Rattle.command_core.specs.declared.command.Op.TheVariants.{Open, Send, Subscribe, Unsubscribe, Ack, Nack}
+use Rattle.command_core.specs.declared.member.Member.{Member}
+use Rattle.command_core.specs.declared.member.Member.TheVariants as members
+use Rattle.command_core.specs.Destinations.{is_queue}
+
+-- a member as an operation of its own
+abbrev pub op_of : Member → Op
+op_of (members.Send sending) = Send sending
+op_of (members.Ack delivery) = Ack delivery
+op_of (members.Nack delivery) = Nack delivery
+
+-- a name that is given isn't empty
+abbrev pub IsGiven : Option (List ℕ) → Type 0
+IsGiven name = IfSome name (λ text. 0 < length text)
+
+-- The form of an operation: a client's name and a durable one aren't empty, a durable name comes with a topic alone, and
+-- what ends a subscription has an id or a name.
+abbrev pub IsOp : Op → Type 0
+IsOp (Open client_id) = IsGiven client_id
+IsOp (Subscribe id destination mode durable) = IsGiven durable × IfSome durable (λ text. is_queue destination ≡ false)
+IsOp (Unsubscribe id durable) = IsGiven durable × (IsSome id ⊎ IsSome durable)
+IsOp _ = Unit {0}

@@ -1,0 +1,122 @@
+//! Messages that wait.
+
+ghost use Rattle.std.specs.Prelude.{◌≡◌, ◌==◌, ◌≤◌, [], OnOk, OnErr, drop, length, option_map};
+ghost use Rattle.std.specs.List.{insert};
+ghost use Rattle.line_core.specs.declared.message.Message.{Message};
+ghost use Rattle.line_core.specs.Lines.{IsRising, first_of, inserted};
+
+use crate::message::{Message, MessageNumber};
+use std::alloc::{AllocError, Global};
+use std::collections::VecDeque;
+use std::marker::Model;
+
+/// The messages that wait in one place, by rising number: a message goes behind those of smaller numbers and of its own.
+/// Contracts see it as the list of them.
+#[derive(Debug, Drop)]
+pub struct Line {
+    messages: VecDeque<Message>,
+}
+
+impl Model for Line {
+    ghost use Rattle.std.specs.Prelude.{List};
+    ghost use Rattle.line_core.specs.declared.message.Message.{Message};
+
+    ghost Value = { List Message };
+
+    ghost use Rattle.line_core.specs.Lines.{IsRising};
+
+    ghost view = { λ a. a.messages.items };
+
+    ghost invariant = { λ a. IsRising a.messages.items };
+}
+
+impl Line {
+    /// An empty line. No memory is taken.
+    pub fn new(alloc: Global) -> Line
+        ensures { result ≡ [] }
+    {
+        Line {
+            messages: VecDeque::new(alloc),
+        }
+    }
+
+    /// How many messages wait.
+    pub fn len(&self) -> usize
+        ensures count { result ≡ length self.now }
+        ensures rising { IsRising self.now }
+    {
+        self.messages.len()
+    }
+
+    /// Whether no message waits.
+    pub fn is_empty(&self) -> bool
+        ensures empty { result ≡ (length self.now == 0) }
+        ensures rising { IsRising self.now }
+    {
+        self.messages.is_empty()
+    }
+
+    /// The message that waits longest, if there is one.
+    pub fn first(&self) -> Option<&Message>
+        ensures first { option_map (λ m. m.now) result ≡ first_of self.now }
+        ensures rising { IsRising self.now }
+    {
+        self.messages.front()
+    }
+
+    /// Takes the message that waits longest out, if there is one. No memory is taken.
+    pub fn take(&mut self) -> Option<Message>
+        ensures first { result ≡ first_of self.old }
+        ensures rest { self.new ≡ drop 1 self.old }
+        ensures rising { IsRising self.old }
+    {
+        self.messages.pop_front()
+    }
+
+    /// Where a message of that number goes, looked for from the back.
+    fn place_from_back(&self, number: &MessageNumber) -> usize
+        ensures bound { result ≤ length self.now }
+        ensures place { (m : Message) → m.number ≡ number.now → insert self.now result m ≡ inserted m self.now }
+    {
+        let mut place = self.messages.len();
+        while place > 0 && *number < self.messages[place - 1].number {
+            place -= 1;
+        }
+        place
+    }
+
+    /// Where a message of that number goes, looked for from the front.
+    fn place_from_front(&self, number: &MessageNumber) -> usize
+        ensures bound { result ≤ length self.now }
+        ensures place { (m : Message) → m.number ≡ number.now → insert self.now result m ≡ inserted m self.now }
+    {
+        let count = self.messages.len();
+        for place in 0..count {
+            if *number < self.messages[place].number {
+                return place;
+            }
+        }
+        count
+    }
+
+    /// Puts a message to its place, behind those of smaller numbers and of its own. The place is looked for from the
+    /// back: a new message goes last at once.
+    pub fn put(&mut self, message: Message) -> Result<(), AllocError>
+        ensures ok { OnOk result (self.new ≡ inserted message self.old) }
+        ensures same { OnErr result (self.new ≡ self.old) }
+    {
+        let place = self.place_from_back(&message.number);
+        self.messages.insert(place, message)?;
+        Ok(())
+    }
+
+    /// Puts a message back to its place. The place is looked for from the front, where messages were taken out.
+    pub fn put_back(&mut self, message: Message) -> Result<(), AllocError>
+        ensures ok { OnOk result (self.new ≡ inserted message self.old) }
+        ensures same { OnErr result (self.new ≡ self.old) }
+    {
+        let place = self.place_from_front(&message.number);
+        self.messages.insert(place, message)?;
+        Ok(())
+    }
+}

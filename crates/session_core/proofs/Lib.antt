@@ -1,0 +1,6 @@
+pub mod ReadFrames
+pub mod Items
+pub mod Acting
+pub mod Hearings
+pub mod Decimals
+pub mod Forms

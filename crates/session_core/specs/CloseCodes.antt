@@ -1,0 +1,8 @@
+use Rattle.std.specs.Prelude.{ℕ}
+use Rattle.session_core.specs.declared.act.CloseCode.{CloseCode}
+use Rattle.session_core.specs.declared.act.CloseCode.TheVariants.{NormalClosure, ProtocolError}
+
+-- RFC 6455, section 7.4.1
+abbrev pub code_of : CloseCode → ℕ
+code_of NormalClosure = 1000
+code_of ProtocolError = 1002

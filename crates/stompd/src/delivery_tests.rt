@@ -1,0 +1,206 @@
+use crate::tests::{
+    CONNECTED, expect, expect_frames, expect_lines, expect_whole_and_octets, text_of,
+};
+use std::process::Abort;
+use std::test::Fail;
+
+const CON: &str = "CONNECT%0Aaccept-version:1.2~";
+
+const SQ: &str = "SEND%0Adestination:/queue/q%0A%0Ax%00";
+
+#[test]
+fn a_lost_connection_forgets_the_frame_that_had_begun(rt: HostRuntime) -> Result<(), Fail> {
+    let alloc = rt.alloc();
+    let con = format!(in alloc; "0 {CON}")?;
+    expect_lines(
+        &rt,
+        alloc,
+        &[&con, "0 SEND%0Adest", "lost 0", "flush"],
+        &["0 CONNECTED%0Aversion:1.2%0Asession:0%0Aheart-beat:0,0~"],
+    )?;
+    expect_lines(
+        &rt,
+        alloc,
+        &[&con, "lost 0", "lost 31", &con, "flush"],
+        &[
+            "0 CONNECTED%0Aversion:1.2%0Asession:0%0Aheart-beat:0,0~",
+            "0 CONNECTED%0Aversion:1.2%0Asession:2%0Aheart-beat:0,0~",
+        ],
+    )
+}
+
+#[test]
+fn a_line_that_loses_no_connection_ends_the_script(rt: HostRuntime) -> Result<(), Fail> {
+    let alloc = rt.alloc();
+    for line in [
+        "lost\n",
+        "lost \n",
+        "lost 32\n",
+        "lost 00\n",
+        "lost 1 \n",
+        "lost  1\n",
+    ] {
+        let told = "stompd: line 1 not understood\n";
+        expect(&rt, alloc, line.as_bytes(), 1, "", told)?;
+    }
+    Ok(())
+}
+
+#[test]
+fn subscribers_of_a_queue_take_turns(rt: HostRuntime) -> Result<(), Fail> {
+    let alloc = rt.alloc();
+    expect_lines(
+        &rt,
+        alloc,
+        &[
+            "0 CONNECT%0Aaccept-version:1.2~",
+            "1 CONNECT%0Aaccept-version:1.2~",
+            "2 CONNECT%0Aaccept-version:1.2~",
+            "0 SUBSCRIBE%0Aid:a%0Adestination:/queue/q~",
+            "1 SUBSCRIBE%0Aid:b%0Adestination:/queue/q~",
+            "flush",
+            "2 SEND%0Adestination:/queue/q%0A%0Ax%00",
+            "2 SEND%0Adestination:/queue/q%0A%0Ay%00",
+            "2 SEND%0Adestination:/queue/q%0A%0Az%00",
+            "flush",
+        ],
+        &[
+            "0 CONNECTED%0Aversion:1.2%0Asession:0%0Aheart-beat:0,0~",
+            "1 CONNECTED%0Aversion:1.2%0Asession:1%0Aheart-beat:0,0~",
+            "2 CONNECTED%0Aversion:1.2%0Asession:2%0Aheart-beat:0,0~",
+            "0 MESSAGE%0Asubscription:a%0Amessage-id:5.0%0Adestination:/queue/q%0Acontent-length:1%0A%0Ax%00",
+            "1 MESSAGE%0Asubscription:b%0Amessage-id:6.0%0Adestination:/queue/q%0Acontent-length:1%0A%0Ay%00",
+            "0 MESSAGE%0Asubscription:a%0Amessage-id:7.0%0Adestination:/queue/q%0Acontent-length:1%0A%0Az%00",
+        ],
+    )
+}
+
+#[test]
+fn an_id_is_acknowledged_once(rt: HostRuntime) -> Result<(), Fail> {
+    let alloc = rt.alloc();
+    expect_lines(
+        &rt,
+        alloc,
+        &[
+            "0 CONNECT%0Aaccept-version:1.2~",
+            "0 SUBSCRIBE%0Aid:s%0Adestination:/queue/q%0Aack:client~",
+            "0 SEND%0Adestination:/queue/q%0A%0Ax%00",
+            "0 SEND%0Adestination:/queue/q%0A%0Ay%00",
+            "0 SEND%0Adestination:/queue/q%0A%0Az%00",
+            "flush",
+            "0 ACK%0Aid:1~",
+            "0 ACK%0Aid:1%0Areceipt:r9~",
+            "flush",
+        ],
+        &[
+            "0 CONNECTED%0Aversion:1.2%0Asession:0%0Aheart-beat:0,0~",
+            "0 MESSAGE%0Asubscription:s%0Amessage-id:2.0%0Adestination:/queue/q%0Aack:0%0Acontent-length:1%0A%0Ax%00",
+            "0 MESSAGE%0Asubscription:s%0Amessage-id:3.0%0Adestination:/queue/q%0Aack:1%0Acontent-length:1%0A%0Ay%00",
+            "0 MESSAGE%0Asubscription:s%0Amessage-id:4.0%0Adestination:/queue/q%0Aack:2%0Acontent-length:1%0A%0Az%00",
+            "0 ERROR%0Amessage:E11 unknown acknowledgement id%0Areceipt-id:r9~",
+        ],
+    )
+}
+
+#[test]
+fn at_most_sixteen_deliveries_are_unacknowledged(rt: HostRuntime) -> Result<(), Fail> {
+    let alloc = rt.alloc();
+    let mut script = text_of(
+        alloc,
+        &[
+            "0 CONNECT%0Aaccept-version:1.2~",
+            "0 SUBSCRIBE%0Aid:s%0Adestination:/queue/q%0Aack:client-individual~",
+        ],
+    )?;
+    for _ in 0..17 {
+        script.push_str("0 ")?;
+        script.push_str(SQ)?;
+        script.push('\n')?;
+    }
+    script.push_str("flush\n0 ACK%0Aid:3%0A%0A%00\nflush\n")?;
+    let mut printed = String::from_str(alloc, CONNECTED)?;
+    for delivery in 0..17u64 {
+        let command = delivery.saturating_add(2);
+        let message = format!(in alloc;
+            "0 MESSAGE%0Asubscription:s%0Amessage-id:{command}.0%0Adestination:/queue/q%0Aack:{delivery}%0Acontent-length:1%0A%0Ax%00\n"
+        )?;
+        printed.push_str(&message)?;
+    }
+    expect_whole_and_octets(&rt, alloc, &script, &printed)
+}
+
+#[test]
+fn subscriptions_begin_and_end(rt: HostRuntime) -> Result<(), Fail> {
+    let alloc = rt.alloc();
+    expect_frames(
+        &rt,
+        alloc,
+        &[
+            "SUBSCRIBE%0Aid:a%0Adestination:/topic/t~",
+            "UNSUBSCRIBE%0Aid:a%0Areceipt:u~",
+            "SEND%0Adestination:/topic/t%0A%0Ax%00",
+        ],
+        &["RECEIPT%0Areceipt-id:u~"],
+    )?;
+    expect_frames(
+        &rt,
+        alloc,
+        &["UNSUBSCRIBE%0Aid:z~"],
+        &["ERROR%0Amessage:E10 unknown subscription id~"],
+    )?;
+    expect_frames(
+        &rt,
+        alloc,
+        &["DISCONNECT%0Areceipt:d~", SQ],
+        &["RECEIPT%0Areceipt-id:d~"],
+    )
+}
+
+#[test]
+fn transactions_begin_and_end(rt: HostRuntime) -> Result<(), Fail> {
+    let alloc = rt.alloc();
+    expect_frames(
+        &rt,
+        alloc,
+        &[
+            "BEGIN%0Atransaction:t%0Areceipt:b~",
+            "COMMIT%0Atransaction:t%0Areceipt:c~",
+        ],
+        &["RECEIPT%0Areceipt-id:b~", "RECEIPT%0Areceipt-id:c~"],
+    )?;
+    expect_frames(
+        &rt,
+        alloc,
+        &["ABORT%0Atransaction:t~"],
+        &["ERROR%0Amessage:E16 transaction not begun~"],
+    )?;
+    expect_frames(
+        &rt,
+        alloc,
+        &[
+            "BEGIN%0Atransaction:t~",
+            "SEND%0Adestination:/queue/q%0Atransaction:t%0A%0Ax%00",
+            "ACK%0Aid:7%0Atransaction:t~",
+            "COMMIT%0Atransaction:t%0Areceipt:c~",
+        ],
+        &["ERROR%0Amessage:E11 unknown acknowledgement id%0Areceipt-id:c~"],
+    )
+}
+
+#[test]
+fn a_transaction_has_at_most_64_members(rt: HostRuntime) -> Result<(), Fail> {
+    let alloc = rt.alloc();
+    let member = "SEND%0Adestination:/queue/q%0Atransaction:t%0A%0Ax%00";
+    let mut frames = vec![in alloc; "BEGIN%0Atransaction:t~"]?;
+    for _ in 0..64 {
+        frames.push(member)?;
+    }
+    expect_frames(&rt, alloc, frames.as_slice(), &[])?;
+    frames.push(member)?;
+    expect_frames(
+        &rt,
+        alloc,
+        frames.as_slice(),
+        &["ERROR%0Amessage:E17 transaction too large~"],
+    )
+}
