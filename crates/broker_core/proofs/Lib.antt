@@ -1,15 +1,13 @@
 pub mod Firsts
-pub mod OtherLines
+pub mod Keys
+pub mod KeyedLines
 pub mod Orders
-pub mod QueueLines
 pub mod Serving
 pub mod Served
 pub mod Weights
 pub mod Places
 pub mod Ending
 pub mod Operating
-pub mod UnknownNames
-pub mod SortedQueues
 pub mod Sendings
 pub mod CommandLists
 pub mod Deliveries

@@ -1,4 +1,6 @@
 pub mod Lists
+pub mod Names
+pub mod Waiting
 pub mod States
 pub mod HandOut
 pub mod Operations

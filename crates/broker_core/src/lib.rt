@@ -7,18 +7,21 @@ mod answers;
 mod broker;
 mod carrying;
 mod committing;
+mod durable_name;
 mod fault;
 mod hand_out;
 mod laws;
+mod lines;
 mod order;
-mod queues;
 mod sending;
+mod shared_lines;
 mod subscribing;
 mod subscription;
 mod tables;
 mod trial;
 
 pub use broker::Broker;
+pub use durable_name::DurableName;
 pub use fault::BrokerFault;
 pub use laws::{
     closed_sessions_change_nothing, commands_follow_one_another,

@@ -1,6 +1,6 @@
 use Rattle.std.proofs.Common.{◌≡◌, ◌++◌, drop, map, take}
 use Rattle.broker_core.specs.Operations.{copied}
-use Rattle.broker_core.proofs.sending.copy_to_all.Given as goal
+use Rattle.broker_core.proofs.sending.copy_to_listeners.Given as goal
 
 abbrev pub invariant-loop-at : goal.invariant-loop-at
 invariant-loop-at l = record {

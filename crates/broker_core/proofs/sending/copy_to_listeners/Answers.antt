@@ -6,8 +6,8 @@ use Rattle.broker_core.specs.declared.subscription.Subscription.{Subscription}
 use Rattle.broker_core.specs.Orders.{OrderValue}
 use Rattle.broker_core.specs.Operations.{copied}
 use Rattle.broker_core.proofs.Sendings.{changed_more, copied_other, copied_own, same_more}
-use Rattle.broker_core.proofs.sending.copy_to_all.Goals as goal
-use Rattle.broker_core.proofs.sending.copy_to_all.Goals.{then-eq+in_ok-clone+in_ok-put, else-eq}
+use Rattle.broker_core.proofs.sending.copy_to_listeners.Goals as goal
+use Rattle.broker_core.proofs.sending.copy_to_listeners.Goals.{then-eq+in_ok-clone+in_ok-put, else-eq}
 
 pub loop-at-preserved : goal.loop-at-preserved
 loop-at-preserved c =
