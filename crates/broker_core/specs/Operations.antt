@@ -60,9 +60,12 @@ is_of session sub = session == sub.session
 abbrev pub is_named : ℕ → List ℕ → Subscription → Bool
 is_named session id sub = is_of session sub && bytes_eq id sub.id
 
--- the client-id of a session
+-- the client-id of a session, where it has one
+abbrev pub client_in : List (ℕ × Option (List ℕ)) → ℕ → Option (List ℕ)
+client_in sessions session = unwrap_or (lookup (is_at (nat_cmp session)) sessions) None
+
 abbrev pub client_of : State → ℕ → Option (List ℕ)
-client_of s session = unwrap_or (lookup (is_at (nat_cmp session)) s.sessions) None
+client_of s session = client_in s.sessions session
 
 -- the topic to which a durable name is bound, where it is
 abbrev pub topic_of : Name → List (Name × List ℕ) → Option (List ℕ)

@@ -1,4 +1,4 @@
-use Rattle.std.specs.Prelude.{◌≡◌, ◌+◌, ◌*◌, ◌<◌, ◌&&◌, List, ℕ, Bool, true, false, Option, None, Result, Ok, Err, count_by, length, nat_le, remove, slice_get, Some, take, if◌then◌else◌}
+use Rattle.std.specs.Prelude.{◌≡◌, ◌+◌, ◌*◌, ◌<◌, ◌&&◌, List, ℕ, Bool, true, false, Option, MatchOption, None, Result, Ok, Err, count_by, length, nat_le, remove, slice_get, Some, take, if◌then◌else◌}
 use Rattle.std.specs.List.{AllByRecursion}
 use Rattle.std.specs.Str.{bytes_eq}
 use Rattle.command_core.specs.declared.fault.Fault.{Fault}
@@ -7,7 +7,7 @@ use Rattle.command_core.specs.declared.command.Op.TheVariants.{End}
 use Rattle.command_core.specs.Destinations.{is_queue}
 use Rattle.broker_core.specs.declared.subscription.Subscription.{Subscription}
 use Rattle.broker_core.specs.States.{State}
-use Rattle.broker_core.specs.Operations.{without}
+use Rattle.broker_core.specs.Operations.{is_named, without}
 use Rattle.broker_core.specs.Names.{Name}
 use Rattle.broker_core.specs.Waiting.{is_own}
 
@@ -55,3 +55,8 @@ without_at s (Some at) = elim (slice_get s.subscriptions at) as (λ o. State) [ 
 abbrev pub but_at : {X : Type 0} → List X → Option ℕ → List X
 but_at xs None = xs
 but_at xs (Some at) = remove xs at
+
+-- the place is that of the session's subscription of that id; there is none where there is no such one, or no id
+abbrev pub IsGivenAt : ℕ → Option (List ℕ) → List Subscription → Option ℕ → Type 0
+IsGivenAt session None subs place = place ≡ None
+IsGivenAt session (Some id) subs place = MatchOption place (NonePass (is_named session id) subs) (λ at. IsFirst (is_named session id) subs at)

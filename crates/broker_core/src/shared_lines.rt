@@ -9,7 +9,8 @@ ghost use Rattle.line_core.specs.declared.message.Message.{Message};
 ghost use Rattle.line_core.specs.Lines.{first_of};
 ghost use Rattle.broker_core.specs.Lists.{is_none};
 ghost use Rattle.broker_core.specs.Names.{name_cmp, text_cmp};
-ghost use Rattle.broker_core.specs.Waiting.{left_line, left_shared, line_at, line_for, weight_of_lines, weight_of_shared, with_deliveries, with_message};
+ghost use Rattle.broker_core.specs.States.{weight_of_subscription};
+ghost use Rattle.broker_core.specs.Waiting.{left_line, left_shared, line_at, line_for, returned, weight_of_shared, with_deliveries, with_message};
 
 use crate::durable_name::DurableName;
 use crate::lines;
@@ -34,6 +35,13 @@ impl Model for SharedLines {
     ghost Value = { Shared };
 
     ghost view = { λ a. record { names = a.names.entries; queues = a.queues.entries } };
+}
+
+/// What vanishes with a subscription that ends: what waited in its own line, and what it has not acknowledged of it.
+#[derive(Debug, Drop)]
+pub struct Gone {
+    pub line: Line,
+    pub deliveries: Vec<(u64, Message)>,
 }
 
 impl SharedLines {
@@ -113,7 +121,7 @@ impl SharedLines {
     }
 
     /// What was delivered of that queue and is not acknowledged stands in its line again.
-    pub fn return_to_queue(
+    fn return_to_queue(
         &mut self,
         alloc: Global,
         to: &Dest,
@@ -130,7 +138,7 @@ impl SharedLines {
     }
 
     /// What was delivered under that durable name and is not acknowledged stands in its line again.
-    pub fn return_to_name(
+    fn return_to_name(
         &mut self,
         alloc: Global,
         name: &DurableName,
@@ -144,6 +152,33 @@ impl SharedLines {
             self.put_under(alloc, name.clone()?, message)?;
         }
         Ok(())
+    }
+
+    /// A subscription has ended: what it has not acknowledged stands in its line again, unless the line was its own; gives
+    /// what vanishes with it.
+    pub fn take_back(&mut self, alloc: Global, sub: Subscription) -> Result<Gone, AllocError>
+        ensures shared { OnOk result (self.new ≡ returned self.old sub) }
+        ensures weight { IfOk result (λ gone. (weight : Message → ℕ) → weight_of_shared weight self.new + sum_by weight gone.line
+            + sum_by (λ delivery. weight delivery.1) gone.deliveries.items
+            ≡ weight_of_shared weight self.old + weight_of_subscription weight sub) }
+    {
+        let deliveries = sub.unacknowledged.into_vec();
+        match &sub.durable {
+            Some(name) => self.return_to_name(alloc, name, deliveries)?,
+            None if sub.destination.is_queue() => {
+                self.return_to_queue(alloc, &sub.destination, deliveries)?;
+            }
+            None => {
+                return Ok(Gone {
+                    line: sub.line,
+                    deliveries,
+                });
+            }
+        }
+        Ok(Gone {
+            line: sub.line,
+            deliveries: Vec::new(alloc),
+        })
     }
 
     /// Takes the line under that durable name out, where there is one.

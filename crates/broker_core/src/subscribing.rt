@@ -1,11 +1,11 @@
 //! Subscriptions and sessions begin and end.
 
-ghost use Rattle.std.specs.Prelude.{◌≡◌, ◌+◌, ◌-◌, ◌<◌, ◌≤◌, ◌^◌, [], ℕ, IfOk, IfSome, IsErr, MatchOption, OnOk, Some, count_by, length, remove, slice_get};
+ghost use Rattle.std.specs.Prelude.{◌≡◌, ◌+◌, ◌-◌, ◌<◌, ◌≤◌, ◌^◌, [], ℕ, IfOk, IfSome, IsErr, MatchOption, OnOk, Some, count_by, drop, length, remove, slice_get, take};
 ghost use Rattle.std.specs.List.{list_any, sum_by};
 ghost use Rattle.line_core.specs.declared.message.Message.{Message};
 ghost use Rattle.command_core.specs.declared.command.Op.TheVariants.{Unsubscribe};
-ghost use Rattle.broker_core.specs.Operations.{begun, carried, client_of, ended, forgotten, given_up_for, is_named, is_of, name_for, restarted, subscribed, uses, without};
-ghost use Rattle.broker_core.specs.Parts.{IsFirst, NonePass, but_at, leaving, without_at};
+ghost use Rattle.broker_core.specs.Operations.{begun, carried, client_in, ended, forgotten, given_up_for, is_named, is_of, name_for, restarted, subscribed, uses, with_subscription, without};
+ghost use Rattle.broker_core.specs.Parts.{IsFirst, IsGivenAt, NonePass, but_at, leaving, without_at};
 ghost use Rattle.broker_core.specs.States.{bytes, one};
 ghost use Rattle.broker_core.specs.Tables.{IsTallied, state_of};
 ghost use Rattle.broker_core.specs.declared.subscription.Subscription.{Subscription};
@@ -39,6 +39,16 @@ fn find_named(order: &Order, session: u64, id: &HeaderText) -> Option<usize>
     None
 }
 
+/// Where the subscription of that session and id waits, where an id is given.
+fn find_given(order: &Order, session: u64, id: &Option<HeaderText>) -> Option<usize>
+    ensures { IsGivenAt session id.now order.now.subscriptions result }
+{
+    match id {
+        Some(id) => find_named(order, session, id),
+        None => None,
+    }
+}
+
 /// How many subscriptions a session has.
 fn count_of(order: &Order, session: u64) -> usize
     ensures { result ≡ count_by (is_of session) order.now.subscriptions }
@@ -52,16 +62,41 @@ fn count_of(order: &Order, session: u64) -> usize
     count
 }
 
-/// Whether a subscription other than the one in that place has the durable name.
-fn is_used(order: &Order, name: &DurableName, but: Option<usize>) -> bool
-    ensures { result ≡ list_any (uses name.now) (but_at order.now.subscriptions but) }
+/// Whether the subscription is that of the durable name.
+fn uses(sub: &Subscription, name: &DurableName) -> bool
+    ensures { result ≡ uses name.now sub.now }
 {
-    for at in 0..order.len() {
-        if but != Some(at) && order.get(at).durable.as_ref() == Some(name) {
+    match &sub.durable {
+        Some(other) => *name == *other,
+        None => false,
+    }
+}
+
+/// Whether a subscription in a place from `from` on and before `to` has the durable name.
+fn is_used_between(order: &Order, name: &DurableName, from: usize, to: usize) -> bool
+    requires { (from ≤ to) × (to ≤ length order.now.subscriptions) }
+    ensures { result ≡ list_any (uses name.now) (drop from (take to order.now.subscriptions)) }
+{
+    for at in from..to {
+        if uses(order.get(at), name) {
             return true;
         }
     }
     false
+}
+
+/// Whether a subscription has the durable name, other than the one in that place where a place is given.
+fn is_used(order: &Order, name: &DurableName, but: Option<usize>) -> bool
+    requires { IfSome but (λ at. at < length order.now.subscriptions) }
+    ensures { result ≡ list_any (uses name.now) (but_at order.now.subscriptions but) }
+{
+    let end = order.len();
+    match but {
+        None => is_used_between(order, name, 0, end),
+        Some(at) => {
+            is_used_between(order, name, 0, at) || is_used_between(order, name, at + 1, end)
+        }
+    }
 }
 
 /// The messages of a line are held no more.
@@ -105,7 +140,7 @@ pub fn let_deliveries_go(held: &mut Held, deliveries: &[(u64, Message)])
 impl Tables {
     /// The name of a session's client, where it has one.
     fn client_of(&self, session: u64) -> Result<Option<HeaderText>, AllocError>
-        ensures { IfOk result (λ client. (number : ℕ) → client ≡ client_of (state_of number self.now) session) }
+        ensures { IfOk result (λ client. client ≡ client_in self.now.sessions.entries session) }
     {
         match self.sessions.get(&session) {
             Some(Some(client)) => Ok(Some(client.clone()?)),
@@ -121,7 +156,7 @@ impl Tables {
         destination: &Dest,
         durable: Option<HeaderText>,
     ) -> Result<Result<Option<DurableName>, Fault>, AllocError>
-        ensures { IfOk result (λ r. (number : ℕ) → r ≡ name_for (client_of (state_of number self.now) session) destination.now durable) }
+        ensures { IfOk result (λ r. r ≡ name_for (client_in self.now.sessions.entries session) destination.now durable) }
     {
         match durable {
             Some(name) if !destination.is_queue() => match self.client_of(session)? {
@@ -185,24 +220,42 @@ impl Tables {
         ensures same { IfOk result (λ r. IsErr r → self.new ≡ self.old) }
         ensures tallied { OnOk result (IsTallied (number + 1) self.new) }
     {
-        if let Some(name) = &sub.durable {
-            match self.durables.get(name) {
-                Some(topic) => {
-                    if *topic != sub.destination || is_used(&self.order, name, None) {
-                        return Ok(Err(Fault::DurableSubscription));
-                    }
-                }
-                None => {
-                    if self.durables.len() >= MOST_NAMES {
-                        return Ok(Err(Fault::TooManyEntries));
-                    }
-                    self.durables
-                        .insert(name.clone()?, sub.destination.clone()?)?;
-                }
-            }
+        if let Err(fault) = self.bind(number, &sub)? {
+            return Ok(Err(fault));
         }
         self.order.add(sub)?;
         Ok(Ok(()))
+    }
+
+    /// The durable name of a subscription that is to begin is bound to its topic, unless it has none or the name is bound so
+    /// already. Refused where somebody uses the name or it is another topic's, or it were the 257th, and then nothing
+    /// changes.
+    fn bind(&mut self, number: u64, sub: &Subscription) -> Result<Result<(), Fault>, AllocError>
+        requires tallied { IsTallied number self.old }
+        ensures begun { IfOk result (λ r. begun (state_of number self.old) sub.now ≡ leaving r (with_subscription (state_of number self.new) sub.now)) }
+        ensures order { OnOk result (self.new.order ≡ self.old.order) }
+        ensures same { IfOk result (λ r. IsErr r → self.new ≡ self.old) }
+        ensures tallied { OnOk result (IsTallied number self.new) }
+    {
+        let Some(name) = &sub.durable else {
+            return Ok(Ok(()));
+        };
+        match self.durables.get(name) {
+            Some(topic) => {
+                if *topic != sub.destination || is_used(&self.order, name, None) {
+                    return Ok(Err(Fault::DurableSubscription));
+                }
+                Ok(Ok(()))
+            }
+            None => {
+                if self.durables.len() >= MOST_NAMES {
+                    return Ok(Err(Fault::TooManyEntries));
+                }
+                self.durables
+                    .insert(name.clone()?, sub.destination.clone()?)?;
+                Ok(Ok(()))
+            }
+        }
     }
 
     /// The subscription of that id ends, or a durable name of the session's client is given up, with its line; where both
@@ -222,10 +275,7 @@ impl Tables {
         ensures same { IfOk result (λ r. IsErr r → self.new ≡ self.old) }
         ensures tallied { OnOk result (IsTallied number self.new) }
     {
-        let at = match &id {
-            Some(id) => find_named(&self.order, session, id),
-            None => None,
-        };
+        let at = find_given(&self.order, session, &id);
         if let Some(name) = durable {
             return self.give_up(alloc, number, session, at, name);
         }
@@ -251,7 +301,7 @@ impl Tables {
     ) -> Result<Result<(), Fault>, AllocError>
         requires tallied { IsTallied number self.old }
         requires place { IfSome at (λ i. i < length self.old.order.subscriptions) }
-        ensures given_up { IfOk result (λ r. given_up_for (without_at (state_of number self.old) at) (client_of (state_of number self.old) session) name ≡ leaving r (state_of number self.new)) }
+        ensures given_up { IfOk result (λ r. given_up_for (without_at (state_of number self.old) at) (client_in self.old.sessions.entries session) name ≡ leaving r (state_of number self.new)) }
         ensures same { IfOk result (λ r. IsErr r → self.new ≡ self.old) }
         ensures tallied { OnOk result (IsTallied number self.new) }
     {
@@ -259,14 +309,33 @@ impl Tables {
             return Ok(Err(Fault::NoClientId));
         };
         let name = DurableName::new(client, name);
-        if !self.durables.contains_key(&name) || is_used(&self.order, &name, at) {
+        if !self.durables.contains_key(&name) {
             return Ok(Err(Fault::DurableSubscription));
         }
-        if let Some(at) = at {
-            self.end_one(alloc, number, at)?;
+        if is_used(&self.order, &name, at) {
+            return Ok(Err(Fault::DurableSubscription));
         }
+        self.end_given(alloc, number, at)?;
         self.forget(alloc, number, &name);
         Ok(Ok(()))
+    }
+
+    /// The subscription in that place ends, where a place is given.
+    fn end_given(
+        &mut self,
+        alloc: Global,
+        number: u64,
+        at: Option<usize>,
+    ) -> Result<(), AllocError>
+        requires tallied { IsTallied number self.old }
+        requires place { IfSome at (λ i. i < length self.old.order.subscriptions) }
+        ensures ended { OnOk result (state_of number self.new ≡ without_at (state_of number self.old) at) }
+        ensures tallied { OnOk result (IsTallied number self.new) }
+    {
+        match at {
+            Some(at) => self.end_one(alloc, number, at),
+            None => Ok(()),
+        }
     }
 
     /// A durable name is known no more, and what waits in its line is held no more.
@@ -280,8 +349,8 @@ impl Tables {
         let_line_go(&mut self.held, line);
     }
 
-    /// The subscription in that place ends: what waits in its own line is held no more, nor what it has not acknowledged of
-    /// a topic with no durable name; what it has not acknowledged otherwise stands in its line again.
+    /// The subscription in that place ends: what it has not acknowledged stands in its line again, unless the line was its
+    /// own; what vanishes with it is held no more.
     fn end_one(&mut self, alloc: Global, number: u64, at: usize) -> Result<(), AllocError>
         requires tallied { IsTallied number self.old }
         requires place { at < length self.old.order.subscriptions }
@@ -290,17 +359,9 @@ impl Tables {
         ensures tallied { OnOk result (IsTallied number self.new) }
     {
         let sub = self.order.remove(at);
-        let deliveries = sub.unacknowledged.into_vec();
-        let_line_go(&mut self.held, sub.line);
-        if let Some(name) = &sub.durable {
-            return self.shared.return_to_name(alloc, name, deliveries);
-        }
-        if sub.destination.is_queue() {
-            return self
-                .shared
-                .return_to_queue(alloc, &sub.destination, deliveries);
-        }
-        let_deliveries_go(&mut self.held, deliveries.as_slice());
+        let gone = self.shared.take_back(alloc, sub)?;
+        let_line_go(&mut self.held, gone.line);
+        let_deliveries_go(&mut self.held, gone.deliveries.as_slice());
         Ok(())
     }
 
