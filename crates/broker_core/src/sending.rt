@@ -31,20 +31,16 @@ pub fn is_own(sub: &Subscription) -> bool
 
 /// How many durable names are bound to that topic.
 fn names_of(durables: &BTreeMap<DurableName, Dest>, to: &Dest) -> u64
-    ensures { result ≡ count_by (λ durable. bytes_eq durable.1 to.now) durables.now.entries }
+    ensures counted { result ≡ count_by (λ durable. bytes_eq durable.1 to.now) durables.now.entries }
+    ensures few { result < 2 ^ 63 }
 {
-    let mut names = 0;
-    for topic in durables.values() {
-        if *topic == *to {
-            names += 1;
-        }
-    }
-    names
+    durables.iter().filter(|(_, topic)| **topic == *to).count() as u64
 }
 
 /// How many subscriptions of that topic have a line of their own.
 fn listeners_of(order: &Order, to: &Dest) -> u64
-    ensures { result ≡ count_by (λ sub. is_own sub && bytes_eq sub.destination to.now) order.now.subscriptions }
+    ensures counted { result ≡ count_by (λ sub. is_own sub && bytes_eq sub.destination to.now) order.now.subscriptions }
+    ensures few { result < 2 ^ 63 }
 {
     let mut listeners = 0;
     for at in 0..order.len() {
