@@ -17,7 +17,7 @@ use Rattle.broker_core.specs.Operations.{copied, copied_to_names, is_within, mes
 use Rattle.broker_core.specs.Parts.{copies_to, find_room}
 use Rattle.broker_core.specs.States.{State, bytes, held_bytes, held_messages, one, weight_of}
 use Rattle.broker_core.specs.Tables.{IsNext}
-use Rattle.broker_core.specs.Waiting.{Lines, is_own, with_message}
+use Rattle.broker_core.specs.Waiting.{Lines, Shared, is_own, with_message}
 use Rattle.broker_core.proofs.KeyedLines.{rising-with_message, weight-with_message}
 use Rattle.broker_core.proofs.Keys.{same_texts, texts_total}
 use Rattle.broker_core.proofs.Weights.{all_mapped, over_copied, weight-copied, weight-copied_to_names}
@@ -77,8 +77,8 @@ module _ (s : State) (m : Message) where
   spread_by b =
       cond b (record s { shared = record s.shared { queues = with_message text_cmp m.sending.destination m s.shared.queues } }) (record s { shared = record s.shared { names = copied_to_names m s.durables s.shared.names }; subscriptions = map (copied m) s.subscriptions })
 
-  pub spread_is : (b : Bool) → is_queue m.sending.destination ≡ b → spread_by b ≡ spread s m
-  spread_is b is = sym (ap spread_by is)
+  pub spread_queue : (shared : Shared) → is_queue m.sending.destination ≡ true → shared ≡ record s.shared { queues = with_message text_cmp m.sending.destination m s.shared.queues } → record s { shared = shared } ≡ spread s m
+  spread_queue shared queue more = ap (λ x. record s { shared = x }) more ∙ sym (ap spread_by queue)
 
   pub next-spread : IsNext s → IsNext (spread s m)
   next-spread all =
@@ -108,11 +108,11 @@ module _ (s : State) (m : Message) where
         elim (is_queue m.sending.destination) as (λ b. IsStrictlySortedBy text_cmp (keys_of (spread_by b).shared.queues)) [ true ↦ rising-with_message text_cmp texts_total m.sending.destination m s.shared.queues queues | false ↦ queues ]
 
     -- the copies find room where the state with them is within the limits
-    pub room_is : (messages held : ℕ) → messages ≡ held_messages s → held ≡ held_bytes s → is_within (spread s m) ≡ find_room messages held (copies_to m.sending.destination s.durables s.subscriptions) (size_of m.sending)
-    room_is messages held few small =
-        let copies = copies_to m.sending.destination s.durables s.subscriptions in
+    pub room_by : (messages held copies size : ℕ) → messages ≡ held_messages s → held ≡ held_bytes s → copies ≡ copies_to m.sending.destination s.durables s.subscriptions → size ≡ size_of m.sending → is_within (spread s m) ≡ find_room messages held copies size
+    room_by messages held copies size few small counted weighed =
+        let total : copies * size ≡ copies_to m.sending.destination s.durables s.subscriptions * size_of m.sending = ap (λ n. n * size) counted ∙ ap (λ n. copies_to m.sending.destination s.durables s.subscriptions * n) weighed in
         let count : held_messages (spread s m) ≡ messages + copies = omega (arith, weight-spread one) in
-        let weigh : held_bytes (spread s m) ≡ held + copies * size_of m.sending = omega (arith, weight-spread bytes) in
+        let weigh : held_bytes (spread s m) ≡ held + copies * size = omega (arith, weight-spread bytes, total) in
         ap (λ n. nat_le n 4096 && nat_le (held_bytes (spread s m)) 16777216) count ∙ ap (λ n. nat_le (messages + copies) 4096 && nat_le n 16777216) weigh
 
 -- a SEND by whether its copies find room
