@@ -31,25 +31,27 @@ pub fn is_own(sub: &Subscription) -> bool
 
 /// How many durable names are bound to that topic.
 fn names_of(durables: &BTreeMap<DurableName, Dest>, to: &Dest) -> u64
-    ensures { result ≡ count_by (λ durable. bytes_eq durable.1 to.now) durables.now.entries }
+    ensures counted { result ≡ count_by (λ durable. bytes_eq durable.1 to.now) durables.now.entries }
+    ensures few { result < 2 ^ 63 }
 {
-    let mut names = 0;
-    for topic in durables.values() {
-        if *topic == *to {
-            names += 1;
-        }
-    }
-    names
+    durables.iter().filter(|(_, topic)| **topic == *to).count() as u64
+}
+
+/// Whether a message to that destination is copied into the subscription's own line.
+fn listens(sub: &Subscription, to: &Dest) -> bool
+    ensures { result ≡ (is_own sub.now && bytes_eq sub.now.destination to.now) }
+{
+    is_own(sub) && sub.destination == *to
 }
 
 /// How many subscriptions of that topic have a line of their own.
 fn listeners_of(order: &Order, to: &Dest) -> u64
-    ensures { result ≡ count_by (λ sub. is_own sub && bytes_eq sub.destination to.now) order.now.subscriptions }
+    ensures counted { result ≡ count_by (λ sub. is_own sub && bytes_eq sub.destination to.now) order.now.subscriptions }
+    ensures few { result < 2 ^ 63 }
 {
     let mut listeners = 0;
     for at in 0..order.len() {
-        let sub = order.get(at);
-        if is_own(sub) && sub.destination == *to {
+        if listens(order.get(at), to) {
             listeners += 1;
         }
     }
@@ -82,8 +84,7 @@ fn copy_to_listeners(order: &mut Order, message: &Message) -> Result<(), AllocEr
     ensures added { order.new.added ≡ order.old.added }
 {
     for at in 0..order.len() {
-        let sub = order.get(at);
-        if is_own(sub) && sub.destination == *message.sending.destination() {
+        if listens(order.get(at), message.sending.destination()) {
             order.put(at, message.clone()?)?;
         }
     }
