@@ -21,3 +21,4 @@ pub mod Heard
 pub mod SortedEntries
 pub mod Standing
 pub mod Numbers
+pub mod MessageNumbers
