@@ -8,6 +8,11 @@ pub state_after-append : (s : State) (a b : List CommandValue) → state_after s
 state_after-append s [] b = refl
 state_after-append s (c ∷ a) b = state_after-append (step s c) a b
 
+-- what each command keeps holds after all
+pub after_all : (P : State → Type 0) → ((s : State) (c : CommandValue) → P s → P (step s c)) → (s : State) → P s → (commands : List CommandValue) → P (state_after s commands)
+after_all P keeps s now [] = now
+after_all P keeps s now (c ∷ commands) = after_all P keeps (step s c) (keeps s c now) commands
+
 -- and give the outputs of both in turn
 pub outs_of-append : (s : State) (a b : List CommandValue) → outs_of s (a ++ b) ≡ outs_of s a ++ outs_of (state_after s a) b
 outs_of-append s [] b = refl

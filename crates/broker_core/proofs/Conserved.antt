@@ -19,7 +19,7 @@ use Rattle.command_core.specs.Sendings.{SendingValue}
 use Rattle.line_core.specs.declared.message.Message.{Message}
 use Rattle.broker_core.specs.declared.subscription.Subscription.{Subscription}
 use Rattle.broker_core.specs.Lists.{picked, with_first}
-use Rattle.broker_core.specs.States.{Queues, State, is_open, weight_of, weight_of_queues, weight_of_subscription, with_message}
+use Rattle.broker_core.specs.States.{Queues, State, empty_state, is_open, weight_of, weight_of_queues, weight_of_subscription, with_message}
 use Rattle.broker_core.specs.States as states
 use Rattle.broker_core.specs.HandOut.{settled}
 use Rattle.broker_core.specs.Operations.{acknowledged, applied, awaits, carried, committed, copied, ended, ended_one, fresh, is_named, is_of, is_within, message_of, returned, sent, settled_by, spread, subscribed, unsubscribed}
@@ -29,17 +29,24 @@ use Rattle.broker_core.proofs.SortedEntries.{all_inserted, all_removed, sorted_i
 use Rattle.broker_core.proofs.SortedQueues.{IsInOrder, in_order-with_message, weight-with_message}
 use Rattle.broker_core.proofs.Weights.{weight-copied, weight-settled_by}
 
--- The queues are in order, no more is held than that, and no command is counted yet.
-pub record IsKept (weight : Message → ℕ) (most number : ℕ) (t : State) : Type 0 where
+-- The queues are in order, what is held and so much to spare weigh no more than that, and no command is counted yet.
+pub record IsKept (weight : Message → ℕ) (most spare number : ℕ) (t : State) : Type 0 where
   pub order : IsInOrder t.queues
-  pub light : weight_of weight t ≤ most
+  pub light : weight_of weight t + spare ≤ most
   pub count : t.count ≡ number
   pub sessions : IsStrictlySortedBy nat_cmp (keys_of t.sessions) × AllByRecursion (λ e. e.0 < number + 1) t.sessions
 
 -- what an operation gives keeps to it, unless it is refused
-abbrev pub GivesKept : (Message → ℕ) → ℕ → ℕ → Result State Fault → Type 0
-GivesKept weight most number (Ok t) = IsKept weight most number t
-GivesKept weight most number (Err fault) = Unit {0}
+abbrev pub GivesKept : (Message → ℕ) → ℕ → ℕ → ℕ → Result State Fault → Type 0
+GivesKept weight most spare number (Ok t) = IsKept weight most spare number t
+GivesKept weight most spare number (Err fault) = Unit {0}
+
+-- What a command sends to a queue weighs no more, from place to place, than what is left falls by, and what it sends to a
+-- topic weighs nothing.
+pub record IsAllotted (weight : Message → ℕ) (number : ℕ) (left : ℕ → ℕ) : Type 0 where
+  pub falls : (place : ℕ) → left (place + 1) ≤ left place
+  pub new : (place : ℕ) (sending : SendingValue) → weight (message_of number place sending) + left (place + 1) ≤ left place
+  pub topics : (place : ℕ) (sending : SendingValue) → is_queue sending.destination ≡ false → weight (message_of number place sending) ≡ 0
 
 module _ (weight : Message → ℕ) where
   -- what goes back into the lines was held
@@ -69,8 +76,8 @@ module _ (weight : Message → ℕ) where
         | false ↦ (others.0, omega (arith, others.1, sum, sum_by-cons (weight_of_subscription weight) x (filter (λ y. not (p y)) subs)))
       ]
 
-  module _ (most number : ℕ) where
-    ended_kept : (s : State) (session : ℕ) → IsKept weight most number s → IsKept weight most number (ended s session)
+  module _ (most spare number : ℕ) where
+    ended_kept : (s : State) (session : ℕ) → IsKept weight most spare number s → IsKept weight most spare number (ended s session)
     ended_kept s session kept =
         let back = all_returned (is_of session) s.subscriptions s.queues kept.order in
         record {
@@ -80,18 +87,26 @@ module _ (weight : Message → ℕ) where
           sessions = (sorted_removed nat_cmp (is_at (nat_cmp session)) s.sessions kept.sessions.0, all_removed (λ e. e.0 < number + 1) (is_at (nat_cmp session)) s.sessions kept.sessions.1);
         }
 
-    -- one more message that weighs nothing
-    spread_kept : (s : State) (m : Message) → weight m ≡ 0 → IsKept weight most number s → IsKept weight most number (spread s m)
-    spread_kept s m none kept = by (is_queue m.sending.destination)
-      where
-        by : (b : Bool) → IsKept weight most number (if b then record s { queues = with_message m.sending.destination m s.queues } else record s { subscriptions = map (copied m) s.subscriptions })
-        by true =
-            record { order = in_order-with_message m.sending.destination m s.queues kept.order; light = omega (arith, weight-with_message m.sending.destination weight m s.queues kept.order, none, kept.light); count = kept.count; sessions = kept.sessions }
-        by false =
-            let copies = rw none at (weight-copied weight m s.subscriptions) in
-            record { order = kept.order; light = omega (arith, copies, kept.light); count = kept.count; sessions = kept.sessions }
+    less_to_spare : (less : ℕ) (s : State) → less ≤ spare → IsKept weight most spare number s → IsKept weight most less number s
+    less_to_spare less s few kept =
+        record { order = kept.order; light = omega (arith, few, kept.light); count = kept.count; sessions = kept.sessions }
 
-    unless_full : (t : State) (b : Bool) → IsKept weight most number t → GivesKept weight most number (if b then Ok t else Err NoRoom)
+    gives_less : (less : ℕ) (r : Result State Fault) → less ≤ spare → GivesKept weight most spare number r → GivesKept weight most less number r
+    gives_less less (Ok t) few kept = less_to_spare less t few kept
+    gives_less less (Err fault) few kept = tt
+
+    -- one more message, which what is to spare is enough for
+    spread_kept : (less : ℕ) (s : State) (m : Message) → weight m + less ≤ spare → (is_queue m.sending.destination ≡ false → weight m ≡ 0) → IsKept weight most spare number s → IsKept weight most less number (spread s m)
+    spread_kept less s m enough topic kept = by (is_queue m.sending.destination) topic
+      where
+        by : (b : Bool) → (b ≡ false → weight m ≡ 0) → IsKept weight most less number (if b then record s { queues = with_message m.sending.destination m s.queues } else record s { subscriptions = map (copied m) s.subscriptions })
+        by true topic =
+            record { order = in_order-with_message m.sending.destination m s.queues kept.order; light = omega (arith, weight-with_message m.sending.destination weight m s.queues kept.order, enough, kept.light); count = kept.count; sessions = kept.sessions }
+        by false topic =
+            let copies = rw (topic refl) at (weight-copied weight m s.subscriptions) in
+            record { order = kept.order; light = omega (arith, copies, enough, kept.light); count = kept.count; sessions = kept.sessions }
+
+    unless_full : (t : State) (b : Bool) → IsKept weight most spare number t → GivesKept weight most spare number (if b then Ok t else Err NoRoom)
     unless_full t true kept = kept
     unless_full t false kept = tt
 
@@ -104,126 +119,152 @@ module _ (weight : Message → ℕ) where
           | false ↦ omega (arith, rest, sum_by-cons (weight_of_subscription weight) x subs, sum_by-cons (weight_of_subscription weight) x (with_first p (settled_by delivery) subs))
         ]
 
-    acknowledged_kept : (s : State) (session delivery : ℕ) → IsKept weight most number s → GivesKept weight most number (acknowledged s session delivery)
+    acknowledged_kept : (s : State) (session delivery : ℕ) → IsKept weight most spare number s → GivesKept weight most spare number (acknowledged s session delivery)
     acknowledged_kept s session delivery kept = by (list_any (awaits session delivery) s.subscriptions)
       where
-        by : (b : Bool) → GivesKept weight most number (if b then Ok (record s { subscriptions = with_first (awaits session delivery) (settled_by delivery) s.subscriptions }) else Err UnknownAcknowledgement)
+        by : (b : Bool) → GivesKept weight most spare number (if b then Ok (record s { subscriptions = with_first (awaits session delivery) (settled_by delivery) s.subscriptions }) else Err UnknownAcknowledgement)
         by true = record { order = kept.order; light = omega (arith, acknowledged_weight (awaits session delivery) delivery s.subscriptions, kept.light); count = kept.count; sessions = kept.sessions }
         by false = tt
 
-    subscribed_kept : (s : State) (session : ℕ) (id to : List ℕ) (mode : AckMode) → IsKept weight most number s → GivesKept weight most number (subscribed s session id to mode)
+    subscribed_kept : (s : State) (session : ℕ) (id to : List ℕ) (mode : AckMode) → IsKept weight most spare number s → GivesKept weight most spare number (subscribed s session id to mode)
     subscribed_kept s session id to mode kept = by (list_any (is_named session id) s.subscriptions) (nat_le 16 (count_by (is_of session) s.subscriptions))
       where
-        by : (a b : Bool) → GivesKept weight most number (if a then Err SubscriptionIdInUse else (if b then Err TooManyEntries else Ok (record s { subscriptions = s.subscriptions ++ fresh session id to mode ∷ [] })))
+        by : (a b : Bool) → GivesKept weight most spare number (if a then Err SubscriptionIdInUse else (if b then Err TooManyEntries else Ok (record s { subscriptions = s.subscriptions ++ fresh session id to mode ∷ [] })))
         by true b = tt
         by false true = tt
         by false false = record { order = kept.order; light = omega (arith, sum_by_push (weight_of_subscription weight) s.subscriptions (fresh session id to mode), kept.light); count = kept.count; sessions = kept.sessions }
 
-    unsubscribed_kept : (s : State) (session : ℕ) (id : List ℕ) → IsKept weight most number s → GivesKept weight most number (unsubscribed s session id)
+    unsubscribed_kept : (s : State) (session : ℕ) (id : List ℕ) → IsKept weight most spare number s → GivesKept weight most spare number (unsubscribed s session id)
     unsubscribed_kept s session id kept = by (picked (is_named session id) s.subscriptions) refl
       where
-        by : (o : Option (Subscription × List Subscription)) → picked (is_named session id) s.subscriptions ≡ o → GivesKept weight most number (ended_one s o)
+        by : (o : Option (Subscription × List Subscription)) → picked (is_named session id) s.subscriptions ≡ o → GivesKept weight most spare number (ended_one s o)
         by None is = tt
         by (Some p) is =
             let back = returned_weight s.queues p.0 kept.order in
             record { order = back.0; light = omega (arith, back.1, sum_picked (is_named session id) (weight_of_subscription weight) s.subscriptions p.0 p.1 is, kept.light); count = kept.count; sessions = kept.sessions }
 
-    module _ (new : (place : ℕ) (sending : SendingValue) → weight (message_of number place sending) ≡ 0) where
-      sent_kept : (s : State) (place : ℕ) (sending : SendingValue) → IsKept weight most number s → GivesKept weight most number (sent s place sending)
-      sent_kept s place sending kept =
-          let none : weight (message_of s.count place sending) ≡ 0 = rw kept.count (new place sending) in
-          let t = spread s (message_of s.count place sending) in
-          unless_full t (is_within t) (spread_kept s (message_of s.count place sending) none kept)
+  module _ (most number : ℕ) (left : ℕ → ℕ) (allotted : IsAllotted weight number left) where
+    sent_kept : (s : State) (place : ℕ) (sending : SendingValue) → IsKept weight most (left place) number s → GivesKept weight most (left (place + 1)) number (sent s place sending)
+    sent_kept s place sending kept =
+        let m = message_of s.count place sending in
+        let t = spread s m in
+        let enough : weight m + left (place + 1) ≤ left place = rw kept.count (allotted.new place sending) in
+        let topic : is_queue sending.destination ≡ false → weight m ≡ 0 = rw kept.count (allotted.topics place sending) in
+        unless_full most (left (place + 1)) number t (is_within t) (spread_kept most (left place) number (left (place + 1)) s m enough topic kept)
 
-      applied_kept : (s : State) (session place : ℕ) (m : Member) → IsKept weight most number s → GivesKept weight most number (applied s session place m)
-      applied_kept s session place (members.Send sending) kept = sent_kept s place sending kept
-      applied_kept s session place (members.Ack delivery) kept = acknowledged_kept s session delivery kept
-      applied_kept s session place (members.Nack delivery) kept = acknowledged_kept s session delivery kept
+    applied_kept : (s : State) (session place : ℕ) (m : Member) → IsKept weight most (left place) number s → GivesKept weight most (left (place + 1)) number (applied s session place m)
+    applied_kept s session place (members.Send sending) kept = sent_kept s place sending kept
+    applied_kept s session place (members.Ack delivery) kept =
+        gives_less most (left place) number (left (place + 1)) (acknowledged s session delivery) (allotted.falls place) (acknowledged_kept most (left place) number s session delivery kept)
+    applied_kept s session place (members.Nack delivery) kept =
+        gives_less most (left place) number (left (place + 1)) (acknowledged s session delivery) (allotted.falls place) (acknowledged_kept most (left place) number s session delivery kept)
 
-      committed_kept : (s : State) (session place : ℕ) (ms : List Member) → IsKept weight most number s → GivesKept weight most number (committed s session place ms)
-      committed_kept s session place [] kept = kept
-      committed_kept s session place (m ∷ ms) kept =
-          by (λ t now. committed_kept t session (place + 1) ms now) (applied s session place m) (applied_kept s session place m kept)
-        where
-          by : ((t : State) → IsKept weight most number t → GivesKept weight most number (committed t session (place + 1) ms)) → (r : Result State Fault) → GivesKept weight most number r → GivesKept weight most number (elim r as (λ x. Result State Fault) [ Ok t ↦ committed t session (place + 1) ms | Err fault ↦ Err fault ])
-          by next (Ok t) now = next t now
-          by next (Err fault) now = tt
+    committed_kept : (s : State) (session place : ℕ) (ms : List Member) → IsKept weight most (left place) number s → GivesKept weight most 0 number (committed s session place ms)
+    committed_kept s session place [] kept = less_to_spare most (left place) number 0 s (omega arith) kept
+    committed_kept s session place (m ∷ ms) kept =
+        by (λ t now. committed_kept t session (place + 1) ms now) (applied s session place m) (applied_kept s session place m kept)
+      where
+        by : ((t : State) → IsKept weight most (left (place + 1)) number t → GivesKept weight most 0 number (committed t session (place + 1) ms)) → (r : Result State Fault) → GivesKept weight most (left (place + 1)) number r → GivesKept weight most 0 number (elim r as (λ x. Result State Fault) [ Ok t ↦ committed t session (place + 1) ms | Err fault ↦ Err fault ])
+        by next (Ok t) now = next t now
+        by next (Err fault) now = tt
 
-      carried_kept : (s : State) (session : ℕ) (op : Op) → IsKept weight most number s → GivesKept weight most number (carried s session op)
-      carried_kept s session (Open client_id) kept = kept
-      carried_kept s session (Send sending) kept = sent_kept s 0 sending kept
-      carried_kept s session (Subscribe id to mode name) kept = subscribed_kept s session id to mode kept
-      carried_kept s session (Unsubscribe None name) kept = tt
-      carried_kept s session (Unsubscribe (Some id) None) kept = unsubscribed_kept s session id kept
-      carried_kept s session (Unsubscribe (Some id) (Some name)) kept = tt
-      carried_kept s session (Ack delivery) kept = acknowledged_kept s session delivery kept
-      carried_kept s session (Nack delivery) kept = acknowledged_kept s session delivery kept
-      carried_kept s session (Commit ms) kept = committed_kept s session 0 ms kept
-      carried_kept s session Note kept = kept
-      carried_kept s session (End end) kept = ended_kept s session kept
+    plain : (s : State) → IsKept weight most (left 0) number s → IsKept weight most 0 number s
+    plain s kept = less_to_spare most (left 0) number 0 s (omega arith) kept
 
-      accepted_kept : (s : State) (session : ℕ) (r : Result State Fault) → IsKept weight most number s → GivesKept weight most number r → IsKept weight most number (accepted_or_ended s session r)
-      accepted_kept s session (Ok t) kept now = now
-      accepted_kept s session (Err fault) kept now = ended_kept s session kept
+    carried_kept : (s : State) (session : ℕ) (op : Op) → IsKept weight most (left 0) number s → GivesKept weight most 0 number (carried s session op)
+    carried_kept s session (Open client_id) kept = plain s kept
+    carried_kept s session (Send sending) kept =
+        gives_less most (left 1) number 0 (sent s 0 sending) (omega arith) (sent_kept s 0 sending kept)
+    carried_kept s session (Subscribe id to mode name) kept = subscribed_kept most 0 number s session id to mode (plain s kept)
+    carried_kept s session (Unsubscribe None name) kept = tt
+    carried_kept s session (Unsubscribe (Some id) None) kept = unsubscribed_kept most 0 number s session id (plain s kept)
+    carried_kept s session (Unsubscribe (Some id) (Some name)) kept = tt
+    carried_kept s session (Ack delivery) kept = acknowledged_kept most 0 number s session delivery (plain s kept)
+    carried_kept s session (Nack delivery) kept = acknowledged_kept most 0 number s session delivery (plain s kept)
+    carried_kept s session (Commit ms) kept = committed_kept s session 0 ms kept
+    carried_kept s session Note kept = plain s kept
+    carried_kept s session (End end) kept = ended_kept most 0 number s session (plain s kept)
 
-      if_open : (b : Bool) (s t : State) → IsKept weight most number s → IsKept weight most number t → IsKept weight most number (if b then t else s)
-      if_open true s t kept now = now
-      if_open false s t kept now = kept
+    accepted_kept : (s : State) (session : ℕ) (r : Result State Fault) → IsKept weight most (left 0) number s → GivesKept weight most 0 number r → IsKept weight most 0 number (accepted_or_ended s session r)
+    accepted_kept s session (Ok t) kept now = now
+    accepted_kept s session (Err fault) kept now = ended_kept most 0 number s session (plain s kept)
 
-      heard_kept : (s : State) (session : ℕ) (op : Op) → IsKept weight most number s → IsKept weight most number (if is_open s session then accepted_or_ended s session (carried s session op) else s)
-      heard_kept s session op kept =
-          if_open (is_open s session) s (accepted_or_ended s session (carried s session op)) kept (accepted_kept s session (carried s session op) kept (carried_kept s session op kept))
+    if_open : (b : Bool) (s t : State) → IsKept weight most (left 0) number s → IsKept weight most 0 number t → IsKept weight most 0 number (if b then t else s)
+    if_open true s t kept now = now
+    if_open false s t kept now = plain s kept
 
-      done_kept : (s : State) (session : ℕ) (op : Op) → IsKept weight most number s → IsKept weight most number (done s session op)
-      done_kept s session (Open client_id) kept = record {
-        order = kept.order;
-        light = kept.light;
-        count = kept.count;
-        sessions = (sorted_inserted nat_cmp nat_cmp_total s.count client_id s.sessions kept.sessions.0, all_inserted (λ e. e.0 < number + 1) nat_cmp s.count client_id (omega (arith, kept.count)) (λ e under. under) s.sessions kept.sessions.1);
-      }
-      done_kept s session (Send sending) kept = heard_kept s session (Send sending) kept
-      done_kept s session (Subscribe id to mode name) kept = heard_kept s session (Subscribe id to mode name) kept
-      done_kept s session (Unsubscribe id name) kept = heard_kept s session (Unsubscribe id name) kept
-      done_kept s session (Ack delivery) kept = heard_kept s session (Ack delivery) kept
-      done_kept s session (Nack delivery) kept = heard_kept s session (Nack delivery) kept
-      done_kept s session (Commit ms) kept = heard_kept s session (Commit ms) kept
-      done_kept s session Note kept = heard_kept s session Note kept
-      done_kept s session (End end) kept = heard_kept s session (End end) kept
+    heard_kept : (s : State) (session : ℕ) (op : Op) → IsKept weight most (left 0) number s → IsKept weight most 0 number (if is_open s session then accepted_or_ended s session (carried s session op) else s)
+    heard_kept s session op kept =
+        if_open (is_open s session) s (accepted_or_ended s session (carried s session op)) kept (accepted_kept s session (carried s session op) kept (carried_kept s session op kept))
 
-      led_kept : (s : State) (session : ℕ) (op : Op) → IsKept weight most number s → IsKept weight most number (led_to s session op).state
-      led_kept s session op kept = by (is_opening op || is_open s session)
-        where
-          by : (b : Bool) → IsKept weight most number (if b then settled (done s session op) else record { state = s; outs = [] }).state
-          by true =
-              let now = done_kept s session op kept in
-              let same = settled_sessions (done s session op) in
-              record {
-                order = settled_in_order (done s session op) now.order;
-                light = omega (arith, settled_weight weight (done s session op) now.order, now.light);
-                count = same.1 ∙ now.count;
-                sessions = subst (λ (es : List (ℕ × Option (List ℕ))). IsStrictlySortedBy nat_cmp (keys_of es) × AllByRecursion (λ e. e.0 < number + 1) es) (sym same.0) now.sessions;
-              }
-          by false = kept
+    done_kept : (s : State) (session : ℕ) (op : Op) → IsKept weight most (left 0) number s → IsKept weight most 0 number (done s session op)
+    done_kept s session (Open client_id) kept = record {
+      order = kept.order;
+      light = omega (arith, kept.light);
+      count = kept.count;
+      sessions = (sorted_inserted nat_cmp nat_cmp_total s.count client_id s.sessions kept.sessions.0, all_inserted (λ e. e.0 < number + 1) nat_cmp s.count client_id (omega (arith, kept.count)) (λ e under. under) s.sessions kept.sessions.1);
+    }
+    done_kept s session (Send sending) kept = heard_kept s session (Send sending) kept
+    done_kept s session (Subscribe id to mode name) kept = heard_kept s session (Subscribe id to mode name) kept
+    done_kept s session (Unsubscribe id name) kept = heard_kept s session (Unsubscribe id name) kept
+    done_kept s session (Ack delivery) kept = heard_kept s session (Ack delivery) kept
+    done_kept s session (Nack delivery) kept = heard_kept s session (Nack delivery) kept
+    done_kept s session (Commit ms) kept = heard_kept s session (Commit ms) kept
+    done_kept s session Note kept = heard_kept s session Note kept
+    done_kept s session (End end) kept = heard_kept s session (End end) kept
+
+    led_kept : (s : State) (session : ℕ) (op : Op) → IsKept weight most (left 0) number s → IsKept weight most 0 number (led_to s session op).state
+    led_kept s session op kept = by (is_opening op || is_open s session)
+      where
+        by : (b : Bool) → IsKept weight most 0 number (if b then settled (done s session op) else record { state = s; outs = [] }).state
+        by true =
+            let now = done_kept s session op kept in
+            let same = settled_sessions (done s session op) in
+            record {
+              order = settled_in_order (done s session op) now.order;
+              light = omega (arith, settled_weight weight (done s session op) now.order, now.light);
+              count = same.1 ∙ now.count;
+              sessions = subst (λ (es : List (ℕ × Option (List ℕ))). IsStrictlySortedBy nat_cmp (keys_of es) × AllByRecursion (λ e. e.0 < number + 1) es) (sym same.0) now.sessions;
+            }
+        by false = plain s kept
 
 later : (n : ℕ) (es : List (ℕ × Option (List ℕ))) → AllByRecursion (λ (session : ℕ × Option (List ℕ)). session.0 < n) es → AllByRecursion (λ (session : ℕ × Option (List ℕ)). session.0 < n + 1) es
 later n [] all = tt
 later n (e ∷ es) all = (omega (arith, all.0), later n es all.1)
 
-at_first : (weight : Message → ℕ) (s : State) → states.IsInOrder s → IsKept weight (weight_of weight s) s.count s
-at_first weight s order = record { order = order.queues; light = omega arith; count = refl; sessions = (order.sessions, later s.count s.sessions order.opened) }
+at_first : (weight : Message → ℕ) (spare : ℕ) (s : State) → states.IsInOrder s → IsKept weight (weight_of weight s + spare) spare s.count s
+at_first weight spare s order = record { order = order.queues; light = omega arith; count = refl; sessions = (order.sessions, later s.count s.sessions order.opened) }
+
+-- A step makes no more of what is held than what is allotted to its command.
+pub step_weight : (weight : Message → ℕ) (left : ℕ → ℕ) (s : State) (c : CommandValue) → states.IsInOrder s → IsAllotted weight s.count left → weight_of weight (step s c) ≤ weight_of weight s + left 0
+step_weight weight left s c order allotted =
+    let now = led_kept weight (weight_of weight s + left 0) s.count left allotted s c.session c.op (at_first weight (left 0) s order) in
+    omega (arith, now.light)
+
+-- nothing is allotted to what weighs nothing when it is sent
+weightless : (weight : Message → ℕ) (number : ℕ) → ((place : ℕ) (sending : SendingValue) → weight (message_of number place sending) ≡ 0) → IsAllotted weight number (λ place. 0)
+weightless weight number new =
+    record { falls = λ place. omega arith; new = λ place sending. omega (arith, new place sending); topics = λ place sending topic. new place sending }
 
 -- What weighs nothing when it is sent weighs nothing later: no step makes more of what is held.
 pub step_light : (weight : Message → ℕ) (s : State) (c : CommandValue) → states.IsInOrder s → ((place : ℕ) (sending : SendingValue) → weight (message_of s.count place sending) ≡ 0) → weight_of weight (step s c) ≤ weight_of weight s
 step_light weight s c order new =
-    (led_kept weight (weight_of weight s) s.count new s c.session c.op (at_first weight s order)).light
+    omega (arith, step_weight weight (λ place. 0) s c order (weightless weight s.count new))
+
+-- the first state is in order
+pub empty_in_order : states.IsInOrder empty_state
+unfolding IsStrictlySortedBy
+empty_in_order = record { sessions = tt; opened = tt; queues = tt }
 
 -- a step keeps the state in order
 pub step_in_order : (s : State) (c : CommandValue) → states.IsInOrder s → states.IsInOrder (step s c)
 step_in_order s c order =
-    let now = led_kept (λ m. 0) (weight_of (λ m. 0) s) s.count (λ place sending. refl) s c.session c.op (at_first (λ m. 0) s order) in
+    let none = weightless (λ m. 0) s.count (λ place sending. refl) in
+    let now = led_kept (λ m. 0) (weight_of (λ m. 0) s + 0) s.count (λ place. 0) none s c.session c.op (at_first (λ m. 0) 0 s order) in
     record { sessions = now.sessions.0; opened = now.sessions.1; queues = now.order }
 
 -- what an operation does leaves the count
 pub done_count : (s : State) (session : ℕ) (op : Op) → states.IsInOrder s → (done s session op).count ≡ s.count
 done_count s session op order =
-    (done_kept (λ m. 0) (weight_of (λ m. 0) s) s.count (λ place sending. refl) s session op (at_first (λ m. 0) s order)).count
+    let none = weightless (λ m. 0) s.count (λ place sending. refl) in
+    (done_kept (λ m. 0) (weight_of (λ m. 0) s + 0) s.count (λ place. 0) none s session op (at_first (λ m. 0) 0 s order)).count

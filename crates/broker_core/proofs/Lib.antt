@@ -19,3 +19,4 @@ pub mod Heard
 pub mod SortedEntries
 pub mod Standing
 pub mod Numbers
+pub mod MessageNumbers

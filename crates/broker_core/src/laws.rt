@@ -1,13 +1,15 @@
 //! What follows from the definitions of the broker's states and outputs. Nothing is run.
 
-ghost use Rattle.std.specs.Prelude.{◌≡◌, ◌≤◌, ◌+◌, ◌∷◌, ◌++◌, List, [], ℕ, Err, None, Option, Some, false, true, if◌then◌else◌, length};
+ghost use Rattle.std.specs.Prelude.{◌≡◌, ◌<◌, ◌≤◌, ◌+◌, ◌&&◌, ◌∷◌, ◌++◌, List, [], ℕ, Err, None, Option, Some, count_by, false, true, if◌then◌else◌, length};
 ghost use Rattle.std.specs.List.{AllByRecursion, sum_by};
 ghost use Rattle.command_core.specs.Commands.{CommandValue};
 ghost use Rattle.command_core.specs.Destinations.{is_queue};
 ghost use Rattle.command_core.specs.Sendings.{SendingValue};
 ghost use Rattle.command_core.specs.declared.command.Op.{Op};
 ghost use Rattle.command_core.specs.declared.fault.Fault.{Fault};
+ghost use Rattle.line_core.specs.Lines.{is_same};
 ghost use Rattle.line_core.specs.declared.message.Message.{Message};
+ghost use Rattle.line_core.specs.declared.message.MessageNumber.{MessageNumber};
 ghost use Rattle.broker_core.specs.declared.subscription.Subscription.{Subscription};
 ghost use Rattle.broker_core.specs.HandOut.{can_take, hand_out, handed, is_auto, line_for, settled};
 ghost use Rattle.broker_core.specs.Lists.{picked};
@@ -69,11 +71,23 @@ pub fn held_counts_what_stands()
     ensures bytes { (s : State) → held_bytes s ≡ sum_by bytes (standing s) }
 {}
 
-/// A message to a queue is put into one place, and later commands make no more of it, whatever a message may weigh.
+/// Each message that stands has the number of a command that is counted.
+pub fn messages_have_numbers_of_commands()
+    ensures step { (s : State) (c : CommandValue) → IsInOrder s
+        → AllByRecursion (λ m. m.number.command < s.count) (standing s)
+        → AllByRecursion (λ m. m.number.command < (step s c).count) (standing (step s c)) }
+    ensures reached { (commands : List CommandValue)
+        → AllByRecursion (λ m. m.number.command < (state_after empty_state commands).count) (standing (state_after empty_state commands)) }
+{}
+
+/// A message to a queue is put into one place, and later commands make no more of it, whatever a message may weigh. So
+/// after any commands at most one message to a queue has each number, of all that stand in lines and unacknowledged.
 pub fn messages_of_queues_are_in_one_place()
     ensures once { (weight : Message → ℕ) (s : State) (m : Message) → IsInOrder s → is_queue m.sending.destination ≡ true
         → weight_of weight (spread s m) ≡ weight_of weight s + weight m }
     ensures later { (weight : Message → ℕ) (s : State) (c : CommandValue) → IsInOrder s
         → ((place : ℕ) (sending : SendingValue) → weight (message_of s.count place sending) ≡ 0)
         → weight_of weight (step s c) ≤ weight_of weight s }
+    ensures reached { (commands : List CommandValue) (number : MessageNumber)
+        → count_by (λ m. is_queue m.sending.destination && is_same number m.number) (standing (state_after empty_state commands)) ≤ 1 }
 {}

@@ -26,8 +26,9 @@ pub use fault::BrokerFault;
 pub use laws::{
     closed_sessions_change_nothing, commands_follow_one_another,
     deliveries_in_auto_leave_the_state, handing_out_ends, held_counts_what_stands,
-    messages_of_queues_are_in_one_place, outputs_have_the_number_of_their_command,
-    refused_operations_end_their_session, states_stay_in_order,
+    messages_have_numbers_of_commands, messages_of_queues_are_in_one_place,
+    outputs_have_the_number_of_their_command, refused_operations_end_their_session,
+    states_stay_in_order,
 };
 pub use subscription::Subscription;
 pub use tables::Held;

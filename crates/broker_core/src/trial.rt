@@ -1,6 +1,6 @@
 //! A transaction is tried on what decides over its refusal.
 
-ghost use Rattle.std.specs.Prelude.{◌≡◌, ◌+◌, ◌*◌, ◌≤◌, ◌^◌, ◌<◌, IfOk, MatchOption, OnOk, Ok, Err, Some, ℕ, if◌then◌else◌, length, slice_get};
+ghost use Rattle.std.specs.Prelude.{◌≡◌, ◌+◌, ◌*◌, ◌≤◌, ◌^◌, ◌<◌, IfOk, MatchOption, OnOk, Ok, Err, Some, ℕ, if◌then◌else◌, length, slice_get, true};
 ghost use Rattle.std.specs.List.{list_any, sum_by};
 ghost use Rattle.command_core.specs.declared.fault.Fault.TheVariants.{NoRoom, UnknownAcknowledgement};
 ghost use Rattle.line_core.specs.Flights.{mapped, settled};
@@ -86,13 +86,14 @@ fn sum_of(settled: &[(u64, u64)]) -> u64
     bytes
 }
 
-/// The flight in that place has a delivery acknowledged; gives what is settled.
+/// The flight in that place has a delivery acknowledged that it has; gives what is settled.
 fn settle_at(
     flights: &mut Vec<TrialFlight>,
     at: usize,
     delivery: u64,
 ) -> Result<Vec<(u64, u64)>, AllocError>
-    requires { at < length flights.old.items }
+    requires place { at < length flights.old.items }
+    requires known { (flight : TrialFlight) → slice_get flights.old.items at ≡ Some flight → has delivery flight ≡ true }
     ensures settled { IfOk result (λ out. (flight : TrialFlight) → slice_get flights.old.items at ≡ Some flight
         → out.items ≡ settled flight.mode delivery flight.deliveries) }
     ensures left { OnOk result (flights.new.items ≡ changed at (left_by delivery) flights.old.items) }
@@ -101,7 +102,7 @@ fn settle_at(
     match flight.deliveries.settle(flight.mode, delivery) {
         Ok(settled) => Ok(settled),
         Err(SettleFault::Memory(refused)) => Err(refused),
-        Err(SettleFault::Unknown) => Err(AllocError),
+        Err(SettleFault::Unknown) => unreachable!(),
     }
 }
 
