@@ -10,6 +10,7 @@ pub mod Ending
 pub mod Operating
 pub mod Sendings
 pub mod CommandLists
+pub mod SharedOrder
 pub mod Deliveries
 pub mod Conserved
 pub mod Transactions

@@ -11,10 +11,11 @@ ghost use Rattle.line_core.specs.Lines.{is_same};
 ghost use Rattle.line_core.specs.declared.message.Message.{Message};
 ghost use Rattle.line_core.specs.declared.message.MessageNumber.{MessageNumber};
 ghost use Rattle.broker_core.specs.declared.subscription.Subscription.{Subscription};
-ghost use Rattle.broker_core.specs.HandOut.{can_take, hand_out, handed, is_auto, line_for, settled};
+ghost use Rattle.broker_core.specs.HandOut.{can_take, hand_out, handed, is_auto, settled};
 ghost use Rattle.broker_core.specs.Lists.{picked};
 ghost use Rattle.broker_core.specs.Operations.{carried, ended, message_of, spread};
 ghost use Rattle.broker_core.specs.States.{State, IsInOrder, bytes, empty_state, held_bytes, held_messages, is_open, standing, weight_of};
+ghost use Rattle.broker_core.specs.Waiting.{line_for};
 ghost use Rattle.broker_core.specs.Steps.{answers, done, is_opening, led_to, step, outs, state_after, outs_of};
 
 /// Commands and then others do what the others do after the first, and give the outputs of both in turn.
@@ -60,7 +61,7 @@ pub fn handing_out_ends()
 /// whatever a message may weigh.
 pub fn deliveries_in_auto_leave_the_state()
     ensures { (weight : Message → ℕ) (s : State) (sub : Subscription) (others : List Subscription) (m : Message) (rest : List Message)
-        → IsInOrder s → picked (can_take s) s.subscriptions ≡ Some (sub, others) → line_for s.queues sub ≡ m ∷ rest
+        → IsInOrder s → picked (can_take s) s.subscriptions ≡ Some (sub, others) → line_for s.shared sub ≡ m ∷ rest
         → (hand_out s ≡ Some (handed s sub others m rest))
         × (weight_of weight (handed s sub others m rest).state + (if is_auto sub.mode then weight m else 0) ≡ weight_of weight s) }
 {}
