@@ -25,7 +25,7 @@ use Rattle.broker_core.specs.States.{State, empty_state, is_open, weight_of, wei
 use Rattle.broker_core.specs.Waiting.{Shared, returned, weight_of_shared, with_message}
 use Rattle.broker_core.specs.States as states
 use Rattle.broker_core.specs.HandOut.{settled}
-use Rattle.broker_core.specs.Operations.{acknowledged, applied, awaits, begun_by, begun_for, bound, carried, client_of, committed, copied, copied_to_names, ended, ended_one, forgotten, fresh, given_up_for, is_named, is_of, is_within, message_of, name_for, or_same, sent, settled_by, spread, subscribed, topic_of, unsubscribed, used_again, uses, with_subscription, without_named}
+use Rattle.broker_core.specs.Operations.{acknowledged, applied, awaits, begun_by, begun_for, bound, carried, client_of, committed, copied, copied_to_names, ended, ended_one, forgotten, fresh, given_up_for, is_named, is_of, is_within, message_of, name_for, or_same, restarted, sent, settled_by, spread, subscribed, topic_of, unsubscribed, used_again, uses, with_subscription, without_named}
 use Rattle.broker_core.specs.Steps.{accepted_or_ended, done, is_opening, led_to, step}
 use Rattle.broker_core.proofs.Deliveries.{settled_in_order, settled_sessions, settled_weight, sum_picked}
 use Rattle.broker_core.proofs.SortedEntries.{all_inserted, all_removed, sorted_inserted, sorted_removed}
@@ -318,6 +318,18 @@ step_in_order s c order =
     let none = weightless (λ m. 0) s.count (λ place sending. refl) in
     let now = led_kept (λ m. 0) (weight_of (λ m. 0) s + 0) s.count (λ place. 0) none s c.session c.op (at_first (λ m. 0) 0 s order) in
     record { sessions = now.sessions.0; opened = now.sessions.1; durables = now.durables; names = now.order.names; queues = now.order.queues }
+
+-- and so does a restart
+back_in_order : (subs : List Subscription) (shared : Shared) → AreRising shared → AreRising (fold returned shared subs)
+back_in_order [] shared rising = rising
+back_in_order (sub ∷ subs) shared rising =
+    back_in_order subs (returned shared sub) (returned_weight shared rising sub (λ m. 0)).0
+
+pub restarted_in_order : (s : State) → states.IsInOrder s → states.IsInOrder (restarted s)
+unfolding IsStrictlySortedBy
+restarted_in_order s order =
+    let back = back_in_order s.subscriptions s.shared (record { names = order.names; queues = order.queues }) in
+    record { sessions = tt; opened = tt; durables = order.durables; names = back.names; queues = back.queues }
 
 -- what an operation does leaves the count
 pub done_count : (s : State) (session : ℕ) (op : Op) → states.IsInOrder s → (done s session op).count ≡ s.count

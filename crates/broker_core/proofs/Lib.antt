@@ -21,3 +21,4 @@ pub mod SortedEntries
 pub mod Standing
 pub mod Numbers
 pub mod MessageNumbers
+pub mod Restarts

@@ -10,3 +10,4 @@ pub mod Tables
 pub mod Parts
 pub mod Settles
 pub mod Trials
+pub mod Kept

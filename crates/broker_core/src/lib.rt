@@ -28,7 +28,7 @@ pub use laws::{
     deliveries_in_auto_leave_the_state, handing_out_ends, held_counts_what_stands,
     messages_have_numbers_of_commands, messages_of_queues_are_in_one_place,
     outputs_have_the_number_of_their_command, refused_operations_end_their_session,
-    states_stay_in_order,
+    restarts_keep_what_is_kept, states_stay_in_order,
 };
 pub use subscription::Subscription;
 pub use tables::Held;
