@@ -11,3 +11,4 @@ pub mod Parts
 pub mod Settles
 pub mod Trials
 pub mod Kept
+pub mod Sound
