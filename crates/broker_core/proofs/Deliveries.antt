@@ -83,7 +83,7 @@ hand_out_weight weight s h is sorted =
     subst (λ (g : Handed). weight_of weight g.state ≤ weight_of weight s) (sym p.handed_is) after
 
 -- What holds of a state, and of that after each delivery, holds once all is settled.
-settling_keeps : (P : State → Type 0) → ((s : State) (h : Handed) → hand_out s ≡ Some h → P s → P h.state) → (n : ℕ) (s : State) → P s → P (settling n s).state
+pub settling_keeps : (P : State → Type 0) → ((s : State) (h : Handed) → hand_out s ≡ Some h → P s → P h.state) → (n : ℕ) (s : State) → P s → P (settling n s).state
 settling_keeps P keeps zero s now = now
 settling_keeps P keeps (suc n) s now = by (λ h is. settling_keeps P keeps n h.state (keeps s h is now)) (hand_out s) refl
   where

@@ -21,7 +21,7 @@ module _ {X : Type 0} where
       ap (λ zs. x ∷ zs) (take-removed xs at (omega arith))
 
   module _ (p : X → Bool) where
-    kept_behind : (ys zs : List X) → NonePass p ys → filter p (ys ++ zs) ≡ filter p zs
+    pub kept_behind : (ys zs : List X) → NonePass p ys → filter p (ys ++ zs) ≡ filter p zs
     kept_behind [] zs none = refl
     kept_behind (y ∷ ys) zs none =
         ap (λ b. cond b (y ∷ filter p (ys ++ zs)) (filter p (ys ++ zs))) none.0 ∙ kept_behind ys zs none.1
@@ -34,7 +34,7 @@ module _ {X : Type 0} where
         ∙ ap (λ b. cond b (x ∷ filter p (drop (suc at) xs)) (filter p (drop (suc at) xs))) passes
         ∙ ap (λ zs. x ∷ zs) (sym (kept_behind (take at xs) (drop (suc at) xs) none))
 
-    others_behind : (ys zs : List X) (x : X) → p x ≡ true → filter (λ y. not (p y)) (ys ++ x ∷ zs) ≡ filter (λ y. not (p y)) (ys ++ zs)
+    pub others_behind : (ys zs : List X) (x : X) → p x ≡ true → filter (λ y. not (p y)) (ys ++ x ∷ zs) ≡ filter (λ y. not (p y)) (ys ++ zs)
     others_behind [] zs x passes =
         ap (λ b. cond (not b) (x ∷ filter (λ y. not (p y)) zs) (filter (λ y. not (p y)) zs)) passes
     others_behind (y ∷ ys) zs x passes =

@@ -22,3 +22,5 @@ pub mod Standing
 pub mod Numbers
 pub mod MessageNumbers
 pub mod Restarts
+pub mod Picked
+pub mod Walk

@@ -26,7 +26,7 @@ window_of _ = 16
 -- Subscriptions are of open sessions, at most 16 of each, under ids that differ; few deliveries are unacknowledged, and none
 -- with `auto`.
 pub record HasSubscriptions (s : State) : Type 0 where
-  pub open : AllByRecursion (λ sub. is_open s sub.session ≡ true) s.subscriptions
+  pub of_open : AllByRecursion (λ sub. is_open s sub.session ≡ true) s.subscriptions
   pub ids : (session : ℕ) (id : List ℕ) → count_by (is_named session id) s.subscriptions ≤ 1
   pub few : (session : ℕ) → count_by (is_of session) s.subscriptions ≤ 16
   pub window : AllByRecursion (λ sub. length sub.unacknowledged ≤ window_of sub.mode) s.subscriptions
