@@ -24,3 +24,5 @@ pub mod MessageNumbers
 pub mod Restarts
 pub mod Picked
 pub mod Walk
+pub mod DeliveryNumbers
+pub mod StateNumbers

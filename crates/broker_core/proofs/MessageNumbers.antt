@@ -20,18 +20,18 @@ use Rattle.broker_core.proofs.Standing.{all_stand}
 
 -- where the sum is nothing each weighs nothing, and the other way
 module _ {X : Type 0} (f : X → ℕ) where
-  each_nothing : (xs : List X) → sum_by f xs ≡ 0 → AllByRecursion (λ x. f x ≡ 0) xs
+  pub each_nothing : (xs : List X) → sum_by f xs ≡ 0 → AllByRecursion (λ x. f x ≡ 0) xs
   each_nothing [] none = tt
   each_nothing (x ∷ xs) none =
       let all = sum_by-cons f x xs in
       (omega (arith, all, none), each_nothing xs (omega (arith, all, none)))
 
-  sum_nothing : (xs : List X) → AllByRecursion (λ x. f x ≡ 0) xs → sum_by f xs ≡ 0
+  pub sum_nothing : (xs : List X) → AllByRecursion (λ x. f x ≡ 0) xs → sum_by f xs ≡ 0
   sum_nothing [] all = refl
   sum_nothing (x ∷ xs) all = omega (arith, sum_by-cons f x xs, all.0, sum_nothing xs all.1)
 
 -- a message of an earlier command weighs nothing
-abbrev late : ℕ → Message → ℕ
+abbrev pub late : ℕ → Message → ℕ
 late number m = m.number.command + 1 - number
 
 -- each message that stands has the number of a command that is counted, after one more too

@@ -54,7 +54,7 @@ module _ (xs : List Subscription) (at : ℕ) (sub : Subscription) (within : at <
         omega (arith, flights, lighter weight, sum_others (weight_of_subscription weight), sum_by_push (weight_of_subscription weight) (remove xs at) (delivered left d m), flight_more weight (is_auto left.mode) left.unacknowledged d m)
 
 -- a number that is over all deliveries has a next one that is over them and over itself
-over_next : (d : ℕ) (flight : List (ℕ × Message)) → IsOver d flight → IsOver (d + 1) flight
+pub over_next : (d : ℕ) (flight : List (ℕ × Message)) → IsOver d flight → IsOver (d + 1) flight
 over_next d [] over = tt
 over_next d (x ∷ flight) over = (omega (arith, over.0), over_next d flight over.1)
 
@@ -62,7 +62,7 @@ over_pushed : (d : ℕ) (m : Message) (flight : List (ℕ × Message)) → IsOve
 over_pushed d m [] over = (omega arith, tt)
 over_pushed d m (x ∷ flight) over = (omega (arith, over.0), over_pushed d m flight over.1)
 
-over_delivered : (auto : Bool) (d : ℕ) (m : Message) (flight : List (ℕ × Message)) → IsOver d flight → IsOver (d + 1) (if auto then flight else flight ++ (d, m) ∷ [])
+pub over_delivered : (auto : Bool) (d : ℕ) (m : Message) (flight : List (ℕ × Message)) → IsOver d flight → IsOver (d + 1) (if auto then flight else flight ++ (d, m) ∷ [])
 over_delivered true d m flight over = over_next d flight over
 over_delivered false d m flight over = over_pushed d m flight over
 

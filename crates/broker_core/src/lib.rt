@@ -12,6 +12,7 @@ mod fault;
 mod hand_out;
 mod laws;
 mod lines;
+mod number_laws;
 mod order;
 mod sending;
 mod shared_lines;
@@ -30,6 +31,7 @@ pub use laws::{
     outputs_have_the_number_of_their_command, refused_operations_end_their_session,
     restarts_keep_what_is_kept, states_stay_in_order,
 };
+pub use number_laws::numbers_stay_under_the_next;
 pub use subscription::Subscription;
 pub use tables::Held;
 
