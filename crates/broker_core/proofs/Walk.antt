@@ -252,6 +252,7 @@ module _ (Rule : State → Type 0) (keeps : Keeps Anything Rule) where
     where
       mine : Name
       mine = (client, name)
+
       by : (a b : Bool) → list_any (uses mine) s.subscriptions ≡ b → Gives Rule (if a && not b then Ok (forgotten s mine) else Err DurableSubscription)
       by true false free = keeps.forgotten s mine free tt now
       by true true free = tt
@@ -279,6 +280,7 @@ module _ (Rule : ℕ → State → Type 0) (keeps : KeepsFrom Anything Rule) whe
     where
       t : State
       t = spread s (message_of s.count place sending)
+
       by : (b : Bool) → is_within t ≡ b → Gives (Rule (place + 1)) (if b then Ok t else Err NoRoom)
       by true fits = keeps.spread place s sending fits tt now
       by false full = tt

@@ -12,3 +12,4 @@ pub mod Settles
 pub mod Trials
 pub mod Kept
 pub mod Sound
+pub mod PartsOf

@@ -13,7 +13,7 @@ use Rattle.broker_core.specs.Kept.{takes_from, unacknowledged_by}
 use Rattle.broker_core.specs.Lists.{is_none}
 use Rattle.broker_core.specs.Names.{Name, name_cmp, text_cmp}
 use Rattle.broker_core.specs.Operations.{client_of, is_named, is_of, topic_of, uses}
-use Rattle.broker_core.specs.States.{State, held_bytes, held_messages, is_open, standing}
+use Rattle.broker_core.specs.States.{IsInOrder, State, held_bytes, held_messages, is_open, standing}
 use Rattle.broker_core.specs.Waiting.{is_own, line_at}
 
 -- What each state of a broker keeps, after any commands and restarts.
@@ -80,3 +80,12 @@ pub record HasLimits (s : State) : Type 0 where
   pub messages : held_messages s ≤ 4096
   pub bytes : held_bytes s ≤ 16777216
   pub settled : hand_out s ≡ None
+
+-- A state that a broker can have.
+pub record IsSound (s : State) : Type 0 where
+  pub order : IsInOrder s
+  pub subscriptions : HasSubscriptions s
+  pub names : HasNames s
+  pub numbers : HasNumbers s
+  pub lines : HasLines s
+  pub limits : HasLimits s

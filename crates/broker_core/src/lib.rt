@@ -14,6 +14,7 @@ mod laws;
 mod lines;
 mod number_laws;
 mod order;
+mod parts;
 mod sending;
 mod shared_lines;
 mod subscribing;
@@ -32,6 +33,7 @@ pub use laws::{
     restarts_keep_what_is_kept, states_stay_in_order,
 };
 pub use number_laws::numbers_stay_under_the_next;
+pub use parts::Parts;
 pub use subscription::Subscription;
 pub use tables::Held;
 
