@@ -24,3 +24,4 @@ pub mod MessageNumbers
 pub mod Restarts
 pub mod Picked
 pub mod Walk
+pub mod Ordered
