@@ -26,3 +26,4 @@ pub mod Picked
 pub mod Walk
 pub mod DeliveryNumbers
 pub mod StateNumbers
+pub mod Ordered
