@@ -2,6 +2,7 @@ use Rattle.std.proofs.Common.{◌≡◌, ◌<◌, ◌≤◌, ◌+◌, ◌||◌, 
 use Rattle.std.specs.List.{list_any, sum_by}
 use Rattle.std.proofs.lemmas.List.Sums.{sum_by-cons, sum_by_push}
 use Rattle.broker_core.specs.Lists.{picked, with_first}
+use Rattle.broker_core.specs.Parts.{NonePass}
 use Rattle.broker_core.proofs.Deliveries.{sum_picked}
 
 module _ {X : Type 0} (f : X → ℕ) (g : X → X) (same : (x : X) → f (g x) ≡ f x) where
@@ -19,6 +20,15 @@ module _ {X : Type 0} (f : X → ℕ) (g : X → X) (same : (x : X) → f (g x) 
         | true ↦ omega (arith, same x, sum_by-cons f x xs, sum_by-cons f (g x) xs)
         | false ↦ omega (arith, rest, sum_by-cons f x xs, sum_by-cons f x (with_first p g xs))
       ]
+
+-- where there is none that passes, each fails
+pub none_passes : {X : Type 0} (p : X → Bool) (xs : List X) → list_any p xs ≡ false → NonePass p xs
+none_passes p [] none = tt
+none_passes {X} p (x ∷ xs) none = by (p x) refl none (none_passes p xs)
+  where
+    by : (b : Bool) → p x ≡ b → (b || list_any p xs) ≡ false → (list_any p xs ≡ false → NonePass p xs) → NonePass p (x ∷ xs)
+    by true is none rest = absurd cc
+    by false is none rest = (is, rest none)
 
 -- where none passes, none is counted
 pub count_none : {X : Type 0} (p : X → Bool) (xs : List X) → list_any p xs ≡ false → count_by p xs ≡ 0

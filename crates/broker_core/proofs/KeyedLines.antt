@@ -16,7 +16,7 @@ use Rattle.broker_core.specs.Lists.{is_none}
 use Rattle.broker_core.specs.Names.{AreSame}
 use Rattle.broker_core.specs.Waiting.{Lines, line_at, weight_of_lines, with_deliveries, with_line, with_message}
 use Rattle.broker_core.proofs.Lookups.{is_equal, lookup_inserted, lookup_removed}
-use Rattle.broker_core.proofs.SortedEntries.{sorted_inserted, sorted_removed}
+use Rattle.broker_core.proofs.SortedEntries.{all_inserted, all_removed, sorted_inserted, sorted_removed}
 use Rattle.line_core.proofs.Inserted.{sum_by-inserted}
 
 module _ (weight : Message → ℕ) where
@@ -110,6 +110,21 @@ module _ {K : Type 0} (cmp : K → K → Ordering) (total : IsTotalOrder cmp) wh
     with_deliveries_weight weight key (d ∷ deliveries) lines rising =
         let rest = with_deliveries_weight weight key deliveries (with_message cmp key d.1 lines) (rising-with_message key d.1 lines rising) in
         (rest.0, omega (arith, rest.1, weight-with_message weight key d.1 lines rising, sum_by-cons (λ (x : ℕ × Message). weight x.1) d deliveries))
+
+-- What each key has, it has where a line is changed whose key has it.
+module _ {K : Type 0} (cmp : K → K → Ordering) (P : K → Type 0) (key : K) (new : P key) where
+  pub keys-with_line : (line : List Message) (lines : Lines K) → AllByRecursion (λ (e : K × List Message). P e.0) lines → AllByRecursion (λ (e : K × List Message). P e.0) (with_line cmp key line lines)
+  keys-with_line line lines all =
+      let others = all_removed (λ (e : K × List Message). P e.0) (is_at (cmp key)) lines all in
+      elim (is_none line) as (λ b. AllByRecursion (λ (e : K × List Message). P e.0) (cond b (remove_entry (is_at (cmp key)) lines) (insert_entry cmp (remove_entry (is_at (cmp key)) lines) key line))) [ true ↦ others | false ↦ all_inserted (λ (e : K × List Message). P e.0) cmp key line new (λ e has. has) (remove_entry (is_at (cmp key)) lines) others ]
+
+  pub keys-with_message : (m : Message) (lines : Lines K) → AllByRecursion (λ (e : K × List Message). P e.0) lines → AllByRecursion (λ (e : K × List Message). P e.0) (with_message cmp key m lines)
+  keys-with_message m lines all = keys-with_line (inserted m (line_at cmp key lines)) lines all
+
+  pub keys-with_deliveries : (deliveries : List (ℕ × Message)) (lines : Lines K) → AllByRecursion (λ (e : K × List Message). P e.0) lines → AllByRecursion (λ (e : K × List Message). P e.0) (with_deliveries cmp key deliveries lines)
+  keys-with_deliveries [] lines all = all
+  keys-with_deliveries (d ∷ deliveries) lines all =
+      keys-with_deliveries deliveries (with_message cmp key d.1 lines) (keys-with_message d.1 lines all)
 
 -- Another key's line stays where one is changed.
 module _ {K : Type 0} (cmp : K → K → Ordering) (same : AreSame cmp) (q d : K) (other : is_eq (cmp q d) ≡ false) where

@@ -28,3 +28,4 @@ pub mod Counts
 pub mod Walk
 pub mod Ordered
 pub mod SubscriptionLimits
+pub mod BoundNames

@@ -120,7 +120,7 @@ parts : (s : State) → HasSubscriptions s → AreFew s.subscriptions
 parts s now = record { ids = now.ids; few = now.few; window = now.window }
 
 -- the session that closes is not that of a subscription
-another_session : (session : ℕ) (sub : Subscription) → is_of session sub ≡ false → is_eq (nat_cmp sub.session session) ≡ false
+pub another_session : (session : ℕ) (sub : Subscription) → is_of session sub ≡ false → is_eq (nat_cmp sub.session session) ≡ false
 another_session session sub other = by (is_eq (nat_cmp sub.session session)) refl
   where
     by : (b : Bool) → is_eq (nat_cmp sub.session session) ≡ b → is_eq (nat_cmp sub.session session) ≡ false

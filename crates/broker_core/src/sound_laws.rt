@@ -15,3 +15,12 @@ pub fn subscriptions_stay_within_their_limits()
     ensures step { (s : State) (c : CommandValue) → IsInOrder s → HasSubscriptions s → HasSubscriptions (step s c) }
     ensures restart { (s : State) → IsInOrder s → HasSubscriptions s → HasSubscriptions (restarted s) }
 {}
+
+/// At most 256 durable names are bound, each to a topic. The subscription that uses one is of the name's client and of
+/// its topic, and there is one at most; lines stand under bound names alone. No name is bound at first, and each command
+/// and each restart keeps this.
+pub fn durable_names_stay_bound()
+    ensures first { HasNames empty_state }
+    ensures step { (s : State) (c : CommandValue) → IsInOrder s → HasNames s → HasNames (step s c) }
+    ensures restart { (s : State) → IsInOrder s → HasNames s → HasNames (restarted s) }
+{}
