@@ -29,3 +29,4 @@ pub mod Walk
 pub mod Ordered
 pub mod SubscriptionLimits
 pub mod BoundNames
+pub mod HeldLimits

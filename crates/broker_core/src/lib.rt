@@ -31,7 +31,9 @@ pub use laws::{
     outputs_have_the_number_of_their_command, refused_operations_end_their_session,
     restarts_keep_what_is_kept, states_stay_in_order,
 };
-pub use sound_laws::{durable_names_stay_bound, subscriptions_stay_within_their_limits};
+pub use sound_laws::{
+    durable_names_stay_bound, limits_are_kept, subscriptions_stay_within_their_limits,
+};
 pub use subscription::Subscription;
 pub use tables::Held;
 

@@ -24,3 +24,11 @@ pub fn durable_names_stay_bound()
     ensures step { (s : State) (c : CommandValue) → IsInOrder s → HasNames s → HasNames (step s c) }
     ensures restart { (s : State) → IsInOrder s → HasNames s → HasNames (restarted s) }
 {}
+
+/// At most 4,096 messages and 16,777,216 bytes are held, and nothing that could be handed out waits. Nothing is held at
+/// first, and each command and each restart keeps this.
+pub fn limits_are_kept()
+    ensures first { HasLimits empty_state }
+    ensures step { (s : State) (c : CommandValue) → IsInOrder s → HasLimits s → HasLimits (step s c) }
+    ensures restart { (s : State) → IsInOrder s → HasLimits s → HasLimits (restarted s) }
+{}
