@@ -149,7 +149,10 @@ restarted_in_order s order =
     let now = restarted_keeps (IsOrdered s.count) (ordered_changes s.count) s (ordered_first s order) in
     record { sessions = tt; opened = tt; durables = now.durables; names = now.order.names; queues = now.order.queues }
 
--- what an operation does leaves the count
+-- what an operation does leaves the order and the count
+pub done_ordered : (s : State) (c : CommandValue) → IsInOrder s → IsOrdered s.count (done s c.session c.op)
+done_ordered s c order =
+    (done_keeps (λ place. IsOrdered s.count) (ordered_from s.count) s c.session c.op order.opened (ordered_first s order)).1
+
 pub done_count : (s : State) (c : CommandValue) → IsInOrder s → (done s c.session c.op).count ≡ s.count
-done_count s c order =
-    (done_keeps (λ place. IsOrdered s.count) (ordered_from s.count) s c.session c.op order.opened (ordered_first s order)).1.count
+done_count s c order = (done_ordered s c order).count
