@@ -1,1 +1,2 @@
 pub mod WritableReplies
+pub mod Walks

@@ -5,5 +5,6 @@ pub mod Sendings
 pub mod Operations
 pub mod Sizes
 pub mod Commands
+pub mod Spellings
 pub mod Outs
 pub mod Replies

@@ -6,6 +6,7 @@
 mod ack_mode;
 mod command;
 mod destination;
+mod encoding;
 mod fault;
 mod header_text;
 mod member;
@@ -17,6 +18,7 @@ mod sizes;
 pub use ack_mode::AckMode;
 pub use command::{Command, End, Op};
 pub use destination::{Dest, DestFault};
+pub use encoding::encode;
 pub use fault::{Fault, fault_text};
 pub use header_text::{HeaderText, is_header_text};
 pub use member::{Member, Members};

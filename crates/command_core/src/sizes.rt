@@ -19,7 +19,7 @@ fn text_size(text: &HeaderText) -> u64
     4 + text.as_str().len() as u64
 }
 
-fn option_size(text: &Option<HeaderText>) -> u64
+pub(crate) fn option_size(text: &Option<HeaderText>) -> u64
     ensures size { result ≡ option_size text.now }
     ensures small { result ≤ 8197 }
 {
@@ -74,9 +74,10 @@ fn members_size(members: &[Member]) -> u64
     size
 }
 
-/// The bytes that an operation takes in the journal, with the one that tells its kind.
+/// The bytes that an operation takes in the journal, with the one that tells its kind. At most 130 MiB.
 pub fn op_size(op: &Op) -> u64
-    ensures { result ≡ size_of_op op.now }
+    ensures size { result ≡ size_of_op op.now }
+    ensures small { result ≤ 65 * 2 ^ 21 }
 {
     match op {
         Op::Open { client_id } => 1 + option_size(client_id),
