@@ -1,2 +1,3 @@
 pub mod WritableReplies
 pub mod Walks
+pub mod Sized
