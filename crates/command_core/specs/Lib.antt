@@ -6,5 +6,6 @@ pub mod Operations
 pub mod Sizes
 pub mod Commands
 pub mod Spellings
+pub mod Reading
 pub mod Outs
 pub mod Replies

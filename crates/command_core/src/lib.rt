@@ -5,18 +5,23 @@
 
 mod ack_mode;
 mod command;
+mod decode_fault;
+mod decoding;
 mod destination;
 mod encoding;
 mod fault;
 mod header_text;
 mod member;
 mod out;
+mod reading;
 mod replies;
 mod sending;
 mod sizes;
 
 pub use ack_mode::AckMode;
 pub use command::{Command, End, Op};
+pub use decode_fault::DecodeFault;
+pub use decoding::decode;
 pub use destination::{Dest, DestFault};
 pub use encoding::encode;
 pub use fault::{Fault, fault_text};
