@@ -1,5 +1,5 @@
 -- What holds of each byte that a destination may have.
-use Rattle.std.proofs.Common.{◌≡◌, ◌++◌, ◌∷◌, ◌&&◌, ◌||◌, ◌⊎◌, [], Bool, false, true, List, ℕ, codes, drop, inl, inr, length, nat_eq, nat_le, refl, sym, subst}
+use Rattle.std.proofs.Common.{◌≡◌, ◌∷◌, ◌&&◌, ◌||◌, ◌⊎◌, [], Bool, false, true, List, ℕ, codes, drop, inl, inr, length, nat_eq, nat_le, refl, sym, subst}
 use Rattle.std.specs.List.{AllByRecursion, list_all, starts_with}
 use Rattle.std.proofs.lemmas.Bool.{and_parts}
 use Rattle.std.proofs.lemmas.Bool.Decides.{Decides-eqb}

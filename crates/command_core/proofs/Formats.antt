@@ -1,6 +1,6 @@
 -- A format: what is read from the front of bytes is spelled there and has the form, and what has it is read from its
 -- spelling, whatever follows.
-use Rattle.std.proofs.Common.{◌≡◌, ℕ, zero, suc, ◌<◌, ◌≤◌, ◌^◌, Bool, true, false, cond, ltb, List, [], ◌∷◌, ◌++◌, length, get_or, take, drop, flat_map, Option, Some, None, refl, sym, ap, subst, ◌∙◌, append_assoc, arith, inl, inr}
+use Rattle.std.proofs.Common.{◌≡◌, ℕ, zero, suc, ◌<◌, ◌≤◌, ◌^◌, Bool, true, false, cond, ltb, List, [], ◌∷◌, ◌++◌, length, get_or, take, drop, flat_map, Option, Some, None, refl, sym, ap, subst, ◌∙◌, append_assoc, arith}
 use Rattle.std.specs.List.{AllByRecursion}
 use Rattle.std.specs.Int.{Width, w16, w32, w64, byte_len, from_be_bytes, to_be_bytes}
 use Rattle.std.proofs.lemmas.Bool.{ltb-false, le-ltb}
@@ -8,7 +8,6 @@ use Rattle.std.proofs.lemmas.List.{take_at, drop_at, take-append-drop, length-ap
 use Rattle.std.proofs.lemmas.List.Concat.{flat_map-cons}
 use Rattle.std.proofs.lemmas.List.Elements.{All-from_recursion, All-take, All-drop, recursion_from_All}
 use Rattle.std.proofs.lemmas.Nat.{be_bytes_2, be_bytes_4, be_bytes_8, from_be_bytes-to_be_bytes_2, from_be_bytes-to_be_bytes_4, from_be_bytes-to_be_bytes_8}
-use Rattle.frame_core.proofs.Lists.{all_right}
 use Rattle.command_core.specs.Spellings.{AreBytes}
 use Rattle.command_core.specs.Reading.{◌>>=◌, Reader, byte_at, number_at, many_at, list_at}
 
@@ -53,13 +52,18 @@ last_takes {A} spell Form bytes p q e t =
     let same : p ≡ q = cc in
     subst (λ (r : A × List ℕ). Takes bytes (spell r.0) r.1 × Form r.0) same t
 
-pub guard_some : {A : Type 0} (b : Bool) (x y : A) → cond b (Some x) None ≡ Some y → (b ≡ true) × (x ≡ y)
-guard_some true x y e = (refl, cc)
-guard_some false x y e = absurd cc
-
 pub guard_not : {A : Type 0} (b : Bool) (o : Option A) (y : A) → cond b None o ≡ Some y → (b ≡ false) × (o ≡ Some y)
 guard_not true o y e = absurd cc
 guard_not false o y e = (refl, e)
+
+-- the last step, where a test passes, and where one does not
+pub last_if : {A : Type 0} (spell : A → List ℕ) (Form : A → Type 0) (bytes : List ℕ) (b : Bool) (p q : A × List ℕ) → cond b (Some p) None ≡ Some q → (b ≡ true → Takes bytes (spell p.0) p.1 × Form p.0) → Takes bytes (spell q.0) q.1 × Form q.0
+last_if spell Form bytes true p q e t = last_takes spell Form bytes p q e (t refl)
+last_if spell Form bytes false p q e t = absurd cc
+
+pub last_if_not : {A : Type 0} (spell : A → List ℕ) (Form : A → Type 0) (bytes : List ℕ) (b : Bool) (p q : A × List ℕ) → cond b None (Some p) ≡ Some q → (b ≡ false → Takes bytes (spell p.0) p.1 × Form p.0) → Takes bytes (spell q.0) q.1 × Form q.0
+last_if_not spell Form bytes true p q e t = absurd cc
+last_if_not spell Form bytes false p q e t = last_takes spell Form bytes p q e (t refl)
 
 -- what is read is tested
 pub tested : {A : Type 0} (spell : A → List ℕ) (Form Passes : A → Type 0) (read : Reader A) (test : A → Bool) → Format spell Form read → ((x : A) → test x ≡ true → Form x → Passes x) → ((x : A) → Passes x → Form x × (test x ≡ true))
@@ -67,8 +71,7 @@ pub tested : {A : Type 0} (spell : A → List ℕ) (Form Passes : A → Type 0) 
 tested {A} spell Form Passes read test format passes must = record {
   takes = λ bytes x rest fits e.
       let first = first_takes spell Form read format (λ (y : A × List ℕ). cond (test y.0) (Some y) None) bytes (x, rest) fits e in
-      let g = guard_some (test first.value) (first.value, first.rest) (x, rest) first.then in
-      last_takes spell Passes bytes (first.value, first.rest) (x, rest) (ap Some g.1) (first.taken, passes first.value g.0 first.form);
+      last_if spell Passes bytes (test first.value) (first.value, first.rest) (x, rest) first.then (λ is. (first.taken, passes first.value is first.form));
   again = λ x rest form.
       let m = must x form in
       first_again spell Form read format (λ (y : A × List ℕ). cond (test y.0) (Some y) None) (spell x ++ rest) x rest (Some (x, rest)) refl m.0 (ap (λ b. cond b (Some (x, rest)) None) m.1);
@@ -125,12 +128,12 @@ front_takes n bytes fits = record { parts = sym (take-append-drop n bytes); fits
 pub number : (w : Width) (limit : ℕ) → IsWide w limit → Format (to_be_bytes w) (λ n. n < limit) (number_at w)
 number w limit wide = record {
   takes = λ bytes n rest fits e.
-      let g = guard_not (ltb (length bytes) (byte_len w)) (Some (from_be_bytes w (take (byte_len w) bytes), drop (byte_len w) bytes)) (n, rest) e in
-      let long : byte_len w ≤ length bytes = ltb-false _ _ g.0 in
+      last_if_not (to_be_bytes w) (λ n. n < limit) bytes (ltb (length bytes) (byte_len w)) (from_be_bytes w (take (byte_len w) bytes), drop (byte_len w) bytes) (n, rest) e (λ is.
+      let long : byte_len w ≤ length bytes = ltb-false _ _ is in
       let front_fits = AreBytes-take (byte_len w) bytes fits in
       let front : to_be_bytes w (from_be_bytes w (take (byte_len w) bytes)) ≡ take (byte_len w) bytes = wide.back _ (omega (arith, length-take (byte_len w) bytes)) front_fits in
       let taken : Takes bytes (to_be_bytes w (from_be_bytes w (take (byte_len w) bytes))) (drop (byte_len w) bytes) = subst (λ (t : List ℕ). Takes bytes t (drop (byte_len w) bytes)) (sym front) (front_takes (byte_len w) bytes fits) in
-      last_takes (to_be_bytes w) (λ n. n < limit) bytes (from_be_bytes w (take (byte_len w) bytes), drop (byte_len w) bytes) (n, rest) g.1 (taken, wide.below _ front_fits);
+      (taken, wide.below _ front_fits));
   again = λ n rest lt.
       let len = wide.len n in
       let long : ltb (length (to_be_bytes w n ++ rest)) (byte_len w) ≡ false = le-ltb _ _ (omega (arith, length-append (to_be_bytes w n) rest)) in

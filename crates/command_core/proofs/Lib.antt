@@ -6,3 +6,5 @@ pub mod Formats
 pub mod RecordTexts
 pub mod RecordMessages
 pub mod ReadLoops
+pub mod RecordOperations
+pub mod RecordCommands

@@ -1,13 +1,12 @@
 -- Headers and messages in records.
-use Rattle.std.proofs.Common.{◌≡◌, ◌≤◌, ◌<◌, ◌^◌, ◌&&◌, ◌++◌, ◌∷◌, [], ℕ, Bool, true, false, cond, ltb, List, Option, Some, None, length, refl, ap, ◌∙◌, append_assoc, arith}
-use Rattle.std.specs.List.{AllByRecursion}
+use Rattle.std.proofs.Common.{◌≡◌, ◌++◌, ℕ, true, cond, ltb, List, Option, Some, None, length, refl, ap, ◌∙◌, append_assoc, arith}
 use Rattle.std.proofs.lemmas.Bool.{and_parts, ltb-true, lt-ltb}
 use Rattle.frame_core.proofs.Lists.{all_weaker, all_both}
 use Rattle.command_core.specs.Destinations.{IsDestination}
 use Rattle.command_core.specs.Sendings.{IsKept, SendingValue, is_kept}
 use Rattle.command_core.specs.Spellings.{AreBytes, AreTexts, IsSent, IsText, counted, pair, headers, sending}
-use Rattle.command_core.specs.Reading.{◌>>=◌, Reader, text_at, is_kept_named, pair_at, list_at, counted_at, destination_at, sending_at}
-use Rattle.command_core.proofs.Formats.{Takes, Takes-then, Format, FewEach, first_takes, first_again, last_takes, guard_some, list}
+use Rattle.command_core.specs.Reading.{◌>>=◌, text_at, is_kept_named, pair_at, list_at, counted_at, destination_at, sending_at}
+use Rattle.command_core.proofs.Formats.{Takes, Takes-then, Format, FewEach, first_takes, first_again, last_takes, last_if, list}
 use Rattle.command_core.proofs.RecordTexts.{Counted, counted_format, text_format, destination_format}
 
 -- a header of a message in a record
@@ -30,10 +29,9 @@ unfolding pair_at
 pair_takes bytes h rest fits e =
     let name = first_takes counted IsText text_at text_format (λ name. text_at name.1 >>= pair_value name.0) bytes (h, rest) fits e in
     let value = first_takes counted IsText text_at text_format (pair_value name.value) name.rest (h, rest) name.taken.fits name.then in
-    let g = guard_some (is_kept_named name.value) ((name.value, value.value), value.rest) (h, rest) value.then in
     let both = Takes-then bytes (counted name.value) name.rest (counted value.value) value.rest name.taken value.taken in
     let texts : AreTexts (name.value, value.value) = (name.form, value.form) in
-    last_takes pair IsPair bytes ((name.value, value.value), value.rest) (h, rest) (ap Some g.1) (both, (kept_from (name.value, value.value) g.0 texts, texts))
+    last_if pair IsPair bytes (is_kept_named name.value) ((name.value, value.value), value.rest) (h, rest) value.then (λ is. (both, (kept_from (name.value, value.value) is texts, texts)))
 
 pair_again : (h : List ℕ × List ℕ) (rest : List ℕ) → IsPair h → pair_at (pair h ++ rest) ≡ Some (h, rest)
 unfolding pair_at

@@ -1,6 +1,6 @@
 -- Texts, names and destinations in records.
-use Rattle.std.proofs.Common.{◌≡◌, ◌≢◌, ℕ, zero, suc, ◌+◌, ◌<◌, ◌≤◌, ◌^◌, ◌&&◌, ◌||◌, rules, Bool, true, false, not, cond, ltb, eqb, Decides, List, [], ◌∷◌, ◌++◌, length, take, drop, Option, Some, None, refl, sym, ap, subst, ◌∙◌, append_assoc, arith, IfSome}
-use Rattle.std.specs.Prelude.{IsUtf8, nat_le}
+use Rattle.std.proofs.Common.{◌≡◌, ℕ, zero, suc, ◌<◌, ◌≤◌, ◌^◌, ◌&&◌, ◌||◌, rules, Bool, true, false, cond, ltb, List, [], ◌∷◌, ◌++◌, length, take, drop, Option, Some, None, refl, sym, ap, subst, append_assoc, arith, IfSome}
+use Rattle.std.specs.Prelude.{nat_le}
 use Rattle.std.specs.List.{list_all, AllByRecursion}
 use Rattle.std.specs.Str.{is_utf8, IsAscii}
 use Rattle.std.specs.Int.{w32, to_be_bytes}
@@ -9,14 +9,13 @@ use Rattle.std.proofs.lemmas.List.{take_at, drop_at, length-append, length-take,
 use Rattle.std.proofs.lemmas.Bool.Decides.{nat_tests}
 use Rattle.std.proofs.lemmas.Str.{IsUtf8-from_is_utf8, is_utf8-from_IsUtf8, IsUtf8-from_ascii}
 use Rattle.frame_core.specs.Writable.{HasNoNul}
-use Rattle.command_core.specs.Texts.{IsHeaderText}
 use Rattle.command_core.specs.Spellings.{AreBytes, IsText, counted, optional}
 use Rattle.command_core.specs.Destinations.{IsDestination, is_destination, is_destination_byte, is_name, is_topic, is_queue}
 use Rattle.command_core.specs.Operations.{IsGiven}
-use Rattle.command_core.specs.Reading.{◌>>=◌, Reader, made, number_at, counted_at, is_text, text_at, optional_at, is_given, name_at, destination_at}
+use Rattle.command_core.specs.Reading.{made, counted_at, is_text, text_at, optional_at, is_given, name_at, destination_at}
 use Rattle.command_core.proofs.DestinationBytes.{each_byte}
 use Rattle.command_core.proofs.WritableReplies.{dest_no_nul}
-use Rattle.command_core.proofs.Formats.{Takes, Takes-then, Format, AreBytes-take, first_takes, first_again, last_takes, guard_not, guard_some, tested, number, wide32, front_takes}
+use Rattle.command_core.proofs.Formats.{Takes, Takes-then, Format, AreBytes-take, first_takes, first_again, last_takes, guard_not, tested, number, wide32, front_takes}
 
 -- ---- bytes behind their count
 

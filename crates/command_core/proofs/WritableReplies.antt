@@ -1,14 +1,11 @@
-use Rattle.std.proofs.Common.{◌≡◌, ◌≢◌, ◌≤◌, ◌<◌, ◌^◌, ◌%◌, ◌+◌, ◌++◌, ◌∷◌, ◌&&◌, ◌||◌, ◌⊎◌, [], Bool, false, List, ℕ, Option, None, Some, IfSome, MatchOption, arith, codes, drop, inl, inr, length, nat_eq, nat_le, refl, rules, subst, sym, true, zero, suc}
-use Rattle.std.specs.List.{AllByRecursion, list_all, starts_with}
+use Rattle.std.proofs.Common.{◌≡◌, ◌≢◌, ◌≤◌, ◌<◌, ◌^◌, ◌%◌, ◌+◌, ◌++◌, ◌∷◌, [], List, ℕ, Option, None, Some, IfSome, MatchOption, arith, codes, length, refl, rules, subst, sym, true, zero, suc}
+use Rattle.std.specs.List.{AllByRecursion}
 use Rattle.std.specs.Fmt.{decimal}
-use Rattle.std.proofs.lemmas.Bool.{and_parts}
 use Rattle.std.proofs.lemmas.Fmt.{decimal_by_steps}
-use Rattle.std.proofs.lemmas.Bool.Decides.{Decides-eqb}
-use Rattle.std.proofs.lemmas.Slice.Eq.{starts_is}
 use Rattle.frame_core.proofs.Lists.{all_append}
 use Rattle.frame_core.specs.Writable.{HasNoNul, IsHeader, IsOneLine, Writable, first_of}
 use Rattle.command_core.specs.Texts.{IsHeaderText}
-use Rattle.command_core.specs.Destinations.{IsDestination, is_destination_byte, is_name, is_queue, is_topic}
+use Rattle.command_core.specs.Destinations.{IsDestination, is_destination_byte}
 use Rattle.command_core.specs.Sendings.{SendingValue, IsSending, IsKept}
 use Rattle.command_core.proofs.DestinationBytes.{each_byte}
 use Rattle.command_core.specs.Replies.{ack_header, connected, message_frame, message_id, own_headers}

@@ -1,4 +1,3 @@
-use Rattle.std.proofs.Common.{◌≡◌}
 use Rattle.std.proofs.lemmas.Result.{err_from_is_err_and}
 use Rattle.command_core.specs.Reading.{many_at, member_at}
 use Rattle.command_core.proofs.ReadLoops.{goes_on, ends, is_done}

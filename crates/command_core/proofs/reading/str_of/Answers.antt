@@ -1,7 +1,6 @@
 use Rattle.std.proofs.Common.{◌≡◌, refl, sym, subst}
 use Rattle.std.proofs.lemmas.Bool.{false≢true}
 use Rattle.command_core.specs.Texts.{IsHeaderText}
-use Rattle.command_core.specs.Reading.{text_at}
 use Rattle.command_core.proofs.RecordTexts.{none_read, text_read}
 use Rattle.command_core.proofs.reading.str_of.Goals as goal
 
