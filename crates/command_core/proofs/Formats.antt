@@ -143,9 +143,9 @@ number w limit wide = record {
 pub byte : Format (λ (b : ℕ). b ∷ []) (λ b. b < 256) byte_at
 byte = record { takes = byte_takes; again = λ b rest lt. refl }
   where
-  byte_takes : (bytes : List ℕ) (b : ℕ) (rest : List ℕ) → AreBytes bytes → byte_at bytes ≡ Some (b, rest) → Takes bytes (b ∷ []) rest × (b < 256)
-  byte_takes [] b rest fits e = absurd cc
-  byte_takes (c ∷ bytes) b rest fits e = last_takes (λ (b : ℕ). b ∷ []) (λ b. b < 256) (c ∷ bytes) (c, bytes) (b, rest) e (record { parts = refl; fits = fits.1 }, fits.0)
+    byte_takes : (bytes : List ℕ) (b : ℕ) (rest : List ℕ) → AreBytes bytes → byte_at bytes ≡ Some (b, rest) → Takes bytes (b ∷ []) rest × (b < 256)
+    byte_takes [] b rest fits e = absurd cc
+    byte_takes (c ∷ bytes) b rest fits e = last_takes (λ (b : ℕ). b ∷ []) (λ b. b < 256) (c ∷ bytes) (c, bytes) (b, rest) e (record { parts = refl; fits = fits.1 }, fits.0)
 
 -- ---- lists
 
@@ -166,8 +166,8 @@ unfolding many_at
 many_again spell Form read format [] rest forms = refl
 many_again {A} spell Form read format (x ∷ xs) rest forms =
     first_again spell Form read format (λ (y : A × List ℕ). many_at read (length xs) y.1 >>= λ others. Some (y.0 ∷ others.0, others.1)) (flat_map spell (x ∷ xs) ++ rest) x (flat_map spell xs ++ rest) (Some (x ∷ xs, rest))
-      (ap (λ (y : List ℕ). y ++ rest) (flat_map-cons spell x xs) ∙ append_assoc (spell x) (flat_map spell xs) rest) forms.0
-      (ap (λ o. o >>= λ others. Some (x ∷ others.0, others.1)) (many_again spell Form read format xs rest forms.1))
+    (ap (λ (y : List ℕ). y ++ rest) (flat_map-cons spell x xs) ∙ append_assoc (spell x) (flat_map spell xs) rest) forms.0
+    (ap (λ o. o >>= λ others. Some (x ∷ others.0, others.1)) (many_again spell Form read format xs rest forms.1))
 
 -- at most 64, behind their count
 abbrev pub spell_list : {A : Type 0} → (A → List ℕ) → List A → List ℕ
@@ -192,8 +192,8 @@ list_again : {A : Type 0} (spell : A → List ℕ) (Form : A → Type 0) (read :
 unfolding list_at
 list_again {A} spell Form read format xs rest forms =
     first_again (to_be_bytes w16) (λ n. n < 2 ^ 16) (number_at w16) (number w16 (2 ^ 16) wide16) (λ (n : ℕ × List ℕ). cond (ltb 64 n.0) None (many_at read n.0 n.1)) (spell_list spell xs ++ rest) (length xs) (flat_map spell xs ++ rest) (Some (xs, rest))
-      (append_assoc (to_be_bytes w16 (length xs)) (flat_map spell xs) rest) (omega (arith, forms.0))
-      (ap (λ b. cond b None (many_at read (length xs) (flat_map spell xs ++ rest))) (le-ltb 64 (length xs) forms.0) ∙ many_again spell Form read format xs rest forms.1)
+    (append_assoc (to_be_bytes w16 (length xs)) (flat_map spell xs) rest) (omega (arith, forms.0))
+    (ap (λ b. cond b None (many_at read (length xs) (flat_map spell xs ++ rest))) (le-ltb 64 (length xs) forms.0) ∙ many_again spell Form read format xs rest forms.1)
 
 pub list : {A : Type 0} (spell : A → List ℕ) (Form : A → Type 0) (read : Reader A) → Format spell Form read → Format (spell_list spell) (FewEach Form) (list_at read)
 list spell Form read format = record { takes = list_takes spell Form read format; again = list_again spell Form read format }

@@ -72,10 +72,10 @@ command_again : (c : CommandValue) (rest : List ℕ) → IsRecord c → command_
 unfolding command_at
 command_again c rest form =
     first_again (to_be_bytes w64) (λ n. n < 2 ^ 64) (number_at w64) (number w64 (2 ^ 64) wide64) (λ s. optional_at s.1 >>= λ r. operation_at r.1 >>= command_value s.0 r.0) (record_of c ++ rest) c.session (optional c.receipt ++ (operation c.op ++ rest)) (Some (c, rest))
-      (append_assoc (to_be_bytes w64 c.session ++ optional c.receipt) (operation c.op) rest ∙ append_assoc (to_be_bytes w64 c.session) (optional c.receipt) (operation c.op ++ rest)) form.session
-      (first_again optional (λ o. IfSome o IsText) optional_at optional_format (λ r. operation_at r.1 >>= command_value c.session r.0) (optional c.receipt ++ (operation c.op ++ rest)) c.receipt (operation c.op ++ rest) (Some (c, rest)) refl form.receipt
-        (first_again operation IsFormed operation_at operation_format (command_value c.session c.receipt) (operation c.op ++ rest) c.op rest (Some (c, rest)) refl (form.operation, form.form.op)
-          (ap (λ b. cond b (Some (c, rest)) None) (from_fits c.op c.session c.receipt form.form.fits))))
+    (append_assoc (to_be_bytes w64 c.session ++ optional c.receipt) (operation c.op) rest ∙ append_assoc (to_be_bytes w64 c.session) (optional c.receipt) (operation c.op ++ rest)) form.session
+    (first_again optional (λ o. IfSome o IsText) optional_at optional_format (λ r. operation_at r.1 >>= command_value c.session r.0) (optional c.receipt ++ (operation c.op ++ rest)) c.receipt (operation c.op ++ rest) (Some (c, rest)) refl form.receipt
+    (first_again operation IsFormed operation_at operation_format (command_value c.session c.receipt) (operation c.op ++ rest) c.op rest (Some (c, rest)) refl (form.operation, form.form.op)
+    (ap (λ b. cond b (Some (c, rest)) None) (from_fits c.op c.session c.receipt form.form.fits))))
 
 pub command_format : Format record_of IsRecord command_at
 command_format = record { takes = command_takes; again = command_again }

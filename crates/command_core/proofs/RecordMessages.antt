@@ -37,7 +37,7 @@ pair_again : (h : List ℕ × List ℕ) (rest : List ℕ) → IsPair h → pair_
 unfolding pair_at
 pair_again h rest form =
     first_again counted IsText text_at text_format (λ name. text_at name.1 >>= pair_value name.0) (pair h ++ rest) h.0 (counted h.1 ++ rest) (Some (h, rest)) (append_assoc (counted h.0) (counted h.1) rest) form.1.0
-      (first_again counted IsText text_at text_format (pair_value h.0) (counted h.1 ++ rest) h.1 rest (Some (h, rest)) refl form.1.1 (ap (λ b. cond b (Some (h, rest)) None) (from_kept h form.0)))
+    (first_again counted IsText text_at text_format (pair_value h.0) (counted h.1 ++ rest) h.1 rest (Some (h, rest)) refl form.1.1 (ap (λ b. cond b (Some (h, rest)) None) (from_kept h form.0)))
 
 pub pair_format : Format pair IsPair pair_at
 pair_format = record { takes = pair_takes; again = pair_again }
@@ -71,9 +71,9 @@ unfolding sending_at
 sending_again s rest form =
     let each = all_both IsKept AreTexts IsPair (λ h k t. (k, t)) s.headers form.form.each form.texts in
     first_again counted IsDestination destination_at destination_format (λ d. list_at pair_at d.1 >>= λ hs. counted_at 65536 hs.1 >>= sending_value d.0 hs.0) (sending s ++ rest) s.destination (headers s.headers ++ (counted s.body ++ rest)) (Some (s, rest))
-      (append_assoc (counted s.destination ++ headers s.headers) (counted s.body) rest ∙ append_assoc (counted s.destination) (headers s.headers) (counted s.body ++ rest)) form.form.destination
-      (first_again headers (FewEach IsPair) (list_at pair_at) headers_format (λ hs. counted_at 65536 hs.1 >>= sending_value s.destination hs.0) (headers s.headers ++ (counted s.body ++ rest)) s.headers (counted s.body ++ rest) (Some (s, rest)) refl (form.form.few, each)
-        (first_again counted (Counted 65536) (counted_at 65536) (counted_format 65536 (omega arith)) (sending_value s.destination s.headers) (counted s.body ++ rest) s.body rest (Some (s, rest)) refl (form.form.short, form.body) refl))
+    (append_assoc (counted s.destination ++ headers s.headers) (counted s.body) rest ∙ append_assoc (counted s.destination) (headers s.headers) (counted s.body ++ rest)) form.form.destination
+    (first_again headers (FewEach IsPair) (list_at pair_at) headers_format (λ hs. counted_at 65536 hs.1 >>= sending_value s.destination hs.0) (headers s.headers ++ (counted s.body ++ rest)) s.headers (counted s.body ++ rest) (Some (s, rest)) refl (form.form.few, each)
+    (first_again counted (Counted 65536) (counted_at 65536) (counted_format 65536 (omega arith)) (sending_value s.destination s.headers) (counted s.body ++ rest) s.body rest (Some (s, rest)) refl (form.form.short, form.body) refl))
 
 pub sending_format : Format sending IsSent sending_at
 sending_format = record { takes = sending_takes; again = sending_again }

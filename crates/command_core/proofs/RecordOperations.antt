@@ -59,8 +59,8 @@ mode_takes bytes m rest fits e =
     let b = first_takes (λ (b : ℕ). b ∷ []) (λ b. b < 256) byte_at byte (λ mode. cond (eqb mode.0 0) (Some (Auto, mode.1)) (cond (eqb mode.0 1) (Some (Client, mode.1)) (cond (eqb mode.0 2) (Some (ClientIndividual, mode.1)) None))) bytes (m, rest) fits e in
     let P = Takes bytes (mode_bytes m) rest × Always m in
     chosen b.value 0 _ _ (m, rest) P (λ is e. last_takes mode_bytes Always bytes (Auto, b.rest) (m, rest) e (kind_is bytes b.rest b.value 0 b.taken is, tt))
-      (chosen b.value 1 _ _ (m, rest) P (λ is e. last_takes mode_bytes Always bytes (Client, b.rest) (m, rest) e (kind_is bytes b.rest b.value 1 b.taken is, tt))
-        (chosen b.value 2 _ _ (m, rest) P (λ is e. last_takes mode_bytes Always bytes (ClientIndividual, b.rest) (m, rest) e (kind_is bytes b.rest b.value 2 b.taken is, tt)) (λ e. absurd cc))) b.then
+    (chosen b.value 1 _ _ (m, rest) P (λ is e. last_takes mode_bytes Always bytes (Client, b.rest) (m, rest) e (kind_is bytes b.rest b.value 1 b.taken is, tt))
+    (chosen b.value 2 _ _ (m, rest) P (λ is e. last_takes mode_bytes Always bytes (ClientIndividual, b.rest) (m, rest) e (kind_is bytes b.rest b.value 2 b.taken is, tt)) (λ e. absurd cc))) b.then
 
 mode_again : (m : AckMode) (rest : List ℕ) → Always m → mode_at (mode_bytes m ++ rest) ≡ Some (m, rest)
 unfolding mode_at
@@ -134,8 +134,8 @@ end_takes bytes x rest fits e =
     let b = first_takes (λ (b : ℕ). b ∷ []) (λ b. b < 256) byte_at byte (λ kind. cond (eqb kind.0 0) (Some (Bye, kind.1)) (cond (eqb kind.0 1) (Some (Lost, kind.1)) (cond (eqb kind.0 2) (made Bad (fault_at kind.1)) None))) bytes (x, rest) fits e in
     let P = Takes bytes (end_bytes x) rest × Always x in
     chosen b.value 0 _ _ (x, rest) P (λ is e. last_takes end_bytes Always bytes (Bye, b.rest) (x, rest) e (kind_is bytes b.rest b.value 0 b.taken is, tt))
-      (chosen b.value 1 _ _ (x, rest) P (λ is e. last_takes end_bytes Always bytes (Lost, b.rest) (x, rest) e (kind_is bytes b.rest b.value 1 b.taken is, tt))
-        (chosen b.value 2 _ _ (x, rest) P (λ is e. tagged_takes fault_bytes Always fault_at fault_format Bad end_bytes Always 2 (λ fault. refl) (λ fault form. tt) bytes b.rest rest x (kind_is bytes b.rest b.value 2 b.taken is) e) (λ e. absurd cc))) b.then
+    (chosen b.value 1 _ _ (x, rest) P (λ is e. last_takes end_bytes Always bytes (Lost, b.rest) (x, rest) e (kind_is bytes b.rest b.value 1 b.taken is, tt))
+    (chosen b.value 2 _ _ (x, rest) P (λ is e. tagged_takes fault_bytes Always fault_at fault_format Bad end_bytes Always 2 (λ fault. refl) (λ fault form. tt) bytes b.rest rest x (kind_is bytes b.rest b.value 2 b.taken is) e) (λ e. absurd cc))) b.then
 
 end_again : (x : ending) (rest : List ℕ) → Always x → end_at (end_bytes x ++ rest) ≡ Some (x, rest)
 unfolding end_at
@@ -160,8 +160,8 @@ member_takes bytes m rest fits e =
     let b = first_takes (λ (b : ℕ). b ∷ []) (λ b. b < 256) byte_at byte (λ kind. cond (eqb kind.0 2) (made kinds.Send (sending_at kind.1)) (cond (eqb kind.0 5) (made kinds.Ack (number_at w64 kind.1)) (cond (eqb kind.0 6) (made kinds.Nack (number_at w64 kind.1)) None))) bytes (m, rest) fits e in
     let P = Takes bytes (member m) rest × IsMember m in
     chosen b.value 2 _ _ (m, rest) P (λ is e. tagged_takes sending IsSent sending_at sending_format kinds.Send member IsMember 2 (λ s. refl) (λ s form. form) bytes b.rest rest m (kind_is bytes b.rest b.value 2 b.taken is) e)
-      (chosen b.value 5 _ _ (m, rest) P (λ is e. tagged_takes (to_be_bytes w64) IsNumber (number_at w64) numbers kinds.Ack member IsMember 5 (λ n. refl) (λ n form. form) bytes b.rest rest m (kind_is bytes b.rest b.value 5 b.taken is) e)
-        (chosen b.value 6 _ _ (m, rest) P (λ is e. tagged_takes (to_be_bytes w64) IsNumber (number_at w64) numbers kinds.Nack member IsMember 6 (λ n. refl) (λ n form. form) bytes b.rest rest m (kind_is bytes b.rest b.value 6 b.taken is) e) (λ e. absurd cc))) b.then
+    (chosen b.value 5 _ _ (m, rest) P (λ is e. tagged_takes (to_be_bytes w64) IsNumber (number_at w64) numbers kinds.Ack member IsMember 5 (λ n. refl) (λ n form. form) bytes b.rest rest m (kind_is bytes b.rest b.value 5 b.taken is) e)
+    (chosen b.value 6 _ _ (m, rest) P (λ is e. tagged_takes (to_be_bytes w64) IsNumber (number_at w64) numbers kinds.Nack member IsMember 6 (λ n. refl) (λ n form. form) bytes b.rest rest m (kind_is bytes b.rest b.value 6 b.taken is) e) (λ e. absurd cc))) b.then
 
 member_again : (m : Member) (rest : List ℕ) → IsMember m → member_at (member m ++ rest) ≡ Some (m, rest)
 unfolding member_at
@@ -204,18 +204,18 @@ subscribe_takes bytes front op rest taken e =
     let t3 = Takes-then d.rest (mode_bytes m.value) m.rest (optional name.value) name.rest m.taken name.taken in
     let t4 = Takes-then bytes (3 ∷ counted id.value ++ counted d.value) d.rest (mode_byte m.value ∷ optional name.value) name.rest t2 t3 in
     last_if_not operation IsFormed bytes (is_some name.value && is_queue d.value) (Subscribe id.value d.value m.value name.value, name.rest) (op, rest) name.then
-      (λ is. (t4, ((id.form, d.form, name.form.0), (name.form.1, on_topic name.value (is_queue d.value) is))))
+    (λ is. (t4, ((id.form, d.form, name.form.0), (name.form.1, on_topic name.value (is_queue d.value) is))))
 
 subscribe_again : (id d : List ℕ) (m : AckMode) (name : Option (List ℕ)) (rest : List ℕ) → IsFormed (Subscribe id d m name) → subscribe_at ((counted id ++ counted d ++ mode_byte m ∷ optional name) ++ rest) ≡ Some (Subscribe id d m name, rest)
 unfolding subscribe_at
 subscribe_again id d m name rest form =
     let behind = mode_byte m ∷ (optional name ++ rest) in
     first_again counted IsText text_at text_format (λ id. destination_at id.1 >>= λ d. mode_at d.1 >>= λ m. name_at m.1 >>= subscribe_value id.0 d.0 m.0) _ id (counted d ++ behind) (Some (Subscribe id d m name, rest))
-      (append_assoc (counted id ++ counted d) (mode_byte m ∷ optional name) rest ∙ append_assoc (counted id) (counted d) behind) form.0.0
-      (first_again counted IsDestination destination_at destination_format (λ d. mode_at d.1 >>= λ m. name_at m.1 >>= subscribe_value id d.0 m.0) (counted d ++ behind) d behind (Some (Subscribe id d m name, rest)) refl form.0.1
-        (first_again mode_bytes Always mode_at mode_format (λ m. name_at m.1 >>= subscribe_value id d m.0) behind m (optional name ++ rest) (Some (Subscribe id d m name, rest)) refl tt
-          (first_again optional IsName name_at name_format (subscribe_value id d m) (optional name ++ rest) name rest (Some (Subscribe id d m name, rest)) refl (form.0.2, form.1.0)
-            (ap (λ b. cond b None (Some (Subscribe id d m name, rest))) (from_topic name (is_queue d) form.1.1)))))
+    (append_assoc (counted id ++ counted d) (mode_byte m ∷ optional name) rest ∙ append_assoc (counted id) (counted d) behind) form.0.0
+    (first_again counted IsDestination destination_at destination_format (λ d. mode_at d.1 >>= λ m. name_at m.1 >>= subscribe_value id d.0 m.0) (counted d ++ behind) d behind (Some (Subscribe id d m name, rest)) refl form.0.1
+    (first_again mode_bytes Always mode_at mode_format (λ m. name_at m.1 >>= subscribe_value id d m.0) behind m (optional name ++ rest) (Some (Subscribe id d m name, rest)) refl tt
+    (first_again optional IsName name_at name_format (subscribe_value id d m) (optional name ++ rest) name rest (Some (Subscribe id d m name, rest)) refl (form.0.2, form.1.0)
+    (ap (λ b. cond b None (Some (Subscribe id d m name, rest))) (from_topic name (is_queue d) form.1.1)))))
 
 abbrev unsubscribe_value : Option (List ℕ) → Option (List ℕ) × List ℕ → Option (Op × List ℕ)
 unsubscribe_value id durable = cond (is_some id || is_some durable.0) (Some (Unsubscribe id durable.0, durable.1)) None
@@ -242,22 +242,22 @@ unsubscribe_again : (id name : Option (List ℕ)) (rest : List ℕ) → IsFormed
 unfolding unsubscribe_at
 unsubscribe_again id name rest form =
     first_again optional (λ o. IfSome o IsText) optional_at optional_format (λ id. name_at id.1 >>= unsubscribe_value id.0) _ id (optional name ++ rest) (Some (Unsubscribe id name, rest)) (append_assoc (optional id) (optional name) rest) form.0.0
-      (first_again optional IsName name_at name_format (unsubscribe_value id) (optional name ++ rest) name rest (Some (Unsubscribe id name, rest)) refl (form.0.1, form.1.0)
-        (ap (λ b. cond b (Some (Unsubscribe id name, rest)) None) (from_either id name form.1.1)))
+    (first_again optional IsName name_at name_format (unsubscribe_value id) (optional name ++ rest) name rest (Some (Unsubscribe id name, rest)) refl (form.0.1, form.1.0)
+    (ap (λ b. cond b (Some (Unsubscribe id name, rest)) None) (from_either id name form.1.1)))
 
 -- ---- operations
 
 abbrev by_kind : ℕ × List ℕ → Option (Op × List ℕ)
 by_kind kind =
     cond (eqb kind.0 1) (made Open (name_at kind.1))
-      (cond (eqb kind.0 2) (made Send (sending_at kind.1))
-        (cond (eqb kind.0 3) (subscribe_at kind.1)
-          (cond (eqb kind.0 4) (unsubscribe_at kind.1)
-            (cond (eqb kind.0 5) (made Ack (number_at w64 kind.1))
-              (cond (eqb kind.0 6) (made Nack (number_at w64 kind.1))
-                (cond (eqb kind.0 7) (made Commit (list_at member_at kind.1))
-                  (cond (eqb kind.0 8) (Some (Note, kind.1))
-                    (cond (eqb kind.0 9) (made End (end_at kind.1)) None))))))))
+    (cond (eqb kind.0 2) (made Send (sending_at kind.1))
+    (cond (eqb kind.0 3) (subscribe_at kind.1)
+    (cond (eqb kind.0 4) (unsubscribe_at kind.1)
+    (cond (eqb kind.0 5) (made Ack (number_at w64 kind.1))
+    (cond (eqb kind.0 6) (made Nack (number_at w64 kind.1))
+    (cond (eqb kind.0 7) (made Commit (list_at member_at kind.1))
+    (cond (eqb kind.0 8) (Some (Note, kind.1))
+    (cond (eqb kind.0 9) (made End (end_at kind.1)) None))))))))
 
 operation_takes : (bytes : List ℕ) (op : Op) (rest : List ℕ) → AreBytes bytes → operation_at bytes ≡ Some (op, rest) → Takes bytes (operation op) rest × IsFormed op
 unfolding operation_at
@@ -266,14 +266,14 @@ operation_takes bytes op rest fits e =
     let P = Takes bytes (operation op) rest × IsFormed op in
     let kind : (k : ℕ) → b.value ≡ k → Takes bytes (k ∷ []) b.rest = λ k is. kind_is bytes b.rest b.value k b.taken is in
     chosen b.value 1 _ _ (op, rest) P (λ is e. tagged_takes optional IsName name_at name_format Open operation IsFormed 1 (λ c. refl) (λ c form. form) bytes b.rest rest op (kind 1 is) e)
-      (chosen b.value 2 _ _ (op, rest) P (λ is e. tagged_takes sending IsSent sending_at sending_format Send operation IsFormed 2 (λ s. refl) (λ s form. (form, tt)) bytes b.rest rest op (kind 2 is) e)
-        (chosen b.value 3 _ _ (op, rest) P (λ is e. subscribe_takes bytes b.rest op rest (kind 3 is) e)
-          (chosen b.value 4 _ _ (op, rest) P (λ is e. unsubscribe_takes bytes b.rest op rest (kind 4 is) e)
-            (chosen b.value 5 _ _ (op, rest) P (λ is e. tagged_takes (to_be_bytes w64) IsNumber (number_at w64) numbers Ack operation IsFormed 5 (λ n. refl) (λ n form. (form, tt)) bytes b.rest rest op (kind 5 is) e)
-              (chosen b.value 6 _ _ (op, rest) P (λ is e. tagged_takes (to_be_bytes w64) IsNumber (number_at w64) numbers Nack operation IsFormed 6 (λ n. refl) (λ n form. (form, tt)) bytes b.rest rest op (kind 6 is) e)
-                (chosen b.value 7 _ _ (op, rest) P (λ is e. tagged_takes (spell_list member) (FewEach IsMember) (list_at member_at) members_format Commit operation IsFormed 7 (λ ms. refl) (λ ms form. (form, tt)) bytes b.rest rest op (kind 7 is) e)
-                  (chosen b.value 8 _ _ (op, rest) P (λ is e. last_takes operation IsFormed bytes (Note, b.rest) (op, rest) e (kind 8 is, (tt, tt)))
-                    (chosen b.value 9 _ _ (op, rest) P (λ is e. tagged_takes end_bytes Always end_at end_format End operation IsFormed 9 (λ x. refl) (λ x form. (tt, tt)) bytes b.rest rest op (kind 9 is) e) (λ e. absurd cc))))))))) b.then
+    (chosen b.value 2 _ _ (op, rest) P (λ is e. tagged_takes sending IsSent sending_at sending_format Send operation IsFormed 2 (λ s. refl) (λ s form. (form, tt)) bytes b.rest rest op (kind 2 is) e)
+    (chosen b.value 3 _ _ (op, rest) P (λ is e. subscribe_takes bytes b.rest op rest (kind 3 is) e)
+    (chosen b.value 4 _ _ (op, rest) P (λ is e. unsubscribe_takes bytes b.rest op rest (kind 4 is) e)
+    (chosen b.value 5 _ _ (op, rest) P (λ is e. tagged_takes (to_be_bytes w64) IsNumber (number_at w64) numbers Ack operation IsFormed 5 (λ n. refl) (λ n form. (form, tt)) bytes b.rest rest op (kind 5 is) e)
+    (chosen b.value 6 _ _ (op, rest) P (λ is e. tagged_takes (to_be_bytes w64) IsNumber (number_at w64) numbers Nack operation IsFormed 6 (λ n. refl) (λ n form. (form, tt)) bytes b.rest rest op (kind 6 is) e)
+    (chosen b.value 7 _ _ (op, rest) P (λ is e. tagged_takes (spell_list member) (FewEach IsMember) (list_at member_at) members_format Commit operation IsFormed 7 (λ ms. refl) (λ ms form. (form, tt)) bytes b.rest rest op (kind 7 is) e)
+    (chosen b.value 8 _ _ (op, rest) P (λ is e. last_takes operation IsFormed bytes (Note, b.rest) (op, rest) e (kind 8 is, (tt, tt)))
+    (chosen b.value 9 _ _ (op, rest) P (λ is e. tagged_takes end_bytes Always end_at end_format End operation IsFormed 9 (λ x. refl) (λ x form. (tt, tt)) bytes b.rest rest op (kind 9 is) e) (λ e. absurd cc))))))))) b.then
 
 operation_again : (op : Op) (rest : List ℕ) → IsFormed op → operation_at (operation op ++ rest) ≡ Some (op, rest)
 unfolding operation_at

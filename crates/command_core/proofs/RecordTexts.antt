@@ -44,7 +44,7 @@ counted_again limit fits text rest short =
     let small : ltb limit (length text) ≡ false = le-ltb _ _ short in
     let long : ltb (length (text ++ rest)) (length text) ≡ false = le-ltb _ _ (omega (arith, length-append text rest)) in
     first_again (to_be_bytes w32) _ _ (number w32 (2 ^ 32) wide32) (counted_rest limit) (counted text ++ rest) (length text) (text ++ rest) (Some (text, rest)) (append_assoc (to_be_bytes w32 (length text)) text rest) (omega (arith, short))
-      (rw (small, long, take_at text rest (length text) refl, drop_at text rest (length text) refl) refl)
+    (rw (small, long, take_at text rest (length text) refl, drop_at text rest (length text) refl) refl)
 
 pub counted_format : (limit : ℕ) → limit < 2 ^ 32 → Format counted (Counted limit) (counted_at limit)
 counted_format limit fits = record { takes = counted_takes limit; again = λ text rest form. counted_again limit fits text rest form.0 }

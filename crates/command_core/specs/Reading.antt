@@ -170,23 +170,23 @@ unfoldable pub member_at : Reader Member
 member_at bytes = do
   kind ← byte_at bytes
   if kind.0 == 2 then made kinds.Send (sending_at kind.1)
-    else (if kind.0 == 5 then made kinds.Ack (number_at w64 kind.1)
-    else (if kind.0 == 6 then made kinds.Nack (number_at w64 kind.1)
-    else None))
+      else (if kind.0 == 5 then made kinds.Ack (number_at w64 kind.1)
+      else (if kind.0 == 6 then made kinds.Nack (number_at w64 kind.1)
+      else None))
 
 unfoldable pub operation_at : Reader Op
 operation_at bytes = do
   kind ← byte_at bytes
   if kind.0 == 1 then made Open (name_at kind.1)
-    else (if kind.0 == 2 then made Send (sending_at kind.1)
-    else (if kind.0 == 3 then subscribe_at kind.1
-    else (if kind.0 == 4 then unsubscribe_at kind.1
-    else (if kind.0 == 5 then made Ack (number_at w64 kind.1)
-    else (if kind.0 == 6 then made Nack (number_at w64 kind.1)
-    else (if kind.0 == 7 then made Commit (list_at member_at kind.1)
-    else (if kind.0 == 8 then Some (Note, kind.1)
-    else (if kind.0 == 9 then made End (end_at kind.1)
-    else None))))))))
+      else (if kind.0 == 2 then made Send (sending_at kind.1)
+      else (if kind.0 == 3 then subscribe_at kind.1
+      else (if kind.0 == 4 then unsubscribe_at kind.1
+      else (if kind.0 == 5 then made Ack (number_at w64 kind.1)
+      else (if kind.0 == 6 then made Nack (number_at w64 kind.1)
+      else (if kind.0 == 7 then made Commit (list_at member_at kind.1)
+      else (if kind.0 == 8 then Some (Note, kind.1)
+      else (if kind.0 == 9 then made End (end_at kind.1)
+      else None))))))))
 
 -- commands
 

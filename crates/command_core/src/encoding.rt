@@ -131,7 +131,13 @@ fn put_end(out: &mut Vec<u8>, end: End) -> Result<(), AllocError>
     }
 }
 
-fn put_subscription(out: &mut Vec<u8>, id: &HeaderText, destination: &Dest, mode: AckMode, durable: &Option<HeaderText>) -> Result<(), AllocError>
+fn put_subscription(
+    out: &mut Vec<u8>,
+    id: &HeaderText,
+    destination: &Dest,
+    mode: AckMode,
+    durable: &Option<HeaderText>,
+) -> Result<(), AllocError>
     ensures put { OnOk result (out.new.items ≡ out.old.items ++ records.operation (Subscribe id.now destination.now mode durable.now)) }
     ensures form { OnOk result (IsOperation (Subscribe id.now destination.now mode durable.now)) }
 {

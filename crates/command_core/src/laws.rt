@@ -8,5 +8,4 @@ ghost use Rattle.command_core.specs.Spellings.{Spells};
 /// again, whatever follows it. It does nothing.
 pub fn spellings_begin_no_other()
     ensures { (a b : CommandValue) (p q x y : List ℕ) → Spells p a → Spells q b → p ++ x ≡ q ++ y → (a ≡ b) × (p ≡ q) }
-{
-}
+{}

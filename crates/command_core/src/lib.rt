@@ -35,4 +35,6 @@ pub use sending::{Sending, is_kept_name};
 pub use sizes::{member_size, op_size};
 
 #[cfg(test)]
+mod codec_tests;
+#[cfg(test)]
 mod tests;

@@ -133,10 +133,7 @@ pub(crate) fn name_of(
 }
 
 #[tactic(auto, unfolding(crate::specs::Reading::destination_at))]
-pub(crate) fn destination_of(
-    alloc: Global,
-    bytes: &[u8],
-) -> Result<(Dest, &[u8]), DecodeFault>
+pub(crate) fn destination_of(alloc: Global, bytes: &[u8]) -> Result<(Dest, &[u8]), DecodeFault>
     ensures { Gives (λ x. (x.0, x.1.now)) result (destination_at bytes.now) }
 {
     let (text, rest) = str_of(bytes)?;
