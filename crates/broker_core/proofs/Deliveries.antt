@@ -2,17 +2,16 @@ use Rattle.std.proofs.Common.{◌≡◌, ◌≤◌, ◌+◌, List, [], ◌∷◌
 use Rattle.std.specs.List.{sum_by}
 use Rattle.std.specs.Option.{option_map}
 use Rattle.std.proofs.lemmas.List.Sums.{sum_by-cons, sum_by_push}
-use Rattle.command_core.specs.Destinations.{is_queue}
 use Rattle.line_core.specs.declared.message.Message.{Message}
 use Rattle.broker_core.specs.declared.subscription.Subscription.{Subscription}
 use Rattle.broker_core.specs.Lists.{picked}
-use Rattle.broker_core.specs.States.{Queues, State, line_of, one, weight_of, weight_of_queues, weight_of_subscription, with_line}
-use Rattle.broker_core.specs.HandOut.{Handed, Settling, behind, can_take, delivered, hand_out, handed, handed_to, is_auto, left_line, line_for, settled, settling, waiting}
+use Rattle.broker_core.specs.States.{State, one, weight_of, weight_of_subscription}
+use Rattle.broker_core.specs.Waiting.{left_line, line_for}
+use Rattle.broker_core.specs.HandOut.{Handed, Settling, behind, can_take, delivered, hand_out, handed, handed_to, is_auto, settled, settling, waiting}
 use Rattle.broker_core.proofs.Firsts.{same_some}
-use Rattle.broker_core.proofs.QueueLines.{weight_of-with_line}
 use Rattle.broker_core.proofs.Served.{flight_more}
 use Rattle.broker_core.proofs.Serving.{parts}
-use Rattle.broker_core.proofs.SortedQueues.{IsInOrder, absent-removed, in_order-removed, in_order-with_line}
+use Rattle.broker_core.proofs.SharedOrder.{AreRising, left_rising, lighter}
 
 -- a sum over a list is that over the others and of the picked one
 pub sum_picked : {X : Type 0} (p : X → Bool) (f : X → ℕ) (xs : List X) (x : X) (ys : List X) → picked p xs ≡ Some (x, ys) → sum_by f ys + f x ≡ sum_by f xs
@@ -31,27 +30,17 @@ sum_picked {X} p f (z ∷ zs) x ys is = by (p z) refl is (λ y qs rest. sum_pick
     by false passes made tails = behind_one tails (picked p zs) refl made
 
 module _ (weight : Message → ℕ) where
-  queue_lighter : (to : List ℕ) (q : Queues) (m : Message) (rest : List Message) → IsInOrder q → line_of to q ≡ m ∷ rest → weight_of_queues weight (with_line to rest q) + weight m ≡ weight_of_queues weight q
-  queue_lighter to q m rest sorted line =
-      let less = weight_of-with_line weight to rest q (absent-removed to q sorted) (in_order-removed to q sorted) in
-      let whole = ap (λ (l : List Message). sum_by weight l) line in
-      omega (arith, less, whole, sum_by-cons weight m rest)
-
-  lighter : (kind : Bool) (to : List ℕ) (q : Queues) (own : List Message) (m : Message) (rest : List Message) → IsInOrder q → (if kind then line_of to q else own) ≡ m ∷ rest → weight_of_queues weight (if kind then with_line to rest q else q) + sum_by weight (if kind then own else rest) + weight m ≡ weight_of_queues weight q + sum_by weight own
-  lighter true to q own m rest sorted line = omega (arith, queue_lighter to q m rest sorted line)
-  lighter false to q own m rest sorted line = omega (arith, ap (λ (l : List Message). sum_by weight l) line, sum_by-cons weight m rest)
-
   -- A delivery leaves the message in the state unless its subscription's mode is `auto`.
-  pub handed_weight : (s : State) (sub : Subscription) (others : List Subscription) (m : Message) (rest : List Message) → IsInOrder s.queues → picked (can_take s) s.subscriptions ≡ Some (sub, others) → line_for s.queues sub ≡ m ∷ rest → weight_of weight (handed s sub others m rest).state + (if is_auto sub.mode then weight m else 0) ≡ weight_of weight s
+  pub handed_weight : (s : State) (sub : Subscription) (others : List Subscription) (m : Message) (rest : List Message) → AreRising s.shared → picked (can_take s) s.subscriptions ≡ Some (sub, others) → line_for s.shared sub ≡ m ∷ rest → weight_of weight (handed s sub others m rest).state + (if is_auto sub.mode then weight m else 0) ≡ weight_of weight s
   handed_weight s sub others m rest sorted is line =
-      let less = lighter (is_queue sub.destination) sub.destination s.queues sub.line m rest sorted line in
+      let less = lighter s.shared sorted sub weight m rest line in
       let all = sum_picked (can_take s) (weight_of_subscription weight) s.subscriptions sub others is in
       omega (arith, less, all, sum_by_push (weight_of_subscription weight) others (delivered (left_line sub rest) s.next_delivery m), flight_more weight (is_auto sub.mode) sub.unacknowledged s.next_delivery m)
 
 -- and takes it out of its line
-handed_waits : (s : State) (sub : Subscription) (others : List Subscription) (m : Message) (rest : List Message) → IsInOrder s.queues → picked (can_take s) s.subscriptions ≡ Some (sub, others) → line_for s.queues sub ≡ m ∷ rest → waiting (handed s sub others m rest).state + 1 ≡ waiting s
+handed_waits : (s : State) (sub : Subscription) (others : List Subscription) (m : Message) (rest : List Message) → AreRising s.shared → picked (can_take s) s.subscriptions ≡ Some (sub, others) → line_for s.shared sub ≡ m ∷ rest → waiting (handed s sub others m rest).state + 1 ≡ waiting s
 handed_waits s sub others m rest sorted is line =
-    let less = lighter one (is_queue sub.destination) sub.destination s.queues sub.line m rest sorted line in
+    let less = lighter s.shared sorted sub one m rest line in
     let all = sum_picked (can_take s) (λ (x : Subscription). sum_by one x.line) s.subscriptions sub others is in
     omega (arith, less, all, sum_by_push (λ (x : Subscription). sum_by one x.line) others (delivered (left_line sub rest) s.next_delivery m))
 
@@ -62,7 +51,7 @@ pub record Made (s : State) (h : Handed) : Type 0 where
   pub m : Message
   pub rest : List Message
   pub is_picked : picked (can_take s) s.subscriptions ≡ Some (sub, others)
-  pub line_is : line_for s.queues sub ≡ m ∷ rest
+  pub line_is : line_for s.shared sub ≡ m ∷ rest
   pub handed_is : h ≡ handed s sub others m rest
 
 pub made : (s : State) (h : Handed) → hand_out s ≡ Some h → Made s h
@@ -71,27 +60,23 @@ made s h is = by (picked (can_take s) s.subscriptions) refl is
     by : (o : Option (Subscription × List Subscription)) → picked (can_take s) s.subscriptions ≡ o → handed_to s o ≡ Some h → Made s h
     by None e f = absurd cc
     by (Some q) e f =
-        let p = parts s q.0 q.1 (line_for s.queues q.0) h f in
+        let p = parts s q.0 q.1 (line_for s.shared q.0) h f in
         record { sub = q.0; others = q.1; m = p.m; rest = p.rest; is_picked = e; line_is = p.line_is; handed_is = p.handed_is }
 
-left_in_order : (kind : Bool) (to : List ℕ) (rest : List Message) (q : Queues) → IsInOrder q → IsInOrder (if kind then with_line to rest q else q)
-left_in_order true to rest q sorted = in_order-with_line to rest q sorted
-left_in_order false to rest q sorted = sorted
-
--- the queues stay in order
-hand_out_in_order : (s : State) (h : Handed) → hand_out s ≡ Some h → IsInOrder s.queues → IsInOrder h.state.queues
+-- the lines stay in order
+hand_out_in_order : (s : State) (h : Handed) → hand_out s ≡ Some h → AreRising s.shared → AreRising h.state.shared
 hand_out_in_order s h is sorted =
     let p = made s h is in
-    subst (λ (g : Handed). IsInOrder g.state.queues) (sym p.handed_is) (left_in_order (is_queue p.sub.destination) p.sub.destination p.rest s.queues sorted)
+    subst (λ (g : Handed). AreRising g.state.shared) (sym p.handed_is) (left_rising s.shared sorted p.sub p.rest)
 
 -- one message waits less
-pub hand_out_waits : (s : State) (h : Handed) → hand_out s ≡ Some h → IsInOrder s.queues → waiting h.state + 1 ≡ waiting s
+pub hand_out_waits : (s : State) (h : Handed) → hand_out s ≡ Some h → AreRising s.shared → waiting h.state + 1 ≡ waiting s
 hand_out_waits s h is sorted =
     let p = made s h is in
     subst (λ (g : Handed). waiting g.state + 1 ≡ waiting s) (sym p.handed_is) (handed_waits s p.sub p.others p.m p.rest sorted p.is_picked p.line_is)
 
 -- nothing weighs more
-hand_out_weight : (weight : Message → ℕ) (s : State) (h : Handed) → hand_out s ≡ Some h → IsInOrder s.queues → weight_of weight h.state ≤ weight_of weight s
+hand_out_weight : (weight : Message → ℕ) (s : State) (h : Handed) → hand_out s ≡ Some h → AreRising s.shared → weight_of weight h.state ≤ weight_of weight s
 hand_out_weight weight s h is sorted =
     let p = made s h is in
     let after : weight_of weight (handed s p.sub p.others p.m p.rest).state ≤ weight_of weight s = omega (arith, handed_weight weight s p.sub p.others p.m p.rest sorted p.is_picked p.line_is) in
@@ -106,19 +91,19 @@ settling_keeps P keeps (suc n) s now = by (λ h is. settling_keeps P keeps n h.s
     by next None is = now
     by next (Some h) is = next h is
 
-pub settled_in_order : (s : State) → IsInOrder s.queues → IsInOrder (settled s).state.queues
-settled_in_order s sorted = settling_keeps (λ t. IsInOrder t.queues) hand_out_in_order (waiting s) s sorted
+pub settled_in_order : (s : State) → AreRising s.shared → AreRising (settled s).state.shared
+settled_in_order s sorted = settling_keeps (λ t. AreRising t.shared) hand_out_in_order (waiting s) s sorted
 
-pub settled_sessions : (s : State) → ((settled s).state.sessions ≡ s.sessions) × ((settled s).state.count ≡ s.count)
+pub settled_sessions : (s : State) → ((settled s).state.sessions ≡ s.sessions) × ((settled s).state.count ≡ s.count) × ((settled s).state.durables ≡ s.durables)
 settled_sessions s =
-    settling_keeps (λ t. (t.sessions ≡ s.sessions) × (t.count ≡ s.count)) (λ t h is same. let p = made t h is in subst (λ (g : Handed). (g.state.sessions ≡ s.sessions) × (g.state.count ≡ s.count)) (sym p.handed_is) same) (waiting s) s (refl, refl)
+    settling_keeps (λ t. (t.sessions ≡ s.sessions) × (t.count ≡ s.count) × (t.durables ≡ s.durables)) (λ t h is same. let p = made t h is in subst (λ (g : Handed). (g.state.sessions ≡ s.sessions) × (g.state.count ≡ s.count) × (g.state.durables ≡ s.durables)) (sym p.handed_is) same) (waiting s) s (refl, refl, refl)
 
-pub settled_weight : (weight : Message → ℕ) (s : State) → IsInOrder s.queues → weight_of weight (settled s).state ≤ weight_of weight s
+pub settled_weight : (weight : Message → ℕ) (s : State) → AreRising s.shared → weight_of weight (settled s).state ≤ weight_of weight s
 settled_weight weight s sorted =
-    (settling_keeps (λ t. IsInOrder t.queues × (weight_of weight t ≤ weight_of weight s)) (λ t h is now. (hand_out_in_order t h is now.0, omega (arith, now.1, hand_out_weight weight t h is now.0))) (waiting s) s (sorted, omega arith)).1
+    (settling_keeps (λ t. AreRising t.shared × (weight_of weight t ≤ weight_of weight s)) (λ t h is now. (hand_out_in_order t h is now.0, omega (arith, now.1, hand_out_weight weight t h is now.0))) (waiting s) s (sorted, omega arith)).1
 
 -- deliveries end
-settling_ends : (n : ℕ) (s : State) → IsInOrder s.queues → waiting s ≤ n → hand_out (settling n s).state ≡ None
+settling_ends : (n : ℕ) (s : State) → AreRising s.shared → waiting s ≤ n → hand_out (settling n s).state ≡ None
 settling_ends zero s sorted few = by (hand_out s) refl
   where
     by : (o : Option Handed) → hand_out s ≡ o → hand_out s ≡ None
@@ -131,5 +116,5 @@ settling_ends (suc n) s sorted few =
     by next None is = is
     by next (Some h) is = next h is
 
-pub settled_ends : (s : State) → IsInOrder s.queues → hand_out (settled s).state ≡ None
+pub settled_ends : (s : State) → AreRising s.shared → hand_out (settled s).state ≡ None
 settled_ends s sorted = settling_ends (waiting s) s sorted (omega arith)

@@ -19,7 +19,9 @@ use Rattle.broker_core.specs.declared.trial.TrialFlight.{TrialFlight}
 use Rattle.broker_core.specs.Lists.{changed, with_first}
 use Rattle.broker_core.specs.Operations.{awaits, copied, is_of, settled_by}
 use Rattle.broker_core.specs.Parts.{NonePass, copies_to}
+use Rattle.broker_core.specs.Names.{Name}
 use Rattle.broker_core.specs.States.{bytes, one, weight_of_subscription}
+use Rattle.broker_core.specs.Waiting.{is_own}
 use Rattle.broker_core.specs.Trials.{bytes_in, deliveries_in, flight_of, flights_of, has, left_by}
 use Rattle.broker_core.proofs.Weights.{ones, sum_by-changed}
 
@@ -192,22 +194,22 @@ flights-copied session m [] = refl
 flights-copied session m (sub ∷ subs) =
     let rest = ap (λ (fs : List TrialFlight). cond (is_of session sub) (flight_of sub ∷ fs) fs) (flights-copied session m subs) ∙ sym (heads session 0 sub subs (is_of session sub) refl) in
     let more = record sub { line = inserted m sub.line } in
-    elim (bytes_eq sub.destination m.sending.destination) as (λ b. flights_of session (cond b more sub ∷ map (copied m) subs) ≡ flights_of session (sub ∷ subs)) [
+    elim (is_own sub && bytes_eq sub.destination m.sending.destination) as (λ b. flights_of session (cond b more sub ∷ map (copied m) subs) ≡ flights_of session (sub ∷ subs)) [
       | true ↦ heads session 0 more (map (copied m) subs) (is_of session sub) refl ∙ rest
       | false ↦ heads session 0 sub (map (copied m) subs) (is_of session sub) refl ∙ rest
     ]
 
--- copies and acknowledgements leave the destinations
+-- copies and acknowledgements leave who listens to a topic
 module _ (to : List ℕ) where
   abbrev goes : Subscription → Bool
-  goes sub = bytes_eq sub.destination to
+  goes sub = is_own sub && bytes_eq sub.destination to
 
   goes-copied : (m : Message) (subs : List Subscription) → count_by goes (map (copied m) subs) ≡ count_by goes subs
   goes-copied m [] = refl
   goes-copied m (sub ∷ subs) =
       let one_of : Subscription → ℕ = λ s. cond (goes s) 1 0 in
       let more = record sub { line = inserted m sub.line } in
-      elim (bytes_eq sub.destination m.sending.destination) as (λ b. count_by goes (cond b more sub ∷ map (copied m) subs) ≡ count_by goes (sub ∷ subs)) [
+      elim (is_own sub && bytes_eq sub.destination m.sending.destination) as (λ b. count_by goes (cond b more sub ∷ map (copied m) subs) ≡ count_by goes (sub ∷ subs)) [
         | true ↦ omega (arith, goes-copied m subs, sum_by-cons one_of more (map (copied m) subs), sum_by-cons one_of sub subs)
         | false ↦ omega (arith, goes-copied m subs, sum_by-cons one_of sub (map (copied m) subs), sum_by-cons one_of sub subs)
       ]
@@ -221,9 +223,14 @@ module _ (to : List ℕ) where
         | false ↦ omega (arith, goes-after session delivery subs, sum_by-cons one_of sub (after session delivery subs), sum_by-cons one_of sub subs)
       ]
 
-  pub copies-copied : (m : Message) (subs : List Subscription) → copies_to to (map (copied m) subs) ≡ copies_to to subs
-  copies-copied m subs = ap (λ n. cond (is_queue to) 1 n) (goes-copied m subs)
+  module _ (durables : List (Name × List ℕ)) where
+    counted : (n k : ℕ) → n ≡ k → cond (is_queue to) 1 (count_by (λ durable. bytes_eq durable.1 to) durables + n) ≡ cond (is_queue to) 1 (count_by (λ durable. bytes_eq durable.1 to) durables + k)
+    counted n k is =
+        ap (λ x. cond (is_queue to) 1 (count_by (λ (durable : Name × List ℕ). bytes_eq durable.1 to) durables + x)) is
 
-  pub copies-after : (session delivery : ℕ) (subs : List Subscription) → copies_to to (with_first (awaits session delivery) (settled_by delivery) subs) ≡ copies_to to subs
-  copies-after session delivery subs =
-      ap (λ n. cond (is_queue to) 1 n) (goes-after session delivery subs)
+    pub copies-copied : (m : Message) (subs : List Subscription) → copies_to to durables (map (copied m) subs) ≡ copies_to to durables subs
+    copies-copied m subs = counted (count_by goes (map (copied m) subs)) (count_by goes subs) (goes-copied m subs)
+
+    pub copies-after : (session delivery : ℕ) (subs : List Subscription) → copies_to to durables (with_first (awaits session delivery) (settled_by delivery) subs) ≡ copies_to to durables subs
+    copies-after session delivery subs =
+        counted (count_by goes (after session delivery subs)) (count_by goes subs) (goes-after session delivery subs)

@@ -1,17 +1,16 @@
 pub mod Firsts
-pub mod OtherLines
+pub mod Keys
+pub mod KeyedLines
 pub mod Orders
-pub mod QueueLines
 pub mod Serving
 pub mod Served
 pub mod Weights
 pub mod Places
 pub mod Ending
 pub mod Operating
-pub mod UnknownNames
-pub mod SortedQueues
 pub mod Sendings
 pub mod CommandLists
+pub mod SharedOrder
 pub mod Deliveries
 pub mod Conserved
 pub mod Transactions
@@ -22,3 +21,4 @@ pub mod SortedEntries
 pub mod Standing
 pub mod Numbers
 pub mod MessageNumbers
+pub mod Restarts

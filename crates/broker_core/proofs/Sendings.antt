@@ -1,4 +1,6 @@
 use Rattle.std.proofs.Common.{◌≡◌, ◌+◌, ◌*◌, ◌++◌, ◌&&◌, List, [], ◌∷◌, ℕ, suc, zero, Bool, true, false, Some, Ok, Err, cond, count_by, drop, map, nat_le, refl, sym, ap, ◌∙◌, arith, slice_get, take}
+use Rattle.std.specs.List.Sorted.{IsStrictlySortedBy}
+use Rattle.std.specs.Map.{keys_of}
 use Rattle.std.specs.Str.{bytes_eq}
 use Rattle.std.proofs.lemmas.Option.{none-some, same_Some}
 use Rattle.command_core.specs.declared.fault.Fault.TheVariants.{NoRoom}
@@ -10,12 +12,15 @@ use Rattle.line_core.specs.Lines.{inserted}
 use Rattle.line_core.specs.Messages.{size_of}
 use Rattle.broker_core.specs.declared.subscription.Subscription.{Subscription}
 use Rattle.broker_core.specs.Lists.{changed}
-use Rattle.broker_core.specs.Operations.{copied, is_within, message_of, sent, spread}
+use Rattle.broker_core.specs.Names.{Name, name_cmp, text_cmp}
+use Rattle.broker_core.specs.Operations.{copied, copied_to_names, is_within, message_of, sent, spread}
 use Rattle.broker_core.specs.Parts.{copies_to, find_room}
-use Rattle.broker_core.specs.States.{Queues, State, bytes, held_bytes, held_messages, one, weight_of, with_message}
+use Rattle.broker_core.specs.States.{State, bytes, held_bytes, held_messages, one, weight_of}
 use Rattle.broker_core.specs.Tables.{IsNext}
-use Rattle.broker_core.proofs.SortedQueues.{IsInOrder, in_order-with_message, weight-with_message}
-use Rattle.broker_core.proofs.Weights.{all_mapped, over_copied, weight-copied}
+use Rattle.broker_core.specs.Waiting.{Lines, Shared, is_own, with_message}
+use Rattle.broker_core.proofs.KeyedLines.{rising-with_message, weight-with_message}
+use Rattle.broker_core.proofs.Keys.{same_texts, texts_total}
+use Rattle.broker_core.proofs.Weights.{all_mapped, over_copied, weight-copied, weight-copied_to_names}
 
 -- a list of which the items before a place are changed
 module _ {X : Type 0} (g : X → X) where
@@ -55,29 +60,25 @@ module _ {X : Type 0} (g : X → X) where
       let there : slice_get xs at ≡ Some x = sym (mixed_at xs at) ∙ sym (ap (λ l. slice_get l at) is) ∙ found in
       is ∙ same_next xs at x there same ∙ ap (λ n. mixed n xs) (next at)
 
--- a subscription of the topic, and another one
-pub copied_own : (m : Message) (sub : Subscription) → bytes_eq sub.destination m.sending.destination ≡ true → record sub { line = inserted m sub.line } ≡ copied m sub
+-- a subscription that gets a copy, and another one
+pub copied_own : (m : Message) (sub : Subscription) → (is_own sub && bytes_eq sub.destination m.sending.destination) ≡ true → record sub { line = inserted m sub.line } ≡ copied m sub
 copied_own m sub own = sym (ap (λ b. cond b (record sub { line = inserted m sub.line }) sub) own)
 
-pub copied_other : (m : Message) (sub : Subscription) → bytes_eq sub.destination m.sending.destination ≡ false → sub ≡ copied m sub
+pub copied_other : (m : Message) (sub : Subscription) → (is_own sub && bytes_eq sub.destination m.sending.destination) ≡ false → sub ≡ copied m sub
 copied_other m sub other = sym (ap (λ b. cond b (record sub { line = inserted m sub.line }) sub) other)
+
+-- a durable name of the topic gets a copy before the others
+pub copied_first : (m : Message) (durable : Name × List ℕ) (durables : List (Name × List ℕ)) (names : Lines Name) → bytes_eq durable.1 m.sending.destination ≡ true → copied_to_names m (durable ∷ durables) names ≡ copied_to_names m durables (with_message name_cmp durable.0 m names)
+copied_first m durable durables names own =
+    ap (λ b. copied_to_names m durables (cond b (with_message name_cmp durable.0 m names) names)) own
 
 module _ (s : State) (m : Message) where
   abbrev pub spread_by : Bool → State
   spread_by b =
-      cond b (record s { queues = with_message m.sending.destination m s.queues }) (record s { subscriptions = map (copied m) s.subscriptions })
+      cond b (record s { shared = record s.shared { queues = with_message text_cmp m.sending.destination m s.shared.queues } }) (record s { shared = record s.shared { names = copied_to_names m s.durables s.shared.names }; subscriptions = map (copied m) s.subscriptions })
 
-  pub spread_queue : (queues : Queues) → is_queue m.sending.destination ≡ true → queues ≡ with_message m.sending.destination m s.queues → record s { queues = queues } ≡ spread s m
-  spread_queue queues queue more = ap (λ q. record s { queues = q }) more ∙ sym (ap spread_by queue)
-
-  weight-spread_by : (weight : Message → ℕ) (b : Bool) → IsInOrder s.queues → weight_of weight (spread_by b) ≡ weight_of weight s + cond b 1 (count_by (λ sub. bytes_eq sub.destination m.sending.destination) s.subscriptions) * weight m
-  weight-spread_by weight true sorted =
-      omega (arith, weight-with_message m.sending.destination weight m s.queues sorted)
-  weight-spread_by weight false sorted = omega (arith, weight-copied weight m s.subscriptions)
-
-  -- a message weighs as often as it is kept
-  pub weight-spread : (weight : Message → ℕ) → IsInOrder s.queues → weight_of weight (spread s m) ≡ weight_of weight s + copies_to m.sending.destination s.subscriptions * weight m
-  weight-spread weight sorted = weight-spread_by weight (is_queue m.sending.destination) sorted
+  pub spread_queue : (shared : Shared) → is_queue m.sending.destination ≡ true → shared ≡ record s.shared { queues = with_message text_cmp m.sending.destination m s.shared.queues } → record s { shared = shared } ≡ spread s m
+  spread_queue shared queue more = ap (λ x. record s { shared = x }) more ∙ sym (ap spread_by queue)
 
   pub next-spread : IsNext s → IsNext (spread s m)
   next-spread all =
@@ -87,17 +88,32 @@ module _ (s : State) (m : Message) where
   next_delivery-spread =
       elim (is_queue m.sending.destination) as (λ b. (spread_by b).next_delivery ≡ s.next_delivery) [ true ↦ refl | false ↦ refl ]
 
-  pub in_order-spread : IsInOrder s.queues → IsInOrder (spread s m).queues
-  in_order-spread sorted =
-      elim (is_queue m.sending.destination) as (λ b. IsInOrder (spread_by b).queues) [ true ↦ in_order-with_message m.sending.destination m s.queues sorted | false ↦ sorted ]
+  module _ (names : IsStrictlySortedBy name_cmp (keys_of s.shared.names)) (queues : IsStrictlySortedBy text_cmp (keys_of s.shared.queues)) where
+    weight-spread_by : (weight : Message → ℕ) (b : Bool) → weight_of weight (spread_by b) ≡ weight_of weight s + cond b 1 (count_by (λ durable. bytes_eq durable.1 m.sending.destination) s.durables + count_by (λ sub. is_own sub && bytes_eq sub.destination m.sending.destination) s.subscriptions) * weight m
+    weight-spread_by weight true =
+        omega (arith, weight-with_message text_cmp texts_total same_texts weight m.sending.destination m s.shared.queues queues)
+    weight-spread_by weight false =
+        omega (arith, (weight-copied_to_names weight m s.durables s.shared.names names).1, weight-copied weight m s.subscriptions)
 
-  -- the copies find room where the state with them is within the limits
-  pub room_is : (messages held : ℕ) → IsInOrder s.queues → messages ≡ held_messages s → held ≡ held_bytes s → is_within (spread s m) ≡ find_room messages held (copies_to m.sending.destination s.subscriptions) (size_of m.sending)
-  room_is messages held sorted few small =
-      let count : held_messages (spread s m) ≡ messages + copies_to m.sending.destination s.subscriptions = omega (arith, weight-spread one sorted) in
-      let weigh : held_bytes (spread s m) ≡ held + copies_to m.sending.destination s.subscriptions * size_of m.sending = omega (arith, weight-spread bytes sorted) in
-      ap (λ n. nat_le n 4096 && nat_le (held_bytes (spread s m)) 16777216) count
-      ∙ ap (λ n. nat_le (messages + copies_to m.sending.destination s.subscriptions) 4096 && nat_le n 16777216) weigh
+    -- a message weighs as often as it is kept
+    pub weight-spread : (weight : Message → ℕ) → weight_of weight (spread s m) ≡ weight_of weight s + copies_to m.sending.destination s.durables s.subscriptions * weight m
+    weight-spread weight = weight-spread_by weight (is_queue m.sending.destination)
+
+    pub names-spread : IsStrictlySortedBy name_cmp (keys_of (spread s m).shared.names)
+    names-spread =
+        elim (is_queue m.sending.destination) as (λ b. IsStrictlySortedBy name_cmp (keys_of (spread_by b).shared.names)) [ true ↦ names | false ↦ (weight-copied_to_names one m s.durables s.shared.names names).0 ]
+
+    pub queues-spread : IsStrictlySortedBy text_cmp (keys_of (spread s m).shared.queues)
+    queues-spread =
+        elim (is_queue m.sending.destination) as (λ b. IsStrictlySortedBy text_cmp (keys_of (spread_by b).shared.queues)) [ true ↦ rising-with_message text_cmp texts_total m.sending.destination m s.shared.queues queues | false ↦ queues ]
+
+    -- the copies find room where the state with them is within the limits
+    pub room_by : (messages held copies size : ℕ) → messages ≡ held_messages s → held ≡ held_bytes s → copies ≡ copies_to m.sending.destination s.durables s.subscriptions → size ≡ size_of m.sending → is_within (spread s m) ≡ find_room messages held copies size
+    room_by messages held copies size few small counted weighed =
+        let total : copies * size ≡ copies_to m.sending.destination s.durables s.subscriptions * size_of m.sending = ap (λ n. n * size) counted ∙ ap (λ n. copies_to m.sending.destination s.durables s.subscriptions * n) weighed in
+        let count : held_messages (spread s m) ≡ messages + copies = omega (arith, weight-spread one) in
+        let weigh : held_bytes (spread s m) ≡ held + copies * size = omega (arith, weight-spread bytes, total) in
+        ap (λ n. nat_le n 4096 && nat_le (held_bytes (spread s m)) 16777216) count ∙ ap (λ n. nat_le (messages + copies) 4096 && nat_le n 16777216) weigh
 
 -- a SEND by whether its copies find room
 pub sent_by : (s : State) (place : ℕ) (sending : SendingValue) (b : Bool) → is_within (spread s (message_of s.count place sending)) ≡ b → sent s place sending ≡ cond b (Ok (spread s (message_of s.count place sending))) (Err NoRoom)

@@ -11,8 +11,9 @@ use Rattle.line_core.specs.declared.message.Message.{Message}
 use Rattle.line_core.specs.Flights.{IsOver}
 use Rattle.line_core.specs.Lines.{first_of}
 use Rattle.broker_core.specs.declared.subscription.Subscription.{Subscription}
-use Rattle.broker_core.specs.HandOut.{can_take, delivered, handed_from, has_room, is_auto, left_line, left_queues, line_for, message_out}
-use Rattle.broker_core.specs.States.{Queues, State, one, weight_of_queues, weight_of_subscription}
+use Rattle.broker_core.specs.HandOut.{can_take, delivered, handed_from, has_room, is_auto, message_out}
+use Rattle.broker_core.specs.States.{State, one, weight_of_subscription}
+use Rattle.broker_core.specs.Waiting.{Shared, left_line, left_shared, line_for, weight_of_shared}
 
 -- what stands first in a line, and what behind it
 pub first_and_rest : (line : List Message) (m : Message) → first_of line ≡ Some m → line ≡ m ∷ drop 1 line
@@ -32,22 +33,22 @@ module _ (xs : List Subscription) (at : ℕ) (sub : Subscription) (within : at <
   pub count_others : (x : Subscription) → length (remove xs at ++ x ∷ []) ≡ length xs
   count_others x = omega (arith, length-append (remove xs at) (x ∷ []), length-remove xs at within)
 
-  module _ (q p : Queues) (left : Subscription) (m : Message) (rest : List Message)
-      (weigh : (weight : Message → ℕ) → weight_of_queues weight p + sum_by weight left.line + sum_by weight (m ∷ rest) ≡ weight_of_queues weight q + sum_by weight sub.line + sum_by weight rest) where
-    lighter : (weight : Message → ℕ) → weight_of_queues weight p + sum_by weight left.line + weight m ≡ weight_of_queues weight q + sum_by weight sub.line
+  module _ (q p : Shared) (left : Subscription) (m : Message) (rest : List Message)
+      (weigh : (weight : Message → ℕ) → weight_of_shared weight p + sum_by weight left.line + sum_by weight (m ∷ rest) ≡ weight_of_shared weight q + sum_by weight sub.line + sum_by weight rest) where
+    lighter : (weight : Message → ℕ) → weight_of_shared weight p + sum_by weight left.line + weight m ≡ weight_of_shared weight q + sum_by weight sub.line
     lighter weight = omega (arith, weigh weight, sum_by-cons weight m rest)
 
     -- the message was among what is held
-    pub was_held : (weight : Message → ℕ) → weight m ≤ weight_of_queues weight q + sum_by (weight_of_subscription weight) xs
+    pub was_held : (weight : Message → ℕ) → weight m ≤ weight_of_shared weight q + sum_by (weight_of_subscription weight) xs
     was_held weight = omega (arith, lighter weight, sum_others (weight_of_subscription weight))
 
     -- one message waits less
-    pub waits_less : (d : ℕ) → weight_of_queues one p + sum_by (λ (x : Subscription). sum_by one x.line) (remove xs at ++ delivered left d m ∷ []) + 1 ≡ weight_of_queues one q + sum_by (λ (x : Subscription). sum_by one x.line) xs
+    pub waits_less : (d : ℕ) → weight_of_shared one p + sum_by (λ (x : Subscription). sum_by one x.line) (remove xs at ++ delivered left d m ∷ []) + 1 ≡ weight_of_shared one q + sum_by (λ (x : Subscription). sum_by one x.line) xs
     waits_less d =
         omega (arith, lighter one, sum_others (λ (x : Subscription). sum_by one x.line), sum_by_push (λ (x : Subscription). sum_by one x.line) (remove xs at) (delivered left d m))
 
     -- it is still held unless its mode is `auto`
-    pub held_after : (weight : Message → ℕ) (d : ℕ) → left.unacknowledged ≡ sub.unacknowledged → weight_of_queues weight p + sum_by (weight_of_subscription weight) (remove xs at ++ delivered left d m ∷ []) + (if is_auto left.mode then weight m else 0) ≡ weight_of_queues weight q + sum_by (weight_of_subscription weight) xs
+    pub held_after : (weight : Message → ℕ) (d : ℕ) → left.unacknowledged ≡ sub.unacknowledged → weight_of_shared weight p + sum_by (weight_of_subscription weight) (remove xs at ++ delivered left d m ∷ []) + (if is_auto left.mode then weight m else 0) ≡ weight_of_shared weight q + sum_by (weight_of_subscription weight) xs
     held_after weight d same =
         let flights = ap (λ (f : List (ℕ × Message)). sum_by (λ (x : ℕ × Message). weight x.1) f) same in
         omega (arith, flights, lighter weight, sum_others (weight_of_subscription weight), sum_by_push (weight_of_subscription weight) (remove xs at) (delivered left d m), flight_more weight (is_auto left.mode) left.unacknowledged d m)
@@ -92,10 +93,10 @@ next_after d m xs at sub left there same all =
     (over_delivered (is_auto left.mode) d m left.unacknowledged (subst (IsOver d) (sym same) (one_of_all (λ x. IsOver d x.unacknowledged) xs at sub there all)))
 
 -- a delivery as it is made
-pub handed_made : (s : State) (sub left : Subscription) (others : List Subscription) (line : List Message) (m : Message) (queues : Queues) (subs : List Subscription) (out : OutValue)
-    → first_of line ≡ Some m → queues ≡ left_queues s.queues sub (drop 1 line) → left ≡ left_line sub (drop 1 line) → subs ≡ others ++ delivered left s.next_delivery m ∷ [] → out ≡ message_out s.count left s.next_delivery m
-    → handed_from s sub others line ≡ Some (record { state = record s { next_delivery = s.next_delivery + 1; queues = queues; subscriptions = subs }; out = out })
-handed_made s sub left others line m queues subs out first qs ls ss os =
+pub handed_made : (s : State) (sub left : Subscription) (others : List Subscription) (line : List Message) (m : Message) (shared : Shared) (subs : List Subscription) (out : OutValue)
+    → first_of line ≡ Some m → shared ≡ left_shared s.shared sub (drop 1 line) → left ≡ left_line sub (drop 1 line) → subs ≡ others ++ delivered left s.next_delivery m ∷ [] → out ≡ message_out s.count left s.next_delivery m
+    → handed_from s sub others line ≡ Some (record { state = record s { next_delivery = s.next_delivery + 1; shared = shared; subscriptions = subs }; out = out })
+handed_made s sub left others line m shared subs out first qs ls ss os =
     rw (os, ss, qs, ls) (ap (handed_from s sub others) (first_and_rest line m first))
 
 -- what is counted after a delivery is what is held
@@ -106,7 +107,7 @@ counted_after false held now x old new was is less = omega (arith, was, is, less
 -- who can be served gets a number under 2^63
 pub number_of_ready : (s : State) (sub : Subscription) → can_take s sub ≡ true → s.next_delivery < 2 ^ 63
 number_of_ready s sub ready =
-    let p = and_parts (nat_lt s.next_delivery (2 ^ 63) && has_room sub) (not (is_none (line_for s.queues sub))) ready in
+    let p = and_parts (nat_lt s.next_delivery (2 ^ 63) && has_room sub) (not (is_none (line_for s.shared sub))) ready in
     ltb-true s.next_delivery (2 ^ 63) (and_parts (nat_lt s.next_delivery (2 ^ 63)) (has_room sub) p.0).0
 
 -- a delivery adds nothing to what is held

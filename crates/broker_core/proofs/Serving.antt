@@ -1,5 +1,6 @@
-use Rattle.std.proofs.Common.{◌≡◌, ◌<◌, ◌≤◌, ◌+◌, ◌^◌, ◌++◌, ◌&&◌, List, [], ◌∷◌, ℕ, suc, zero, Bool, true, false, not, Some, None, refl, sym, ap, subst, ◌∙◌, arith, length, take, nat_lt, remove, slice_get, true≢false, if◌then◌else◌}
-use Rattle.std.specs.Str.{bytes_eq}
+use Rattle.std.proofs.Common.{◌≡◌, ◌<◌, ◌≤◌, ◌+◌, ◌^◌, ◌++◌, ◌&&◌, List, [], ◌∷◌, ℕ, suc, zero, Bool, true, false, not, Option, Some, None, refl, sym, ap, subst, ◌∙◌, arith, length, take, nat_lt, remove, slice_get, true≢false, if◌then◌else◌}
+use Rattle.std.specs.Ordering.{is_eq}
+use Rattle.std.specs.declared.cmp.Ordering.{Ordering}
 use Rattle.command_core.specs.Destinations.{is_queue}
 use Rattle.command_core.specs.Outs.{OutValue}
 use Rattle.line_core.specs.declared.message.Message.{Message}
@@ -7,11 +8,14 @@ use Rattle.broker_core.specs.declared.subscription.Subscription.{Subscription}
 use Rattle.broker_core.specs.Lists.{is_none}
 use Rattle.broker_core.specs.Parts.{NonePass}
 use Rattle.broker_core.specs.Settles.{SettlesSo}
-use Rattle.broker_core.specs.States.{Queues, State, line_of, with_line}
-use Rattle.broker_core.specs.HandOut.{Handed, Settling, behind, can_take, hand_out, handed, handed_from, handed_to, has_room, line_for, settled, settling, waiting}
+use Rattle.broker_core.specs.Names.{AreSame, Name, name_cmp, text_cmp}
+use Rattle.broker_core.specs.States.{State}
+use Rattle.broker_core.specs.Waiting.{Lines, Shared, left_from, line_at, line_for, line_from, with_line}
+use Rattle.broker_core.specs.HandOut.{Handed, Settling, behind, can_take, hand_out, handed, handed_from, handed_to, has_room, settled, settling, waiting}
 use Rattle.std.proofs.lemmas.Bool.{lt-ltb, ltb-true}
 use Rattle.std.proofs.lemmas.List.{append-nil, append_assoc}
-use Rattle.broker_core.proofs.OtherLines.{other_line, same_text}
+use Rattle.broker_core.proofs.KeyedLines.{is_equal, other_line}
+use Rattle.broker_core.proofs.Keys.{same_names, same_texts}
 use Rattle.broker_core.proofs.Firsts.{none_to_end, one_more_passed, picked_first, picked_none, same_some, take_removed}
 
 settling_none : (n : ℕ) (s : State) → hand_out s ≡ None → settling n s ≡ record { state = s; outs = [] }
@@ -73,25 +77,44 @@ and_stays false true true l false up keep h = absurd (true≢false (sym (up refl
 and_stays true true true true false up keep h = absurd (true≢false (sym (keep refl)))
 and_stays true true true false false up keep h = absurd (true≢false h)
 
-other_or_same : (b : Bool) (x d : List ℕ) (q : Queues) (m : Message) (rest : List Message) → bytes_eq x d ≡ b → is_none (line_of x q) ≡ true → line_of d q ≡ m ∷ rest → is_none (line_of x (with_line d rest q)) ≡ true
-other_or_same false x d q m rest is none line = ap is_none (other_line x d is rest q) ∙ none
-other_or_same true x d q m rest is none line = absurd (true≢false (sym none ∙ ap (λ y. is_none (line_of y q)) (same_text x d is) ∙ ap is_none line))
+-- a line without messages has none once another is cut, and neither once its own is, since that had some
+module _ {K : Type 0} (cmp : K → K → Ordering) (same : AreSame cmp) where
+  other_or_same : (b : Bool) (x d : K) (lines : Lines K) (m : Message) (rest : List Message) → is_eq (cmp x d) ≡ b → is_none (line_at cmp x lines) ≡ true → line_at cmp d lines ≡ m ∷ rest → is_none (line_at cmp x (with_line cmp d rest lines)) ≡ true
+  other_or_same false x d lines m rest is none line = ap is_none (other_line cmp same x d is rest lines) ∙ none
+  other_or_same true x d lines m rest is none line =
+      absurd (true≢false (sym none ∙ ap (λ y. is_none (line_at cmp y lines)) (same x d (is_equal (cmp x d) is)) ∙ ap is_none line))
 
-line_stays : (is_q is_d : Bool) (x d : List ℕ) (q : Queues) (own line : List Message) (m : Message) (rest : List Message)
-    → is_none (if is_q then line_of x q else own) ≡ true → (if is_d then line_of d q else line) ≡ m ∷ rest
-    → is_none (if is_q then line_of x (if is_d then with_line d rest q else q) else own) ≡ true
-line_stays false is_d x d q own line m rest none is = none
-line_stays true false x d q own line m rest none is = none
-line_stays true true x d q own line m rest none is = other_or_same (bytes_eq x d) x d q m rest refl none is
+  none_stays : (x d : K) (lines : Lines K) (m : Message) (rest : List Message) → is_none (line_at cmp x lines) ≡ true → line_at cmp d lines ≡ m ∷ rest → is_none (line_at cmp x (with_line cmp d rest lines)) ≡ true
+  none_stays x d lines m rest none line = other_or_same (is_eq (cmp x d)) x d lines m rest refl none line
+
+-- by whether the one that is served and another one have a durable name, or a queue
+module _ (shared : Shared) (sub x : Subscription) (m : Message) (rest : List Message) where
+  queue_stays : (is_q is_d : Bool) → is_none (if is_q then line_at text_cmp x.destination shared.queues else x.line) ≡ true → (if is_d then line_at text_cmp sub.destination shared.queues else sub.line) ≡ m ∷ rest
+      → is_none (if is_q then line_at text_cmp x.destination (if is_d then record shared { queues = with_line text_cmp sub.destination rest shared.queues } else shared).queues else x.line) ≡ true
+  queue_stays false is_d none line = none
+  queue_stays true false none line = none
+  queue_stays true true none line =
+      none_stays text_cmp same_texts x.destination sub.destination shared.queues m rest none line
+
+  name_stays : (is_d : Bool) (name : Name) → is_none (line_at name_cmp name shared.names) ≡ true → is_none (line_at name_cmp name (if is_d then record shared { queues = with_line text_cmp sub.destination rest shared.queues } else shared).names) ≡ true
+  name_stays false name none = none
+  name_stays true name none = none
+
+  line_stays : (a b : Option Name) → is_none (line_from shared x a) ≡ true → line_from shared sub b ≡ m ∷ rest → is_none (line_from (left_from shared sub rest b) x a) ≡ true
+  line_stays (Some name) (Some other) none line =
+      none_stays name_cmp same_names name other shared.names m rest none line
+  line_stays (Some name) None none line = name_stays (is_queue sub.destination) name none
+  line_stays None (Some other) none line = none
+  line_stays None None none line = queue_stays (is_queue x.destination) (is_queue sub.destination) none line
 
 number_stays : (n : ℕ) → nat_lt (n + 1) (2 ^ 63) ≡ true → nat_lt n (2 ^ 63) ≡ true
 number_stays n less = lt-ltb n (2 ^ 63) (omega (arith, ltb-true (n + 1) (2 ^ 63) less))
 
-module _ (s : State) (sub : Subscription) (others : List Subscription) (m : Message) (rest : List Message) (line : line_for s.queues sub ≡ m ∷ rest) where
+module _ (s : State) (sub : Subscription) (others : List Subscription) (m : Message) (rest : List Message) (line : line_for s.shared sub ≡ m ∷ rest) where
   can_take_stays : (x : Subscription) → can_take s x ≡ false → can_take (handed s sub others m rest).state x ≡ false
   can_take_stays x n =
-      and_stays _ _ (has_room x) (is_none (line_for s.queues x)) _ (number_stays s.next_delivery)
-      (λ none. line_stays (is_queue x.destination) (is_queue sub.destination) x.destination sub.destination s.queues x.line sub.line m rest none line) n
+      and_stays _ _ (has_room x) (is_none (line_for s.shared x)) _ (number_stays s.next_delivery)
+      (λ none. line_stays s.shared sub x m rest x.durable sub.durable none line) n
 
   all_stay : (xs : List Subscription) → NonePass (can_take s) xs → NonePass (can_take (handed s sub others m rest).state) xs
   all_stay [] none = tt
@@ -105,7 +128,7 @@ pub serves : (first : State) (before : List OutValue) (s : State) (outs : List O
 serves first before s outs at sub t out within there ready is fewer so =
     let h : Handed = record { state = t; out = out } in
     let all : settled s ≡ behind h (settled t) = settled_some s h (first_ready s at sub within there ready so.passed ∙ is) fewer in
-    let p = parts s sub (remove s.subscriptions at) (line_for s.queues sub) h is in
+    let p = parts s sub (remove s.subscriptions at) (line_for s.shared sub) h is in
     let same : t ≡ (handed s sub (remove s.subscriptions at) p.m p.rest).state = ap (λ (g : Handed). g.state) p.handed_is in
     record {
       state = so.state ∙ ap (λ (r : Settling). r.state) all;

@@ -6,16 +6,19 @@ use Rattle.command_core.specs.Destinations.{is_queue}
 use Rattle.line_core.specs.declared.message.Message.{Message}
 use Rattle.broker_core.specs.declared.subscription.Subscription.{Subscription}
 use Rattle.broker_core.specs.States as states
-use Rattle.broker_core.specs.States.{Queues, State, one, standing, weight_of, weight_of_queues, weight_of_subscription, with_message}
-use Rattle.broker_core.specs.Operations.{copied, spread}
-use Rattle.broker_core.proofs.SortedQueues.{weight-with_message}
+use Rattle.broker_core.specs.Names.{Name, text_cmp}
+use Rattle.broker_core.specs.States.{State, one, standing, weight_of, weight_of_subscription}
+use Rattle.broker_core.specs.Waiting.{Lines, weight_of_lines, with_message}
+use Rattle.broker_core.specs.Operations.{copied, copied_to_names, spread}
+use Rattle.broker_core.proofs.KeyedLines.{weight-with_message}
+use Rattle.broker_core.proofs.Keys.{same_texts, texts_total}
 use Rattle.broker_core.proofs.Weights.{ones}
 
 module _ (weight : Message → ℕ) where
-  queues_stand : (q : Queues) → weight_of_queues weight q ≡ sum_by weight (flat_map (λ (e : List ℕ × List Message). e.1) q)
-  queues_stand [] = refl
-  queues_stand (e ∷ q) =
-      omega (arith, queues_stand q, sum_by-cons (λ (line : List Message). sum_by weight line) e.1 (values_of q), sum_by-append weight e.1 (flat_map (λ (x : List ℕ × List Message). x.1) q))
+  lines_stand : {K : Type 0} (lines : Lines K) → weight_of_lines weight lines ≡ sum_by weight (flat_map (λ (e : K × List Message). e.1) lines)
+  lines_stand [] = refl
+  lines_stand {K} (e ∷ lines) =
+      omega (arith, lines_stand lines, sum_by-cons (λ (line : List Message). sum_by weight line) e.1 (values_of lines), sum_by-append weight e.1 (flat_map (λ (x : K × List Message). x.1) lines))
 
   flight_stands : (flight : List (ℕ × Message)) → sum_by weight (map (λ (d : ℕ × Message). d.1) flight) ≡ sum_by (λ (d : ℕ × Message). weight d.1) flight
   flight_stands [] = refl
@@ -30,13 +33,16 @@ module _ (weight : Message → ℕ) where
   -- what is held is what stands somewhere
   pub all_stand : (s : State) → weight_of weight s ≡ sum_by weight (standing s)
   all_stand s =
-      omega (arith, queues_stand s.queues, subscriptions_stand s.subscriptions, sum_by-append weight (flat_map (λ (e : List ℕ × List Message). e.1) s.queues) (flat_map (λ (sub : Subscription). sub.line ++ map (λ (d : ℕ × Message). d.1) sub.unacknowledged) s.subscriptions))
+      let names = flat_map (λ (e : Name × List Message). e.1) s.shared.names in
+      let queues = flat_map (λ (e : List ℕ × List Message). e.1) s.shared.queues in
+      let subs = flat_map (λ (sub : Subscription). sub.line ++ map (λ (d : ℕ × Message). d.1) sub.unacknowledged) s.subscriptions in
+      omega (arith, lines_stand s.shared.names, lines_stand s.shared.queues, subscriptions_stand s.subscriptions, sum_by-append weight (names ++ queues) subs, sum_by-append weight names queues)
 
   -- a message to a queue is put there once
   pub queue_once : (s : State) (m : Message) → states.IsInOrder s → is_queue m.sending.destination ≡ true → weight_of weight (spread s m) ≡ weight_of weight s + weight m
   queue_once s m order is =
-      let put = weight-with_message m.sending.destination weight m s.queues order.queues in
-      ap (λ b. weight_of weight (if b then record s { queues = with_message m.sending.destination m s.queues } else record s { subscriptions = map (copied m) s.subscriptions })) is ∙ omega (arith, put)
+      let put = weight-with_message text_cmp texts_total same_texts weight m.sending.destination m s.shared.queues order.queues in
+      ap (λ b. weight_of weight (if b then record s { shared = record s.shared { queues = with_message text_cmp m.sending.destination m s.shared.queues } } else record s { shared = record s.shared { names = copied_to_names m s.durables s.shared.names }; subscriptions = map (copied m) s.subscriptions })) is ∙ omega (arith, put)
 
 pub count_stands : (s : State) → weight_of one s ≡ length (standing s)
 count_stands s = all_stand one s ∙ ones (standing s)

@@ -10,14 +10,15 @@ use Rattle.line_core.specs.Messages.{size_of}
 use Rattle.broker_core.specs.declared.subscription.Subscription.{Subscription}
 use Rattle.broker_core.specs.declared.trial.Trial.{Trial}
 use Rattle.broker_core.specs.Lists.{with_first}
+use Rattle.broker_core.specs.Names.{Name}
 use Rattle.broker_core.specs.Operations.{acknowledged, awaits, is_within, message_of, sent, settled_by, spread}
 use Rattle.broker_core.specs.Parts.{copies_to, find_room}
 use Rattle.broker_core.specs.States.{State, bytes, one}
 use Rattle.broker_core.specs.Trials.{Leads, StandsFor, bytes_in, deliveries_in, flights_of, has, left_by}
 use Rattle.broker_core.proofs.Flights.{any_flight, copies-after, copies-copied, few_bytes, few_deliveries, first_flight, flights-copied, kept_bytes, kept_messages}
-use Rattle.broker_core.proofs.Sendings.{in_order-spread, room_is, sent_by, spread_by, weight-spread}
+use Rattle.broker_core.proofs.Sendings.{names-spread, queues-spread, room_by, sent_by, spread_by, weight-spread}
 
-module _ (session : ℕ) (subs : List Subscription) (old new : Trial) (s : State) (stands : StandsFor session subs old s) where
+module _ (session : ℕ) (durables : List (Name × List ℕ)) (subs : List Subscription) (old new : Trial) (s : State) (stands : StandsFor session durables subs old s) where
   pub few_held : deliveries_in old.flights.items ≤ old.held.messages
   few_held =
       omega (arith, few_deliveries session s.subscriptions, ap deliveries_in stands.flights, stands.messages)
@@ -26,27 +27,25 @@ module _ (session : ℕ) (subs : List Subscription) (old new : Trial) (s : State
   small_held =
       omega (arith, few_bytes session s.subscriptions, ap bytes_in stands.flights, stands.bytes)
 
-  module _ (place : ℕ) (sending : SendingValue) (copies size : ℕ) (counted : copies ≡ copies_to sending.destination subs) (weighed : size ≡ size_of sending) (alike : new.flights.items ≡ old.flights.items) where
-    here : copies ≡ copies_to sending.destination s.subscriptions
+  module _ (place : ℕ) (sending : SendingValue) (copies size : ℕ) (counted : copies ≡ copies_to sending.destination durables subs) (weighed : size ≡ size_of sending) (alike : new.flights.items ≡ old.flights.items) where
+    here : copies ≡ copies_to sending.destination s.durables s.subscriptions
     here = counted ∙ sym (stands.copies sending.destination)
 
-    total : copies * size ≡ copies_to sending.destination s.subscriptions * size_of sending
+    total : copies * size ≡ copies_to sending.destination s.durables s.subscriptions * size_of sending
     total =
-        ap (λ n. n * size) here ∙ ap (λ n. copies_to sending.destination s.subscriptions * n) weighed
+        ap (λ n. n * size) here ∙ ap (λ n. copies_to sending.destination s.durables s.subscriptions * n) weighed
 
     room : (b : Bool) → find_room old.held.messages old.held.bytes copies size ≡ b → is_within (spread s (message_of s.count place sending)) ≡ b
     room b is =
-        room_is s (message_of s.count place sending) old.held.messages old.held.bytes stands.queues stands.messages stands.bytes
-        ∙ sym (ap (λ n. find_room old.held.messages old.held.bytes n size) here ∙ ap (λ n. find_room old.held.messages old.held.bytes (copies_to sending.destination s.subscriptions) n) weighed)
-        ∙ is
+        room_by s (message_of s.count place sending) stands.names stands.queues old.held.messages old.held.bytes copies size stands.messages stands.bytes here weighed ∙ is
 
     spread_flights : flights_of session (spread s (message_of s.count place sending)).subscriptions ≡ flights_of session s.subscriptions
     spread_flights =
         elim (is_queue sending.destination) as (λ b. flights_of session (spread_by s (message_of s.count place sending) b).subscriptions ≡ flights_of session s.subscriptions) [ true ↦ refl | false ↦ flights-copied session (message_of s.count place sending) s.subscriptions ]
 
-    spread_copies : (to : List ℕ) → copies_to to (spread s (message_of s.count place sending)).subscriptions ≡ copies_to to s.subscriptions
+    spread_copies : (to : List ℕ) → copies_to to (spread s (message_of s.count place sending)).durables (spread s (message_of s.count place sending)).subscriptions ≡ copies_to to s.durables s.subscriptions
     spread_copies to =
-        elim (is_queue sending.destination) as (λ b. copies_to to (spread_by s (message_of s.count place sending) b).subscriptions ≡ copies_to to s.subscriptions) [ true ↦ refl | false ↦ copies-copied to (message_of s.count place sending) s.subscriptions ]
+        elim (is_queue sending.destination) as (λ b. copies_to to (spread_by s (message_of s.count place sending) b).durables (spread_by s (message_of s.count place sending) b).subscriptions ≡ copies_to to s.durables s.subscriptions) [ true ↦ refl | false ↦ copies-copied to s.durables (message_of s.count place sending) s.subscriptions ]
 
     fits_messages : find_room old.held.messages old.held.bytes copies size ≡ true → old.held.messages + copies ≤ 4096
     fits_messages found =
@@ -60,28 +59,29 @@ module _ (session : ℕ) (subs : List Subscription) (old new : Trial) (s : State
         let small = fits.1 in
         grind (arith, nat_tests)
 
-    spread_stands : find_room old.held.messages old.held.bytes copies size ≡ true → new.held.messages ≡ old.held.messages + copies → new.held.bytes ≡ old.held.bytes + copies * size → StandsFor session subs new (spread s (message_of s.count place sending))
+    spread_stands : find_room old.held.messages old.held.bytes copies size ≡ true → new.held.messages ≡ old.held.messages + copies → new.held.bytes ≡ old.held.bytes + copies * size → StandsFor session durables subs new (spread s (message_of s.count place sending))
     spread_stands found messages held = record {
-      messages = omega (arith, messages, stands.messages, here, weight-spread s (message_of s.count place sending) one stands.queues);
-      bytes = omega (arith, held, stands.bytes, total, weight-spread s (message_of s.count place sending) bytes stands.queues);
+      messages = omega (arith, messages, stands.messages, here, weight-spread s (message_of s.count place sending) stands.names stands.queues one);
+      bytes = omega (arith, held, stands.bytes, total, weight-spread s (message_of s.count place sending) stands.names stands.queues bytes);
       few = omega (arith, messages, fits_messages found);
       small = omega (arith, held, fits_bytes found);
       flights = alike ∙ stands.flights ∙ sym spread_flights;
-      queues = in_order-spread s (message_of s.count place sending) stands.queues;
+      names = names-spread s (message_of s.count place sending) stands.names stands.queues;
+      queues = queues-spread s (message_of s.count place sending) stands.names stands.queues;
       copies = λ to. spread_copies to ∙ stands.copies to;
     }
 
-    sent_leads : (r : Result (Unit {0}) Fault) (b : Bool) → find_room old.held.messages old.held.bytes copies size ≡ b → r ≡ cond b (Ok tt) (Err NoRoom) → OnOk r (new.held.messages ≡ old.held.messages + copies) → OnOk r (new.held.bytes ≡ old.held.bytes + copies * size) → Leads session subs new r (sent s place sending)
+    sent_leads : (r : Result (Unit {0}) Fault) (b : Bool) → find_room old.held.messages old.held.bytes copies size ≡ b → r ≡ cond b (Ok tt) (Err NoRoom) → OnOk r (new.held.messages ≡ old.held.messages + copies) → OnOk r (new.held.bytes ≡ old.held.bytes + copies * size) → Leads session durables subs new r (sent s place sending)
     sent_leads (Ok _) true is answer messages held =
-        subst (Leads session subs new (Ok tt)) (sym (sent_by s place sending true (room true is))) (spread_stands is messages held)
+        subst (Leads session durables subs new (Ok tt)) (sym (sent_by s place sending true (room true is))) (spread_stands is messages held)
     sent_leads (Ok _) false is answer messages held = let no : ⊥ = cc in absurd no
     sent_leads (Err fault) true is answer messages held = let no : ⊥ = cc in absurd no
     sent_leads (Err fault) false is answer messages held =
         let same_fault : fault ≡ NoRoom = cc in
-        subst (Leads session subs new (Err fault)) (sym (sent_by s place sending false (room false is))) same_fault
+        subst (Leads session durables subs new (Err fault)) (sym (sent_by s place sending false (room false is))) same_fault
 
     -- a SEND is refused in the trial where it is refused
-    pub send_leads : (r : Result (Unit {0}) Fault) → r ≡ cond (find_room old.held.messages old.held.bytes copies size) (Ok tt) (Err NoRoom) → OnOk r (new.held.messages ≡ old.held.messages + copies) → OnOk r (new.held.bytes ≡ old.held.bytes + copies * size) → Leads session subs new r (sent s place sending)
+    pub send_leads : (r : Result (Unit {0}) Fault) → r ≡ cond (find_room old.held.messages old.held.bytes copies size) (Ok tt) (Err NoRoom) → OnOk r (new.held.messages ≡ old.held.messages + copies) → OnOk r (new.held.bytes ≡ old.held.bytes + copies * size) → Leads session durables subs new r (sent s place sending)
     send_leads r answer messages held =
         sent_leads r (find_room old.held.messages old.held.bytes copies size) refl answer messages held
 
@@ -90,31 +90,32 @@ module _ (session : ℕ) (subs : List Subscription) (old new : Trial) (s : State
     left_flights =
         flights ∙ ap (with_first (has delivery) (left_by delivery)) stands.flights ∙ first_flight session delivery s.subscriptions
 
-    settled_stands : StandsFor session subs new (record s { subscriptions = with_first (awaits session delivery) (settled_by delivery) s.subscriptions })
+    settled_stands : StandsFor session durables subs new (record s { subscriptions = with_first (awaits session delivery) (settled_by delivery) s.subscriptions })
     settled_stands = record {
       messages = omega (arith, messages, stands.messages, kept_messages session delivery s.subscriptions, ap deliveries_in stands.flights, ap deliveries_in left_flights);
       bytes = omega (arith, held, stands.bytes, kept_bytes session delivery s.subscriptions, ap bytes_in stands.flights, ap bytes_in left_flights);
       few = omega (arith, fewer, stands.few);
       small = omega (arith, smaller, stands.small);
       flights = left_flights;
+      names = stands.names;
       queues = stands.queues;
-      copies = λ to. copies-after to session delivery s.subscriptions ∙ stands.copies to;
+      copies = λ to. copies-after to s.durables session delivery s.subscriptions ∙ stands.copies to;
     }
 
     acknowledged_by : (b : Bool) → list_any (has delivery) old.flights.items ≡ b → acknowledged s session delivery ≡ cond b (Ok (record s { subscriptions = with_first (awaits session delivery) (settled_by delivery) s.subscriptions })) (Err UnknownAcknowledgement)
     acknowledged_by b is =
         ap (λ c. cond c (Ok (record s { subscriptions = with_first (awaits session delivery) (settled_by delivery) s.subscriptions })) (Err UnknownAcknowledgement)) (sym (any_flight session delivery s.subscriptions) ∙ sym (ap (list_any (has delivery)) stands.flights) ∙ is)
 
-    settled_leads : (r : Result (Unit {0}) Fault) (b : Bool) → list_any (has delivery) old.flights.items ≡ b → r ≡ cond b (Ok tt) (Err UnknownAcknowledgement) → Leads session subs new r (acknowledged s session delivery)
+    settled_leads : (r : Result (Unit {0}) Fault) (b : Bool) → list_any (has delivery) old.flights.items ≡ b → r ≡ cond b (Ok tt) (Err UnknownAcknowledgement) → Leads session durables subs new r (acknowledged s session delivery)
     settled_leads (Ok _) true is answer =
-        subst (Leads session subs new (Ok tt)) (sym (acknowledged_by true is)) settled_stands
+        subst (Leads session durables subs new (Ok tt)) (sym (acknowledged_by true is)) settled_stands
     settled_leads (Ok _) false is answer = let no : ⊥ = cc in absurd no
     settled_leads (Err fault) true is answer = let no : ⊥ = cc in absurd no
     settled_leads (Err fault) false is answer =
         let same_fault : fault ≡ UnknownAcknowledgement = cc in
-        subst (Leads session subs new (Err fault)) (sym (acknowledged_by false is)) same_fault
+        subst (Leads session durables subs new (Err fault)) (sym (acknowledged_by false is)) same_fault
 
     -- and so is an acknowledgement
-    pub acknowledge_leads : (r : Result (Unit {0}) Fault) → r ≡ cond (list_any (has delivery) old.flights.items) (Ok tt) (Err UnknownAcknowledgement) → Leads session subs new r (acknowledged s session delivery)
+    pub acknowledge_leads : (r : Result (Unit {0}) Fault) → r ≡ cond (list_any (has delivery) old.flights.items) (Ok tt) (Err UnknownAcknowledgement) → Leads session durables subs new r (acknowledged s session delivery)
     acknowledge_leads r answer =
         settled_leads r (list_any (has delivery) old.flights.items) refl answer

@@ -1,4 +1,4 @@
-use Rattle.std.proofs.Common.{◌≡◌, ◌<◌, ◌≤◌, ◌+◌, ◌*◌, List, [], ◌∷◌, ℕ, suc, zero, Bool, true, false, cond, Some, length, map, refl, sym, ap, ◌∙◌, arith, slice_get, remove, not, take, drop}
+use Rattle.std.proofs.Common.{◌≡◌, ◌<◌, ◌≤◌, ◌+◌, ◌*◌, ◌&&◌, List, [], ◌∷◌, ℕ, suc, zero, Bool, true, false, cond, Some, length, map, refl, sym, ap, subst, ◌∙◌, arith, slice_get, remove, not, take, drop}
 use Rattle.std.specs.List.{AllByRecursion, count_by, filter, sum_by}
 use Rattle.std.specs.Str.{bytes_eq}
 use Rattle.std.proofs.lemmas.List.Sums.{sum_by-cons, sum_by-remove}
@@ -11,7 +11,11 @@ use Rattle.line_core.specs.Flights.{IsOver, settled, settles}
 use Rattle.line_core.specs.Lines.{inserted}
 use Rattle.broker_core.specs.declared.subscription.Subscription.{Subscription}
 use Rattle.broker_core.specs.Lists.{changed}
-use Rattle.broker_core.specs.Operations.{copied, settled_by}
+use Rattle.broker_core.specs.Names.{Name, name_cmp}
+use Rattle.broker_core.specs.Operations.{copied, copied_to_names, settled_by}
+use Rattle.broker_core.specs.Waiting.{Lines, is_own, weight_of_lines, with_message}
+use Rattle.broker_core.proofs.KeyedLines.{IsRising, rising-with_message, weight-with_message}
+use Rattle.broker_core.proofs.Keys.{names_total, same_names}
 use Rattle.broker_core.specs.States.{weight_of_subscription}
 
 -- a sum without the item in a place, with another there, and no less than that item's part
@@ -68,22 +72,38 @@ module _ {X : Type 0} where
   ones (x ∷ xs) = omega (arith, sum_by-cons (λ (y : X). 1) x xs, ones xs)
 
 module _ (weight : Message → ℕ) where
-  copied_one : (m : Message) (sub : Subscription) (b : Bool) → bytes_eq sub.destination m.sending.destination ≡ b → weight_of_subscription weight (copied m sub) ≡ weight_of_subscription weight sub + cond b 1 0 * weight m
+  copied_one : (m : Message) (sub : Subscription) (b : Bool) → (is_own sub && bytes_eq sub.destination m.sending.destination) ≡ b → weight_of_subscription weight (copied m sub) ≡ weight_of_subscription weight sub + cond b 1 0 * weight m
   copied_one m sub true is =
       ap (λ b. weight_of_subscription weight (cond b (record sub { line = inserted m sub.line }) sub)) is ∙ omega (arith, sum_by-inserted m weight sub.line)
   copied_one m sub false is =
       ap (λ b. weight_of_subscription weight (cond b (record sub { line = inserted m sub.line }) sub)) is ∙ omega arith
 
-  -- a message weighs as often as there are subscriptions of its topic
-  pub weight-copied : (m : Message) (subs : List Subscription) → sum_by (weight_of_subscription weight) (map (copied m) subs) ≡ sum_by (weight_of_subscription weight) subs + count_by (λ sub. bytes_eq sub.destination m.sending.destination) subs * weight m
+  -- a message weighs as often as there are subscriptions of its topic with a line of their own
+  pub weight-copied : (m : Message) (subs : List Subscription) → sum_by (weight_of_subscription weight) (map (copied m) subs) ≡ sum_by (weight_of_subscription weight) subs + count_by (λ sub. is_own sub && bytes_eq sub.destination m.sending.destination) subs * weight m
   weight-copied m [] = omega arith
   weight-copied m (sub ∷ subs) =
-      let same = λ (s : Subscription). bytes_eq s.destination m.sending.destination in
+      let same = λ (s : Subscription). is_own s && bytes_eq s.destination m.sending.destination in
       let w = weight_of_subscription weight in
       let here : w (copied m sub) ≡ w sub + cond (same sub) 1 0 * weight m = copied_one m sub (same sub) refl in
       let new : sum_by w (map (copied m) (sub ∷ subs)) ≡ w (copied m sub) + sum_by w (map (copied m) subs) = sum_by-cons w (copied m sub) (map (copied m) subs) in
       let counted : count_by same (sub ∷ subs) * weight m ≡ (cond (same sub) 1 0 + count_by same subs) * weight m = ap (λ n. n * weight m) (sum_by-cons (λ (s : Subscription). cond (same s) 1 0) sub subs) in
       omega (arith, here, new, counted, weight-copied m subs, sum_by-cons w sub subs)
+
+  names_by : (m : Message) (durable : Name × List ℕ) (names : Lines Name) (b : Bool) → bytes_eq durable.1 m.sending.destination ≡ b → IsRising name_cmp names_total names → IsRising name_cmp names_total (cond (bytes_eq durable.1 m.sending.destination) (with_message name_cmp durable.0 m names) names) × (weight_of_lines weight (cond (bytes_eq durable.1 m.sending.destination) (with_message name_cmp durable.0 m names) names) ≡ weight_of_lines weight names + cond b 1 0 * weight m)
+  names_by m durable names true is rising =
+      subst (λ b. IsRising name_cmp names_total (cond b (with_message name_cmp durable.0 m names) names) × (weight_of_lines weight (cond b (with_message name_cmp durable.0 m names) names) ≡ weight_of_lines weight names + 1 * weight m)) (sym is) (rising-with_message name_cmp names_total durable.0 m names rising, omega (arith, weight-with_message name_cmp names_total same_names weight durable.0 m names rising))
+  names_by m durable names false is rising =
+      subst (λ b. IsRising name_cmp names_total (cond b (with_message name_cmp durable.0 m names) names) × (weight_of_lines weight (cond b (with_message name_cmp durable.0 m names) names) ≡ weight_of_lines weight names + 0 * weight m)) (sym is) (rising, omega arith)
+
+  -- and as often as there are durable names of its topic
+  pub weight-copied_to_names : (m : Message) (durables : List (Name × List ℕ)) (names : Lines Name) → IsRising name_cmp names_total names → IsRising name_cmp names_total (copied_to_names m durables names) × (weight_of_lines weight (copied_to_names m durables names) ≡ weight_of_lines weight names + count_by (λ durable. bytes_eq durable.1 m.sending.destination) durables * weight m)
+  weight-copied_to_names m [] names rising = (rising, omega arith)
+  weight-copied_to_names m (durable ∷ durables) names rising =
+      let same = λ (d : Name × List ℕ). bytes_eq d.1 m.sending.destination in
+      let here = names_by m durable names (same durable) refl rising in
+      let rest = weight-copied_to_names m durables (cond (same durable) (with_message name_cmp durable.0 m names) names) here.0 in
+      let counted : count_by same (durable ∷ durables) * weight m ≡ (cond (same durable) 1 0 + count_by same durables) * weight m = ap (λ n. n * weight m) (sum_by-cons (λ (d : Name × List ℕ). cond (same d) 1 0) durable durables) in
+      (rest.0, omega (arith, rest.1, here.1, counted))
 
   -- what an acknowledgement settles weighs no more
   pub weight-settled_by : (delivery : ℕ) (sub : Subscription) → weight_of_subscription weight (settled_by delivery sub) + sum_by (λ item. weight item.1) (settled sub.mode delivery sub.unacknowledged) ≡ weight_of_subscription weight sub
@@ -102,4 +122,4 @@ over_settled_by number delivery sub over =
 
 pub over_copied : (number : ℕ) (m : Message) (sub : Subscription) → IsOver number sub.unacknowledged → IsOver number (copied m sub).unacknowledged
 over_copied number m sub over =
-    elim (bytes_eq sub.destination m.sending.destination) as (λ b. IsOver number (cond b (record sub { line = inserted m sub.line }) sub).unacknowledged) [ true ↦ over | false ↦ over ]
+    elim (is_own sub && bytes_eq sub.destination m.sending.destination) as (λ b. IsOver number (cond b (record sub { line = inserted m sub.line }) sub).unacknowledged) [ true ↦ over | false ↦ over ]

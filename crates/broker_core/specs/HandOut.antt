@@ -2,22 +2,18 @@ use Rattle.std.specs.Prelude.{◌+◌, ◌^◌, ◌&&◌, List, [], ◌∷◌, �
 use Rattle.std.specs.List.{sum_by}
 use Rattle.command_core.specs.declared.ack_mode.AckMode.{AckMode}
 use Rattle.command_core.specs.declared.ack_mode.AckMode.TheVariants.{Auto}
-use Rattle.command_core.specs.Destinations.{is_queue}
 use Rattle.command_core.specs.Outs.{OutValue}
 use Rattle.command_core.specs.Replies.{message_frame}
 use Rattle.line_core.specs.declared.message.Message.{Message}
 use Rattle.broker_core.specs.declared.subscription.Subscription.{Subscription}
 use Rattle.broker_core.specs.Lists.{is_none, picked}
-use Rattle.broker_core.specs.States.{Queues, State, line_of, one, weight_of_queues, with_line}
+use Rattle.broker_core.specs.States.{State, one}
+use Rattle.broker_core.specs.Waiting.{left_line, left_shared, line_for, weight_of_shared}
 
 -- whether a subscription's messages count as received once they are sent (STOMP 1.2, "SUBSCRIBE ack Header")
 abbrev pub is_auto : AckMode → Bool
 is_auto Auto = true
 is_auto _ = false
-
--- the line from which a subscription is served: that of its queue, or its own of a topic
-abbrev pub line_for : Queues → Subscription → List Message
-line_for queues sub = if is_queue sub.destination then line_of sub.destination queues else sub.line
 
 -- a subscription may have one more delivery: without acknowledgement always, else while fewer than 16 are unacknowledged
 abbrev pub has_room : Subscription → Bool
@@ -25,7 +21,7 @@ has_room sub = if is_auto sub.mode then true else nat_lt (length sub.unacknowled
 
 -- whether a subscription can be served now
 abbrev pub can_take : State → Subscription → Bool
-can_take s sub = nat_lt s.next_delivery (2 ^ 63) && has_room sub && not (is_none (line_for s.queues sub))
+can_take s sub = nat_lt s.next_delivery (2 ^ 63) && has_room sub && not (is_none (line_for s.shared sub))
 
 -- one delivery: the state after it, and the MESSAGE
 pub record Handed : Type 0 where
@@ -44,14 +40,6 @@ message_out number sub delivery m = record {
   frame = message_frame sub.id m.number.command m.number.place (ack_of sub delivery) m.sending;
 }
 
--- the queues once the rest of a subscription's line is left
-abbrev pub left_queues : Queues → Subscription → List Message → Queues
-left_queues queues sub rest = if is_queue sub.destination then with_line sub.destination rest queues else queues
-
--- the subscription once the rest of its line is left
-abbrev pub left_line : Subscription → List Message → Subscription
-left_line sub rest = record sub { line = if is_queue sub.destination then sub.line else rest }
-
 -- the subscription with one more delivery, which is unacknowledged unless the mode is `auto`
 abbrev pub delivered : Subscription → ℕ → Message → Subscription
 delivered sub delivery m = record sub { unacknowledged = if is_auto sub.mode then sub.unacknowledged else sub.unacknowledged ++ (delivery, m) ∷ [] }
@@ -61,7 +49,7 @@ abbrev pub handed : State → Subscription → List Subscription → Message →
 handed s sub others m rest = record {
   state = record s {
     next_delivery = s.next_delivery + 1;
-    queues = left_queues s.queues sub rest;
+    shared = left_shared s.shared sub rest;
     subscriptions = others ++ delivered (left_line sub rest) s.next_delivery m ∷ [];
   };
   out = message_out s.count sub s.next_delivery m;
@@ -73,7 +61,7 @@ handed_from s sub others (m ∷ rest) = Some (handed s sub others m rest)
 
 abbrev pub handed_to : State → Option (Subscription × List Subscription) → Option Handed
 handed_to s None = None
-handed_to s (Some p) = handed_from s p.0 p.1 (line_for s.queues p.0)
+handed_to s (Some p) = handed_from s p.0 p.1 (line_for s.shared p.0)
 
 -- the next delivery: the first subscription in waiting order that can be served is served
 abbrev pub hand_out : State → Option Handed
@@ -81,7 +69,7 @@ hand_out s = handed_to s (picked (can_take s) s.subscriptions)
 
 -- how many messages wait in lines
 abbrev pub waiting : State → ℕ
-waiting s = weight_of_queues one s.queues + sum_by (λ sub. sum_by one sub.line) s.subscriptions
+waiting s = weight_of_shared one s.shared + sum_by (λ sub. sum_by one sub.line) s.subscriptions
 
 -- deliveries: the state after them, and the MESSAGEs in their order
 pub record Settling : Type 0 where

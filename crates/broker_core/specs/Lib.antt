@@ -1,4 +1,6 @@
 pub mod Lists
+pub mod Names
+pub mod Waiting
 pub mod States
 pub mod HandOut
 pub mod Operations
@@ -8,3 +10,4 @@ pub mod Tables
 pub mod Parts
 pub mod Settles
 pub mod Trials
+pub mod Kept

@@ -1,54 +1,33 @@
-use Rattle.std.specs.Prelude.{◌<◌, ◌+◌, ◌++◌, List, [], ℕ, Bool, Option, is_some, map, unwrap_or, if◌then◌else◌}
-use Rattle.std.specs.BTreeMap.{insert_entry, is_at}
-use Rattle.std.specs.Cmp.Lexicographic.{slice_cmp}
+use Rattle.std.specs.Prelude.{◌<◌, ◌+◌, ◌++◌, List, [], ℕ, Bool, Option, is_some, map}
+use Rattle.std.specs.BTreeMap.{is_at}
 use Rattle.std.specs.List.{AllByRecursion, flat_map, sum_by}
 use Rattle.std.specs.List.Sorted.{IsStrictlySortedBy}
-use Rattle.std.specs.Map.{keys_of, lookup, remove_entry, values_of}
+use Rattle.std.specs.Map.{keys_of, lookup}
 use Rattle.std.specs.Ordering.{nat_cmp}
 use Rattle.line_core.specs.declared.message.Message.{Message}
-use Rattle.line_core.specs.Lines.{inserted}
 use Rattle.line_core.specs.Messages.{size_of}
 use Rattle.broker_core.specs.declared.subscription.Subscription.{Subscription}
-use Rattle.broker_core.specs.Lists.{is_none}
-
--- the line of each queue that has messages, by rising bytes of the destination
-abbrev pub Queues : Type 0
-Queues = List (List ℕ × List Message)
+use Rattle.broker_core.specs.Names.{Name, name_cmp, text_cmp}
+use Rattle.broker_core.specs.Waiting.{Shared, weight_of_shared}
 
 -- What the broker knows: how many commands it has carried out, the number of the next delivery, the open sessions with
--- their client-id by rising number, the queues with messages, and the subscriptions in waiting order.
+-- their client-id by rising number, the topic of each durable name by rising name, the lines that stay when a subscription
+-- ends, and the subscriptions in waiting order.
 pub record State : Type 0 where
   pub count : ℕ
   pub next_delivery : ℕ
   pub sessions : List (ℕ × Option (List ℕ))
-  pub queues : Queues
+  pub durables : List (Name × List ℕ)
+  pub shared : Shared
   pub subscriptions : List Subscription
 
 -- before the first command
 abbrev pub empty_state : State
-empty_state = record { count = 0; next_delivery = 0; sessions = []; queues = []; subscriptions = [] }
+empty_state = record { count = 0; next_delivery = 0; sessions = []; durables = []; shared = record { names = []; queues = [] }; subscriptions = [] }
 
 -- whether the session of that number is open
 abbrev pub is_open : State → ℕ → Bool
 is_open s session = is_some (lookup (is_at (nat_cmp session)) s.sessions)
-
--- the line of a queue, empty where there is none
-abbrev pub line_of : List ℕ → Queues → List Message
-line_of to queues = unwrap_or (lookup (is_at (slice_cmp nat_cmp to)) queues) []
-
--- the queues with another line for that one; a queue without messages is not among them
-abbrev pub with_line : List ℕ → List Message → Queues → Queues
-with_line to line queues =
-    let others = remove_entry (is_at (slice_cmp nat_cmp to)) queues in
-    if is_none line then others else insert_entry (slice_cmp nat_cmp) others to line
-
--- the queues with one more message in that line, at its place by number
-abbrev pub with_message : List ℕ → Message → Queues → Queues
-with_message to m queues = with_line to (inserted m (line_of to queues)) queues
-
--- what the messages of the lines weigh together
-abbrev pub weight_of_queues : (Message → ℕ) → Queues → ℕ
-weight_of_queues weight queues = sum_by (λ line. sum_by weight line) (values_of queues)
 
 -- what the messages of a subscription weigh: of its own line, and those that it has not acknowledged
 abbrev pub weight_of_subscription : (Message → ℕ) → Subscription → ℕ
@@ -56,7 +35,7 @@ weight_of_subscription weight sub = sum_by weight sub.line + sum_by (λ delivery
 
 -- what all messages weigh that the broker holds, in lines and unacknowledged
 abbrev pub weight_of : (Message → ℕ) → State → ℕ
-weight_of weight s = weight_of_queues weight s.queues + sum_by (weight_of_subscription weight) s.subscriptions
+weight_of weight s = weight_of_shared weight s.shared + sum_by (weight_of_subscription weight) s.subscriptions
 
 -- each message counts for one
 abbrev pub one : Message → ℕ
@@ -74,10 +53,11 @@ held_messages s = weight_of one s
 abbrev pub held_bytes : State → ℕ
 held_bytes s = weight_of bytes s
 
--- all messages that stand somewhere: in the lines of queues, in those of subscriptions, and unacknowledged
+-- all messages that stand somewhere: in the lines of durable names and queues, in those of subscriptions, and unacknowledged
 abbrev pub standing : State → List Message
 standing s =
-    flat_map (λ (queue : List ℕ × List Message). queue.1) s.queues
+    flat_map (λ (e : Name × List Message). e.1) s.shared.names
+    ++ flat_map (λ (e : List ℕ × List Message). e.1) s.shared.queues
     ++ flat_map (λ (sub : Subscription). sub.line ++ map (λ (delivery : ℕ × Message). delivery.1) sub.unacknowledged) s.subscriptions
 
 -- the broker: its state, and whether it is broken
@@ -85,9 +65,11 @@ pub record BrokerValue : Type 0 where
   pub state : State
   pub broken : Bool
 
--- Sessions stand by rising number, and were opened by commands that are counted. Queues stand by rising bytes of their
--- destination.
+-- Sessions stand by rising number, and were opened by commands that are counted. Durable names stand by rising name, and so
+-- do their lines; queues stand by rising bytes of their destination.
 pub record IsInOrder (s : State) : Type 0 where
   pub sessions : IsStrictlySortedBy nat_cmp (keys_of s.sessions)
   pub opened : AllByRecursion (λ session. session.0 < s.count) s.sessions
-  pub queues : IsStrictlySortedBy (slice_cmp nat_cmp) (keys_of s.queues)
+  pub durables : IsStrictlySortedBy name_cmp (keys_of s.durables)
+  pub names : IsStrictlySortedBy name_cmp (keys_of s.shared.names)
+  pub queues : IsStrictlySortedBy text_cmp (keys_of s.shared.queues)

@@ -10,7 +10,8 @@ state_of number t = record {
   count = number;
   next_delivery = t.next_delivery;
   sessions = t.sessions.entries;
-  queues = t.queues.entries;
+  durables = t.durables.entries;
+  shared = t.shared;
   subscriptions = t.order.subscriptions;
 }
 

@@ -1,6 +1,7 @@
 //! The broker, one command after another.
 
 ghost use Rattle.std.specs.Prelude.{◌≡◌, ◌+◌, ◌<◌, ◌^◌, ◌↔◌, true, false, IfOk, IfErr, OnOk, OnErr};
+ghost use Rattle.broker_core.specs.Operations.{restarted};
 ghost use Rattle.broker_core.specs.States.{empty_state, held_messages, held_bytes};
 ghost use Rattle.broker_core.specs.Steps.{step, outs};
 
@@ -66,6 +67,28 @@ impl Broker {
         self.count += 1;
         self.broken = false;
         Ok(given)
+    }
+
+    /// Ends every session with its subscriptions, as a stop does, and hands nothing out: what was not acknowledged stands
+    /// in its line again, but for plain subscriptions of topics. `Memory` where memory is refused: part of it may be done
+    /// then, and from then on the answer is `Broken`, which changes nothing.
+    pub fn restart(&mut self, alloc: Global) -> Result<(), BrokerFault>
+        ensures state { OnOk result (self.new.state ≡ restarted self.old.state) }
+        ensures whole { OnOk result ((self.old.broken ≡ false) × (self.new.broken ≡ false)) }
+        ensures broken { IfErr result (λ fault. (fault ≡ BrokerFault.Broken) ↔ (self.old.broken ≡ true)) }
+        ensures same { IfErr result (λ fault. fault ≡ BrokerFault.Broken → self.new ≡ self.old) }
+        ensures err { OnErr result (self.new.broken ≡ true) }
+        ensures count { OnErr result (self.new.state.count ≡ self.old.state.count) }
+    {
+        if self.broken {
+            return Err(BrokerFault::Broken);
+        }
+        self.broken = true;
+        self.tables
+            .restart(alloc, self.count)
+            .map_err(BrokerFault::Memory)?;
+        self.broken = false;
+        Ok(())
     }
 
     /// How many commands it has carried out.

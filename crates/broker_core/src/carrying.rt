@@ -2,9 +2,8 @@
 
 ghost use Rattle.std.specs.Prelude.{◌≡◌, ◌+◌, ◌∷◌, ◌++◌, ◌<◌, ◌^◌, ℕ, [], false, IfOk, IsErr, OnOk};
 ghost use Rattle.command_core.specs.Replies.{connected};
-ghost use Rattle.command_core.specs.declared.command.Op.TheVariants.{Unsubscribe};
 ghost use Rattle.broker_core.specs.HandOut.{settled};
-ghost use Rattle.broker_core.specs.Operations.{carried, client_of, opened, unknown_name};
+ghost use Rattle.broker_core.specs.Operations.{carried, opened};
 ghost use Rattle.broker_core.specs.Parts.{is_end, leaving};
 ghost use Rattle.broker_core.specs.Steps.{accepted_or_ended, answers, is_opening, led_to, outs, outs_to, replies};
 ghost use Rattle.broker_core.specs.Tables.{IsTallied, state_of};
@@ -141,45 +140,12 @@ impl Tables {
                 id,
                 destination,
                 mode,
-                ..
-            } => self.subscribe(alloc, number, session, id, destination, mode),
+                durable,
+            } => self.subscribe(alloc, number, session, id, destination, mode, durable),
             Op::Unsubscribe { id, durable } => {
-                self.end_named(alloc, number, session, id, durable)
+                self.unsubscribe(alloc, number, session, id, durable)
             }
             Op::Note | Op::Open { .. } | Op::End(_) => Ok(Ok(())),
-        }
-    }
-
-    /// The subscription of that id ends; a durable name is known to none.
-    fn end_named(
-        &mut self,
-        alloc: Global,
-        number: u64,
-        session: u64,
-        id: Option<HeaderText>,
-        durable: Option<HeaderText>,
-    ) -> Result<Result<(), Fault>, AllocError>
-        requires tallied { IsTallied number self.old }
-        ensures carried { IfOk result (λ r. carried (state_of number self.old) session (Unsubscribe id durable) ≡ leaving r (state_of number self.new)) }
-        ensures same { IfOk result (λ r. IsErr r → self.new ≡ self.old) }
-        ensures tallied { OnOk result (IsTallied number self.new) }
-    {
-        match durable {
-            None => match id {
-                Some(id) => self.unsubscribe(alloc, number, session, &id),
-                None => Ok(Err(self.unknown_name(session))),
-            },
-            Some(_) => Ok(Err(self.unknown_name(session))),
-        }
-    }
-
-    /// What the end of a durable subscription is refused with, as long as there are none.
-    fn unknown_name(&self, session: u64) -> Fault
-        ensures { (number : ℕ) → result ≡ unknown_name (client_of (state_of number self.now) session) }
-    {
-        match self.sessions.get(&session) {
-            Some(Some(_)) => Fault::DurableSubscription,
-            _ => Fault::NoClientId,
         }
     }
 }

@@ -3,9 +3,9 @@
 ghost use Rattle.std.specs.Prelude.{◌≡◌, ◌+◌, ◌-◌, ◌++◌, ◌<◌, ◌≤◌, ◌^◌, ℕ, List, IfOk, OnOk, Some, drop, false, if◌then◌else◌, length, not, remove, slice_get, true};
 ghost use Rattle.line_core.specs.Flights.{IsOver};
 ghost use Rattle.line_core.specs.Lines.{first_of};
-ghost use Rattle.broker_core.specs.HandOut.{ack_of, can_take, delivered, handed_to, has_room, is_auto, left_line, left_queues, line_for, message_out, settled, waiting};
+ghost use Rattle.broker_core.specs.HandOut.{ack_of, can_take, delivered, handed_to, has_room, is_auto, message_out, settled, waiting};
 ghost use Rattle.broker_core.specs.Lists.{is_none};
-ghost use Rattle.broker_core.specs.States.{State, bytes, weight_of_queues};
+ghost use Rattle.broker_core.specs.States.{State, bytes};
 ghost use Rattle.line_core.specs.declared.message.Message.{Message};
 ghost use Rattle.std.specs.List.{sum_by};
 ghost use Rattle.broker_core.specs.Settles.{SettlesSo};
@@ -13,13 +13,11 @@ ghost use Rattle.command_core.specs.Outs.{OutValue};
 ghost use Rattle.broker_core.specs.Tables.{IsTallied, state_of};
 ghost use Rattle.broker_core.specs.declared.subscription.Subscription.{Subscription};
 
-use crate::queues;
 use crate::subscription::Subscription;
 use crate::tables::{Held, Tables};
-use command_core::{AckMode, Dest, Out, message_reply};
-use line_core::{Line, Message, size};
+use command_core::{AckMode, Out, message_reply};
+use line_core::{Message, size};
 use std::alloc::{AllocError, Global};
-use std::collections::BTreeMap;
 
 /// From this number on nothing is delivered.
 const LAST_DELIVERY: u64 = 1 << 63;
@@ -64,39 +62,6 @@ fn reply(
     } = message;
     let frame = message_reply(alloc, &sub.id, name.command, name.place, ack, sending)?;
     Ok(Out::new(number, sub.session, frame))
-}
-
-/// Whether a message waits for a subscription.
-fn has_message(queues: &BTreeMap<Dest, Line>, sub: &Subscription) -> bool
-    ensures { result ≡ not (is_none (line_for queues.now.entries sub.now)) }
-{
-    if sub.destination.is_queue() {
-        queues::has_some(queues, &sub.destination)
-    } else {
-        !sub.line.is_empty()
-    }
-}
-
-/// Takes the least message for a subscription out of its line, which has one.
-fn take_for(
-    queues: &mut BTreeMap<Dest, Line>,
-    sub: &mut Subscription,
-) -> Result<Message, AllocError>
-    requires { is_none (line_for queues.old.entries sub.old) ≡ false }
-    ensures taken { IfOk result (λ m. first_of (line_for queues.old.entries sub.old) ≡ Some m) }
-    ensures queues { OnOk result (queues.new.entries ≡ left_queues queues.old.entries sub.old (drop 1 (line_for queues.old.entries sub.old))) }
-    ensures weight { OnOk result ((weight : Message → ℕ) → weight_of_queues weight queues.new.entries + sum_by weight sub.new.line
-        + sum_by weight (line_for queues.old.entries sub.old)
-        ≡ weight_of_queues weight queues.old.entries + sum_by weight sub.old.line
-        + sum_by weight (drop 1 (line_for queues.old.entries sub.old))) }
-    ensures line { OnOk result (sub.new ≡ left_line sub.old (drop 1 (line_for queues.old.entries sub.old))) }
-{
-    let message = if sub.destination.is_queue() {
-        queues::take(queues, &sub.destination)?
-    } else {
-        sub.line.take()
-    };
-    Ok(message.unwrap())
 }
 
 /// A message goes to a subscription, by that number of its delivery; gives the MESSAGE. With `auto` it is held no more.
@@ -189,7 +154,7 @@ impl Tables {
             → result ≡ can_take (state_of number self.now) sub }
     {
         let sub = self.order.get(at);
-        self.next_delivery < LAST_DELIVERY && has_room(sub) && has_message(&self.queues, sub)
+        self.next_delivery < LAST_DELIVERY && has_room(sub) && self.shared.has_message(sub)
     }
 
     /// The subscription in that place, which can be served, gets the least message of its line, and then waits last; gives
@@ -208,7 +173,7 @@ impl Tables {
         ensures tallied { OnOk result (IsTallied (number + 1) self.new) }
     {
         let mut sub = self.order.remove(at);
-        let message = take_for(&mut self.queues, &mut sub)?;
+        let message = self.shared.take_for(&mut sub)?;
         let delivery = self.next_delivery;
         let out = deliver(alloc, number, &mut sub, delivery, message, &mut self.held)?;
         self.next_delivery += 1;

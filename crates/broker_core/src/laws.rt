@@ -11,10 +11,13 @@ ghost use Rattle.line_core.specs.Lines.{is_same};
 ghost use Rattle.line_core.specs.declared.message.Message.{Message};
 ghost use Rattle.line_core.specs.declared.message.MessageNumber.{MessageNumber};
 ghost use Rattle.broker_core.specs.declared.subscription.Subscription.{Subscription};
-ghost use Rattle.broker_core.specs.HandOut.{can_take, hand_out, handed, is_auto, line_for, settled};
+ghost use Rattle.broker_core.specs.HandOut.{can_take, hand_out, handed, is_auto, settled};
+ghost use Rattle.broker_core.specs.Kept.{kept_in_queue, kept_under};
 ghost use Rattle.broker_core.specs.Lists.{picked};
-ghost use Rattle.broker_core.specs.Operations.{carried, ended, message_of, spread};
+ghost use Rattle.broker_core.specs.Names.{Name};
+ghost use Rattle.broker_core.specs.Operations.{carried, ended, message_of, restarted, spread};
 ghost use Rattle.broker_core.specs.States.{State, IsInOrder, bytes, empty_state, held_bytes, held_messages, is_open, standing, weight_of};
+ghost use Rattle.broker_core.specs.Waiting.{line_for};
 ghost use Rattle.broker_core.specs.Steps.{answers, done, is_opening, led_to, step, outs, state_after, outs_of};
 
 /// Commands and then others do what the others do after the first, and give the outputs of both in turn.
@@ -25,10 +28,11 @@ pub fn commands_follow_one_another()
         → outs_of s (a ++ b) ≡ outs_of s a ++ outs_of (state_after s a) b }
 {}
 
-/// The first state is in order, and each command keeps it so.
+/// The first state is in order, and each command and each restart keeps it so.
 pub fn states_stay_in_order()
     ensures first { IsInOrder empty_state }
     ensures step { (s : State) (c : CommandValue) → IsInOrder s → IsInOrder (step s c) }
+    ensures restart { (s : State) → IsInOrder s → IsInOrder (restarted s) }
 {}
 
 /// A command of a session that is not open is counted and changes nothing else, and nothing is answered.
@@ -60,7 +64,7 @@ pub fn handing_out_ends()
 /// whatever a message may weigh.
 pub fn deliveries_in_auto_leave_the_state()
     ensures { (weight : Message → ℕ) (s : State) (sub : Subscription) (others : List Subscription) (m : Message) (rest : List Message)
-        → IsInOrder s → picked (can_take s) s.subscriptions ≡ Some (sub, others) → line_for s.queues sub ≡ m ∷ rest
+        → IsInOrder s → picked (can_take s) s.subscriptions ≡ Some (sub, others) → line_for s.shared sub ≡ m ∷ rest
         → (hand_out s ≡ Some (handed s sub others m rest))
         × (weight_of weight (handed s sub others m rest).state + (if is_auto sub.mode then weight m else 0) ≡ weight_of weight s) }
 {}
@@ -90,4 +94,14 @@ pub fn messages_of_queues_are_in_one_place()
         → weight_of weight (step s c) ≤ weight_of weight s }
     ensures reached { (commands : List CommandValue) (number : MessageNumber)
         → count_by (λ m. is_queue m.sending.destination && is_same number m.number) (standing (state_after empty_state commands)) ≤ 1 }
+{}
+
+/// A restart after a restart changes nothing more; it leaves the count, the number of the next delivery, the durable names
+/// with their topics, and what each queue and each durable name keeps.
+pub fn restarts_keep_what_is_kept()
+    ensures again { (s : State) → restarted (restarted s) ≡ restarted s }
+    ensures numbers { (s : State) → ((restarted s).count ≡ s.count) × ((restarted s).next_delivery ≡ s.next_delivery) }
+    ensures names { (s : State) → (restarted s).durables ≡ s.durables }
+    ensures queues { (s : State) (to : List ℕ) → kept_in_queue to (restarted s) ≡ kept_in_queue to s }
+    ensures under { (s : State) (name : Name) → kept_under name (restarted s) ≡ kept_under name s }
 {}

@@ -7,25 +7,28 @@ mod answers;
 mod broker;
 mod carrying;
 mod committing;
+mod durable_name;
 mod fault;
 mod hand_out;
 mod laws;
+mod lines;
 mod order;
-mod queues;
 mod sending;
+mod shared_lines;
 mod subscribing;
 mod subscription;
 mod tables;
 mod trial;
 
 pub use broker::Broker;
+pub use durable_name::DurableName;
 pub use fault::BrokerFault;
 pub use laws::{
     closed_sessions_change_nothing, commands_follow_one_another,
     deliveries_in_auto_leave_the_state, handing_out_ends, held_counts_what_stands,
     messages_have_numbers_of_commands, messages_of_queues_are_in_one_place,
     outputs_have_the_number_of_their_command, refused_operations_end_their_session,
-    states_stay_in_order,
+    restarts_keep_what_is_kept, states_stay_in_order,
 };
 pub use subscription::Subscription;
 pub use tables::Held;

@@ -55,7 +55,8 @@ impl Order {
 
     /// How many there are.
     pub fn len(&self) -> usize
-        ensures { result ≡ length self.now.subscriptions }
+        ensures len { result ≡ length self.now.subscriptions }
+        ensures small { result < 2 ^ 63 }
     {
         self.all.len()
     }

@@ -1,16 +1,17 @@
 //! Subscriptions and sessions begin and end.
 
-ghost use Rattle.std.specs.Prelude.{◌≡◌, ◌+◌, ◌-◌, ◌<◌, ◌≤◌, ◌^◌, ℕ, IfOk, IsErr, MatchOption, OnOk, Some, count_by, fold, length, remove, slice_get};
-ghost use Rattle.std.specs.List.{sum_by};
+ghost use Rattle.std.specs.Prelude.{◌≡◌, ◌+◌, ◌-◌, ◌<◌, ◌≤◌, ◌^◌, [], ℕ, IfOk, IfSome, IsErr, MatchOption, OnOk, Some, count_by, drop, length, remove, slice_get, take};
+ghost use Rattle.std.specs.List.{list_any, sum_by};
 ghost use Rattle.line_core.specs.declared.message.Message.{Message};
-ghost use Rattle.broker_core.specs.Operations.{ended, is_named, is_of, subscribed, unsubscribed, without};
-ghost use Rattle.broker_core.specs.Parts.{IsFirst, NonePass, leaving};
-ghost use Rattle.broker_core.specs.States.{bytes, one, weight_of_queues, with_message};
+ghost use Rattle.command_core.specs.declared.command.Op.TheVariants.{Unsubscribe};
+ghost use Rattle.broker_core.specs.Operations.{begun, carried, client_in, ended, forgotten, given_up_for, is_named, is_of, name_for, restarted, subscribed, uses, with_subscription, without};
+ghost use Rattle.broker_core.specs.Parts.{IsFirst, IsGivenAt, NonePass, but_at, leaving, without_at};
+ghost use Rattle.broker_core.specs.States.{bytes, one};
 ghost use Rattle.broker_core.specs.Tables.{IsTallied, state_of};
 ghost use Rattle.broker_core.specs.declared.subscription.Subscription.{Subscription};
 
+use crate::durable_name::DurableName;
 use crate::order::Order;
-use crate::queues;
 use crate::subscription::Subscription;
 use crate::tables::{Held, Tables};
 use command_core::{AckMode, Dest, Fault, HeaderText};
@@ -20,6 +21,9 @@ use std::collections::BTreeMap;
 
 /// How many subscriptions a session may have.
 const MOST_SUBSCRIPTIONS: usize = 16;
+
+/// How many durable names there may be.
+const MOST_NAMES: usize = 256;
 
 /// Where the subscription of that session and id waits.
 fn find_named(order: &Order, session: u64, id: &HeaderText) -> Option<usize>
@@ -35,6 +39,16 @@ fn find_named(order: &Order, session: u64, id: &HeaderText) -> Option<usize>
     None
 }
 
+/// Where the subscription of that session and id waits, where an id is given.
+fn find_given(order: &Order, session: u64, id: &Option<HeaderText>) -> Option<usize>
+    ensures { IsGivenAt session id.now order.now.subscriptions result }
+{
+    match id {
+        Some(id) => find_named(order, session, id),
+        None => None,
+    }
+}
+
 /// How many subscriptions a session has.
 fn count_of(order: &Order, session: u64) -> usize
     ensures { result ≡ count_by (is_of session) order.now.subscriptions }
@@ -48,22 +62,41 @@ fn count_of(order: &Order, session: u64) -> usize
     count
 }
 
-/// What was delivered to a subscription of that queue and is not acknowledged stands in its line again.
-fn put_back(
-    alloc: Global,
-    queues: &mut BTreeMap<Dest, Line>,
-    to: &Dest,
-    unacknowledged: Vec<(u64, Message)>,
-) -> Result<(), AllocError>
-    ensures returned { OnOk result (queues.new.entries
-        ≡ fold (λ more delivery. with_message to.now delivery.1 more) queues.old.entries unacknowledged.items) }
-    ensures weight { OnOk result ((weight : Message → ℕ) → weight_of_queues weight queues.new.entries
-        ≡ weight_of_queues weight queues.old.entries + sum_by (λ delivery. weight delivery.1) unacknowledged.items) }
+/// Whether the subscription is that of the durable name.
+fn uses(sub: &Subscription, name: &DurableName) -> bool
+    ensures { result ≡ uses name.now sub.now }
 {
-    for (_, message) in unacknowledged {
-        queues::put(alloc, queues, to.clone()?, message)?;
+    match &sub.durable {
+        Some(other) => *name == *other,
+        None => false,
     }
-    Ok(())
+}
+
+/// Whether a subscription in a place from `from` on and before `to` has the durable name.
+fn is_used_between(order: &Order, name: &DurableName, from: usize, to: usize) -> bool
+    requires { (from ≤ to) × (to ≤ length order.now.subscriptions) }
+    ensures { result ≡ list_any (uses name.now) (drop from (take to order.now.subscriptions)) }
+{
+    for at in from..to {
+        if uses(order.get(at), name) {
+            return true;
+        }
+    }
+    false
+}
+
+/// Whether a subscription has the durable name, other than the one in that place where a place is given.
+fn is_used(order: &Order, name: &DurableName, but: Option<usize>) -> bool
+    requires { IfSome but (λ at. at < length order.now.subscriptions) }
+    ensures { result ≡ list_any (uses name.now) (but_at order.now.subscriptions but) }
+{
+    let end = order.len();
+    match but {
+        None => is_used_between(order, name, 0, end),
+        Some(at) => {
+            is_used_between(order, name, 0, at) || is_used_between(order, name, at + 1, end)
+        }
+    }
 }
 
 /// The messages of a line are held no more.
@@ -105,8 +138,38 @@ pub fn let_deliveries_go(held: &mut Held, deliveries: &[(u64, Message)])
 }
 
 impl Tables {
-    /// A subscription begins and waits last. Refused where the session has one of that id, or 16, and then nothing
-    /// changes.
+    /// The name of a session's client, where it has one.
+    fn client_of(&self, session: u64) -> Result<Option<HeaderText>, AllocError>
+        ensures { IfOk result (λ client. client ≡ client_in self.now.sessions.entries session) }
+    {
+        match self.sessions.get(&session) {
+            Some(Some(client)) => Ok(Some(client.clone()?)),
+            _ => Ok(None),
+        }
+    }
+
+    /// The durable name of a session's subscription, where one is given; on a queue it is left away. Refused where the
+    /// session's client has no name.
+    fn name_for(
+        &self,
+        session: u64,
+        destination: &Dest,
+        durable: Option<HeaderText>,
+    ) -> Result<Result<Option<DurableName>, Fault>, AllocError>
+        ensures { IfOk result (λ r. r ≡ name_for (client_in self.now.sessions.entries session) destination.now durable) }
+    {
+        match durable {
+            Some(name) if !destination.is_queue() => match self.client_of(session)? {
+                Some(client) => Ok(Ok(Some(DurableName::new(client, name)))),
+                None => Ok(Err(Fault::NoClientId)),
+            },
+            _ => Ok(Ok(None)),
+        }
+    }
+
+    /// A subscription begins and waits last, under a durable name where one is given. Refused where the session has one of
+    /// that id, or 16; with a durable name, where the session's client has no name, where somebody uses the durable name or
+    /// it is another topic's, and where it were the 257th. Nothing changes then.
     pub fn subscribe(
         &mut self,
         alloc: Global,
@@ -115,10 +178,11 @@ impl Tables {
         id: HeaderText,
         destination: Dest,
         mode: AckMode,
+        durable: Option<HeaderText>,
     ) -> Result<Result<(), Fault>, AllocError>
         requires small { number < 2 ^ 62 }
         requires tallied { IsTallied number self.old }
-        ensures subscribed { IfOk result (λ r. subscribed (state_of number self.old) session id destination mode ≡ leaving r (state_of number self.new)) }
+        ensures subscribed { IfOk result (λ r. subscribed (state_of number self.old) session id destination mode durable ≡ leaving r (state_of number self.new)) }
         ensures same { IfOk result (λ r. IsErr r → self.new ≡ self.old) }
         ensures tallied { OnOk result (IsTallied (number + 1) self.new) }
     {
@@ -128,31 +192,94 @@ impl Tables {
         if count_of(&self.order, session) >= MOST_SUBSCRIPTIONS {
             return Ok(Err(Fault::TooManyEntries));
         }
-        self.order.add(Subscription {
-            session,
-            id,
-            destination,
-            mode,
-            line: Line::new(alloc),
-            unacknowledged: Flight::new(alloc),
-        })?;
+        let durable = match self.name_for(session, &destination, durable)? {
+            Ok(durable) => durable,
+            Err(fault) => return Ok(Err(fault)),
+        };
+        self.begin(
+            number,
+            Subscription {
+                session,
+                id,
+                destination,
+                mode,
+                durable,
+                line: Line::new(alloc),
+                unacknowledged: Flight::new(alloc),
+            },
+        )
+    }
+
+    /// A subscription begins and waits last. Refused where it has a durable name that somebody uses or that is another
+    /// topic's, or that were the 257th, and then nothing changes.
+    fn begin(&mut self, number: u64, sub: Subscription) -> Result<Result<(), Fault>, AllocError>
+        requires small { number < 2 ^ 62 }
+        requires fresh { (sub.line ≡ []) × (sub.unacknowledged ≡ []) }
+        requires tallied { IsTallied number self.old }
+        ensures begun { IfOk result (λ r. begun (state_of number self.old) sub ≡ leaving r (state_of number self.new)) }
+        ensures same { IfOk result (λ r. IsErr r → self.new ≡ self.old) }
+        ensures tallied { OnOk result (IsTallied (number + 1) self.new) }
+    {
+        if let Err(fault) = self.bind(number, &sub)? {
+            return Ok(Err(fault));
+        }
+        self.order.add(sub)?;
         Ok(Ok(()))
     }
 
-    /// The subscription of that id ends. Refused where the session has none, and then nothing changes.
+    /// The durable name of a subscription that is to begin is bound to its topic, unless it has none or the name is bound so
+    /// already. Refused where somebody uses the name or it is another topic's, or it were the 257th, and then nothing
+    /// changes.
+    fn bind(&mut self, number: u64, sub: &Subscription) -> Result<Result<(), Fault>, AllocError>
+        requires tallied { IsTallied number self.old }
+        ensures begun { IfOk result (λ r. begun (state_of number self.old) sub.now ≡ leaving r (with_subscription (state_of number self.new) sub.now)) }
+        ensures order { OnOk result (self.new.order ≡ self.old.order) }
+        ensures same { IfOk result (λ r. IsErr r → self.new ≡ self.old) }
+        ensures tallied { OnOk result (IsTallied number self.new) }
+    {
+        let Some(name) = &sub.durable else {
+            return Ok(Ok(()));
+        };
+        match self.durables.get(name) {
+            Some(topic) => {
+                if *topic != sub.destination || is_used(&self.order, name, None) {
+                    return Ok(Err(Fault::DurableSubscription));
+                }
+                Ok(Ok(()))
+            }
+            None => {
+                if self.durables.len() >= MOST_NAMES {
+                    return Ok(Err(Fault::TooManyEntries));
+                }
+                self.durables
+                    .insert(name.clone()?, sub.destination.clone()?)?;
+                Ok(Ok(()))
+            }
+        }
+    }
+
+    /// The subscription of that id ends, or a durable name of the session's client is given up, with its line; where both
+    /// are given, a subscription of that id ends first, if there is one. Refused where no name is given and the session has
+    /// no subscription of that id; with a name, where the client has none itself, and where the durable name is unknown or
+    /// somebody uses it. Nothing changes then.
     pub fn unsubscribe(
         &mut self,
         alloc: Global,
         number: u64,
         session: u64,
-        id: &HeaderText,
+        id: Option<HeaderText>,
+        durable: Option<HeaderText>,
     ) -> Result<Result<(), Fault>, AllocError>
         requires tallied { IsTallied number self.old }
-        ensures unsubscribed { IfOk result (λ r. unsubscribed (state_of number self.old) session id.now ≡ leaving r (state_of number self.new)) }
+        ensures carried { IfOk result (λ r. carried (state_of number self.old) session (Unsubscribe id durable) ≡ leaving r (state_of number self.new)) }
         ensures same { IfOk result (λ r. IsErr r → self.new ≡ self.old) }
         ensures tallied { OnOk result (IsTallied number self.new) }
     {
-        match find_named(&self.order, session, id) {
+        let at = find_given(&self.order, session, &id);
+        if let Some(name) = durable {
+            return self.give_up(alloc, number, session, at, name);
+        }
+        match at {
             None => Ok(Err(Fault::UnknownSubscription)),
             Some(at) => {
                 self.end_one(alloc, number, at)?;
@@ -161,8 +288,69 @@ impl Tables {
         }
     }
 
-    /// The subscription in that place ends: what waits in its own line is held no more, nor what it has not acknowledged of
-    /// a topic; what it has not acknowledged of a queue stands there again.
+    /// The subscription in that place ends, where one is given, and then a durable name of the session's client is given
+    /// up, with its line. Refused where the client has no name itself, and where the durable name is unknown or another
+    /// subscription uses it; then nothing changes.
+    fn give_up(
+        &mut self,
+        alloc: Global,
+        number: u64,
+        session: u64,
+        at: Option<usize>,
+        name: HeaderText,
+    ) -> Result<Result<(), Fault>, AllocError>
+        requires tallied { IsTallied number self.old }
+        requires place { IfSome at (λ i. i < length self.old.order.subscriptions) }
+        ensures given_up { IfOk result (λ r. given_up_for (without_at (state_of number self.old) at) (client_in self.old.sessions.entries session) name ≡ leaving r (state_of number self.new)) }
+        ensures same { IfOk result (λ r. IsErr r → self.new ≡ self.old) }
+        ensures tallied { OnOk result (IsTallied number self.new) }
+    {
+        let Some(client) = self.client_of(session)? else {
+            return Ok(Err(Fault::NoClientId));
+        };
+        let name = DurableName::new(client, name);
+        if !self.durables.contains_key(&name) {
+            return Ok(Err(Fault::DurableSubscription));
+        }
+        if is_used(&self.order, &name, at) {
+            return Ok(Err(Fault::DurableSubscription));
+        }
+        self.end_given(alloc, number, at)?;
+        self.forget(alloc, number, &name);
+        Ok(Ok(()))
+    }
+
+    /// The subscription in that place ends, where a place is given.
+    fn end_given(
+        &mut self,
+        alloc: Global,
+        number: u64,
+        at: Option<usize>,
+    ) -> Result<(), AllocError>
+        requires tallied { IsTallied number self.old }
+        requires place { IfSome at (λ i. i < length self.old.order.subscriptions) }
+        ensures ended { OnOk result (state_of number self.new ≡ without_at (state_of number self.old) at) }
+        ensures tallied { OnOk result (IsTallied number self.new) }
+    {
+        match at {
+            Some(at) => self.end_one(alloc, number, at),
+            None => Ok(()),
+        }
+    }
+
+    /// A durable name is known no more, and what waits in its line is held no more.
+    fn forget(&mut self, alloc: Global, number: u64, name: &DurableName)
+        requires tallied { IsTallied number self.old }
+        ensures forgotten { state_of number self.new ≡ forgotten (state_of number self.old) name.now }
+        ensures tallied { IsTallied number self.new }
+    {
+        self.durables.remove(name);
+        let line = self.shared.forget(alloc, name);
+        let_line_go(&mut self.held, line);
+    }
+
+    /// The subscription in that place ends: what it has not acknowledged stands in its line again, unless the line was its
+    /// own; what vanishes with it is held no more.
     fn end_one(&mut self, alloc: Global, number: u64, at: usize) -> Result<(), AllocError>
         requires tallied { IsTallied number self.old }
         requires place { at < length self.old.order.subscriptions }
@@ -171,12 +359,9 @@ impl Tables {
         ensures tallied { OnOk result (IsTallied number self.new) }
     {
         let sub = self.order.remove(at);
-        let deliveries = sub.unacknowledged.into_vec();
-        let_line_go(&mut self.held, sub.line);
-        if sub.destination.is_queue() {
-            return put_back(alloc, &mut self.queues, &sub.destination, deliveries);
-        }
-        let_deliveries_go(&mut self.held, deliveries.as_slice());
+        let gone = self.shared.take_back(alloc, sub)?;
+        let_line_go(&mut self.held, gone.line);
+        let_deliveries_go(&mut self.held, gone.deliveries.as_slice());
         Ok(())
     }
 
@@ -195,6 +380,19 @@ impl Tables {
             }
         }
         self.sessions.remove(&session);
+        Ok(())
+    }
+
+    /// Every session ends, with all subscriptions.
+    pub fn restart(&mut self, alloc: Global, number: u64) -> Result<(), AllocError>
+        requires tallied { IsTallied number self.old }
+        ensures restarted { OnOk result (state_of number self.new ≡ restarted (state_of number self.old)) }
+        ensures tallied { OnOk result (IsTallied number self.new) }
+    {
+        while self.order.len() > 0 {
+            self.end_one(alloc, number, 0)?;
+        }
+        self.sessions = BTreeMap::new(alloc);
         Ok(())
     }
 }

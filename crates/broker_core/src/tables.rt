@@ -1,12 +1,13 @@
-//! What the broker keeps: the sessions, the queues and the subscriptions, and how much is held.
+//! What the broker keeps: sessions, durable names, lines and subscriptions, and how much is held.
 
 ghost use Rattle.broker_core.specs.States.{empty_state};
 ghost use Rattle.broker_core.specs.Tables.{IsTallied, state_of};
 ghost use Rattle.std.specs.Prelude.{◌≡◌};
 
+use crate::durable_name::DurableName;
 use crate::order::Order;
+use crate::shared_lines::SharedLines;
 use command_core::{Dest, HeaderText};
-use line_core::Line;
 use std::alloc::Global;
 use std::collections::BTreeMap;
 
@@ -19,13 +20,15 @@ pub struct Held {
     pub bytes: u64,
 }
 
-/// The open sessions, the queues with messages and the subscriptions, and how much is held, so that nobody needs to
-/// count it.
+/// The open sessions, the durable names, the lines that stay and the subscriptions, and how much is held, so that nobody
+/// needs to count it.
 #[derive(Debug, Drop)]
 pub struct Tables {
     pub next_delivery: u64,
     pub sessions: BTreeMap<u64, Option<HeaderText>>,
-    pub queues: BTreeMap<Dest, Line>,
+    /// The topic of each durable name.
+    pub durables: BTreeMap<DurableName, Dest>,
+    pub shared: SharedLines,
     pub order: Order,
     pub held: Held,
 }
@@ -38,7 +41,8 @@ impl Tables {
         Tables {
             next_delivery: 0,
             sessions: BTreeMap::new(alloc),
-            queues: BTreeMap::new(alloc),
+            durables: BTreeMap::new(alloc),
+            shared: SharedLines::new(alloc),
             order: Order::new(alloc),
             held: Held {
                 messages: 0,

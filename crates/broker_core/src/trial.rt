@@ -13,7 +13,6 @@ ghost use Rattle.broker_core.specs.Tables.{IsTallied, state_of};
 ghost use Rattle.broker_core.specs.Trials.{Leads, StandsFor, bytes_in, deliveries_in, flights_of, has, left_by};
 
 use crate::order::Order;
-use crate::queues;
 use crate::sending::{copies_to, find_room};
 use crate::tables::{Held, Tables};
 use command_core::{AckMode, Fault, Member};
@@ -154,13 +153,13 @@ fn try_member(
     tables: &Tables,
     member: &Member,
 ) -> Result<Result<(), Fault>, AllocError>
-    requires { (session : ℕ) × (s : State) × StandsFor session tables.now.order.subscriptions trial.old s }
-    ensures { IfOk result (λ r. (session place : ℕ) (s : State) → StandsFor session tables.now.order.subscriptions trial.old s
-        → Leads session tables.now.order.subscriptions trial.new r (applied s session place member.now)) }
+    requires { (session : ℕ) × (s : State) × StandsFor session tables.now.durables.entries tables.now.order.subscriptions trial.old s }
+    ensures { IfOk result (λ r. (session place : ℕ) (s : State) → StandsFor session tables.now.durables.entries tables.now.order.subscriptions trial.old s
+        → Leads session tables.now.durables.entries tables.now.order.subscriptions trial.new r (applied s session place member.now)) }
 {
     match member {
         Member::Send(sending) => {
-            let copies = copies_to(&tables.order, sending.destination());
+            let copies = copies_to(tables, sending.destination());
             Ok(try_send(trial, copies, size(sending) as u64))
         }
         Member::Ack(delivery) | Member::Nack(delivery) => try_acknowledge(trial, *delivery),
@@ -170,9 +169,9 @@ fn try_member(
 /// The trial before the first member.
 fn begin(alloc: Global, tables: &Tables, number: u64, session: u64) -> Result<Trial, AllocError>
     requires { IsTallied number tables.now }
-    ensures { IfOk result (λ trial. StandsFor session tables.now.order.subscriptions trial (state_of number tables.now)) }
+    ensures { IfOk result (λ trial. StandsFor session tables.now.durables.entries tables.now.order.subscriptions trial (state_of number tables.now)) }
 {
-    queues::stand_in_order(&tables.queues);
+    tables.shared.stand_in_order();
     let flights = flights_of(alloc, &tables.order, session)?;
     Ok(Trial {
         held: tables.held,

@@ -4,6 +4,7 @@ ghost use Rattle.std.specs.Prelude.{◌≡◌, ◌↔◌, IsTrue};
 ghost use Rattle.command_core.specs.Texts.{IsHeaderText};
 
 use frame_core::Text;
+use std::cmp::Ordering;
 use std::marker::Model;
 
 /// A text that may stand in a header: UTF-8 without NUL, at most 8,192 bytes. Contracts see it as the list of its
@@ -74,4 +75,37 @@ impl Eq for HeaderText {
     ghost use Rattle.std.proofs.lemmas.Cmp.{nat_list_eq_equiv};
 
     ghost laws = { nat_list_eq_equiv };
+}
+
+impl PartialOrd for HeaderText {
+    ghost use Rattle.std.specs.Prelude.{Some};
+    ghost use Rattle.std.specs.Cmp.Lexicographic.{slice_cmp, texts_po};
+    ghost use Rattle.std.specs.Ordering.{nat_cmp};
+
+    ghost partial_cmp = { λ x y. Some (slice_cmp nat_cmp x y) };
+
+    ghost laws = { texts_po };
+
+    fn partial_cmp(&self, other: &HeaderText) -> Option<Ordering> {
+        Some(self.cmp(other))
+    }
+}
+
+impl Ord for HeaderText {
+    ghost use Rattle.std.specs.Prelude.{refl};
+    ghost use Rattle.std.specs.Cmp.Lexicographic.{slice_cmp, texts_ties};
+    ghost use Rattle.std.specs.Ordering.{nat_cmp};
+    ghost use Rattle.std.proofs.lemmas.Cmp.{nat_list_cmp_total};
+
+    ghost cmp = { slice_cmp nat_cmp };
+
+    ghost total = { nat_list_cmp_total };
+
+    ghost matches_partial_cmp = { λ x y. refl };
+
+    ghost matches_eq = { texts_ties };
+
+    fn cmp(&self, other: &HeaderText) -> Ordering {
+        self.text.cmp(&other.text)
+    }
 }

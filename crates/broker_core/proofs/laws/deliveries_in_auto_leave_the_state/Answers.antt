@@ -5,4 +5,4 @@ use Rattle.broker_core.proofs.laws.deliveries_in_auto_leave_the_state.Goals as g
 
 pub returns : goal.returns
 returns c = λ weight s sub others m rest order is line.
-    (ap (handed_to s) is ∙ ap (handed_from s sub others) line, handed_weight weight s sub others m rest order.queues is line)
+    (ap (handed_to s) is ∙ ap (handed_from s sub others) line, handed_weight weight s sub others m rest (record { names = order.names; queues = order.queues }) is line)

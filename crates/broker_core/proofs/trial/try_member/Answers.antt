@@ -9,6 +9,7 @@ use Rattle.command_core.specs.declared.member.Member.TheVariants.{Ack, Nack}
 use Rattle.broker_core.specs.declared.subscription.Subscription.{Subscription}
 use Rattle.broker_core.specs.declared.trial.Trial.{Trial}
 use Rattle.broker_core.specs.Lists.{with_first}
+use Rattle.broker_core.specs.Names.{Name}
 use Rattle.broker_core.specs.Operations.{acknowledged, applied}
 use Rattle.broker_core.specs.Parts.{copies_to}
 use Rattle.broker_core.specs.States.{State}
@@ -18,22 +19,23 @@ use Rattle.broker_core.proofs.trial.try_member.Goals as goal
 
 pub try_acknowledge-requires-clause-messages : goal.try_acknowledge-requires-clause-messages
 try_acknowledge-requires-clause-messages c =
-    few_held c.requires.0 c.args.tables.now.order.subscriptions c.args.trial.now c.args.trial.now c.requires.1 c.requires.2
+    few_held c.requires.0 c.args.tables.now.durables.entries c.args.tables.now.order.subscriptions c.args.trial.now c.args.trial.now c.requires.1 c.requires.2
 
 pub try_acknowledge-requires-clause-bytes : goal.try_acknowledge-requires-clause-bytes
 try_acknowledge-requires-clause-bytes c =
-    small_held c.requires.0 c.args.tables.now.order.subscriptions c.args.trial.now c.args.trial.now c.requires.1 c.requires.2
+    small_held c.requires.0 c.args.tables.now.durables.entries c.args.tables.now.order.subscriptions c.args.trial.now c.args.trial.now c.requires.1 c.requires.2
 
 pub returns-in-Send : goal.returns-in-Send
 returns-in-Send c session place s stands =
+    let durables = c.args.tables.now.durables.entries in
     let subs = c.args.tables.now.order.subscriptions in
-    let copies = c.copies_to-copies.ensures ∙ ap (λ (to : List ℕ). copies_to to subs) c.destination.ensures.value in
-    subst (λ (m : Member). Leads session subs c.try_send.new.trial c.try_send.result (applied s session place m)) (sym c.in-Send.is) (send_leads session subs c.args.trial.now c.try_send.new.trial s stands place c.in-Send.sending c.copies_to-copies.result c.size.result copies c.size.ensures.size c.try_send.ensures.flights c.try_send.result c.try_send.ensures.answer c.try_send.ensures.messages c.try_send.ensures.bytes)
+    let copies = c.copies_to-copies.ensures ∙ ap (λ (to : List ℕ). copies_to to durables subs) c.destination.ensures.value in
+    subst (λ (m : Member). Leads session durables subs c.try_send.new.trial c.try_send.result (applied s session place m)) (sym c.in-Send.is) (send_leads session durables subs c.args.trial.now c.try_send.new.trial s stands place c.in-Send.sending c.copies_to-copies.result c.size.result copies c.size.ensures.size c.try_send.ensures.flights c.try_send.result c.try_send.ensures.answer c.try_send.ensures.messages c.try_send.ensures.bytes)
 
-given : (subs : List Subscription) (old new : Trial) (delivery : ℕ) (outer : Result (Result (Unit {0}) Fault) AllocError) → IfOk outer (λ r. r ≡ cond (list_any (has delivery) old.flights.items) (Ok tt) (Err UnknownAcknowledgement)) → OnOk outer (new.flights.items ≡ with_first (has delivery) (left_by delivery) old.flights.items) → OnOk outer (new.held.messages + deliveries_in old.flights.items ≡ old.held.messages + deliveries_in new.flights.items) → OnOk outer (new.held.bytes + bytes_in old.flights.items ≡ old.held.bytes + bytes_in new.flights.items) → OnOk outer (new.held.messages ≤ old.held.messages) → OnOk outer (new.held.bytes ≤ old.held.bytes) → IfOk outer (λ r. (session place : ℕ) (s : State) → StandsFor session subs old s → Leads session subs new r (acknowledged s session delivery))
-given subs old new delivery (Ok r) answer flights messages held fewer smaller = λ session place s stands.
-    acknowledge_leads session subs old new s stands delivery flights messages held fewer smaller r answer
-given subs old new delivery (Err refused) answer flights messages held fewer smaller = tt
+given : (durables : List (Name × List ℕ)) (subs : List Subscription) (old new : Trial) (delivery : ℕ) (outer : Result (Result (Unit {0}) Fault) AllocError) → IfOk outer (λ r. r ≡ cond (list_any (has delivery) old.flights.items) (Ok tt) (Err UnknownAcknowledgement)) → OnOk outer (new.flights.items ≡ with_first (has delivery) (left_by delivery) old.flights.items) → OnOk outer (new.held.messages + deliveries_in old.flights.items ≡ old.held.messages + deliveries_in new.flights.items) → OnOk outer (new.held.bytes + bytes_in old.flights.items ≡ old.held.bytes + bytes_in new.flights.items) → OnOk outer (new.held.messages ≤ old.held.messages) → OnOk outer (new.held.bytes ≤ old.held.bytes) → IfOk outer (λ r. (session place : ℕ) (s : State) → StandsFor session durables subs old s → Leads session durables subs new r (acknowledged s session delivery))
+given durables subs old new delivery (Ok r) answer flights messages held fewer smaller = λ session place s stands.
+    acknowledge_leads session durables subs old new s stands delivery flights messages held fewer smaller r answer
+given durables subs old new delivery (Err refused) answer flights messages held fewer smaller = tt
 
 is_acknowledged : (s : State) (session place delivery : ℕ) (m : Member) → (m ≡ Ack delivery) ⊎ (m ≡ Nack delivery) → acknowledged s session delivery ≡ applied s session place m
 is_acknowledged s session place delivery m (inl is) = sym (ap (applied s session place) is)
@@ -41,8 +43,9 @@ is_acknowledged s session place delivery m (inr is) = sym (ap (applied s session
 
 pub returns-in-Ack : goal.returns-in-Ack
 returns-in-Ack c =
+    let durables = c.args.tables.now.durables.entries in
     let subs = c.args.tables.now.order.subscriptions in
     let told = c.try_acknowledge.ensures in
     let old = c.args.trial.now in
     let new = c.try_acknowledge.new.trial in
-    IfOk-weaker c.try_acknowledge.result (λ r. (session place : ℕ) (s : State) → StandsFor session subs old s → Leads session subs new r (acknowledged s session c.in-Ack.delivery)) _ (λ r leads session place s stands. subst (Leads session subs new r) (is_acknowledged s session place c.in-Ack.delivery c.args.member.now c.in-Ack.is) (leads session place s stands)) (given subs old new c.in-Ack.delivery c.try_acknowledge.result told.answer told.flights told.messages told.bytes told.fewer told.smaller)
+    IfOk-weaker c.try_acknowledge.result (λ r. (session place : ℕ) (s : State) → StandsFor session durables subs old s → Leads session durables subs new r (acknowledged s session c.in-Ack.delivery)) _ (λ r leads session place s stands. subst (Leads session durables subs new r) (is_acknowledged s session place c.in-Ack.delivery c.args.member.now c.in-Ack.is) (leads session place s stands)) (given durables subs old new c.in-Ack.delivery c.try_acknowledge.result told.answer told.flights told.messages told.bytes told.fewer told.smaller)

@@ -7,4 +7,4 @@ use Rattle.broker_core.proofs.trial.try_members.Given as goal
 
 abbrev pub invariant-loop-member : goal.invariant-loop-member
 invariant-loop-member l =
-    (s : State) × StandsFor l.session l.tables.order.subscriptions l.trial s × (committed s l.session l.member-index (drop l.member-index l.members) ≡ committed (state_of l.number l.tables) l.session 0 l.members)
+    (s : State) × StandsFor l.session l.tables.durables.entries l.tables.order.subscriptions l.trial s × (committed s l.session l.member-index (drop l.member-index l.members) ≡ committed (state_of l.number l.tables) l.session 0 l.members)

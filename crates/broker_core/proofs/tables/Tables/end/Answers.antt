@@ -26,7 +26,8 @@ loop-at-preserved-in-Continue-1 c =
     record {
       tallied = c.in_ok-end_one.ensures.tallied;
       before = left.before;
-      queues = left.queues ∙ c.loop-at.invariant.queues;
+      shared = left.shared ∙ c.loop-at.invariant.shared;
+      durables = ap (λ (s : State). s.durables) ended ∙ c.loop-at.invariant.durables;
       others = left.others ∙ c.loop-at.invariant.others;
       sessions = ap (λ (s : State). s.sessions) ended ∙ c.loop-at.invariant.sessions;
       next = ap (λ (s : State). s.next_delivery) ended ∙ c.loop-at.invariant.next;
@@ -39,7 +40,8 @@ loop-at-preserved c =
     record {
       tallied = c.loop-at.invariant.tallied;
       before = none_more (is_of c.args.session) c.loop-at.self.order.subscriptions c.loop-at.at sub c.get.ensures other c.loop-at.invariant.before;
-      queues = c.loop-at.invariant.queues;
+      shared = c.loop-at.invariant.shared;
+      durables = c.loop-at.invariant.durables;
       others = c.loop-at.invariant.others;
       sessions = c.loop-at.invariant.sessions;
       next = c.loop-at.invariant.next;
@@ -48,4 +50,4 @@ loop-at-preserved c =
 pub returns-clause-ended : goal.returns-clause-ended
 returns-clause-ended c =
     let inv = c.loop-at.invariant in
-    ended_none c.args.session (state_of c.args.number c.args.self.now) _ refl inv.next (c.remove.ensures.entries ∙ ap (remove_entry (is_at (nat_cmp c.args.session))) inv.sessions) inv.queues inv.others (none_all (is_of c.args.session) c.loop-at.self.order.subscriptions c.loop-at.at (omega arith) inv.before)
+    ended_none c.args.session (state_of c.args.number c.args.self.now) _ refl inv.next (c.remove.ensures.entries ∙ ap (remove_entry (is_at (nat_cmp c.args.session))) inv.sessions) inv.durables inv.shared inv.others (none_all (is_of c.args.session) c.loop-at.self.order.subscriptions c.loop-at.at (omega arith) inv.before)

@@ -1,14 +1,16 @@
 use Rattle.std.proofs.Common.{◌≡◌, ◌-◌, filter, fold, length, not, take}
-use Rattle.broker_core.specs.Operations.{is_of, returned}
+use Rattle.broker_core.specs.Operations.{is_of}
 use Rattle.broker_core.specs.Parts.{NonePass}
 use Rattle.broker_core.specs.Tables.{IsTallied}
+use Rattle.broker_core.specs.Waiting.{returned}
 use Rattle.broker_core.proofs.tables.Tables.end.Given as goal
 
 abbrev pub invariant-loop-at : goal.invariant-loop-at
 invariant-loop-at l = record {
   tallied : IsTallied l.number l.self;
   before : NonePass (is_of l.session) (take l.at l.self.order.subscriptions);
-  queues : fold returned l.self.queues.entries (filter (is_of l.session) l.self.order.subscriptions) ≡ fold returned l.fn.self.queues.entries (filter (is_of l.session) l.fn.self.order.subscriptions);
+  durables : l.self.durables.entries ≡ l.fn.self.durables.entries;
+  shared : fold returned l.self.shared (filter (is_of l.session) l.self.order.subscriptions) ≡ fold returned l.fn.self.shared (filter (is_of l.session) l.fn.self.order.subscriptions);
   others : filter (λ sub. not (is_of l.session sub)) l.self.order.subscriptions ≡ filter (λ sub. not (is_of l.session sub)) l.fn.self.order.subscriptions;
   sessions : l.self.sessions.entries ≡ l.fn.self.sessions.entries;
   next : l.self.next_delivery ≡ l.fn.self.next_delivery;

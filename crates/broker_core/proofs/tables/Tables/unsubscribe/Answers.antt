@@ -1,12 +1,24 @@
+use Rattle.std.proofs.Common.{◌∙◌, ap}
+use Rattle.std.proofs.lemmas.Result.{IfOk-weaker}
+use Rattle.command_core.specs.declared.command.Op.TheVariants.{Unsubscribe}
+use Rattle.broker_core.specs.Operations.{carried, client_in, given_up_for}
+use Rattle.broker_core.specs.States.{State}
 use Rattle.broker_core.specs.Tables.{state_of}
-use Rattle.broker_core.proofs.Operating.{unsubscribed_first, unsubscribed_none}
+use Rattle.broker_core.proofs.Operating.{ended_nowhere, ended_somewhere, without_given}
 use Rattle.broker_core.proofs.tables.Tables.unsubscribe.Goals as goal
 
-pub returns-in-None-clause-unsubscribed : goal.returns-in-None-clause-unsubscribed
-returns-in-None-clause-unsubscribed c =
-    unsubscribed_none (state_of c.args.number c.args.self.now) c.args.session c.args.id.now c.in-None.ensures
+pub returns-in-None-clause-carried : goal.returns-in-None-clause-carried
+returns-in-None-clause-carried c =
+    let s = state_of c.args.number c.args.self.now in
+    ap (λ o. carried s c.args.session (Unsubscribe c.args.id o)) c.in_default.is ∙ ended_nowhere s c.args.session c.args.id c.in-None.ensures
 
-pub returns-in_ok-end_one-in-Some-clause-unsubscribed :
-    goal.returns-in_ok-end_one-in-Some-clause-unsubscribed
-returns-in_ok-end_one-in-Some-clause-unsubscribed c =
-    unsubscribed_first (state_of c.args.number c.args.self.now) c.args.session c.args.id.now (state_of c.args.number c.end_one.new.self) c.in-Some.at c.in-Some.ensures c.in_ok-end_one-in-Some.ensures.ended
+pub returns-in-Some-clause-carried : goal.returns-in-Some-clause-carried
+returns-in-Some-clause-carried c =
+    let s = state_of c.args.number c.args.self.now in
+    let left = ap (λ (t : State). given_up_for t (client_in c.args.self.now.sessions.entries c.args.session) c.in-Some.name) (without_given s c.args.session c.args.id c.find_given-at.result c.find_given-at.ensures) in
+    IfOk-weaker c.give_up.result _ _ (λ r is. ap (λ o. carried s c.args.session (Unsubscribe c.args.id o)) c.in-Some.is ∙ left ∙ is) c.give_up.ensures.given_up
+
+pub returns-clause-carried : goal.returns-clause-carried
+returns-clause-carried c =
+    let s = state_of c.args.number c.args.self.now in
+    ap (λ o. carried s c.args.session (Unsubscribe c.args.id o)) c.in_default.is ∙ ended_somewhere s (state_of c.args.number c.end_one.new.self) c.args.session c.args.id c.in-Some-at.at c.in-Some-at.ensures c.in_ok-end_one-in-Some-at.ensures.ended
