@@ -124,17 +124,28 @@ fn a_command_is_written_as_its_record(rt: HostRuntime) -> Result<(), Fail> {
     Ok(())
 }
 
+fn read(alloc: Global, bytes: &[u8]) -> Result<(Command, usize), DecodeFault> {
+    decode(alloc, bytes)
+}
+
+fn is_greeting(command: &Command) -> bool {
+    let Some(receipt) = command.receipt() else {
+        return false;
+    };
+    let Op::Send(sending) = command.op() else {
+        return false;
+    };
+    command.session() == 0
+        && receipt.as_str() == "r1"
+        && sending.destination().as_str() == "/queue/a"
+        && sending.headers().as_slice().is_empty()
+        && sending.body().as_slice() == b"hi".as_slice()
+}
+
 #[test]
 fn a_record_is_read_as_its_command(rt: HostRuntime) -> Result<(), Fail> {
-    let (command, length) = decode(rt.alloc(), GREETING)?;
-    assert!(rt; length == 36 && command.session() == 0);
-    let (_, op, receipt) = command.into_parts();
-    assert!(rt; receipt.is_some_and(|id| id.as_str() == "r1"));
-    let Op::Send(sending) = op else {
-        return Err(Fail::from("a Send is read"));
-    };
-    assert_eq!(rt; sending.destination().as_str(), "/queue/a");
-    assert_eq!(rt; sending.body().as_slice(), b"hi".as_slice());
+    let (command, length) = read(rt.alloc(), GREETING)?;
+    assert!(rt; length == 36 && is_greeting(&command));
     Ok(())
 }
 
