@@ -11,6 +11,7 @@ pub enum DecodeFault {
     /// No front of the bytes is the record of a command.
     #[error("bytes that are no command")]
     NoSpelling,
+    /// Memory was refused.
     #[error("no memory")]
     Memory(AllocError),
 }

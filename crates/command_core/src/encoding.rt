@@ -1,10 +1,8 @@
 //! The record of a command: how it stands in the journal.
 
-ghost use Rattle.std.specs.Prelude.{◌≡◌, ◌<◌, ◌≤◌, ◌^◌, ◌++◌, IfOk, IfSome, OnOk, length};
+ghost use Rattle.std.specs.Prelude.{◌≡◌, ◌≤◌, ◌++◌, IfOk, OnOk, length};
 ghost use Rattle.std.specs.List.{AllByRecursion};
-ghost use Rattle.command_core.specs.Sendings.{IsKept};
-ghost use Rattle.command_core.specs.Sizes.{text_size, option_size};
-ghost use Rattle.command_core.specs.Spellings.{Spells, IsText, IsSent, IsMember, IsOperation, AreBytes, AreTexts, counted, optional};
+ghost use Rattle.command_core.specs.Spellings.{Spells, IsMember, IsOperation};
 ghost use Rattle.command_core.specs.Spellings as records;
 ghost use Rattle.command_core.specs.declared.command.Op.TheVariants.{Subscribe};
 
@@ -13,71 +11,9 @@ use crate::command::{Command, End, Op};
 use crate::destination::Dest;
 use crate::header_text::HeaderText;
 use crate::member::Member;
-use crate::sending::Sending;
 use crate::sizes::{op_size, option_size};
-use frame_core::Text;
+use crate::writing::{mode_byte, put_destination, put_optional, put_sending, put_text};
 use std::alloc::{AllocError, Global};
-
-fn put_counted(out: &mut Vec<u8>, bytes: &[u8]) -> Result<(), AllocError>
-    requires { length bytes.now < 2 ^ 32 }
-    ensures put { OnOk result (out.new.items ≡ out.old.items ++ counted bytes.now) }
-    ensures form { AreBytes bytes.now }
-{
-    out.extend_from_slice(&(bytes.len() as u32).to_be_bytes())?;
-    out.extend_from_slice(bytes)
-}
-
-fn put_text(out: &mut Vec<u8>, text: &HeaderText) -> Result<(), AllocError>
-    ensures put { OnOk result (out.new.items ≡ out.old.items ++ counted text.now) }
-    ensures form { IsText text.now }
-{
-    put_counted(out, text.as_str().as_bytes())
-}
-
-fn put_optional(out: &mut Vec<u8>, text: &Option<HeaderText>) -> Result<(), AllocError>
-    ensures put { OnOk result (out.new.items ≡ out.old.items ++ optional text.now) }
-    ensures form { OnOk result (IfSome text.now IsText) }
-{
-    match text {
-        None => Ok(out.push(0)?),
-        Some(text) => {
-            out.push(1)?;
-            put_text(out, text)
-        }
-    }
-}
-
-fn put_header(out: &mut Vec<u8>, name: &Text, value: &Text) -> Result<(), AllocError>
-    requires kept { IsKept (name.now, value.now) }
-    ensures put { OnOk result (out.new.items ≡ out.old.items ++ records.pair (name.now, value.now)) }
-    ensures form { IsText name.now × IsText value.now }
-{
-    let (name, value) = (name.as_str(), value.as_str());
-    put_counted(out, name.as_bytes())?;
-    put_counted(out, value.as_bytes())
-}
-
-fn put_headers(out: &mut Vec<u8>, headers: &[(Text, Text)]) -> Result<(), AllocError>
-    requires few { length headers.now ≤ 64 }
-    requires each { AllByRecursion IsKept headers.now }
-    ensures put { OnOk result (out.new.items ≡ out.old.items ++ records.headers headers.now) }
-    ensures form { OnOk result (AllByRecursion AreTexts headers.now) }
-{
-    out.extend_from_slice(&(headers.len() as u16).to_be_bytes())?;
-    for (name, value) in headers {
-        put_header(out, name, value)?;
-    }
-    Ok(())
-}
-
-fn put_sending(out: &mut Vec<u8>, sending: &Sending) -> Result<(), AllocError>
-    ensures put { OnOk result (out.new.items ≡ out.old.items ++ records.sending sending.now) }
-    ensures form { OnOk result (IsSent sending.now) }
-{
-    put_counted(out, sending.destination().as_str().as_bytes())?;
-    put_headers(out, sending.headers().as_slice())?;
-    put_counted(out, sending.body().as_slice())
-}
 
 fn put_member(out: &mut Vec<u8>, member: &Member) -> Result<(), AllocError>
     ensures put { OnOk result (out.new.items ≡ out.old.items ++ records.member member.now) }
@@ -111,16 +47,6 @@ fn put_members(out: &mut Vec<u8>, members: &[Member]) -> Result<(), AllocError>
     Ok(())
 }
 
-fn mode_byte(mode: AckMode) -> u8
-    ensures { result ≡ records.mode_byte mode }
-{
-    match mode {
-        AckMode::Auto => 0,
-        AckMode::Client => 1,
-        AckMode::ClientIndividual => 2,
-    }
-}
-
 fn put_end(out: &mut Vec<u8>, end: End) -> Result<(), AllocError>
     ensures { OnOk result (out.new.items ≡ out.old.items ++ records.end end) }
 {
@@ -143,7 +69,7 @@ fn put_subscription(
 {
     out.push(3)?;
     put_text(out, id)?;
-    put_counted(out, destination.as_str().as_bytes())?;
+    put_destination(out, destination)?;
     out.push(mode_byte(mode))?;
     put_optional(out, durable)
 }

@@ -18,6 +18,7 @@ mod reading;
 mod replies;
 mod sending;
 mod sizes;
+mod writing;
 
 pub use ack_mode::AckMode;
 pub use command::{Command, End, Op};

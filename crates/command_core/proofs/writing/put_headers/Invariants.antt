@@ -2,7 +2,7 @@ use Rattle.std.proofs.Common.{◌≡◌, ◌++◌, length, take}
 use Rattle.std.specs.Int.{w16, to_be_bytes}
 use Rattle.std.specs.List.{AllByRecursion, flat_map}
 use Rattle.command_core.specs.Spellings.{AreTexts, pair}
-use Rattle.command_core.proofs.encoding.put_headers.Given as goal
+use Rattle.command_core.proofs.writing.put_headers.Given as goal
 
 abbrev pub invariant-loop-name : goal.invariant-loop-name
 invariant-loop-name l = record {

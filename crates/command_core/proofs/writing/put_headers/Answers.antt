@@ -3,7 +3,7 @@ use Rattle.std.proofs.Common.{length}
 use Rattle.command_core.specs.Sendings.{IsKept}
 use Rattle.command_core.specs.Spellings.{AreTexts, pair}
 use Rattle.command_core.proofs.Walks.{all_at, all_more, put_more}
-use Rattle.command_core.proofs.encoding.put_headers.Goals as goal
+use Rattle.command_core.proofs.writing.put_headers.Goals as goal
 
 pub put_header-requires : goal.put_header-requires
 put_header-requires c =
