@@ -185,6 +185,7 @@ module _ (weight : Message → ℕ) where
       where
         mine : Name
         mine = (client, name)
+
         by : (b : Bool) → GivesKept weight most spare number (if b then Ok (forgotten s mine) else Err DurableSubscription)
         by true =
             record {
