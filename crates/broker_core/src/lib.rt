@@ -40,4 +40,6 @@ pub use subscription::Subscription;
 pub use tables::Held;
 
 #[cfg(test)]
+mod durable_tests;
+#[cfg(test)]
 mod tests;

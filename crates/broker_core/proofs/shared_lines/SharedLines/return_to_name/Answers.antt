@@ -13,5 +13,5 @@ loop-message-preserved c =
       names = search rules;
       queues = search rules;
       weight = λ weight. let queues = ap (λ (s : Shared). weight_of_lines weight s.queues) put in
-      omega (arith, queues, c.in_ok-put_under.ensures.weight weight, c.loop-message.invariant.weight weight, ap (sum_by (λ (d : ℕ × Message). weight d.1)) c.in-Some.ensures.steps.0, sum_by-cons (λ (d : ℕ × Message). weight d.1) (c.in-Some.field-0-0, c.in-Some.message) c.next.new.self.rest.items);
+          omega (arith, queues, c.in_ok-put_under.ensures.weight weight, c.loop-message.invariant.weight weight, ap (sum_by (λ (d : ℕ × Message). weight d.1)) c.in-Some.ensures.steps.0, sum_by-cons (λ (d : ℕ × Message). weight d.1) (c.in-Some.field-0-0, c.in-Some.message) c.next.new.self.rest.items);
     }
