@@ -321,12 +321,7 @@ impl Tables {
     }
 
     /// The subscription in that place ends, where a place is given.
-    fn end_given(
-        &mut self,
-        alloc: Global,
-        number: u64,
-        at: Option<usize>,
-    ) -> Result<(), AllocError>
+    fn end_given(&mut self, alloc: Global, number: u64, at: Option<usize>) -> Result<(), AllocError>
         requires tallied { IsTallied number self.old }
         requires place { IfSome at (λ i. i < length self.old.order.subscriptions) }
         ensures ended { OnOk result (state_of number self.new ≡ without_at (state_of number self.old) at) }
