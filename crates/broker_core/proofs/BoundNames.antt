@@ -1,12 +1,11 @@
-use Rattle.std.proofs.Common.{◌≡◌, ◌<◌, ◌≤◌, ◌+◌, ◌&&◌, ◌==◌, ◌++◌, List, [], ◌∷◌, ℕ, Bool, true, false, true≢false, cond, not, IfSome, IsSome, Option, Some, None, count_by, is_some, length, map, nat_le, refl, sym, ap, eq-eqb, subst, ◌∙◌, arith, if◌then◌else◌, unwrap_or}
+use Rattle.std.proofs.Common.{◌≡◌, ◌<◌, ◌≤◌, ◌&&◌, ◌++◌, List, [], ◌∷◌, ℕ, Bool, true, false, true≢false, IfSome, IsSome, Option, Some, None, count_by, is_some, length, map, nat_le, refl, sym, ap, ◌∙◌, arith, if◌then◌else◌, unwrap_or}
 use Rattle.std.specs.BTreeMap.{insert_entry, is_at}
-use Rattle.std.specs.List.{AllByRecursion, fold, list_any, sum_by}
+use Rattle.std.specs.List.{AllByRecursion, list_any}
 use Rattle.std.specs.Map.{lookup, remove_entry}
 use Rattle.std.specs.Ordering.{is_eq, nat_cmp}
 use Rattle.std.specs.Str.{bytes_eq}
-use Rattle.std.proofs.lemmas.Bool.{and_parts, leb-false}
+use Rattle.std.proofs.lemmas.Bool.{leb-false}
 use Rattle.std.proofs.lemmas.Map.Lookups.{exact_unsigned}
-use Rattle.std.proofs.lemmas.Slice.Eq.{bytes_eq-Decides}
 use Rattle.frame_core.proofs.Lists.{all_both, all_push, all_weaker}
 use Rattle.command_core.specs.declared.ack_mode.AckMode.{AckMode}
 use Rattle.command_core.specs.Commands.{CommandValue}
@@ -16,13 +15,13 @@ use Rattle.broker_core.specs.declared.subscription.Subscription.{Subscription}
 use Rattle.broker_core.specs.HandOut.{can_take, delivered, handed}
 use Rattle.broker_core.specs.Lists.{picked, with_first}
 use Rattle.broker_core.specs.Names.{Name, name_cmp, text_cmp}
-use Rattle.broker_core.specs.Operations.{awaits, client_in, client_of, copied, copied_to_names, forgotten, fresh, is_of, message_of, opened, restarted, settled_by, spread, topic_of, uses, with_subscription, without}
+use Rattle.broker_core.specs.Operations.{awaits, client_in, copied, copied_to_names, forgotten, fresh, is_of, message_of, opened, restarted, settled_by, spread, topic_of, uses, with_subscription, without}
 use Rattle.broker_core.specs.Parts.{NonePass}
 use Rattle.broker_core.specs.Sound.{HasNames, OwnsName}
 use Rattle.broker_core.specs.States.{IsInOrder, State, empty_state}
 use Rattle.broker_core.specs.Steps.{step}
-use Rattle.broker_core.specs.Waiting.{Lines, Shared, left_from, left_line, left_shared, returned, returned_from, with_deliveries, with_line, with_message}
-use Rattle.broker_core.proofs.Counts.{count_added, count_behind, count_left, count_none, none_passes, sum_mapped, sum_with_first}
+use Rattle.broker_core.specs.Waiting.{Lines, Shared, left_from, left_line, returned_from, with_deliveries, with_line, with_message}
+use Rattle.broker_core.proofs.Counts.{count_added, count_behind, count_left, count_none, counted, none_passes, sum_mapped, sum_with_first}
 use Rattle.broker_core.proofs.Firsts.{any_none}
 use Rattle.broker_core.proofs.KeyedLines.{absent-removed, keys-with_deliveries, keys-with_line, keys-with_message}
 use Rattle.broker_core.proofs.Keys.{is_eq-name_cmp, name_itself, names_total, same_names}
@@ -33,16 +32,23 @@ use Rattle.broker_core.proofs.Sendings.{spread_by}
 use Rattle.broker_core.proofs.SharedOrder.{AreRising}
 use Rattle.broker_core.proofs.SortedEntries.{all_inserted, all_removed}
 use Rattle.broker_core.proofs.SubscriptionLimits.{another_session}
-use Rattle.broker_core.proofs.Walk.{CanBegin, CanUse, Keeps, KeepsFrom}
+use Rattle.broker_core.proofs.Walk.{CanUse, Keeps, KeepsFrom}
 use Rattle.broker_core.proofs.Weights.{all_mapped, copied_keeps}
-
-abbrev counted : Bool → ℕ
-counted b = cond b 1 0
 
 -- A durable name, where there is one, is one of the session's client, and bound to the topic.
 abbrev Owns : List (ℕ × Option (List ℕ)) → List (Name × List ℕ) → ℕ → List ℕ → Option Name → Type 0
 Owns sessions durables session to o =
     IfSome o (λ name. (client_in sessions session ≡ Some name.0) × (topic_of name durables ≡ Some to))
+
+-- the client of a subscription with a durable name stays
+abbrev KeepsClient : List (ℕ × Option (List ℕ)) → List (ℕ × Option (List ℕ)) → Subscription → Type 0
+KeepsClient sessions after sub =
+    (name : Name) → sub.durable ≡ Some name → client_in sessions sub.session ≡ Some name.0 → client_in after sub.session ≡ Some name.0
+
+-- and its topic
+abbrev KeepsTopic : List (Name × List ℕ) → List (Name × List ℕ) → Subscription → Type 0
+KeepsTopic durables later sub =
+    (name : Name) → sub.durable ≡ Some name → topic_of name durables ≡ Some sub.destination → topic_of name later ≡ Some sub.destination
 
 -- it stays so where the client and the topic do
 owns_still : (sessions after : List (ℕ × Option (List ℕ))) (durables later : List (Name × List ℕ)) (session : ℕ) (to : List ℕ) (o : Option Name) → ((name : Name) → o ≡ Some name → client_in sessions session ≡ Some name.0 → client_in after session ≡ Some name.0) → ((name : Name) → o ≡ Some name → topic_of name durables ≡ Some to → topic_of name later ≡ Some to) → Owns sessions durables session to o → Owns after later session to o
@@ -128,26 +134,26 @@ module _ (sessions : List (ℕ × Option (List ℕ))) (durables : List (Name × 
   used_acknowledged : (p : Subscription → Bool) (delivery : ℕ) → AreUsed sessions durables (with_first p (settled_by delivery) subs)
   used_acknowledged p delivery = record {
     own = all_with_first p Has (settled_by delivery) (λ sub passes has. has) subs now.own;
-    once = λ name. omega (arith, sum_with_first (λ sub. counted (uses name sub)) (settled_by delivery) (λ sub. refl) p subs, now.once name);
+    once = λ name. omega (arith, sum_with_first (counted (uses name)) (settled_by delivery) (λ sub. refl) p subs, now.once name);
   }
 
   used_copied : (m : Message) → AreUsed sessions durables (map (copied m) subs)
   used_copied m = record {
     own = all_mapped Has (copied m) (λ sub has. copied_keeps Has m sub has has) subs now.own;
-    once = λ name. omega (arith, sum_mapped (λ sub. counted (uses name sub)) (copied m) (λ sub. copied_keeps (λ x. counted (uses name x) ≡ counted (uses name sub)) m sub refl refl) subs, now.once name);
+    once = λ name. omega (arith, sum_mapped (counted (uses name)) (copied m) (λ sub. copied_keeps (λ x. counted (uses name) x ≡ counted (uses name) sub) m sub refl refl) subs, now.once name);
   }
 
   -- the clients of those that are used stay
-  used_in_sessions : (after : List (ℕ × Option (List ℕ))) → AllByRecursion (λ (sub : Subscription). (name : Name) → sub.durable ≡ Some name → client_in sessions sub.session ≡ Some name.0 → client_in after sub.session ≡ Some name.0) subs → AreUsed after durables subs
+  used_in_sessions : (after : List (ℕ × Option (List ℕ))) → AllByRecursion (KeepsClient sessions after) subs → AreUsed after durables subs
   used_in_sessions after stay = record {
-    own = all_both (λ (sub : Subscription). (name : Name) → sub.durable ≡ Some name → client_in sessions sub.session ≡ Some name.0 → client_in after sub.session ≡ Some name.0) Has (λ sub. Owns after durables sub.session sub.destination sub.durable) (λ sub same has. owns_still sessions after durables durables sub.session sub.destination sub.durable same (λ name is topic. topic) has) subs stay now.own;
+    own = all_both (KeepsClient sessions after) Has (λ sub. Owns after durables sub.session sub.destination sub.durable) (λ sub same has. owns_still sessions after durables durables sub.session sub.destination sub.durable same (λ name is topic. topic) has) subs stay now.own;
     once = now.once;
   }
 
   -- and so do their topics
-  used_in_durables : (later : List (Name × List ℕ)) → AllByRecursion (λ (sub : Subscription). (name : Name) → sub.durable ≡ Some name → topic_of name durables ≡ Some sub.destination → topic_of name later ≡ Some sub.destination) subs → AreUsed sessions later subs
+  used_in_durables : (later : List (Name × List ℕ)) → AllByRecursion (KeepsTopic durables later) subs → AreUsed sessions later subs
   used_in_durables later stay = record {
-    own = all_both (λ (sub : Subscription). (name : Name) → sub.durable ≡ Some name → topic_of name durables ≡ Some sub.destination → topic_of name later ≡ Some sub.destination) Has (λ sub. Owns sessions later sub.session sub.destination sub.durable) (λ sub same has. owns_still sessions sessions durables later sub.session sub.destination sub.durable (λ name is client. client) same has) subs stay now.own;
+    own = all_both (KeepsTopic durables later) Has (λ sub. Owns sessions later sub.session sub.destination sub.durable) (λ sub same has. owns_still sessions sessions durables later sub.session sub.destination sub.durable (λ name is client. client) same has) subs stay now.own;
     once = now.once;
   }
 
@@ -204,11 +210,11 @@ another_number a b less = by (is_eq (nat_cmp a b)) refl
 module _ (s : State) (now : HasNames s) where
   names_opened : (client_id : Option (List ℕ)) → AllByRecursion (λ session. session.0 < s.count) s.sessions → HasNames (opened s client_id)
   names_opened client_id earlier =
-      whole (opened s client_id) (bound_in s now) (used_in_sessions s.sessions s.durables s.subscriptions (used_in s now) (insert_entry nat_cmp s.sessions s.count client_id) (of_each (λ (sub : Subscription). (name : Name) → sub.durable ≡ Some name → client_in s.sessions sub.session ≡ Some name.0 → client_in (insert_entry nat_cmp s.sessions s.count client_id) sub.session ≡ Some name.0) (λ sub name is client. let less : sub.session < s.count = session_known (λ n. n < s.count) s.sessions sub.session name.0 client earlier in ap (λ o. unwrap_or o None) (lookup_inserted nat_cmp exact_unsigned sub.session s.count (another_number sub.session s.count less) client_id s.sessions) ∙ client) s.subscriptions))
+      whole (opened s client_id) (bound_in s now) (used_in_sessions s.sessions s.durables s.subscriptions (used_in s now) (insert_entry nat_cmp s.sessions s.count client_id) (of_each (KeepsClient s.sessions (insert_entry nat_cmp s.sessions s.count client_id)) (λ sub name is client. let less : sub.session < s.count = session_known (λ n. n < s.count) s.sessions sub.session name.0 client earlier in ap (λ o. unwrap_or o None) (lookup_inserted nat_cmp exact_unsigned sub.session s.count (another_number sub.session s.count less) client_id s.sessions) ∙ client) s.subscriptions))
 
   names_closed : (session : ℕ) → NonePass (is_of session) s.subscriptions → HasNames (record s { sessions = remove_entry (is_at (nat_cmp session)) s.sessions })
   names_closed session none =
-      whole (record s { sessions = remove_entry (is_at (nat_cmp session)) s.sessions }) (bound_in s now) (used_in_sessions s.sessions s.durables s.subscriptions (used_in s now) (remove_entry (is_at (nat_cmp session)) s.sessions) (all_weaker (λ sub. is_of session sub ≡ false) (λ (sub : Subscription). (name : Name) → sub.durable ≡ Some name → client_in s.sessions sub.session ≡ Some name.0 → client_in (remove_entry (is_at (nat_cmp session)) s.sessions) sub.session ≡ Some name.0) (λ sub other name is client. ap (λ o. unwrap_or o None) (lookup_removed nat_cmp exact_unsigned sub.session session (another_session session sub other) s.sessions) ∙ client) s.subscriptions none))
+      whole (record s { sessions = remove_entry (is_at (nat_cmp session)) s.sessions }) (bound_in s now) (used_in_sessions s.sessions s.durables s.subscriptions (used_in s now) (remove_entry (is_at (nat_cmp session)) s.sessions) (all_weaker (λ sub. is_of session sub ≡ false) (KeepsClient s.sessions (remove_entry (is_at (nat_cmp session)) s.sessions)) (λ sub other name is client. ap (λ o. unwrap_or o None) (lookup_removed nat_cmp exact_unsigned sub.session session (another_session session sub other) s.sessions) ∙ client) s.subscriptions none))
 
   names_begun : (session : ℕ) (id to : List ℕ) (mode : AckMode) → HasNames (with_subscription s (fresh session id to mode None))
   names_begun session id to mode =
@@ -241,7 +247,7 @@ module _ (s : State) (now : HasNames s) where
 
       still_used : AreUsed s.sessions later s.subscriptions
       still_used =
-          used_in_durables s.sessions s.durables s.subscriptions (used_in s now) later (of_each (λ (sub : Subscription). (n : Name) → sub.durable ≡ Some n → topic_of n s.durables ≡ Some sub.destination → topic_of n later ≡ Some sub.destination) (λ sub n is topic. lookup_inserted name_cmp same_names n name (another_name n sub.destination topic) to s.durables ∙ topic) s.subscriptions)
+          used_in_durables s.sessions s.durables s.subscriptions (used_in s now) later (of_each (KeepsTopic s.durables later) (λ sub n is topic. lookup_inserted name_cmp same_names n name (another_name n sub.destination topic) to s.durables ∙ topic) s.subscriptions)
 
       free_yet : list_any (uses name) s.subscriptions ≡ false
       free_yet =
@@ -266,13 +272,17 @@ module _ (s : State) (now : HasNames s) where
     where
       less : List (Name × List ℕ)
       less = remove_entry (is_at (name_cmp name)) s.durables
+
       left : Lines Name
       left = remove_entry (is_at (name_cmp name)) s.shared.names
-      stay : AllByRecursion (λ (sub : Subscription). (n : Name) → sub.durable ≡ Some n → topic_of n s.durables ≡ Some sub.destination → topic_of n less ≡ Some sub.destination) s.subscriptions
+
+      stay : AllByRecursion (KeepsTopic s.durables less) s.subscriptions
       stay =
-          all_weaker (λ sub. uses name sub ≡ false) (λ (sub : Subscription). (n : Name) → sub.durable ≡ Some n → topic_of n s.durables ≡ Some sub.destination → topic_of n less ≡ Some sub.destination) (λ sub other n is topic. lookup_removed name_cmp same_names n name (other_used name n sub.durable is other) s.durables ∙ topic) s.subscriptions (none_passes (uses name) s.subscriptions free)
+          all_weaker (λ sub. uses name sub ≡ false) (KeepsTopic s.durables less) (λ sub other n is topic. lookup_removed name_cmp same_names n name (other_used name n sub.durable is other) s.durables ∙ topic) s.subscriptions (none_passes (uses name) s.subscriptions free)
+
       others : AllByRecursion (λ line. is_eq (name_cmp name line.0) ≡ false) left
       others = none_found name_cmp name left (absent-removed name_cmp names_total same_names name s.shared.names rising.names)
+
       fewer_bound : AreBound less left
       fewer_bound = record {
         few = omega (arith, length-removed_entry (is_at (name_cmp name)) s.durables, now.few);

@@ -1,5 +1,4 @@
 use Rattle.std.proofs.Common.{◌≡◌, ◌≤◌, ◌+◌, List, [], ◌∷◌, ℕ, Bool, true, false, None, Some, refl, arith, if◌then◌else◌}
-use Rattle.std.specs.BTreeMap.{insert_entry, is_at}
 use Rattle.std.specs.List.{sum_by}
 use Rattle.std.proofs.lemmas.List.Sums.{sum_by-cons, sum_by_push}
 use Rattle.command_core.specs.Commands.{CommandValue}
@@ -9,7 +8,7 @@ use Rattle.line_core.specs.declared.message.Message.{Message}
 use Rattle.broker_core.specs.declared.subscription.Subscription.{Subscription}
 use Rattle.broker_core.specs.Lists.{with_first}
 use Rattle.broker_core.specs.Names.{name_cmp, text_cmp}
-use Rattle.broker_core.specs.Operations.{awaits, fresh, message_of, settled_by, spread, with_subscription}
+use Rattle.broker_core.specs.Operations.{awaits, fresh, message_of, settled_by, spread}
 use Rattle.broker_core.specs.States.{IsInOrder, State, weight_of, weight_of_subscription}
 use Rattle.broker_core.specs.Steps.{step}
 use Rattle.broker_core.proofs.Deliveries.{handed_weight, sum_picked}
@@ -265,10 +264,13 @@ module _ (weight : Message → ℕ) where
         where
           m : Message
           m = message_of s.count place sending
+
           enough : weight m + left (place + 1) ≤ left place
           enough = rw known.count (allotted.new place sending)
+
           topic : is_queue sending.destination ≡ false → weight m ≡ 0
           topic = rw known.count (allotted.topics place sending)
+
           by : (b : Bool) → (b ≡ false → weight m ≡ 0) → IsLight weight most (left (place + 1)) (spread_by s m b)
           by true topic =
               omega (arith, weight-with_message text_cmp texts_total same_texts weight m.sending.destination m s.shared.queues known.order.queues, enough, now)

@@ -1,4 +1,4 @@
-use Rattle.std.proofs.Common.{◌≡◌, ◌<◌, ◌≤◌, ◌+◌, ◌||◌, ◌++◌, List, [], ◌∷◌, ℕ, Bool, true, false, Some, cond, count_by, map, refl, ap, arith, if◌then◌else◌}
+use Rattle.std.proofs.Common.{◌≡◌, ◌<◌, ◌≤◌, ◌||◌, ◌++◌, List, [], ◌∷◌, ℕ, Bool, true, false, Some, cond, count_by, map, refl, ap, arith, if◌then◌else◌}
 use Rattle.std.specs.List.{list_any, sum_by}
 use Rattle.std.proofs.lemmas.List.Sums.{sum_by-cons, sum_by_push}
 use Rattle.broker_core.specs.Lists.{picked, with_first}
@@ -41,7 +41,8 @@ count_none {X} p (x ∷ xs) none = by (p x) refl none (count_none p xs)
         omega (arith, rest none, sum_by-cons (λ (y : X). cond (p y) 1 0) x xs, ap {B = ℕ} (λ b. cond b 1 0) is)
 
 module _ {X : Type 0} (q : X → Bool) where
-  abbrev counted : X → ℕ
+  -- each that passes counts for one
+  abbrev pub counted : X → ℕ
   counted x = cond (q x) 1 0
 
   -- no more than so many pass with one more, where that one doesn't, or so many do not pass yet

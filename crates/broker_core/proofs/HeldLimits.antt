@@ -1,9 +1,9 @@
-use Rattle.std.proofs.Common.{◌≡◌, ◌≤◌, ◌+◌, ◌&&◌, ◌||◌, List, [], ◌∷◌, ℕ, Bool, true, false, Option, Some, None, nat_le, refl, arith, if◌then◌else◌}
+use Rattle.std.proofs.Common.{◌≡◌, ◌≤◌, ◌+◌, ◌||◌, List, [], ◌∷◌, ℕ, Bool, true, false, Option, Some, None, nat_le, refl, arith, if◌then◌else◌}
 use Rattle.std.proofs.lemmas.Bool.{and_parts, leb-true}
 use Rattle.command_core.specs.Commands.{CommandValue}
 use Rattle.line_core.specs.declared.message.Message.{Message}
 use Rattle.broker_core.specs.declared.subscription.Subscription.{Subscription}
-use Rattle.broker_core.specs.HandOut.{Handed, Settling, can_take, hand_out, handed_from, handed_to, settled}
+use Rattle.broker_core.specs.HandOut.{can_take, hand_out, handed_from, handed_to, settled}
 use Rattle.broker_core.specs.Lists.{picked}
 use Rattle.broker_core.specs.Operations.{is_within, message_of, restarted, spread}
 use Rattle.broker_core.specs.Sound.{HasLimits}
@@ -47,6 +47,7 @@ nothing_counted s number none = by (picked (can_take s) s.subscriptions) none
     from : (sub : Subscription) (others : List Subscription) (line : List Message) → handed_from s sub others line ≡ None → handed_from (record s { count = number }) sub others line ≡ None
     from sub others [] is = refl
     from sub others (m ∷ rest) is = absurd cc
+
     by : (o : Option (Subscription × List Subscription)) → handed_to s o ≡ None → handed_to (record s { count = number }) o ≡ None
     by None is = refl
     by (Some q) is = from q.0 q.1 (line_for s.shared q.0) is

@@ -1,4 +1,4 @@
-use Rattle.std.proofs.Common.{◌≡◌, ◌<◌, ◌+◌, List, [], ◌∷◌, ℕ, Bool, true, false, Option, Some, refl, arith, if◌then◌else◌}
+use Rattle.std.proofs.Common.{◌≡◌, ◌<◌, ◌+◌, List, [], ◌∷◌, ℕ, Bool, true, false, refl, arith}
 use Rattle.std.specs.BTreeMap.{is_at}
 use Rattle.std.specs.List.{AllByRecursion}
 use Rattle.std.specs.List.Sorted.{IsStrictlySortedBy}
@@ -8,11 +8,11 @@ use Rattle.std.proofs.lemmas.Cmp.{nat_cmp_total}
 use Rattle.command_core.specs.Commands.{CommandValue}
 use Rattle.command_core.specs.Destinations.{is_queue}
 use Rattle.line_core.specs.declared.message.Message.{Message}
-use Rattle.broker_core.specs.Names.{Name, name_cmp, text_cmp}
-use Rattle.broker_core.specs.Operations.{copied_to_names, message_of, restarted, spread}
+use Rattle.broker_core.specs.Names.{name_cmp, text_cmp}
+use Rattle.broker_core.specs.Operations.{message_of, restarted, spread}
 use Rattle.broker_core.specs.States.{IsInOrder, State, empty_state}
 use Rattle.broker_core.specs.Steps.{done, led_to, step}
-use Rattle.broker_core.specs.Waiting.{Shared, with_message}
+use Rattle.broker_core.specs.Waiting.{Shared}
 use Rattle.broker_core.proofs.KeyedLines.{rising-with_message}
 use Rattle.broker_core.proofs.Keys.{names_total, texts_total}
 use Rattle.broker_core.proofs.Sendings.{spread_by}

@@ -1,12 +1,10 @@
-use Rattle.std.proofs.Common.{◌≡◌, ◌≤◌, ◌+◌, ◌&&◌, ◌++◌, List, [], ◌∷◌, ℕ, Bool, true, false, Option, Some, None, cond, fold, is_some, map, not, refl, sym, ap, ◌∙◌, arith, unwrap_or, if◌then◌else◌}
+use Rattle.std.proofs.Common.{◌≡◌, ◌&&◌, ◌++◌, List, [], ◌∷◌, ℕ, Bool, true, false, Option, Some, None, cond, fold, is_some, map, not, refl, sym, ap, ◌∙◌, unwrap_or, if◌then◌else◌}
 use Rattle.std.specs.BTreeMap.{insert_entry, is_at}
 use Rattle.std.specs.Cmp.{IsTotalOrder}
-use Rattle.std.specs.List.{flat_map, sum_by}
-use Rattle.std.specs.Map.{lookup, remove_entry}
-use Rattle.std.specs.Ordering.{is_eq, is_lt, match_ordering}
+use Rattle.std.specs.Map.{remove_entry}
+use Rattle.std.specs.Ordering.{is_eq, is_lt}
 use Rattle.std.specs.Str.{bytes_eq}
 use Rattle.std.specs.declared.cmp.Ordering.{Ordering}
-use Rattle.std.specs.declared.cmp.Ordering.TheVariants.{Less, Equal, Greater}
 use Rattle.std.proofs.lemmas.Map.Text.{is_eq-slice_cmp}
 use Rattle.command_core.specs.Destinations.{is_queue}
 use Rattle.line_core.specs.declared.message.Message.{Message}
@@ -17,7 +15,7 @@ use Rattle.broker_core.specs.Lists.{is_none}
 use Rattle.broker_core.specs.Names.{AreSame, Name, name_cmp, text_cmp}
 use Rattle.broker_core.specs.Operations.{restarted, uses}
 use Rattle.broker_core.specs.States.{State}
-use Rattle.broker_core.specs.Waiting.{Lines, Shared, line_at, returned, returned_from, with_deliveries, with_line, with_message}
+use Rattle.broker_core.specs.Waiting.{Lines, Shared, line_at, returned, returned_from, with_deliveries, with_message}
 use Rattle.broker_core.proofs.KeyedLines.{other_line}
 use Rattle.broker_core.proofs.Lookups.{is_equal, lookup_new}
 use Rattle.broker_core.proofs.Keys.{is_eq-name_cmp, names_total, same_names, same_texts, texts_total}

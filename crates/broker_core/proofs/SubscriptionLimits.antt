@@ -1,12 +1,11 @@
-use Rattle.std.proofs.Common.{◌≡◌, ◌<◌, ◌≤◌, ◌+◌, ◌&&◌, ◌==◌, ◌++◌, ◌^◌, List, [], ◌∷◌, ℕ, Bool, true, false, true≢false, cond, not, Option, Some, None, count_by, is_some, length, map, nat_le, nat_lt, refl, sym, ap, eq-eqb, subst, ◌∙◌, arith, if◌then◌else◌}
+use Rattle.std.proofs.Common.{◌≡◌, ◌<◌, ◌≤◌, ◌&&◌, ◌==◌, ◌++◌, ◌^◌, List, [], ◌∷◌, ℕ, Bool, true, false, true≢false, not, Option, Some, None, count_by, is_some, length, map, nat_le, nat_lt, refl, sym, ap, eq-eqb, ◌∙◌, arith, if◌then◌else◌}
 use Rattle.std.specs.BTreeMap.{is_at}
-use Rattle.std.specs.List.{AllByRecursion, filter, list_any, sum_by}
+use Rattle.std.specs.List.{AllByRecursion, list_any}
 use Rattle.std.specs.Map.{lookup, remove_entry}
 use Rattle.std.specs.Ordering.{is_eq, nat_cmp}
 use Rattle.std.specs.Str.{bytes_eq}
 use Rattle.std.proofs.lemmas.Bool.{and_parts, eqb-true, leb-false, ltb-true}
 use Rattle.std.proofs.lemmas.List.{length-append}
-use Rattle.std.proofs.lemmas.List.Sums.{count_by-le-length, length-filter, sum_by_push}
 use Rattle.std.proofs.lemmas.Map.Lookups.{exact_unsigned}
 use Rattle.std.proofs.lemmas.Slice.Eq.{bytes_eq-Decides}
 use Rattle.frame_core.proofs.Lists.{all_both, all_push, all_weaker}
@@ -24,9 +23,8 @@ use Rattle.broker_core.specs.Operations.{awaits, copied, forgotten, fresh, is_na
 use Rattle.broker_core.specs.Sound.{HasSubscriptions, window_of}
 use Rattle.broker_core.specs.States.{IsInOrder, State, empty_state, is_open}
 use Rattle.broker_core.specs.Steps.{step}
-use Rattle.broker_core.specs.Waiting.{is_own, left_line, line_for}
-use Rattle.broker_core.proofs.Counts.{count_added, count_behind, count_left, count_none, sum_mapped, sum_with_first}
-use Rattle.broker_core.proofs.Deliveries.{sum_picked}
+use Rattle.broker_core.specs.Waiting.{left_line, line_for}
+use Rattle.broker_core.proofs.Counts.{count_added, count_behind, count_left, count_none, counted, sum_mapped, sum_with_first}
 use Rattle.broker_core.proofs.Lookups.{is_equal, lookup_removed, some_inserted}
 use Rattle.broker_core.proofs.Ordered.{IsOrdered, led_in_order, restarted_keeps_in_order}
 use Rattle.broker_core.proofs.Picked.{all_picked, all_with_first, picked_passes}
@@ -55,9 +53,6 @@ has_place s sub ready =
     let p = and_parts (nat_lt s.next_delivery (2 ^ 63) && has_room sub) (not (is_none (line_for s.shared sub))) ready in
     (and_parts (nat_lt s.next_delivery (2 ^ 63)) (has_room sub) p.0).1
 
-abbrev counted : Bool → ℕ
-counted b = cond b 1 0
-
 -- What is asked of the list of subscriptions, but that their sessions are open.
 record AreFew (subs : List Subscription) : Type 0 where
   pub ids : (session : ℕ) (id : List ℕ) → count_by (is_named session id) subs ≤ 1
@@ -74,11 +69,13 @@ module _ (subs : List Subscription) (now : AreFew subs) where
     where
       one : Subscription
       one = fresh session id to mode name
+
       none : (other : ℕ) (text : List ℕ) → is_named other text one ≡ true → count_by (is_named other text) subs ≡ 0
       none other text is =
           let p = and_parts (other == session) (bytes_eq text id) is in
           ap (λ n. count_by (is_named n text) subs) (eqb-true other session p.0)
           ∙ ap (λ i. count_by (is_named session i) subs) ((bytes_eq-Decides text id).0 p.1) ∙ count_none (is_named session id) subs new
+
       fewer : (other : ℕ) → is_of other one ≡ true → count_by (is_of other) subs < 16
       fewer other is =
           omega (arith, ap (λ n. count_by (is_of n) subs) (eqb-true other session is), leb-false 16 (count_by (is_of session) subs) few)
@@ -101,15 +98,15 @@ module _ (subs : List Subscription) (now : AreFew subs) where
 
   few_acknowledged : (p : Subscription → Bool) (delivery : ℕ) → AreFew (with_first p (settled_by delivery) subs)
   few_acknowledged p delivery = record {
-    ids = λ session id. omega (arith, sum_with_first (λ sub. counted (is_named session id sub)) (settled_by delivery) (λ sub. refl) p subs, now.ids session id);
-    few = λ session. omega (arith, sum_with_first (λ sub. counted (is_of session sub)) (settled_by delivery) (λ sub. refl) p subs, now.few session);
+    ids = λ session id. omega (arith, sum_with_first (counted (is_named session id)) (settled_by delivery) (λ sub. refl) p subs, now.ids session id);
+    few = λ session. omega (arith, sum_with_first (counted (is_of session)) (settled_by delivery) (λ sub. refl) p subs, now.few session);
     window = all_with_first p IsWithin (settled_by delivery) (λ sub passes within. omega (arith, fewer_unsettled delivery sub, within)) subs now.window;
   }
 
   few_copied : (m : Message) → AreFew (map (copied m) subs)
   few_copied m = record {
-    ids = λ session id. omega (arith, sum_mapped (λ sub. counted (is_named session id sub)) (copied m) (λ sub. copied_keeps (λ x. counted (is_named session id x) ≡ counted (is_named session id sub)) m sub refl refl) subs, now.ids session id);
-    few = λ session. omega (arith, sum_mapped (λ sub. counted (is_of session sub)) (copied m) (λ sub. copied_keeps (λ x. counted (is_of session x) ≡ counted (is_of session sub)) m sub refl refl) subs, now.few session);
+    ids = λ session id. omega (arith, sum_mapped (counted (is_named session id)) (copied m) (λ sub. copied_keeps (λ x. counted (is_named session id) x ≡ counted (is_named session id) sub) m sub refl refl) subs, now.ids session id);
+    few = λ session. omega (arith, sum_mapped (counted (is_of session)) (copied m) (λ sub. copied_keeps (λ x. counted (is_of session) x ≡ counted (is_of session) sub) m sub refl refl) subs, now.few session);
     window = all_mapped IsWithin (copied m) (λ sub within. copied_keeps IsWithin m sub within within) subs now.window;
   }
 
