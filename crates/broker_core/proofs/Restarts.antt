@@ -1,7 +1,6 @@
-use Rattle.std.proofs.Common.{◌≡◌, ◌≤◌, ◌+◌, ◌&&◌, ◌++◌, List, [], ◌∷◌, ℕ, Bool, true, false, Option, Some, None, cond, fold, is_some, map, not, refl, sym, ap, ◌∙◌, arith, unwrap_or, if◌then◌else◌}
+use Rattle.std.proofs.Common.{◌≡◌, ◌&&◌, ◌++◌, List, [], ◌∷◌, ℕ, Bool, true, false, Option, Some, None, cond, fold, is_some, map, not, refl, sym, ap, ◌∙◌, unwrap_or, if◌then◌else◌}
 use Rattle.std.specs.BTreeMap.{insert_entry, is_at}
 use Rattle.std.specs.Cmp.{IsTotalOrder}
-use Rattle.std.specs.List.{flat_map, sum_by}
 use Rattle.std.specs.Map.{lookup, remove_entry}
 use Rattle.std.specs.Ordering.{is_eq, is_lt, match_ordering}
 use Rattle.std.specs.Str.{bytes_eq}
@@ -17,7 +16,7 @@ use Rattle.broker_core.specs.Lists.{is_none}
 use Rattle.broker_core.specs.Names.{AreSame, Name, name_cmp, text_cmp}
 use Rattle.broker_core.specs.Operations.{restarted, uses}
 use Rattle.broker_core.specs.States.{State}
-use Rattle.broker_core.specs.Waiting.{Lines, Shared, line_at, returned, returned_from, with_deliveries, with_line, with_message}
+use Rattle.broker_core.specs.Waiting.{Lines, Shared, line_at, returned, returned_from, with_deliveries, with_message}
 use Rattle.broker_core.proofs.KeyedLines.{is_equal, other_line}
 use Rattle.broker_core.proofs.Keys.{is_eq-name_cmp, names_total, same_names, same_texts, texts_total}
 
