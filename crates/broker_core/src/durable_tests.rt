@@ -52,7 +52,8 @@ fn is_answer(outs: &[Out], session: u64, text: &str) -> bool {
     is_one(outs, session, Verb::Error, text)
 }
 
-// Carries all out, and gives whether each is answered as it stands beside it: with ERROR of that text to that session.
+// Carries all out, and gives whether each is answered as it stands beside it: with ERROR of that text to that session, or
+// with nothing where there is no text.
 fn are_answered(
     alloc: Global,
     broker: &mut Broker,
@@ -104,11 +105,9 @@ fn a_durable_name_is_of_one_client_and_topic_and_has_one_subscription(
     Ok(())
 }
 
-#[test]
-fn a_restart_ends_sessions_and_keeps_what_names_and_queues_had(
-    rt: HostRuntime,
-) -> Result<(), Fail> {
-    let mut broker = Broker::new(rt.alloc());
+// A message to a topic was delivered under a durable name and to a plain subscription, and one to a queue.
+fn with_three_deliveries(alloc: Global) -> Result<Broker, Fail> {
+    let mut broker = Broker::new(alloc);
     let events = [
         Event::ConnectAs("c1"),
         Event::SubscribeUnder(0, "d", "/topic/t", "n"),
@@ -117,18 +116,35 @@ fn a_restart_ends_sessions_and_keeps_what_names_and_queues_had(
         Event::Send(0, "/topic/t"),
         Event::Send(0, "/queue/q"),
     ];
-    let _ = last_of(rt.alloc(), &mut broker, &events)?;
+    let _ = last_of(alloc, &mut broker, &events)?;
+    Ok(broker)
+}
+
+#[test]
+fn a_restart_ends_sessions_and_keeps_what_names_and_queues_had(
+    rt: HostRuntime,
+) -> Result<(), Fail> {
+    let mut broker = with_three_deliveries(rt.alloc())?;
     assert_eq!(rt; broker.held().messages, 3);
     broker.restart(rt.alloc())?;
     assert!(rt; broker.count() == 6 && broker.held().messages == 2 && broker.held().bytes == 20);
     let events = [Event::Send(0, "/queue/q"), Event::ConnectAs("c1")];
     let outs = last_of(rt.alloc(), &mut broker, &events)?;
     assert!(rt; is_one(outs.as_slice(), 7, Verb::Connected, "0,0"));
-    let again = Event::SubscribeUnder(7, "d", "/topic/t", "n");
-    let outs = last_of(rt.alloc(), &mut broker, &[again])?;
-    assert!(rt; are_messages(outs.as_slice(), &[(7, "d", "4.0")]));
-    // Three deliveries were made before the restart.
-    let outs = last_of(rt.alloc(), &mut broker, &[Event::Ack(7, 3)])?;
+    Ok(())
+}
+
+#[test]
+fn deliveries_are_numbered_on_after_a_restart(rt: HostRuntime) -> Result<(), Fail> {
+    let mut broker = with_three_deliveries(rt.alloc())?;
+    broker.restart(rt.alloc())?;
+    let events = [
+        Event::ConnectAs("c1"),
+        Event::SubscribeUnder(6, "d", "/topic/t", "n"),
+    ];
+    let outs = last_of(rt.alloc(), &mut broker, &events)?;
+    assert!(rt; are_messages(outs.as_slice(), &[(6, "d", "4.0")]));
+    let outs = last_of(rt.alloc(), &mut broker, &[Event::Ack(6, 3)])?;
     assert!(rt; outs.is_empty() && broker.held().messages == 1);
     Ok(())
 }
