@@ -1,4 +1,4 @@
-use Rattle.std.proofs.Common.{◌≡◌, ◌≤◌, ◌+◌, List, [], ◌∷◌, ℕ, suc, zero, Bool, true, false, Option, Some, None, refl, sym, ap, subst, arith, if◌then◌else◌}
+use Rattle.std.proofs.Common.{◌≡◌, ◌≤◌, ◌+◌, List, [], ◌∷◌, ℕ, suc, zero, Bool, true, false, Option, Some, None, refl, sym, subst, arith, if◌then◌else◌}
 use Rattle.std.specs.List.{sum_by}
 use Rattle.std.specs.Option.{option_map}
 use Rattle.std.proofs.lemmas.List.Sums.{sum_by-cons, sum_by_push}
@@ -75,13 +75,6 @@ hand_out_waits s h is sorted =
     let p = made s h is in
     subst (λ (g : Handed). waiting g.state + 1 ≡ waiting s) (sym p.handed_is) (handed_waits s p.sub p.others p.m p.rest sorted p.is_picked p.line_is)
 
--- nothing weighs more
-hand_out_weight : (weight : Message → ℕ) (s : State) (h : Handed) → hand_out s ≡ Some h → AreRising s.shared → weight_of weight h.state ≤ weight_of weight s
-hand_out_weight weight s h is sorted =
-    let p = made s h is in
-    let after : weight_of weight (handed s p.sub p.others p.m p.rest).state ≤ weight_of weight s = omega (arith, handed_weight weight s p.sub p.others p.m p.rest sorted p.is_picked p.line_is) in
-    subst (λ (g : Handed). weight_of weight g.state ≤ weight_of weight s) (sym p.handed_is) after
-
 -- What holds of a state, and of that after each delivery, holds once all is settled.
 pub settling_keeps : (P : State → Type 0) → ((s : State) (h : Handed) → hand_out s ≡ Some h → P s → P h.state) → (n : ℕ) (s : State) → P s → P (settling n s).state
 settling_keeps P keeps zero s now = now
@@ -90,17 +83,6 @@ settling_keeps P keeps (suc n) s now = by (λ h is. settling_keeps P keeps n h.s
     by : ((h : Handed) → hand_out s ≡ Some h → P (settling n h.state).state) → (o : Option Handed) → hand_out s ≡ o → P (elim o as (λ x. Settling) [ None ↦ record { state = s; outs = [] } | Some h ↦ behind h (settling n h.state) ]).state
     by next None is = now
     by next (Some h) is = next h is
-
-pub settled_in_order : (s : State) → AreRising s.shared → AreRising (settled s).state.shared
-settled_in_order s sorted = settling_keeps (λ t. AreRising t.shared) hand_out_in_order (waiting s) s sorted
-
-pub settled_sessions : (s : State) → ((settled s).state.sessions ≡ s.sessions) × ((settled s).state.count ≡ s.count) × ((settled s).state.durables ≡ s.durables)
-settled_sessions s =
-    settling_keeps (λ t. (t.sessions ≡ s.sessions) × (t.count ≡ s.count) × (t.durables ≡ s.durables)) (λ t h is same. let p = made t h is in subst (λ (g : Handed). (g.state.sessions ≡ s.sessions) × (g.state.count ≡ s.count) × (g.state.durables ≡ s.durables)) (sym p.handed_is) same) (waiting s) s (refl, refl, refl)
-
-pub settled_weight : (weight : Message → ℕ) (s : State) → AreRising s.shared → weight_of weight (settled s).state ≤ weight_of weight s
-settled_weight weight s sorted =
-    (settling_keeps (λ t. AreRising t.shared × (weight_of weight t ≤ weight_of weight s)) (λ t h is now. (hand_out_in_order t h is now.0, omega (arith, now.1, hand_out_weight weight t h is now.0))) (waiting s) s (sorted, omega arith)).1
 
 -- deliveries end
 settling_ends : (n : ℕ) (s : State) → AreRising s.shared → waiting s ≤ n → hand_out (settling n s).state ≡ None

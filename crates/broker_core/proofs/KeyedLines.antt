@@ -5,9 +5,9 @@ use Rattle.std.specs.List.{AllByRecursion, sum_by}
 use Rattle.std.specs.List.Sorted.{IsStrictlySortedBy}
 use Rattle.std.specs.Map.{keys_of, lookup, remove_entry}
 use Rattle.std.specs.Option.{option_map}
-use Rattle.std.specs.Ordering.{is_eq, match_ordering}
+use Rattle.std.specs.Ordering.{is_eq}
 use Rattle.std.specs.declared.cmp.Ordering.{Ordering}
-use Rattle.std.specs.declared.cmp.Ordering.TheVariants.{Less, Equal, Greater}
+use Rattle.std.specs.declared.cmp.Ordering.TheVariants.{Less}
 use Rattle.std.proofs.lemmas.Map.Entries.{sum_by-remove_entry, sum_by-insert_entry}
 use Rattle.std.proofs.lemmas.List.Sums.{sum_by-cons}
 use Rattle.line_core.specs.declared.message.Message.{Message}
@@ -15,7 +15,8 @@ use Rattle.line_core.specs.Lines.{inserted}
 use Rattle.broker_core.specs.Lists.{is_none}
 use Rattle.broker_core.specs.Names.{AreSame}
 use Rattle.broker_core.specs.Waiting.{Lines, line_at, weight_of_lines, with_deliveries, with_line, with_message}
-use Rattle.broker_core.proofs.SortedEntries.{sorted_inserted, sorted_removed}
+use Rattle.broker_core.proofs.Lookups.{is_equal, lookup_inserted, lookup_removed}
+use Rattle.broker_core.proofs.SortedEntries.{all_inserted, all_removed, sorted_inserted, sorted_removed}
 use Rattle.line_core.proofs.Inserted.{sum_by-inserted}
 
 module _ (weight : Message → ℕ) where
@@ -58,11 +59,6 @@ module _ {K : Type 0} (cmp : K → K → Ordering) where
   put_more key m line more lines others after without found grown is =
       is ∙ ap (λ (es : Lines K). if is_none more then es else insert_entry cmp es key more) without
       ∙ ap (λ (l : List Message). with_line cmp key l lines) (grown ∙ ap (inserted m) found)
-
-pub is_equal : (o : Ordering) → is_eq o ≡ true → o ≡ Equal
-is_equal Less is = absurd cc
-is_equal Equal is = refl
-is_equal Greater is = absurd cc
 
 -- lines by rising key
 module _ {K : Type 0} (cmp : K → K → Ordering) (total : IsTotalOrder cmp) where
@@ -115,30 +111,23 @@ module _ {K : Type 0} (cmp : K → K → Ordering) (total : IsTotalOrder cmp) wh
         let rest = with_deliveries_weight weight key deliveries (with_message cmp key d.1 lines) (rising-with_message key d.1 lines rising) in
         (rest.0, omega (arith, rest.1, weight-with_message weight key d.1 lines rising, sum_by-cons (λ (x : ℕ × Message). weight x.1) d deliveries))
 
+-- What each key has, it has where a line is changed whose key has it.
+module _ {K : Type 0} (cmp : K → K → Ordering) (P : K → Type 0) (key : K) (new : P key) where
+  pub keys-with_line : (line : List Message) (lines : Lines K) → AllByRecursion (λ (e : K × List Message). P e.0) lines → AllByRecursion (λ (e : K × List Message). P e.0) (with_line cmp key line lines)
+  keys-with_line line lines all =
+      let others = all_removed (λ (e : K × List Message). P e.0) (is_at (cmp key)) lines all in
+      elim (is_none line) as (λ b. AllByRecursion (λ (e : K × List Message). P e.0) (cond b (remove_entry (is_at (cmp key)) lines) (insert_entry cmp (remove_entry (is_at (cmp key)) lines) key line))) [ true ↦ others | false ↦ all_inserted (λ (e : K × List Message). P e.0) cmp key line new (λ e has. has) (remove_entry (is_at (cmp key)) lines) others ]
+
+  pub keys-with_message : (m : Message) (lines : Lines K) → AllByRecursion (λ (e : K × List Message). P e.0) lines → AllByRecursion (λ (e : K × List Message). P e.0) (with_message cmp key m lines)
+  keys-with_message m lines all = keys-with_line (inserted m (line_at cmp key lines)) lines all
+
+  pub keys-with_deliveries : (deliveries : List (ℕ × Message)) (lines : Lines K) → AllByRecursion (λ (e : K × List Message). P e.0) lines → AllByRecursion (λ (e : K × List Message). P e.0) (with_deliveries cmp key deliveries lines)
+  keys-with_deliveries [] lines all = all
+  keys-with_deliveries (d ∷ deliveries) lines all =
+      keys-with_deliveries deliveries (with_message cmp key d.1 lines) (keys-with_message d.1 lines all)
+
 -- Another key's line stays where one is changed.
 module _ {K : Type 0} (cmp : K → K → Ordering) (same : AreSame cmp) (q d : K) (other : is_eq (cmp q d) ≡ false) where
-  not_at : (k : K) → is_eq (cmp d k) ≡ true → is_eq (cmp q k) ≡ false
-  not_at k is = subst (λ (x : K). is_eq (cmp q x) ≡ false) (same d k (is_equal (cmp d k) is)) other
-
-  removed_at : (e : K × List Message) (es : Lines K) (b : Bool) → is_eq (cmp d e.0) ≡ b → lookup (is_at (cmp q)) (remove_entry (is_at (cmp d)) es) ≡ lookup (is_at (cmp q)) es → lookup (is_at (cmp q)) (cond b es (e ∷ remove_entry (is_at (cmp d)) es)) ≡ lookup (is_at (cmp q)) (e ∷ es)
-  removed_at e es true is rest = sym (ap (λ b. cond b (Some e.1) (lookup (is_at (cmp q)) es)) (not_at e.0 is))
-  removed_at e es false is rest = ap (λ r. cond (is_eq (cmp q e.0)) (Some e.1) r) rest
-
-  lookup_removed : (es : Lines K) → lookup (is_at (cmp q)) (remove_entry (is_at (cmp d)) es) ≡ lookup (is_at (cmp q)) es
-  lookup_removed [] = refl
-  lookup_removed (e ∷ es) = removed_at e es (is_eq (cmp d e.0)) refl (lookup_removed es)
-
-  inserted_at : (line : List Message) (e : K × List Message) (es : Lines K) (o : Ordering) → cmp d e.0 ≡ o → lookup (is_at (cmp q)) (insert_entry cmp es d line) ≡ lookup (is_at (cmp q)) es → lookup (is_at (cmp q)) (match_ordering o ((d, line) ∷ e ∷ es) ((e.0, line) ∷ es) (e ∷ insert_entry cmp es d line)) ≡ lookup (is_at (cmp q)) (e ∷ es)
-  inserted_at line e es Less is rest = ap (λ b. cond b (Some line) (lookup (is_at (cmp q)) (e ∷ es))) other
-  inserted_at line e es Equal is rest =
-      let not = not_at e.0 (ap is_eq is) in
-      ap (λ b. cond b (Some line) (lookup (is_at (cmp q)) es)) not ∙ sym (ap (λ b. cond b (Some e.1) (lookup (is_at (cmp q)) es)) not)
-  inserted_at line e es Greater is rest = ap (λ r. cond (is_eq (cmp q e.0)) (Some e.1) r) rest
-
-  lookup_inserted : (line : List Message) (es : Lines K) → lookup (is_at (cmp q)) (insert_entry cmp es d line) ≡ lookup (is_at (cmp q)) es
-  lookup_inserted line [] = ap (λ b. cond b (Some line) None) other
-  lookup_inserted line (e ∷ es) = inserted_at line e es (cmp d e.0) refl (lookup_inserted line es)
-
   pub other_line : (line : List Message) (es : Lines K) → line_at cmp q (with_line cmp d line es) ≡ line_at cmp q es
-  other_line [] es = ap (λ o. unwrap_or o []) (lookup_removed es)
-  other_line (m ∷ rest) es = ap (λ o. unwrap_or o []) (lookup_inserted (m ∷ rest) (remove_entry (is_at (cmp d)) es) ∙ lookup_removed es)
+  other_line [] es = ap (λ o. unwrap_or o []) (lookup_removed cmp same q d other es)
+  other_line (m ∷ rest) es = ap (λ o. unwrap_or o []) (lookup_inserted cmp same q d other (m ∷ rest) (remove_entry (is_at (cmp d)) es) ∙ lookup_removed cmp same q d other es)

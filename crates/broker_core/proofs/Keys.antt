@@ -1,4 +1,4 @@
-use Rattle.std.proofs.Common.{◌≡◌, ◌&&◌, List, ℕ, Bool, true, false, refl, ap, sym, ◌∙◌}
+use Rattle.std.proofs.Common.{◌≡◌, ◌&&◌, true, refl, ap, sym, ◌∙◌}
 use Rattle.std.specs.Cmp.{IsTotalOrder, on_total, then_total}
 use Rattle.std.specs.Ordering.{is_eq, ordering_then}
 use Rattle.std.specs.Str.{bytes_eq}
@@ -40,3 +40,8 @@ eq_parts Greater p = refl
 pub is_eq-name_cmp : (a b : Name) → is_eq (name_cmp a b) ≡ (bytes_eq a.0 b.0 && bytes_eq a.1 b.1)
 is_eq-name_cmp a b =
     eq_parts (text_cmp a.0 b.0) (text_cmp a.1 b.1) ∙ ap (λ x. x && is_eq (text_cmp a.1 b.1)) (is_eq-slice_cmp a.0 b.0) ∙ ap (λ y. bytes_eq a.0 b.0 && y) (is_eq-slice_cmp a.1 b.1)
+
+-- a name is the same as itself
+pub name_itself : (name : Name) → is_eq (name_cmp name name) ≡ true
+name_itself name =
+    is_eq-name_cmp name name ∙ ap (λ x. x && bytes_eq name.1 name.1) ((bytes_eq-Decides name.0 name.0).1 refl) ∙ (bytes_eq-Decides name.1 name.1).1 refl

@@ -1,5 +1,6 @@
 pub mod Firsts
 pub mod Keys
+pub mod Lookups
 pub mod KeyedLines
 pub mod Orders
 pub mod Serving
@@ -23,6 +24,11 @@ pub mod Numbers
 pub mod MessageNumbers
 pub mod Restarts
 pub mod Picked
+pub mod Counts
 pub mod Walk
 pub mod DeliveryNumbers
 pub mod StateNumbers
+pub mod Ordered
+pub mod SubscriptionLimits
+pub mod BoundNames
+pub mod HeldLimits

@@ -15,7 +15,8 @@ use Rattle.broker_core.specs.Operations.{message_of}
 use Rattle.broker_core.specs.States.{IsInOrder, State, empty_state, standing, weight_of}
 use Rattle.broker_core.specs.Steps.{state_after, step}
 use Rattle.broker_core.proofs.CommandLists.{after_all}
-use Rattle.broker_core.proofs.Conserved.{IsAllotted, empty_in_order, step_in_order, step_light, step_weight}
+use Rattle.broker_core.proofs.Conserved.{IsAllotted, step_light, step_weight}
+use Rattle.broker_core.proofs.Ordered.{empty_in_order, step_in_order}
 use Rattle.broker_core.proofs.Standing.{all_stand}
 
 -- where the sum is nothing each weighs nothing, and the other way

@@ -1,4 +1,4 @@
-use Rattle.std.proofs.Common.{◌≡◌, ◌<◌, ◌+◌, ◌&&◌, ◌++◌, List, [], ◌∷◌, ℕ, suc, zero, Bool, true, false, IfSome, Option, Some, None, Result, Ok, Err, cond, count_by, filter, fold, is_some, length, nat_le, not, refl, remove, sym, ap, ◌∙◌, subst, arith, slice_get, take}
+use Rattle.std.proofs.Common.{◌≡◌, ◌<◌, ◌+◌, ◌&&◌, List, [], ◌∷◌, ℕ, suc, zero, Bool, true, false, IfSome, Option, Some, None, Result, Ok, Err, cond, count_by, filter, fold, is_some, length, nat_le, not, refl, remove, sym, ap, ◌∙◌, subst, arith, slice_get, take}
 use Rattle.std.specs.BTreeMap.{is_at}
 use Rattle.std.specs.List.{list_any}
 use Rattle.std.specs.Map.{remove_entry}

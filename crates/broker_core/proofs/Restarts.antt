@@ -1,12 +1,10 @@
-use Rattle.std.proofs.Common.{◌≡◌, ◌≤◌, ◌+◌, ◌&&◌, ◌++◌, List, [], ◌∷◌, ℕ, Bool, true, false, Option, Some, None, cond, fold, is_some, map, not, refl, sym, ap, ◌∙◌, arith, unwrap_or, if◌then◌else◌}
+use Rattle.std.proofs.Common.{◌≡◌, ◌&&◌, ◌++◌, List, [], ◌∷◌, ℕ, Bool, true, false, Option, Some, None, cond, fold, is_some, map, not, refl, sym, ap, ◌∙◌, unwrap_or, if◌then◌else◌}
 use Rattle.std.specs.BTreeMap.{insert_entry, is_at}
 use Rattle.std.specs.Cmp.{IsTotalOrder}
-use Rattle.std.specs.List.{flat_map, sum_by}
-use Rattle.std.specs.Map.{lookup, remove_entry}
-use Rattle.std.specs.Ordering.{is_eq, is_lt, match_ordering}
+use Rattle.std.specs.Map.{remove_entry}
+use Rattle.std.specs.Ordering.{is_eq, is_lt}
 use Rattle.std.specs.Str.{bytes_eq}
 use Rattle.std.specs.declared.cmp.Ordering.{Ordering}
-use Rattle.std.specs.declared.cmp.Ordering.TheVariants.{Less, Equal, Greater}
 use Rattle.std.proofs.lemmas.Map.Text.{is_eq-slice_cmp}
 use Rattle.command_core.specs.Destinations.{is_queue}
 use Rattle.line_core.specs.declared.message.Message.{Message}
@@ -17,8 +15,9 @@ use Rattle.broker_core.specs.Lists.{is_none}
 use Rattle.broker_core.specs.Names.{AreSame, Name, name_cmp, text_cmp}
 use Rattle.broker_core.specs.Operations.{restarted, uses}
 use Rattle.broker_core.specs.States.{State}
-use Rattle.broker_core.specs.Waiting.{Lines, Shared, line_at, returned, returned_from, with_deliveries, with_line, with_message}
-use Rattle.broker_core.proofs.KeyedLines.{is_equal, other_line}
+use Rattle.broker_core.specs.Waiting.{Lines, Shared, line_at, returned, returned_from, with_deliveries, with_message}
+use Rattle.broker_core.proofs.KeyedLines.{other_line}
+use Rattle.broker_core.proofs.Lookups.{is_equal, lookup_new}
 use Rattle.broker_core.proofs.Keys.{is_eq-name_cmp, names_total, same_names, same_texts, texts_total}
 
 -- a message is among those of the line that it is put into
@@ -28,23 +27,13 @@ some_in m (x ∷ line) =
     elim (is_lt (by_number m.number x.number)) as (λ b. is_none (if b then m ∷ x ∷ line else x ∷ inserted m line) ≡ false) [ true ↦ refl | false ↦ refl ]
 
 module _ {K : Type 0} (cmp : K → K → Ordering) (total : IsTotalOrder cmp) (same : AreSame cmp) where
-  found_at : (key : K) (line : List Message) (e : K × List Message) (es : Lines K) (o : Ordering) → cmp key e.0 ≡ o → lookup (is_at (cmp key)) (insert_entry cmp es key line) ≡ Some line → is_eq (cmp key key) ≡ true → lookup (is_at (cmp key)) (match_ordering o ((key, line) ∷ e ∷ es) ((e.0, line) ∷ es) (e ∷ insert_entry cmp es key line)) ≡ Some line
-  found_at key line e es Less is rest itself = ap (λ b. cond b (Some line) (lookup (is_at (cmp key)) (e ∷ es))) itself
-  found_at key line e es Equal is rest itself = ap (λ o. cond (is_eq o) (Some line) (lookup (is_at (cmp key)) es)) is
-  found_at key line e es Greater is rest itself =
-      ap (λ o. cond (is_eq o) (Some e.1) (lookup (is_at (cmp key)) (insert_entry cmp es key line))) is ∙ rest
-
-  found : (key : K) (line : List Message) (es : Lines K) → is_eq (cmp key key) ≡ true → lookup (is_at (cmp key)) (insert_entry cmp es key line) ≡ Some line
-  found key line [] itself = ap (λ b. cond b (Some line) None) itself
-  found key line (e ∷ es) itself = found_at key line e es (cmp key e.0) refl (found key line es itself) itself
-
   -- a line has the message that is put there
   message_put : (key : K) (m : Message) (lines : Lines K) → is_eq (cmp key key) ≡ true → line_at cmp key (with_message cmp key m lines) ≡ inserted m (line_at cmp key lines)
   message_put key m lines itself =
       let line = inserted m (line_at cmp key lines) in
       let others = remove_entry (is_at (cmp key)) lines in
       ap (λ b. line_at cmp key (cond b others (insert_entry cmp others key line))) (some_in m (line_at cmp key lines))
-      ∙ ap (λ o. unwrap_or o []) (found key line others itself)
+      ∙ ap (λ o. unwrap_or o []) (lookup_new cmp key line others itself)
 
   all_put : (key : K) (deliveries : List (ℕ × Message)) (lines : Lines K) → is_eq (cmp key key) ≡ true → line_at cmp key (with_deliveries cmp key deliveries lines) ≡ with_all (line_at cmp key lines) (map (λ (d : ℕ × Message). d.1) deliveries)
   all_put key [] lines itself = refl

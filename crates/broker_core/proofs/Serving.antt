@@ -14,7 +14,8 @@ use Rattle.broker_core.specs.Waiting.{Lines, Shared, left_from, line_at, line_fo
 use Rattle.broker_core.specs.HandOut.{Handed, Settling, behind, can_take, hand_out, handed, handed_from, handed_to, has_room, settled, settling, waiting}
 use Rattle.std.proofs.lemmas.Bool.{lt-ltb, ltb-true}
 use Rattle.std.proofs.lemmas.List.{append-nil, append_assoc}
-use Rattle.broker_core.proofs.KeyedLines.{is_equal, other_line}
+use Rattle.broker_core.proofs.KeyedLines.{other_line}
+use Rattle.broker_core.proofs.Lookups.{is_equal}
 use Rattle.broker_core.proofs.Keys.{same_names, same_texts}
 use Rattle.broker_core.proofs.Firsts.{none_to_end, one_more_passed, picked_first, picked_none, same_some, take_removed}
 

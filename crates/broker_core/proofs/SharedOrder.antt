@@ -1,4 +1,4 @@
-use Rattle.std.proofs.Common.{◌≡◌, ◌≤◌, ◌+◌, ◌||◌, List, [], ◌∷◌, ℕ, Bool, true, false, Option, Some, None, is_some, not, arith, ap, if◌then◌else◌}
+use Rattle.std.proofs.Common.{◌≡◌, ◌≤◌, ◌+◌, ◌||◌, List, ◌∷◌, ℕ, Bool, true, false, Option, Some, None, is_some, not, arith, ap, if◌then◌else◌}
 use Rattle.std.specs.List.{sum_by}
 use Rattle.std.proofs.lemmas.List.Sums.{sum_by-cons}
 use Rattle.command_core.specs.Destinations.{is_queue}

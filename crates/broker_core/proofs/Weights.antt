@@ -120,6 +120,11 @@ pub over_settled_by : (number delivery : ℕ) (sub : Subscription) → IsOver nu
 over_settled_by number delivery sub over =
     all_filtered (λ (item : ℕ × Message). item.0 < number) (λ item. not (settles sub.mode delivery item.0)) sub.unacknowledged over
 
+-- what holds of a subscription and of it with the message in its line holds of it whether it gets a copy or not
+pub copied_keeps : (P : Subscription → Type 0) (m : Message) (sub : Subscription) → P sub → P (record sub { line = inserted m sub.line }) → P (copied m sub)
+copied_keeps P m sub without with_it =
+    elim (is_own sub && bytes_eq sub.destination m.sending.destination) as (λ b. P (cond b (record sub { line = inserted m sub.line }) sub)) [ true ↦ with_it | false ↦ without ]
+
 pub over_copied : (number : ℕ) (m : Message) (sub : Subscription) → IsOver number sub.unacknowledged → IsOver number (copied m sub).unacknowledged
 over_copied number m sub over =
-    elim (is_own sub && bytes_eq sub.destination m.sending.destination) as (λ b. IsOver number (cond b (record sub { line = inserted m sub.line }) sub).unacknowledged) [ true ↦ over | false ↦ over ]
+    copied_keeps (λ x. IsOver number x.unacknowledged) m sub over over

@@ -1,4 +1,4 @@
-use Rattle.std.specs.Prelude.{◌≡◌, ◌<◌, ◌≤◌, ◌^◌, ◌==◌, ◌++◌, List, [], ℕ, Bool, true, false, Option, Some, None, IfSome, IsSome, count_by, length, map}
+use Rattle.std.specs.Prelude.{◌≡◌, ◌<◌, ◌≤◌, ◌^◌, ◌==◌, ◌++◌, List, [], ℕ, true, false, Some, None, IfSome, IsSome, count_by, length, map}
 use Rattle.std.specs.List.{AllByRecursion, sum_by}
 use Rattle.command_core.specs.declared.ack_mode.AckMode.{AckMode}
 use Rattle.command_core.specs.declared.ack_mode.AckMode.TheVariants.{Auto}

@@ -17,6 +17,7 @@ mod order;
 mod parts;
 mod sending;
 mod shared_lines;
+mod sound_laws;
 mod subscribing;
 mod subscription;
 mod tables;
@@ -33,9 +34,14 @@ pub use laws::{
     restarts_keep_what_is_kept, states_stay_in_order,
 };
 pub use number_laws::numbers_stay_under_the_next;
+pub use sound_laws::{
+    durable_names_stay_bound, limits_are_kept, subscriptions_stay_within_their_limits,
+};
 pub use parts::Parts;
 pub use subscription::Subscription;
 pub use tables::Held;
 
+#[cfg(test)]
+mod durable_tests;
 #[cfg(test)]
 mod tests;

@@ -1,3 +1,5 @@
+ghost use Rattle.std.specs.Prelude.{◌<◌, IfOk, length};
+
 use super::*;
 use command_core::{
     AckMode, Command, Dest, End, Fault, HeaderText, Member, Members, Op, Out, Sending,
@@ -6,16 +8,22 @@ use frame_core::{Bytes, Headers, Text, Verb};
 use std::alloc::Global;
 use std::test::Fail;
 
-// What happens to a broker: by which session, and what is named.
+/// What happens to a broker: by which session, and what is named.
 #[derive(Drop)]
-enum Event<'a> {
+pub enum Event<'a> {
     Connect,
+    /// By a client that has this name.
+    ConnectAs(&'a str),
     Subscribe(u64, &'a str, &'a str, AckMode),
+    /// To that topic, in `client` mode, under that durable name.
+    SubscribeUnder(u64, &'a str, &'a str, &'a str),
     Unsubscribe(u64, &'a str),
-    // Sends `hi` there.
+    /// Gives that durable name up, after the subscription of that id where one is given.
+    GiveUp(u64, Option<&'a str>, &'a str),
+    /// Sends `hi` there.
     Send(u64, &'a str),
     Ack(u64, u64),
-    // Sends `hi` there, and acknowledges that delivery, in a transaction.
+    /// Sends `hi` there, and acknowledges that delivery, in a transaction.
     Commit(u64, &'a str, u64),
     End(u64, End),
 }
@@ -26,6 +34,17 @@ fn header_text(alloc: Global, text: &str) -> Result<HeaderText, Fail> {
         return Err(Fail::from("no text of a header"));
     }
     Ok(HeaderText::new(text))
+}
+
+// The name of a client or a durable one, which is not empty.
+fn name_text(alloc: Global, text: &str) -> Result<HeaderText, Fail>
+    ensures { IfOk result (λ name. 0 < length name) }
+{
+    let name = header_text(alloc, text)?;
+    if name.as_str().is_empty() {
+        return Err(Fail::from("an empty name"));
+    }
+    Ok(name)
 }
 
 fn greeting(alloc: Global, to: &str) -> Result<Sending, Fail> {
@@ -52,6 +71,27 @@ fn subscription(
     Ok(Command::new(session, op, None))
 }
 
+fn durable_subscription(
+    alloc: Global,
+    session: u64,
+    id: &str,
+    to: &str,
+    name: &str,
+) -> Result<Command, Fail> {
+    let id = header_text(alloc, id)?;
+    let destination = Dest::read(alloc, to)?;
+    if destination.is_queue() {
+        return Err(Fail::from("a durable name on a queue"));
+    }
+    let op = Op::Subscribe {
+        id,
+        destination,
+        mode: AckMode::Client,
+        durable: Some(name_text(alloc, name)?),
+    };
+    Ok(Command::new(session, op, None))
+}
+
 fn end_of_subscription(alloc: Global, session: u64, id: &str) -> Result<Command, Fail> {
     let id = header_text(alloc, id)?;
     let op = Op::Unsubscribe {
@@ -59,6 +99,28 @@ fn end_of_subscription(alloc: Global, session: u64, id: &str) -> Result<Command,
         durable: None,
     };
     Ok(Command::new(session, op, None))
+}
+
+fn end_of_name(
+    alloc: Global,
+    session: u64,
+    id: &Option<&str>,
+    name: &str,
+) -> Result<Command, Fail> {
+    let id = match id {
+        Some(id) => Some(header_text(alloc, id)?),
+        None => None,
+    };
+    let op = Op::Unsubscribe {
+        id,
+        durable: Some(name_text(alloc, name)?),
+    };
+    Ok(Command::new(session, op, None))
+}
+
+fn opening_as(alloc: Global, client: &str) -> Result<Command, Fail> {
+    let client_id = Some(name_text(alloc, client)?);
+    Ok(Command::new(0, Op::Open { client_id }, None))
 }
 
 fn transaction(alloc: Global, session: u64, to: &str, delivery: u64) -> Result<Command, Fail> {
@@ -72,7 +134,12 @@ fn command_of(alloc: Global, event: &Event<'_>) -> Result<Command, Fail> {
     match event {
         Event::Connect => Ok(Command::new(0, Op::Open { client_id: None }, None)),
         Event::Subscribe(session, id, to, mode) => subscription(alloc, *session, id, to, *mode),
+        Event::ConnectAs(client) => opening_as(alloc, client),
+        Event::SubscribeUnder(session, id, to, name) => {
+            durable_subscription(alloc, *session, id, to, name)
+        }
         Event::Unsubscribe(session, id) => end_of_subscription(alloc, *session, id),
+        Event::GiveUp(session, id, name) => end_of_name(alloc, *session, id, name),
         Event::Send(session, to) => {
             let op = Op::Send(greeting(alloc, to)?);
             Ok(Command::new(*session, op, None))
@@ -83,8 +150,8 @@ fn command_of(alloc: Global, event: &Event<'_>) -> Result<Command, Fail> {
     }
 }
 
-// Carries the command out, where the broker can count one more.
-fn carry_out(alloc: Global, broker: &mut Broker, event: &Event<'_>) -> Result<Vec<Out>, Fail> {
+/// Carries the command out, where the broker can count one more.
+pub fn carry_out(alloc: Global, broker: &mut Broker, event: &Event<'_>) -> Result<Vec<Out>, Fail> {
     if broker.count() >= 10_000 {
         return Err(Fail::from("too many commands"));
     }
@@ -92,8 +159,8 @@ fn carry_out(alloc: Global, broker: &mut Broker, event: &Event<'_>) -> Result<Ve
     Ok(broker.step(alloc, command)?)
 }
 
-// Carries all out, and gives what the last one gives.
-fn last_of(alloc: Global, broker: &mut Broker, events: &[Event<'_>]) -> Result<Vec<Out>, Fail> {
+/// Carries all out, and gives what the last one gives.
+pub fn last_of(alloc: Global, broker: &mut Broker, events: &[Event<'_>]) -> Result<Vec<Out>, Fail> {
     let mut outs = Vec::new(alloc);
     for event in events {
         outs = carry_out(alloc, broker, event)?;
@@ -101,8 +168,8 @@ fn last_of(alloc: Global, broker: &mut Broker, events: &[Event<'_>]) -> Result<V
     Ok(outs)
 }
 
-// Carries one out again and again, and gives how many outputs there are in all.
-fn many(
+/// Carries one out again and again, and gives how many outputs there are in all.
+pub fn many(
     alloc: Global,
     broker: &mut Broker,
     event: &Event<'_>,
@@ -115,8 +182,8 @@ fn many(
     Ok(count)
 }
 
-// Whether it is one output to that session, of that verb, whose last header has that value.
-fn is_one(outs: &[Out], session: u64, verb: Verb, value: &str) -> bool {
+/// Whether it is one output to that session, of that verb, whose last header has that value.
+pub fn is_one(outs: &[Out], session: u64, verb: Verb, value: &str) -> bool {
     match outs {
         [out] => {
             let told = match out.frame().headers.as_slice() {
@@ -129,8 +196,8 @@ fn is_one(outs: &[Out], session: u64, verb: Verb, value: &str) -> bool {
     }
 }
 
-// Whether these are MESSAGEs, in order: to which session, for which subscription, which message.
-fn are_messages(outs: &[Out], expected: &[(u64, &str, &str)]) -> bool {
+/// Whether these are MESSAGEs, in order: to which session, for which subscription, which message.
+pub fn are_messages(outs: &[Out], expected: &[(u64, &str, &str)]) -> bool {
     outs.len() == expected.len()
         && outs.iter().zip(expected).all(|(out, (session, id, name))| is_message(
             out, *session, id, name,

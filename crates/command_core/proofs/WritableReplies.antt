@@ -1,15 +1,13 @@
-use Rattle.std.proofs.Common.{◌≡◌, ◌≢◌, ◌≤◌, ◌<◌, ◌^◌, ◌%◌, ◌+◌, ◌++◌, ◌∷◌, ◌&&◌, ◌||◌, ◌⊎◌, [], Bool, false, List, ℕ, Option, None, Some, IfSome, MatchOption, arith, codes, drop, inl, inr, length, nat_eq, nat_le, refl, rules, subst, sym, true, zero, suc}
-use Rattle.std.specs.List.{AllByRecursion, list_all, starts_with}
+use Rattle.std.proofs.Common.{◌≡◌, ◌≢◌, ◌≤◌, ◌<◌, ◌^◌, ◌%◌, ◌+◌, ◌++◌, ◌∷◌, [], List, ℕ, Option, None, Some, IfSome, MatchOption, arith, codes, length, refl, rules, subst, sym, true, zero, suc}
+use Rattle.std.specs.List.{AllByRecursion}
 use Rattle.std.specs.Fmt.{decimal}
-use Rattle.std.proofs.lemmas.Bool.{and_parts}
 use Rattle.std.proofs.lemmas.Fmt.{decimal_by_steps}
-use Rattle.std.proofs.lemmas.Bool.Decides.{Decides-eqb}
-use Rattle.std.proofs.lemmas.Slice.Eq.{starts_is}
 use Rattle.frame_core.proofs.Lists.{all_append}
 use Rattle.frame_core.specs.Writable.{HasNoNul, IsHeader, IsOneLine, Writable, first_of}
 use Rattle.command_core.specs.Texts.{IsHeaderText}
-use Rattle.command_core.specs.Destinations.{IsDestination, is_destination_byte, is_name, is_queue, is_topic}
+use Rattle.command_core.specs.Destinations.{IsDestination, is_destination_byte}
 use Rattle.command_core.specs.Sendings.{SendingValue, IsSending, IsKept}
+use Rattle.command_core.proofs.DestinationBytes.{each_byte}
 use Rattle.command_core.specs.Replies.{ack_header, connected, message_frame, message_id, own_headers}
 
 abbrev AllDigits : List ℕ → Type 0
@@ -40,41 +38,13 @@ connected_writable n h =
     let line : IsOneLine (decimal n) = one_line _ digits in
     search (rules, plain, line)
 
-no_nul_append : (a b : List ℕ) → HasNoNul a → HasNoNul b → HasNoNul (a ++ b)
-no_nul_append [] b h k = k
-no_nul_append (x ∷ a) b h k = (h.0, no_nul_append a b h.1 k)
-
 -- what may stand in a destination is no NUL
 byte_is_no_nul : (b : ℕ) → is_destination_byte b ≡ true → b ≢ 0
 byte_is_no_nul zero h = absurd cc
 byte_is_no_nul (suc b) h = λ e. cc
 
-name_has_no_nul : (name : List ℕ) → list_all is_destination_byte name ≡ true → HasNoNul name
-name_has_no_nul [] h = tt
-name_has_no_nul (b ∷ name) h =
-    let p = and_parts (is_destination_byte b) (list_all is_destination_byte name) h in
-    (byte_is_no_nul b p.0, name_has_no_nul name p.1)
-
-behind_prefix : (p d : List ℕ) → HasNoNul p → starts_with nat_eq d p ≡ true → HasNoNul (drop (length p) d) → HasNoNul d
-behind_prefix p d plain starts rest = subst HasNoNul (sym ((starts_is Decides-eqb d p _ refl).0 starts)) (no_nul_append p _ plain rest)
-
-behind_name : (d : List ℕ) → is_name (drop 7 d) ≡ true → HasNoNul (drop 7 d)
-behind_name d h =
-    let name = drop 7 d in
-    name_has_no_nul name (and_parts (nat_le 1 (length name) && nat_le (length name) 200) (list_all is_destination_byte name) h).1
-
-either_true : (x y : Bool) → (x || y) ≡ true → (x ≡ true) ⊎ (y ≡ true)
-either_true true y h = inl refl
-either_true false y h = inr h
-
-by_kind : (d : List ℕ) → (is_topic d ≡ true) ⊎ (is_queue d ≡ true) → HasNoNul (drop 7 d) → HasNoNul d
-by_kind d (inl topic) rest = behind_prefix (codes "/topic/") d (search rules) topic rest
-by_kind d (inr queue) rest = behind_prefix (codes "/queue/") d (search rules) queue rest
-
-dest_no_nul : (d : List ℕ) → IsDestination d → HasNoNul d
-dest_no_nul d h =
-    let p = and_parts (is_topic d || is_queue d) (is_name (drop 7 d)) h.valid in
-    by_kind d (either_true (is_topic d) (is_queue d) p.0) (behind_name d p.1)
+pub dest_no_nul : (d : List ℕ) → IsDestination d → HasNoNul d
+dest_no_nul d h = each_byte (λ b. b ≢ 0) byte_is_no_nul (search rules) (search rules) d h
 
 kept_headers_fit : (hs : List (List ℕ × List ℕ)) → AllByRecursion IsKept hs → AllByRecursion IsHeader hs
 kept_headers_fit [] each = tt
@@ -90,7 +60,7 @@ ack_fits (Some d) fits = (number_header (codes "ack") d (omega arith) (search ru
 
 id_no_nul : (n k : ℕ) → n < 2 ^ 64 → k < 2 ^ 64 → HasNoNul (message_id n k)
 id_no_nul n k n_fits k_fits =
-    no_nul_append (decimal n) _ (no_nul _ (digits_of_decimal n n_fits)) (omega arith, no_nul _ (digits_of_decimal k k_fits))
+    all_append (λ b. b ≢ 0) (decimal n) _ (no_nul _ (digits_of_decimal n n_fits)) (omega arith, no_nul _ (digits_of_decimal k k_fits))
 
 length_is_told : (id name : List ℕ) (d : Option ℕ) (s : SendingValue) → first_of (codes "content-length") (own_headers id name d s ++ s.headers) ≡ Some (decimal (length s.body))
 length_is_told id name None s = refl

@@ -5,5 +5,7 @@ pub mod Sendings
 pub mod Operations
 pub mod Sizes
 pub mod Commands
+pub mod Spellings
+pub mod Reading
 pub mod Outs
 pub mod Replies

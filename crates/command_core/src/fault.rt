@@ -1,6 +1,7 @@
 //! Why a frame or a command is refused.
 
-ghost use Rattle.std.specs.Prelude.{◌≡◌, Some};
+ghost use Rattle.std.specs.Prelude.{◌≡◌, ◌≢◌, Some, MatchOption};
+ghost use Rattle.command_core.specs.declared.fault.Fault.{Fault};
 ghost use Rattle.command_core.specs.Faults.{code_of, text_of};
 
 use frame_core::FrameFault;
@@ -79,6 +80,37 @@ impl Fault {
             Fault::TooManyEntries => 18,
             Fault::BodyNotAllowed => 19,
             Fault::BadHeaderValue => 20,
+        }
+    }
+
+    /// The fault of that number, or `None` where it is none of 1 to 20.
+    pub fn from_code(code: u8) -> Option<Fault>
+        ensures { MatchOption result
+            ((fault : Fault) → code_of fault ≢ code)
+            (λ fault. code_of fault ≡ code) }
+    {
+        match code {
+            1 => Some(Fault::MalformedFrame),
+            2 => Some(Fault::FrameTooLarge),
+            3 => Some(Fault::UndefinedEscape),
+            4 => Some(Fault::UnknownCommand),
+            5 => Some(Fault::MissingHeader),
+            6 => Some(Fault::UnsupportedVersion),
+            7 => Some(Fault::UnexpectedFrame),
+            8 => Some(Fault::BadDestination),
+            9 => Some(Fault::SubscriptionIdInUse),
+            10 => Some(Fault::UnknownSubscription),
+            11 => Some(Fault::UnknownAcknowledgement),
+            12 => Some(Fault::NoRoom),
+            13 => Some(Fault::NoClientId),
+            14 => Some(Fault::DurableSubscription),
+            15 => Some(Fault::TransactionBegun),
+            16 => Some(Fault::TransactionNotBegun),
+            17 => Some(Fault::TransactionTooLarge),
+            18 => Some(Fault::TooManyEntries),
+            19 => Some(Fault::BodyNotAllowed),
+            20 => Some(Fault::BadHeaderValue),
+            _ => None,
         }
     }
 }

@@ -4,6 +4,7 @@ ghost use Rattle.std.specs.Prelude.{◌≡◌, ◌≤◌, ◌<◌, ◌+◌, ◌*
 ghost use Rattle.std.specs.List.{sum_by, AllByRecursion};
 ghost use Rattle.command_core.specs.Sendings.{IsKept};
 ghost use Rattle.command_core.specs.Sizes.{text_size, option_size, pair_size, headers_size, sending_size};
+ghost use Rattle.command_core.specs.Spellings.{member as record_of_member, operation as record_of_op};
 ghost use Rattle.command_core.specs.Sizes.{op_size as size_of_op, member_size as size_of_member};
 
 use crate::command::{End, Op};
@@ -19,7 +20,7 @@ fn text_size(text: &HeaderText) -> u64
     4 + text.as_str().len() as u64
 }
 
-fn option_size(text: &Option<HeaderText>) -> u64
+pub(crate) fn option_size(text: &Option<HeaderText>) -> u64
     ensures size { result ≡ option_size text.now }
     ensures small { result ≤ 8197 }
 {
@@ -54,6 +55,7 @@ fn sending_size(sending: &Sending) -> u64
 /// The bytes that a member of a transaction takes in the journal, with the one that tells its kind. Less than 2 MiB.
 pub fn member_size(member: &Member) -> u64
     ensures size { result ≡ size_of_member member.now }
+    ensures length { result ≡ length (record_of_member member.now) }
     ensures small { result ≤ 2 ^ 21 }
 {
     match member {
@@ -74,9 +76,11 @@ fn members_size(members: &[Member]) -> u64
     size
 }
 
-/// The bytes that an operation takes in the journal, with the one that tells its kind.
+/// The bytes that an operation takes in the journal, with the one that tells its kind. At most 130 MiB.
 pub fn op_size(op: &Op) -> u64
-    ensures { result ≡ size_of_op op.now }
+    ensures size { result ≡ size_of_op op.now }
+    ensures length { result ≡ length (record_of_op op.now) }
+    ensures small { result ≤ 65 * 2 ^ 21 }
 {
     match op {
         Op::Open { client_id } => 1 + option_size(client_id),

@@ -16,7 +16,7 @@ abbrev pub opened_desk : DeskValue
 opened_desk = record {
   waiting = [];
   openers = (0, 0) ∷ [];
-  state = record { count = 1; next_delivery = 0; sessions = (0, None) ∷ []; queues = []; subscriptions = [] };
+  state = record { count = 1; next_delivery = 0; sessions = (0, None) ∷ []; durables = []; shared = record { names = []; queues = [] }; subscriptions = [] };
 }
 
 -- and has sent `hi` to `/queue/a`, and asked for a receipt

@@ -1,5 +1,5 @@
 -- What is to be done for frames has the form that commands ask for.
-use Rattle.std.proofs.Common.{◌≡◌, List, [], ◌∷◌, ◌++◌, ℕ, Bool, true, false, cond, Option, Some, None, Result, Ok, Err, arith, refl, codes, sym, subst, inl}
+use Rattle.std.proofs.Common.{◌≡◌, List, [], ◌∷◌, ◌++◌, ℕ, Bool, true, false, cond, Option, Some, None, Result, Ok, Err, arith, refl, codes, sym, subst, inl, inr, IfSome}
 use Rattle.std.specs.List.{AllByRecursion}
 use Rattle.frame_core.specs.declared.frame.Frame.{Frame}
 use Rattle.frame_core.specs.declared.frame.Verb.{Verb}
@@ -12,7 +12,7 @@ use Rattle.command_core.specs.declared.fault.Fault.{Fault}
 use Rattle.command_core.specs.declared.member.Member.{Member}
 use Rattle.command_core.specs.declared.member.Member.TheVariants as members
 use Rattle.command_core.specs.Commands.{Fits}
-use Rattle.command_core.specs.Destinations.{is_destination}
+use Rattle.command_core.specs.Destinations.{is_destination, is_queue}
 use Rattle.command_core.specs.Operations.{IsGiven, IsOp}
 use Rattle.tx_core.specs.Refusals.{refusal_of_add, refusal_of_begin, refusal_of_end}
 use Rattle.tx_core.specs.Transactions.{added, begun, members_of, without}
@@ -22,7 +22,7 @@ use Rattle.session_core.specs.declared.asking.Request.TheVariants.{Ask, Join, Be
 use Rattle.session_core.specs.declared.phase.Phase.{Phase}
 use Rattle.session_core.specs.declared.phase.Phase.TheVariants.{New, Open, Ended, Failed}
 use Rattle.session_core.specs.ReadFrames.{delivery_of, durable_of, is_connect, mode_of, receipt_of, some_text}
-use Rattle.session_core.specs.Requests.{asked_by, first_asked, joins, sends_to, subscribes_by, subscribes_to, transaction_of, with_header}
+use Rattle.session_core.specs.Requests.{asked_by, first_asked, joins, sends_to, subscribes_by, subscribes_to, transaction_of, unsubscribes_by, with_header}
 use Rattle.session_core.specs.Sessions.{HasForm, acts_of, answered, carried, committed, first_answered, next, note, refused, told, unless}
 
 abbrev HaveForm : List Act → Type 0
@@ -71,9 +71,20 @@ joins_fine : (member : ℕ → Member) (delivery : Result ℕ Fault) (transactio
 joins_fine member (Ok delivery) transaction = tt
 joins_fine member (Err fault) transaction = tt
 
+-- a name that is left away on a queue isn't empty, and comes with a topic alone
+topics_alone : (queue : Bool) (name : Option (List ℕ)) → IsGiven name → IsGiven (cond queue None name) × IfSome (cond queue None name) (λ text. queue ≡ false)
+topics_alone true name h = (tt, tt)
+topics_alone false None h = (tt, tt)
+topics_alone false (Some text) h = (h, refl)
+
 mode_fine : (frame : Frame) (to id : List ℕ) (mode : Option AckMode) → IsFine (subscribes_by frame to id mode)
 mode_fine frame to id None = tt
-mode_fine frame to id (Some mode) = (λ receipt. tt, (tt, tt))
+mode_fine frame to id (Some mode) = (λ receipt. tt, topics_alone (is_queue to) (durable_of frame) (given (first_of (codes "activemq.subscriptionName") frame.headers)))
+
+unsubscribes_fine : (id durable : Option (List ℕ)) → IsGiven durable → IsFine (unsubscribes_by id durable)
+unsubscribes_fine None None h = tt
+unsubscribes_fine None (Some name) h = (λ receipt. tt, (h, inr refl))
+unsubscribes_fine (Some id) durable h = (λ receipt. tt, (h, inl refl))
 
 asked_fine : (verb : Verb) (frame : Frame) → IsFine (asked_by verb frame)
 asked_fine verbs.Connect frame = tt
@@ -82,7 +93,7 @@ asked_fine verbs.Send frame = with_fine (first_of (codes "destination") frame.he
 asked_fine verbs.Subscribe frame =
     let id_of : Option (List ℕ) = first_of (codes "id") frame.headers in
     with_fine (first_of (codes "destination") frame.headers) (λ to. with_header id_of (subscribes_to frame to)) (λ to. with_fine id_of (subscribes_to frame to) (λ id. either_fine (is_destination to) _ _ (mode_fine frame to id (mode_of (first_of (codes "ack") frame.headers))) tt))
-asked_fine verbs.Unsubscribe frame = with_fine (first_of (codes "id") frame.headers) (λ id. Ok (Ask (ops.Unsubscribe (Some id) (durable_of frame)))) (λ id. (λ receipt. tt, (tt, inl refl)))
+asked_fine verbs.Unsubscribe frame = unsubscribes_fine (first_of (codes "id") frame.headers) (durable_of frame) (given (first_of (codes "activemq.subscriptionName") frame.headers))
 asked_fine verbs.Ack frame = joins_fine members.Ack (delivery_of frame) (transaction_of frame)
 asked_fine verbs.Nack frame = joins_fine members.Nack (delivery_of frame) (transaction_of frame)
 asked_fine verbs.Begin frame = with_fine (transaction_of frame) (λ name. Ok (Begin name)) (λ name. tt)

@@ -9,6 +9,7 @@ use Rattle.command_core.specs.declared.ack_mode.AckMode.{AckMode}
 use Rattle.command_core.specs.declared.ack_mode.AckMode.TheVariants.{Auto, Client, ClientIndividual}
 use Rattle.command_core.specs.declared.fault.Fault.{Fault}
 use Rattle.command_core.specs.declared.fault.Fault.TheVariants.{MissingHeader, BadHeaderValue}
+use Rattle.command_core.specs.Destinations.{is_queue}
 use Rattle.command_core.specs.Texts.{IsHeaderText}
 use Rattle.session_core.specs.Numbers.{decimal_value}
 
@@ -39,9 +40,13 @@ abbrev pub some_text : Option (List ℕ) → Option (List ℕ)
 some_text (Some (b ∷ text)) = Some (b ∷ text)
 some_text _ = None
 
--- the name of a durable subscription: there are none yet
+-- the name of the durable subscription that a frame speaks of: an empty one counts as absent
 abbrev pub durable_of : Frame → Option (List ℕ)
-durable_of frame = None
+durable_of frame = some_text (first_of (codes "activemq.subscriptionName") frame.headers)
+
+-- the durable name that a SUBSCRIBE to this destination asks for: it is left away on a queue
+abbrev pub durable_at : List ℕ → Frame → Option (List ℕ)
+durable_at to frame = cond (is_queue to) None (durable_of frame)
 
 -- how messages are acknowledged: `auto`, also where nothing is said, `client` or `client-individual` (STOMP 1.2, "SUBSCRIBE ack Header")
 abbrev pub mode_of : Option (List ℕ) → Option AckMode

@@ -14,7 +14,7 @@ use Rattle.command_core.specs.Destinations.{is_destination}
 use Rattle.command_core.specs.Sendings.{kept_headers}
 use Rattle.session_core.specs.declared.asking.Request.{Request}
 use Rattle.session_core.specs.declared.asking.Request.TheVariants.{Ask, Join, Begin, Commit, Abort, Disconnect}
-use Rattle.session_core.specs.ReadFrames.{delivery_of, durable_of, mode_of, some_text}
+use Rattle.session_core.specs.ReadFrames.{delivery_of, durable_at, durable_of, mode_of, some_text}
 use Rattle.session_core.specs.Versions.{offers}
 
 -- what is asked for with a header that has to be there
@@ -45,7 +45,7 @@ sends frame = with_header (first_of (codes "destination") frame.headers) (sends_
 
 abbrev pub subscribes_by : Frame → List ℕ → List ℕ → Option AckMode → Result Request Fault
 subscribes_by frame to id None = Err BadHeaderValue
-subscribes_by frame to id (Some mode) = Ok (Ask (ops.Subscribe id to mode (durable_of frame)))
+subscribes_by frame to id (Some mode) = Ok (Ask (ops.Subscribe id to mode (durable_at to frame)))
 
 abbrev pub subscribes_to : Frame → List ℕ → List ℕ → Result Request Fault
 subscribes_to frame to id = cond (is_destination to) (subscribes_by frame to id (mode_of (first_of (codes "ack") frame.headers))) (Err BadDestination)
@@ -54,9 +54,14 @@ subscribes_to frame to id = cond (is_destination to) (subscribes_by frame to id 
 abbrev pub subscribes : Frame → Result Request Fault
 subscribes frame = with_header (first_of (codes "destination") frame.headers) (λ to. with_header (first_of (codes "id") frame.headers) (subscribes_to frame to))
 
+-- a subscription ends by its id, a durable one by its name: one of them has to be there
+abbrev pub unsubscribes_by : Option (List ℕ) → Option (List ℕ) → Result Request Fault
+unsubscribes_by None None = Err MissingHeader
+unsubscribes_by id durable = Ok (Ask (ops.Unsubscribe id durable))
+
 -- what an UNSUBSCRIBE asks for (STOMP 1.2, "UNSUBSCRIBE")
 abbrev pub unsubscribes : Frame → Result Request Fault
-unsubscribes frame = with_header (first_of (codes "id") frame.headers) (λ id. Ok (Ask (ops.Unsubscribe (Some id) (durable_of frame))))
+unsubscribes frame = unsubscribes_by (first_of (codes "id") frame.headers) (durable_of frame)
 
 abbrev pub joins : (ℕ → Member) → Result ℕ Fault → Option (List ℕ) → Result Request Fault
 joins member (Ok delivery) transaction = Ok (Join (member delivery) transaction)

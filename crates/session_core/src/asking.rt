@@ -4,7 +4,9 @@ ghost use Rattle.std.specs.Prelude.{◌≡◌, IfOk};
 ghost use Rattle.session_core.specs.ReadFrames.{IsRead};
 ghost use Rattle.session_core.specs.Requests.{asked, asked_first, aborts, acks, begins, commits, connects, nacks, sends, subscribes, unsubscribes};
 
-use crate::headers::{ack_mode, client_id, delivery, durable_name, header, kept_headers, text};
+use crate::headers::{
+    ack_mode, client_id, delivery, durable_name, durable_name_at, header, kept_headers, text,
+};
 use crate::versions::offers_version;
 use command_core::{Dest, DestFault, Fault, HeaderText, Member, Op, Sending};
 use frame_core::{Frame, Verb, first};
@@ -113,9 +115,9 @@ fn subscribe(alloc: Global, frame: &Frame) -> Result<Result<Request, Fault>, All
         (Err(DestFault::Memory(refused)), Some(_)) => Err(refused),
         (Ok(destination), Some(mode)) => Ok(Ok(Request::Ask(Op::Subscribe {
             id: text(alloc, id)?,
+            durable: durable_name_at(alloc, &destination, frame)?,
             destination,
             mode,
-            durable: durable_name(frame),
         }))),
     }
 }
@@ -124,12 +126,9 @@ fn unsubscribe(alloc: Global, frame: &Frame) -> Result<Result<Request, Fault>, A
     requires { IsRead frame.now }
     ensures { IfOk result (λ r. r ≡ unsubscribes frame.now) }
 {
-    match header(alloc, frame, "id")? {
-        Some(id) => Ok(Ok(Request::Ask(Op::Unsubscribe {
-            id: Some(id),
-            durable: durable_name(frame),
-        }))),
-        None => Ok(Err(Fault::MissingHeader)),
+    match (header(alloc, frame, "id")?, durable_name(alloc, frame)?) {
+        (None, None) => Ok(Err(Fault::MissingHeader)),
+        (id, durable) => Ok(Ok(Request::Ask(Op::Unsubscribe { id, durable }))),
     }
 }
 

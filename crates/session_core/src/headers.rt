@@ -4,10 +4,10 @@ ghost use Rattle.std.specs.Prelude.{◌≡◌, codes, IfOk};
 ghost use Rattle.frame_core.specs.Writable.{first_of};
 ghost use Rattle.command_core.specs.Sendings.{kept_headers as kept};
 ghost use Rattle.command_core.specs.Texts.{IsHeaderText};
-ghost use Rattle.session_core.specs.ReadFrames.{IsRead, receipt_of, some_text, durable_of, mode_of, delivery_of};
+ghost use Rattle.session_core.specs.ReadFrames.{IsRead, receipt_of, some_text, durable_at, durable_of, mode_of, delivery_of};
 
 use crate::numbers::number_of;
-use command_core::{AckMode, Fault, HeaderText, is_kept_name};
+use command_core::{AckMode, Dest, Fault, HeaderText, is_kept_name};
 use frame_core::{Frame, Headers, Text, Verb, first};
 use std::alloc::{AllocError, Global};
 
@@ -42,22 +42,51 @@ pub fn receipt(alloc: Global, frame: &Frame) -> Result<Option<HeaderText>, Alloc
     header(alloc, frame, "receipt")
 }
 
-/// The name that a client gives itself for durable subscriptions; an empty one is none.
-pub fn client_id(alloc: Global, frame: &Frame) -> Result<Option<HeaderText>, AllocError>
+/// The text of the first header of that name, to be kept; an empty one counts as absent.
+fn nonempty_header(
+    alloc: Global,
+    frame: &Frame,
+    name: &str,
+) -> Result<Option<HeaderText>, AllocError>
     requires { IsRead frame.now }
-    ensures { IfOk result (λ r. r ≡ some_text (first_of (codes "client-id") frame.now.headers)) }
+    ensures { IfOk result (λ r. r ≡ some_text (first_of name.now frame.now.headers)) }
 {
-    match first(frame, "client-id") {
+    match first(frame, name) {
         Some(value) if !value.is_empty() => Ok(Some(text(alloc, value)?)),
         _ => Ok(None),
     }
 }
 
-/// The name of a durable subscription. There are none yet.
-pub fn durable_name(_frame: &Frame) -> Option<HeaderText>
-    ensures { result ≡ durable_of _frame.now }
+/// The name that a client gives itself for durable subscriptions; an empty one is none.
+pub fn client_id(alloc: Global, frame: &Frame) -> Result<Option<HeaderText>, AllocError>
+    requires { IsRead frame.now }
+    ensures { IfOk result (λ r. r ≡ some_text (first_of (codes "client-id") frame.now.headers)) }
 {
-    None
+    nonempty_header(alloc, frame, "client-id")
+}
+
+/// The name of the durable subscription that a frame speaks of; an empty one is none.
+pub fn durable_name(alloc: Global, frame: &Frame) -> Result<Option<HeaderText>, AllocError>
+    requires { IsRead frame.now }
+    ensures { IfOk result (λ r. r ≡ durable_of frame.now) }
+{
+    nonempty_header(alloc, frame, "activemq.subscriptionName")
+}
+
+/// The durable name that a SUBSCRIBE to the destination asks for. It is left away on a queue, whose messages wait for
+/// whoever takes them.
+pub fn durable_name_at(
+    alloc: Global,
+    destination: &Dest,
+    frame: &Frame,
+) -> Result<Option<HeaderText>, AllocError>
+    requires { IsRead frame.now }
+    ensures { IfOk result (λ r. r ≡ durable_at destination.now frame.now) }
+{
+    if destination.is_queue() {
+        return Ok(None);
+    }
+    durable_name(alloc, frame)
 }
 
 /// The headers that go on with a message.

@@ -130,6 +130,82 @@ fn what_ends_a_subscription_and_acknowledgements_go_to_the_broker(
     Ok(())
 }
 
+fn is_text(text: &Option<HeaderText>, wanted: Option<&str>) -> bool {
+    match (text, wanted) {
+        (Some(text), Some(wanted)) => text.as_str() == wanted,
+        (None, None) => true,
+        _ => false,
+    }
+}
+
+// Whether a subscription is asked for, or its end, by these two names.
+fn asks_by(acts: &[Act], wanted_id: Option<&str>, wanted_durable: Option<&str>) -> bool {
+    match acts {
+        [Act::Do(Op::Subscribe { id, durable, .. }, None)] => {
+            wanted_id == Some(id.as_str()) && is_text(durable, wanted_durable)
+        }
+        [Act::Do(Op::Unsubscribe { id, durable }, None)] => {
+            is_text(id, wanted_id) && is_text(durable, wanted_durable)
+        }
+        _ => false,
+    }
+}
+
+const NAMED: &str = "CONNECT\naccept-version:1.2\nclient-id:c\n\n\0";
+
+#[test]
+fn a_durable_name_goes_with_a_topic_and_an_empty_one_counts_as_absent(
+    rt: HostRuntime,
+) -> Result<(), Fail> {
+    let alloc = rt.alloc();
+    let asked = [
+        (
+            "SUBSCRIBE\ndestination:/topic/t\nid:s\nactivemq.subscriptionName:n\n\n\0",
+            Some("s"),
+            Some("n"),
+        ),
+        (
+            "SUBSCRIBE\ndestination:/queue/q\nid:s\nactivemq.subscriptionName:n\n\n\0",
+            Some("s"),
+            None,
+        ),
+        (
+            "SUBSCRIBE\ndestination:/topic/t\nid:s\nactivemq.subscriptionName:\nactivemq.subscriptionName:n\n\n\0",
+            Some("s"),
+            None,
+        ),
+        (
+            "UNSUBSCRIBE\nactivemq.subscriptionName:n\n\n\0",
+            None,
+            Some("n"),
+        ),
+        (
+            "UNSUBSCRIBE\nid:\nactivemq.subscriptionName:n\n\n\0",
+            Some(""),
+            Some("n"),
+        ),
+        (
+            "UNSUBSCRIBE\nid:s\nactivemq.subscriptionName:\n\n\0",
+            Some("s"),
+            None,
+        ),
+    ];
+    let mut session = Session::new(alloc);
+    let acts = feed(alloc, &mut session, NAMED)?;
+    match acts.as_slice() {
+        [Act::Do(Op::Open { client_id }, None)] => assert!(rt; is_text(client_id, Some("c"))),
+        _ => assert!(rt; false),
+    }
+    for (frame, id, durable) in asked.as_slice() {
+        let acts = feed(alloc, &mut session, *frame)?;
+        assert!(rt; asks_by(acts.as_slice(), *id, *durable));
+    }
+    let nameless = "UNSUBSCRIBE\nactivemq.subscriptionName:\n\n\0";
+    let acts = feed(alloc, &mut session, nameless)?;
+    assert!(rt; ends_by(acts.as_slice(), 5));
+    Ok(())
+}
+
 #[test]
 fn a_transaction_is_committed_in_its_order(rt: HostRuntime) -> Result<(), Fail> {
     let alloc = rt.alloc();

@@ -6,6 +6,8 @@ mod command_line;
 #[cfg(test)]
 mod delivery_tests;
 #[cfg(test)]
+mod durable_tests;
+#[cfg(test)]
 mod tests;
 mod tool;
 

@@ -1,8 +1,5 @@
-use Rattle.std.proofs.Common.{◌≡◌, ◌+◌, ap, arith}
-use Rattle.std.specs.BTreeMap.{is_at}
+use Rattle.std.proofs.Common.{ap, arith}
 use Rattle.std.specs.List.{sum_by}
-use Rattle.std.specs.Map.{remove_entry}
-use Rattle.line_core.specs.declared.message.Message.{Message}
 use Rattle.broker_core.specs.Names.{Name, name_cmp}
 use Rattle.broker_core.specs.Waiting.{Lines, weight_of_lines, weight_of_shared}
 use Rattle.broker_core.proofs.KeyedLines.{weight-removed}

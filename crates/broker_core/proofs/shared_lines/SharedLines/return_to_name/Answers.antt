@@ -1,9 +1,9 @@
-use Rattle.std.proofs.Common.{rules, ◌≡◌, ◌+◌, ◌∷◌, List, ℕ, ap, sym, ◌∙◌, arith}
+use Rattle.std.proofs.Common.{rules, ◌≡◌, ℕ, ap, arith}
 use Rattle.std.specs.List.{sum_by}
 use Rattle.std.proofs.lemmas.List.Sums.{sum_by-cons}
 use Rattle.line_core.specs.declared.message.Message.{Message}
-use Rattle.broker_core.specs.Names.{Name, name_cmp}
-use Rattle.broker_core.specs.Waiting.{Lines, Shared, weight_of_lines, with_deliveries, with_message}
+use Rattle.broker_core.specs.Names.{name_cmp}
+use Rattle.broker_core.specs.Waiting.{Shared, weight_of_lines, with_message}
 use Rattle.broker_core.proofs.shared_lines.SharedLines.return_to_name.Goals as goal
 
 pub loop-message-preserved : goal.loop-message-preserved

@@ -1,0 +1,50 @@
+-- Reading one after the other, as a loop does.
+use Rattle.std.proofs.Common.{◌≡◌, ℕ, zero, suc, ◌-◌, ◌+◌, ◌≤◌, ◌<◌, List, [], ◌∷◌, ◌++◌, Option, Some, None, length, refl, sym, ap, ◌∙◌, append_assoc, arith}
+use Rattle.std.proofs.lemmas.List.{append-nil}
+use Rattle.std.proofs.lemmas.Option.{some_pair_parts}
+use Rattle.command_core.specs.declared.decode_fault.DecodeFault.{DecodeFault}
+use Rattle.command_core.specs.declared.decode_fault.DecodeFault.TheVariants as faults
+use Rattle.command_core.specs.Reading.{◌>>=◌, Fails, Reader, many_at}
+use Rattle.command_core.proofs.Formats.{bind_some}
+
+-- what was read before, and what is still read
+abbrev pub with_front : {A : Type 0} → List A → Option (List A × List ℕ) → Option (List A × List ℕ)
+with_front front read = read >>= λ x. Some (front ++ x.0, x.1)
+
+regroup : {A : Type 0} (front : List A) (one : A) (read : Option (List A × List ℕ)) → with_front front (read >>= λ x. Some (one ∷ x.0, x.1)) ≡ with_front (front ++ one ∷ []) read
+regroup {A} front one (Some x) = ap (λ (all : List A). Some (all, x.1)) (simp append_assoc)
+regroup front one None = refl
+
+pub goes_on : {A : Type 0} (read : Reader A) (front : List A) (count i : ℕ) (bytes : List ℕ) (one : A) (after : List ℕ) (total : Option (List A × List ℕ)) → i < count → read bytes ≡ Some (one, after)
+    → with_front front (many_at read (count - i) bytes) ≡ total → with_front (front ++ one ∷ []) (many_at read (count - (i + 1)) after) ≡ total
+unfolding many_at
+goes_on read front count i bytes one after total lt h so_far =
+    let k : count - i ≡ suc (count - (i + 1)) = omega arith in
+    let turn : with_front front (many_at read (count - i) bytes) ≡ with_front (front ++ one ∷ []) (many_at read (count - (i + 1)) after) = rw (k, h) (regroup front one (many_at read (count - (i + 1)) after)) in
+    sym turn ∙ so_far
+
+pub ends : {A : Type 0} (e : DecodeFault) (read : Reader A) (front : List A) (count i : ℕ) (bytes : List ℕ) (total : Option (List A × List ℕ)) → i < count → Fails e (read bytes)
+    → with_front front (many_at read (count - i) bytes) ≡ total → Fails e total
+unfolding many_at
+ends (faults.Memory refused) read front count i bytes total lt h so_far = tt
+ends faults.NoSpelling read front count i bytes total lt h so_far =
+    let k : count - i ≡ suc (count - (i + 1)) = omega arith in
+    let turn : with_front front (many_at read (count - i) bytes) ≡ None = rw (k, h) refl in
+    sym so_far ∙ turn
+
+pub is_done : {A : Type 0} (read : Reader A) (front : List A) (count i : ℕ) (bytes : List ℕ) (total : Option (List A × List ℕ)) → count ≤ i → with_front front (many_at read (count - i) bytes) ≡ total → total ≡ Some (front, bytes)
+unfolding many_at
+is_done {A} read front count i bytes total le so_far =
+    let k : count - i ≡ 0 = omega arith in
+    let turn : with_front front (many_at read (count - i) bytes) ≡ Some (front, bytes) = rw k (ap (λ (all : List A). Some (all, bytes)) (append-nil front)) in
+    sym so_far ∙ turn
+
+-- as many are read as were to be
+pub many_length : {A : Type 0} (read : Reader A) (n : ℕ) (bytes : List ℕ) (xs : List A) (rest : List ℕ) → many_at read n bytes ≡ Some (xs, rest) → length xs ≡ n
+unfolding many_at
+many_length read zero bytes xs rest e = ap length (sym (some_pair_parts [] xs bytes rest e).0)
+many_length read (suc n) bytes xs rest e =
+    let first = bind_some (read bytes) (λ first. many_at read n first.1 >>= λ others. Some (first.0 ∷ others.0, others.1)) (xs, rest) e in
+    let others = bind_some (many_at read n first.0.1) (λ others. Some (first.0.0 ∷ others.0, others.1)) (xs, rest) first.2 in
+    let same = some_pair_parts (first.0.0 ∷ others.0.0) xs others.0.1 rest others.2 in
+    ap length (sym same.0) ∙ ap suc (many_length read n first.0.1 others.0.0 others.0.1 others.1)

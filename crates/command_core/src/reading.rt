@@ -1,0 +1,219 @@
+//! The parts of records, read from the front of bytes. Each reader answers what it read and the bytes behind it.
+
+ghost use Rattle.std.specs.Prelude.{◌≡◌, ◌≤◌, IfOk, length};
+ghost use Rattle.std.specs.Int.{w16, w32, w64};
+ghost use Rattle.command_core.specs.Reading.{Gives, byte_at, number_at, counted_at, text_at, optional_at, name_at, destination_at, mode_at, pair_at, many_at, list_at, sending_at};
+ghost use Rattle.command_core.specs.Reading.{is_kept_named as keeps};
+ghost use Rattle.command_core.specs.Texts.{IsHeaderText};
+
+use crate::ack_mode::AckMode;
+use crate::decode_fault::DecodeFault;
+use crate::destination::{Dest, DestFault};
+use crate::header_text::{HeaderText, is_header_text};
+use crate::sending::{Sending, is_kept_name};
+use frame_core::{Bytes, Headers, Text};
+use std::alloc::Global;
+
+pub(crate) fn byte_of(bytes: &[u8]) -> Result<(u8, &[u8]), DecodeFault>
+    ensures { Gives (λ x. (x.0, x.1.now)) result (byte_at bytes.now) }
+{
+    match bytes {
+        [] => Err(DecodeFault::NoSpelling),
+        [byte, rest @ ..] => Ok((*byte, rest)),
+    }
+}
+
+pub(crate) fn u16_of(bytes: &[u8]) -> Result<(u16, &[u8]), DecodeFault>
+    ensures { Gives (λ x. (x.0, x.1.now)) result (number_at w16 bytes.now) }
+{
+    if bytes.len() < 2 {
+        return Err(DecodeFault::NoSpelling);
+    }
+    let (front, rest) = bytes.split_at(2);
+    Ok((u16::from_be_bytes([front[0], front[1]]), rest))
+}
+
+pub(crate) fn u32_of(bytes: &[u8]) -> Result<(u32, &[u8]), DecodeFault>
+    ensures { Gives (λ x. (x.0, x.1.now)) result (number_at w32 bytes.now) }
+{
+    if bytes.len() < 4 {
+        return Err(DecodeFault::NoSpelling);
+    }
+    let (front, rest) = bytes.split_at(4);
+    let number = u32::from_be_bytes([front[0], front[1], front[2], front[3]]);
+    Ok((number, rest))
+}
+
+pub(crate) fn u64_of(bytes: &[u8]) -> Result<(u64, &[u8]), DecodeFault>
+    ensures { Gives (λ x. (x.0, x.1.now)) result (number_at w64 bytes.now) }
+{
+    if bytes.len() < 8 {
+        return Err(DecodeFault::NoSpelling);
+    }
+    let (front, rest) = bytes.split_at(8);
+    let number = u64::from_be_bytes([
+        front[0], front[1], front[2], front[3], front[4], front[5], front[6], front[7],
+    ]);
+    Ok((number, rest))
+}
+
+// At most so many bytes, behind their count.
+#[tactic(auto, unfolding(crate::specs::Reading::counted_at))]
+pub(crate) fn counted_of(bytes: &[u8], limit: usize) -> Result<(&[u8], &[u8]), DecodeFault>
+    ensures read { Gives (λ x. (x.0.now, x.1.now)) result (counted_at limit bytes.now) }
+    ensures short { IfOk result (λ x. length x.0.now ≤ limit) }
+{
+    let (count, rest) = u32_of(bytes)?;
+    let count = count as usize;
+    if count > limit {
+        return Err(DecodeFault::NoSpelling);
+    }
+    if rest.len() < count {
+        return Err(DecodeFault::NoSpelling);
+    }
+    Ok(rest.split_at(count))
+}
+
+#[tactic(auto, unfolding(crate::specs::Reading::text_at))]
+fn str_of(bytes: &[u8]) -> Result<(&str, &[u8]), DecodeFault>
+    ensures read { Gives (λ x. (x.0.now, x.1.now)) result (text_at bytes.now) }
+    ensures form { IfOk result (λ x. IsHeaderText x.0.now) }
+{
+    let (text, rest) = counted_of(bytes, 8192)?;
+    let Ok(text) = str::from_utf8(text) else {
+        return Err(DecodeFault::NoSpelling);
+    };
+    if !is_header_text(text) {
+        return Err(DecodeFault::NoSpelling);
+    }
+    Ok((text, rest))
+}
+
+pub(crate) fn text_of(alloc: Global, bytes: &[u8]) -> Result<(HeaderText, &[u8]), DecodeFault>
+    ensures { Gives (λ x. (x.0, x.1.now)) result (text_at bytes.now) }
+{
+    let (text, rest) = str_of(bytes)?;
+    let text = Text::new(String::from_str(alloc, text)?);
+    Ok((HeaderText::new(text), rest))
+}
+
+#[tactic(auto, unfolding(crate::specs::Reading::optional_at))]
+pub(crate) fn optional_of(
+    alloc: Global,
+    bytes: &[u8],
+) -> Result<(Option<HeaderText>, &[u8]), DecodeFault>
+    ensures { Gives (λ x. (x.0, x.1.now)) result (optional_at bytes.now) }
+{
+    match bytes {
+        [] => Err(DecodeFault::NoSpelling),
+        [0, rest @ ..] => Ok((None, rest)),
+        [1, rest @ ..] => {
+            let (text, rest) = text_of(alloc, rest)?;
+            Ok((Some(text), rest))
+        }
+        [_, ..] => Err(DecodeFault::NoSpelling),
+    }
+}
+
+// A text that may be absent, and isn't empty where it is there.
+#[tactic(auto, unfolding(crate::specs::Reading::name_at))]
+pub(crate) fn name_of(
+    alloc: Global,
+    bytes: &[u8],
+) -> Result<(Option<HeaderText>, &[u8]), DecodeFault>
+    ensures { Gives (λ x. (x.0, x.1.now)) result (name_at bytes.now) }
+{
+    let (name, rest) = optional_of(alloc, bytes)?;
+    if let Some(name) = &name {
+        if name.as_str().is_empty() {
+            return Err(DecodeFault::NoSpelling);
+        }
+    }
+    Ok((name, rest))
+}
+
+#[tactic(auto, unfolding(crate::specs::Reading::destination_at))]
+pub(crate) fn destination_of(alloc: Global, bytes: &[u8]) -> Result<(Dest, &[u8]), DecodeFault>
+    ensures { Gives (λ x. (x.0, x.1.now)) result (destination_at bytes.now) }
+{
+    let (text, rest) = str_of(bytes)?;
+    match Dest::read(alloc, text) {
+        Ok(destination) => Ok((destination, rest)),
+        Err(DestFault::Bad) => Err(DecodeFault::NoSpelling),
+        Err(DestFault::Memory(refused)) => Err(DecodeFault::Memory(refused)),
+    }
+}
+
+#[tactic(auto, unfolding(crate::specs::Reading::mode_at))]
+pub(crate) fn mode_of(bytes: &[u8]) -> Result<(AckMode, &[u8]), DecodeFault>
+    ensures { Gives (λ x. (x.0, x.1.now)) result (mode_at bytes.now) }
+{
+    let (mode, rest) = byte_of(bytes)?;
+    match mode {
+        0 => Ok((AckMode::Auto, rest)),
+        1 => Ok((AckMode::Client, rest)),
+        2 => Ok((AckMode::ClientIndividual, rest)),
+        _ => Err(DecodeFault::NoSpelling),
+    }
+}
+
+// Whether a message keeps headers of that name. A name is never empty.
+fn is_kept_named(name: &str) -> bool
+    ensures { result ≡ keeps name.now }
+{
+    !name.is_empty() && is_kept_name(name)
+}
+
+#[tactic(auto, unfolding(crate::specs::Reading::pair_at))]
+fn header_of(alloc: Global, bytes: &[u8]) -> Result<((Text, Text), &[u8]), DecodeFault>
+    ensures { Gives (λ x. (x.0, x.1.now)) result (pair_at bytes.now) }
+{
+    let (name, rest) = str_of(bytes)?;
+    let (value, rest) = str_of(rest)?;
+    if !is_kept_named(name) {
+        return Err(DecodeFault::NoSpelling);
+    }
+    let name = Text::new(String::from_str(alloc, name)?);
+    let value = Text::new(String::from_str(alloc, value)?);
+    Ok(((name, value), rest))
+}
+
+fn headers_after_count(
+    alloc: Global,
+    count: u16,
+    bytes: &[u8],
+) -> Result<(Vec<(Text, Text)>, &[u8]), DecodeFault>
+    ensures { Gives (λ x. (x.0.items, x.1.now)) result (many_at pair_at count bytes.now) }
+{
+    let mut headers = Vec::new(alloc);
+    let mut rest = bytes;
+    for _ in 0..count {
+        let (header, after) = header_of(alloc, rest)?;
+        headers.push(header)?;
+        rest = after;
+    }
+    Ok((headers, rest))
+}
+
+#[tactic(auto, unfolding(crate::specs::Reading::list_at))]
+fn headers_of(alloc: Global, bytes: &[u8]) -> Result<(Headers, &[u8]), DecodeFault>
+    ensures { Gives (λ x. (x.0, x.1.now)) result (list_at pair_at bytes.now) }
+{
+    let (count, rest) = u16_of(bytes)?;
+    if count > 64 {
+        return Err(DecodeFault::NoSpelling);
+    }
+    let (headers, rest) = headers_after_count(alloc, count, rest)?;
+    Ok((Headers::new(headers), rest))
+}
+
+#[tactic(auto, unfolding(crate::specs::Reading::sending_at))]
+pub(crate) fn sending_of(alloc: Global, bytes: &[u8]) -> Result<(Sending, &[u8]), DecodeFault>
+    ensures { Gives (λ x. (x.0, x.1.now)) result (sending_at bytes.now) }
+{
+    let (destination, rest) = destination_of(alloc, bytes)?;
+    let (headers, rest) = headers_of(alloc, rest)?;
+    let (body, rest) = counted_of(rest, 65_536)?;
+    let body = Bytes::new(Vec::from_slice(alloc, body)?);
+    Ok((Sending::new(destination, headers, body), rest))
+}
