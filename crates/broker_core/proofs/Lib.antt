@@ -26,3 +26,6 @@ pub mod Picked
 pub mod Walk
 pub mod DeliveryNumbers
 pub mod StateNumbers
+pub mod Answered
+pub mod Counts
+pub mod SeenIds

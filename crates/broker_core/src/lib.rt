@@ -19,6 +19,7 @@ mod sending;
 mod shared_lines;
 mod subscribing;
 mod subscription;
+mod subscription_checks;
 mod tables;
 mod trial;
 
