@@ -27,5 +27,7 @@ pub mod Walk
 pub mod DeliveryNumbers
 pub mod StateNumbers
 pub mod Answered
+pub mod Alls
+pub mod StandingParts
 pub mod Counts
 pub mod SeenIds

@@ -12,6 +12,7 @@ mod fault;
 mod hand_out;
 mod laws;
 mod lines;
+mod number_checks;
 mod number_laws;
 mod order;
 mod parts;
