@@ -31,7 +31,7 @@ same_names a b is = same_parts a b (text_cmp a.0 b.0) (text_cmp a.1 b.1) refl re
 pub names_total : IsTotalOrder name_cmp
 names_total = then_total (on_total (λ (t : Name). t.0) nat_list_cmp_total) (on_total (λ (t : Name). t.1) nat_list_cmp_total)
 
-eq_parts : (o p : Ordering) → is_eq (ordering_then o p) ≡ (is_eq o && is_eq p)
+pub eq_parts : (o p : Ordering) → is_eq (ordering_then o p) ≡ (is_eq o && is_eq p)
 eq_parts Less p = refl
 eq_parts Equal p = refl
 eq_parts Greater p = refl

@@ -32,3 +32,9 @@ pub mod Ordered
 pub mod SubscriptionLimits
 pub mod BoundNames
 pub mod HeldLimits
+pub mod Answered
+pub mod Alls
+pub mod StandingParts
+pub mod Counts
+pub mod SeenIds
+pub mod SeenCounts

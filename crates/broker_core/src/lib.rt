@@ -12,6 +12,7 @@ mod fault;
 mod hand_out;
 mod laws;
 mod lines;
+mod number_checks;
 mod number_laws;
 mod order;
 mod parts;
@@ -20,6 +21,7 @@ mod shared_lines;
 mod sound_laws;
 mod subscribing;
 mod subscription;
+mod subscription_checks;
 mod tables;
 mod trial;
 

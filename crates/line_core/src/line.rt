@@ -1,6 +1,6 @@
 //! Messages that wait.
 
-ghost use Rattle.std.specs.Prelude.{◌≡◌, ◌==◌, ◌≤◌, [], OnOk, OnErr, drop, length, option_map};
+ghost use Rattle.std.specs.Prelude.{◌≡◌, ◌==◌, ◌≤◌, [], OnOk, OnErr, drop, length, option_map, slice_get};
 ghost use Rattle.std.specs.List.{insert};
 ghost use Rattle.line_core.specs.declared.message.Message.{Message};
 ghost use Rattle.line_core.specs.Lines.{IsRising, first_of, inserted};
@@ -54,6 +54,13 @@ impl Line {
         ensures rising { IsRising self.now }
     {
         self.messages.is_empty()
+    }
+
+    /// The message in that place, if there is one; the one that waits longest has the place 0.
+    pub fn get(&self, at: usize) -> Option<&Message>
+        ensures { option_map (λ m. m.now) result ≡ slice_get self.now at }
+    {
+        self.messages.get(at)
     }
 
     /// The message that waits longest, if there is one.
