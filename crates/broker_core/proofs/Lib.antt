@@ -35,6 +35,6 @@ pub mod HeldLimits
 pub mod Answered
 pub mod Alls
 pub mod StandingParts
-pub mod Counts
 pub mod SeenIds
 pub mod SeenCounts
+pub mod SeenNames

@@ -12,6 +12,7 @@ mod fault;
 mod hand_out;
 mod laws;
 mod lines;
+mod name_checks;
 mod number_checks;
 mod number_laws;
 mod order;
@@ -36,10 +37,10 @@ pub use laws::{
     restarts_keep_what_is_kept, states_stay_in_order,
 };
 pub use number_laws::numbers_stay_under_the_next;
+pub use parts::Parts;
 pub use sound_laws::{
     durable_names_stay_bound, limits_are_kept, subscriptions_stay_within_their_limits,
 };
-pub use parts::Parts;
 pub use subscription::Subscription;
 pub use tables::Held;
 

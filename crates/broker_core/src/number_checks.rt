@@ -114,7 +114,7 @@ fn are_new(seen: &mut BTreeSet<u64>, deliveries: &[(u64, Message)]) -> Result<bo
         ↔ ((delivery : ℕ) → cond (contains nat_cmp seen.old delivery) 1 0 + count_by (λ d. d.0 == delivery) deliveries.now ≤ 1)) }
     ensures seen { IfOk result (λ yes. IsTrue yes
         → (delivery : ℕ) → cond (contains nat_cmp seen.new delivery) 1 0
-            ≡ cond (contains nat_cmp seen.old delivery) 1 0 + count_by (λ d. d.0 == delivery) deliveries.now) }
+        ≡ cond (contains nat_cmp seen.old delivery) 1 0 + count_by (λ d. d.0 == delivery) deliveries.now) }
 {
     for (delivery, _) in deliveries {
         if !seen.insert(*delivery)? {

@@ -5,7 +5,6 @@ use Rattle.line_core.specs.declared.message.Message.{Message}
 use Rattle.broker_core.proofs.Alls.{all_given, each_given}
 use Rattle.broker_core.proofs.number_checks.has_counted.Goals as goal
 
-
 pub returns-then-line_is_counted : goal.returns-then-line_is_counted
 returns-then-line_is_counted c =
     let P = λ (m : Message). m.number.command < c.args.count in
