@@ -38,3 +38,4 @@ pub mod StandingParts
 pub mod SeenIds
 pub mod SeenCounts
 pub mod SeenNames
+pub mod Settled

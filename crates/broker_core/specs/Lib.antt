@@ -13,3 +13,4 @@ pub mod Trials
 pub mod Kept
 pub mod Sound
 pub mod PartsOf
+pub mod Rooms

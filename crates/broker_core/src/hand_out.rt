@@ -26,7 +26,7 @@ const LAST_DELIVERY: u64 = 1 << 63;
 const WINDOW: usize = 16;
 
 /// Whether a subscription may have one more delivery.
-fn has_room(sub: &Subscription) -> bool
+pub fn has_room(sub: &Subscription) -> bool
     ensures { result ≡ has_room sub.now }
 {
     match sub.mode {

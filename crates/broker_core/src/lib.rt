@@ -11,6 +11,7 @@ mod durable_name;
 mod fault;
 mod hand_out;
 mod laws;
+mod limit_checks;
 mod lines;
 mod name_checks;
 mod number_checks;

@@ -1,0 +1,142 @@
+//! Whether the parts of a state hold no more than may be held, and nothing waits that could be handed out.
+
+ghost use Rattle.std.specs.Prelude.{◌≡◌, ◌≤◌, ◌↔◌, IsTrue, None, not};
+ghost use Rattle.std.specs.List.{sum_by};
+ghost use Rattle.broker_core.specs.HandOut.{can_take, hand_out};
+ghost use Rattle.broker_core.specs.Lists.{is_none};
+ghost use Rattle.broker_core.specs.PartsOf.{state_of_parts};
+ghost use Rattle.broker_core.specs.Rooms.{IsLeft};
+ghost use Rattle.broker_core.specs.Sound.{HasLimits};
+ghost use Rattle.broker_core.specs.States.{held_bytes, held_messages, weight_of, weight_of_subscription};
+ghost use Rattle.broker_core.specs.Waiting.{line_for, weight_of_lines};
+
+use crate::hand_out::has_room;
+use crate::lines::has_some;
+use crate::parts::Parts;
+use crate::subscription::Subscription;
+use crate::tables::Held;
+use line_core::{Flight, Line, Message, size};
+use std::collections::BTreeMap;
+
+/// How much may be held.
+const MOST: Held = Held {
+    messages: 4096,
+    bytes: 16_777_216,
+};
+
+/// From this number on nothing is delivered.
+const LAST_DELIVERY: u64 = 1 << 63;
+
+/// The room that a message leaves, where it fits.
+fn room_beside(room: Held, message: &Message) -> Option<Held>
+    ensures { IsLeft room (λ weight. weight message.now) result }
+{
+    let messages = room.messages.checked_sub(1)?;
+    let bytes = room.bytes.checked_sub(size(&message.sending) as u64)?;
+    Some(Held { messages, bytes })
+}
+
+/// The room that the messages of a line leave, where they fit.
+fn room_beside_line(room: Held, line: &Line) -> Option<Held>
+    ensures { IsLeft room (λ weight. sum_by weight line.now) result }
+{
+    let mut left = room;
+    for at in 0..line.len() {
+        left = room_beside(left, line.get(at).unwrap())?;
+    }
+    Some(left)
+}
+
+/// The room that the messages of lines leave, where they fit.
+fn room_beside_lines<K: Ord>(room: Held, lines: &BTreeMap<K, Line>) -> Option<Held>
+    ensures { IsLeft room (λ weight. weight_of_lines weight lines.now.entries) result }
+{
+    let mut left = room;
+    for (_, line) in lines {
+        left = room_beside_line(left, line)?;
+    }
+    Some(left)
+}
+
+/// The room that the messages of deliveries leave, where they fit.
+fn room_beside_deliveries(room: Held, deliveries: &[(u64, Message)]) -> Option<Held>
+    ensures { IsLeft room (λ weight. sum_by (λ delivery. weight delivery.1) deliveries.now) result }
+{
+    let mut left = room;
+    for (_, message) in deliveries {
+        left = room_beside(left, message)?;
+    }
+    Some(left)
+}
+
+/// The room that the messages of a subscription leave, where they fit.
+fn room_beside_subscription(room: Held, sub: &Subscription) -> Option<Held>
+    ensures { IsLeft room (λ weight. weight_of_subscription weight sub.now) result }
+{
+    let left = room_beside_line(room, &sub.line)?;
+    room_beside_deliveries(left, sub.unacknowledged.as_slice())
+}
+
+/// The room that the messages of subscriptions leave, where they fit.
+fn room_beside_subscriptions(room: Held, subscriptions: &[Subscription]) -> Option<Held>
+    ensures { IsLeft room (λ weight. sum_by (weight_of_subscription weight) subscriptions.now) result }
+{
+    let mut left = room;
+    for sub in subscriptions {
+        left = room_beside_subscription(left, sub)?;
+    }
+    Some(left)
+}
+
+/// The room that all messages leave, where they fit.
+fn room_beside_all(room: Held, parts: &Parts) -> Option<Held>
+    ensures { IsLeft room (λ weight. weight_of weight (state_of_parts parts.now)) result }
+{
+    let left = room_beside_lines(room, &parts.names)?;
+    let left = room_beside_lines(left, &parts.queues)?;
+    room_beside_subscriptions(left, parts.subscriptions.as_slice())
+}
+
+/// Whether no more messages and bytes are held than may be.
+fn are_within(parts: &Parts) -> bool
+    ensures { IsTrue result ↔ (held_messages (state_of_parts parts.now) ≤ 4096) × (held_bytes (state_of_parts parts.now) ≤ 16777216) }
+{
+    room_beside_all(MOST, parts).is_some()
+}
+
+/// Whether a message waits for a subscription.
+fn has_message(parts: &Parts, sub: &Subscription) -> bool
+    ensures { result ≡ not (is_none (line_for (state_of_parts parts.now).shared sub.now)) }
+{
+    match &sub.durable {
+        Some(name) => has_some(&parts.names, name),
+        None if sub.destination.is_queue() => has_some(&parts.queues, &sub.destination),
+        None => !sub.line.is_empty(),
+    }
+}
+
+/// Whether a subscription can be served now.
+fn can_take(parts: &Parts, sub: &Subscription) -> bool
+    ensures { result ≡ can_take (state_of_parts parts.now) sub.now }
+{
+    parts.next_delivery < LAST_DELIVERY && has_room(sub) && has_message(parts, sub)
+}
+
+/// Whether nothing can be handed out.
+fn are_settled(parts: &Parts) -> bool
+    ensures { IsTrue result ↔ (hand_out (state_of_parts parts.now) ≡ None) }
+{
+    for sub in &parts.subscriptions {
+        if can_take(parts, sub) {
+            return false;
+        }
+    }
+    true
+}
+
+/// Whether at most 4,096 messages and 16,777,216 bytes are held, and nothing waits that could be handed out.
+pub fn has_limits(parts: &Parts) -> bool
+    ensures { IsTrue result ↔ HasLimits (state_of_parts parts.now) }
+{
+    are_within(parts) && are_settled(parts)
+}
