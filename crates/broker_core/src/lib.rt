@@ -12,6 +12,7 @@ mod fault;
 mod hand_out;
 mod laws;
 mod limit_checks;
+mod line_checks;
 mod lines;
 mod name_checks;
 mod number_checks;
