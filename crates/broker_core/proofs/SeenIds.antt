@@ -1,4 +1,4 @@
-use Rattle.std.proofs.Common.{◌≡◌, ◌≤◌, ◌+◌, ◌&&◌, ◌==◌, ◌∙◌, Bool, Bor, List, Some, ℕ, true, false, ap, arith, cond, count_by, eq-eqb, refl, slice_get, sym, take}
+use Rattle.std.proofs.Common.{◌≡◌, ◌+◌, ◌&&◌, ◌==◌, ◌∙◌, Bool, Bor, List, Some, ℕ, true, false, ap, arith, cond, count_by, eq-eqb, refl, slice_get, sym, take}
 use Rattle.std.proofs.lemmas.Bool.Decides.{nat_tests}
 use Rattle.std.proofs.lemmas.Cmp.{nat_eq_equiv, nat_list_eq_equiv}
 use Rattle.std.proofs.lemmas.Map.Lookups.{exact_bytes, exact_pairs, exact_unsigned}
@@ -36,8 +36,8 @@ equal Less is = absurd cc
 equal Equal is = refl
 equal Greater is = absurd cc
 
--- where the sessions and ids of the subscriptions so far were noted, each of one alone, and the next one's are new and noted
--- too, this holds with the next one
+-- Sessions and ids of the subscriptions before a place were noted, and no two of these have both the same. Where those of the
+-- next one are new, and they are noted too, this holds up to the next place.
 pub named_more : (subs : List Subscription) (at : ℕ) (sub : Subscription) → slice_get subs at ≡ Some sub → (old new : Key → Bool) → old (key_of sub.session sub.id) ≡ false → ((q : Key) → new q ≡ cond (is_eq (key_cmp (key_of sub.session sub.id) q)) true (old q)) → ((session : ℕ) (id : List ℕ) → count_by (is_named session id) (take at subs) ≡ cond (old (key_of session id)) 1 0) → (session : ℕ) (id : List ℕ) → count_by (is_named session id) (take (at + 1) subs) ≡ cond (new (key_of session id)) 1 0
 named_more subs at sub is old new fresh more noted session id =
     noted_more (λ (q : ℕ × List ℕ) (y : Subscription). is_named q.0 q.1 y) (sub.session, sub.id) (λ q. is_eq (key_cmp (key_of sub.session sub.id) (key_of q.0 q.1))) subs at sub is (λ q. old (key_of q.0 q.1)) (λ q. new (key_of q.0 q.1)) (λ q. named_by q.0 q.1 sub) (λ q same. ap (λ (k : ℕ × List ℕ). count_by (is_named k.0 k.1) (take at subs)) (sym (exact_pairs nat_cmp text_cmp exact_unsigned exact_bytes (sub.session, sub.id) q (equal _ same)))) fresh (λ q. more (key_of q.0 q.1)) (λ q. noted q.0 q.1) (session, id)

@@ -20,10 +20,10 @@ use line_core::{Message, size};
 use std::alloc::{AllocError, Global};
 
 /// From this number on nothing is delivered.
-const LAST_DELIVERY: u64 = 1 << 63;
+pub const LAST_DELIVERY: u64 = 1 << 63;
 
 /// How many deliveries of a subscription may be unacknowledged.
-const WINDOW: usize = 16;
+pub const WINDOW: usize = 16;
 
 /// Whether a subscription may have one more delivery.
 pub fn has_room(sub: &Subscription) -> bool

@@ -1,24 +1,21 @@
 //! Whether the numbers among the parts of a state keep their rules.
 
-ghost use Rattle.std.specs.Prelude.{◌≡◌, ◌==◌, ◌+◌, ◌<◌, ◌≤◌, ◌^◌, ◌↔◌, IfOk, IsTrue, List, ℕ, cond, count_by};
+ghost use Rattle.std.specs.Prelude.{◌≡◌, ◌==◌, ◌+◌, ◌<◌, ◌≤◌, ◌^◌, ◌↔◌, IfOk, IsTrue, ℕ, cond, count_by};
 ghost use Rattle.std.specs.BTreeSet.{contains};
-ghost use Rattle.std.specs.List.{AllByRecursion, flat_map, sum_by};
+ghost use Rattle.std.specs.List.{AllByRecursion, sum_by};
 ghost use Rattle.std.specs.Ordering.{nat_cmp};
 ghost use Rattle.line_core.specs.Flights.{IsOver};
-ghost use Rattle.line_core.specs.declared.message.Message.{Message};
 ghost use Rattle.broker_core.specs.PartsOf.{state_of_parts};
 ghost use Rattle.broker_core.specs.Sound.{HasNumbers, had_by};
 ghost use Rattle.broker_core.specs.States.{IsInOrder, standing};
 
+use crate::hand_out::LAST_DELIVERY;
 use crate::lines::stand_in_order;
 use crate::parts::Parts;
 use crate::subscription::Subscription;
-use line_core::{Flight, Line, Message};
+use line_core::{Line, Message};
 use std::alloc::{AllocError, Global};
 use std::collections::{BTreeMap, BTreeSet};
-
-/// The greatest number that the next delivery may have.
-const MOST_DELIVERIES: u64 = 1 << 63;
 
 /// Whether a message is of a command that is counted.
 fn is_counted(count: u64, message: &Message) -> bool
@@ -144,7 +141,7 @@ pub fn has_numbers(alloc: Global, parts: &Parts) -> Result<bool, AllocError>
     ensures { IfOk result (λ yes. IsTrue yes ↔ HasNumbers (state_of_parts parts.now)) }
 {
     let subscriptions = parts.subscriptions.as_slice();
-    if parts.next_delivery > MOST_DELIVERIES || !messages_are_counted(parts) {
+    if parts.next_delivery > LAST_DELIVERY || !messages_are_counted(parts) {
         return Ok(false);
     }
     if !is_over_all(parts.next_delivery, subscriptions) {

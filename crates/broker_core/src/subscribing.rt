@@ -20,7 +20,7 @@ use std::alloc::{AllocError, Global};
 use std::collections::BTreeMap;
 
 /// How many subscriptions a session may have.
-const MOST_SUBSCRIPTIONS: usize = 16;
+pub const MOST_SUBSCRIPTIONS: usize = 16;
 
 /// How many durable names there may be.
 const MOST_NAMES: usize = 256;

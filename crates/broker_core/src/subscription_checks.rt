@@ -7,14 +7,13 @@ ghost use Rattle.broker_core.specs.PartsOf.{state_of_parts};
 ghost use Rattle.broker_core.specs.Sound.{HasSubscriptions, window_of};
 ghost use Rattle.broker_core.specs.States.{is_open};
 
+use crate::hand_out::WINDOW;
 use crate::parts::Parts;
+use crate::subscribing::MOST_SUBSCRIPTIONS;
 use crate::subscription::Subscription;
 use command_core::{AckMode, HeaderText};
 use std::alloc::{AllocError, Global};
 use std::collections::{BTreeMap, BTreeSet};
-
-/// How many subscriptions a session may have.
-const MOST_SUBSCRIPTIONS: usize = 16;
 
 /// How many deliveries of a subscription may be unacknowledged.
 fn window_of(mode: AckMode) -> usize
@@ -22,7 +21,7 @@ fn window_of(mode: AckMode) -> usize
 {
     match mode {
         AckMode::Auto => 0,
-        AckMode::Client | AckMode::ClientIndividual => 16,
+        AckMode::Client | AckMode::ClientIndividual => WINDOW,
     }
 }
 

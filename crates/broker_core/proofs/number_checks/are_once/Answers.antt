@@ -1,8 +1,5 @@
-use Rattle.std.proofs.Common.{◌≡◌, ◌==◌, ◌≤◌, ◌+◌, ◌∙◌, ℕ, List, Some, ap, arith, cond, count_by, length, true}
+use Rattle.std.proofs.Common.{◌≡◌, ◌==◌, ℕ, List, ap, arith, count_by, true}
 use Rattle.std.proofs.lemmas.List.Sums.{sum_by_more, sum_by_more_le}
-use Rattle.std.specs.BTreeSet.{contains}
-use Rattle.std.specs.List.{sum_by}
-use Rattle.std.specs.Ordering.{nat_cmp}
 use Rattle.line_core.specs.declared.message.Message.{Message}
 use Rattle.broker_core.specs.declared.subscription.Subscription.{Subscription}
 use Rattle.broker_core.proofs.number_checks.are_once.Goals as goal

@@ -1,4 +1,4 @@
-use Rattle.std.proofs.Common.{◌≡◌, ◌==◌, ◌<◌, ◌≤◌, ◌^◌, ◌↔◌, Bool, IsTrue, List, ℕ, arith, count_by, refl, rules, subst, sym, true}
+use Rattle.std.proofs.Common.{◌==◌, ◌<◌, ◌≤◌, ◌^◌, ◌↔◌, Bool, IsTrue, List, ℕ, arith, count_by, refl, rules, subst, sym}
 use Rattle.std.specs.List.{AllByRecursion, sum_by}
 use Rattle.line_core.specs.Flights.{IsOver}
 use Rattle.broker_core.specs.PartsOf.{state_of_parts}

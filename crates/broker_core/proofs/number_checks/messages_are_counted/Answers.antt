@@ -1,4 +1,4 @@
-use Rattle.std.proofs.Common.{◌≡◌, ◌<◌, List, refl, subst, sym, true}
+use Rattle.std.proofs.Common.{◌<◌, List, refl, subst, sym}
 use Rattle.std.specs.List.{AllByRecursion}
 use Rattle.line_core.specs.declared.message.Message.{Message}
 use Rattle.broker_core.specs.PartsOf.{state_of_parts}
