@@ -303,7 +303,7 @@ module _ (s : State) (now : HasNames s) where
           whole (spread_by s m false) (record { few = now.few; topics = now.topics; lines = known_copied s.durables m s.durables (each_has name_cmp name_itself s.durables) s.shared.names now.lines }) (used_copied s.sessions s.durables s.subscriptions (used_in s now) m)
 
 module _ (number : ℕ) where
-  names_changes : Keeps (IsOrdered number) HasNames
+  pub names_changes : Keeps (IsOrdered number) HasNames
   names_changes = record {
     opened = λ s client_id earlier known now. names_opened s now client_id earlier;
     begun = λ s session id to mode can known now. names_begun s now session id to mode;
@@ -318,7 +318,7 @@ module _ (number : ℕ) where
     handed = λ s sub others m rest is line known now. names_handed s now sub others m rest is;
   }
 
-  names_from : KeepsFrom (IsOrdered number) (λ place. HasNames)
+  pub names_from : KeepsFrom (IsOrdered number) (λ place. HasNames)
   names_from = record {
     changes = λ place. names_changes;
     next = λ place s known now. now;

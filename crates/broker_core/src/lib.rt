@@ -11,6 +11,7 @@ mod durable_name;
 mod fault;
 mod hand_out;
 mod laws;
+mod line_laws;
 mod lines;
 mod number_laws;
 mod order;
