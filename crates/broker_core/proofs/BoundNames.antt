@@ -28,6 +28,7 @@ use Rattle.broker_core.proofs.Keys.{is_eq-name_cmp, name_itself, names_total, sa
 use Rattle.broker_core.proofs.Lookups.{among_keys, each_has, is_equal, length-inserted, length-removed_entry, lookup_inserted, lookup_new, lookup_removed, none_found, other_way, some_inserted}
 use Rattle.broker_core.proofs.Ordered.{IsOrdered, led_in_order, restarted_keeps_in_order}
 use Rattle.broker_core.proofs.Picked.{all_picked, all_with_first}
+use Rattle.broker_core.proofs.Restarts.{uses_by}
 use Rattle.broker_core.proofs.Sendings.{spread_by}
 use Rattle.broker_core.proofs.SharedOrder.{AreRising}
 use Rattle.broker_core.proofs.SortedEntries.{all_inserted, all_removed}
@@ -64,10 +65,6 @@ session_known P sessions session client is all =
     by : (o : Option (Option (List ℕ))) → unwrap_or o None ≡ Some client → is_some o ≡ true
     by None is = absurd cc
     by (Some c) is = refl
-
--- who uses a durable name
-abbrev uses_by : Name → Option Name → Bool
-uses_by name o = elim o as (λ x. Bool) [ None ↦ false | Some other ↦ bytes_eq name.0 other.0 && bytes_eq name.1 other.1 ]
 
 same_used : (name other : Name) → (bytes_eq name.0 other.0 && bytes_eq name.1 other.1) ≡ true → name ≡ other
 same_used name other is = same_names name other (is_equal (name_cmp name other) (is_eq-name_cmp name other ∙ is))

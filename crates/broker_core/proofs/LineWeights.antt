@@ -1,4 +1,4 @@
-use Rattle.std.proofs.Common.{◌≡◌, ◌≤◌, ◌+◌, ◌&&◌, ◌++◌, List, [], ◌∷◌, ℕ, Bool, true, false, Option, Some, None, cond, fold, is_some, map, not, unwrap_or, refl, sym, ap, subst, ◌∙◌, arith, if◌then◌else◌}
+use Rattle.std.proofs.Common.{◌≡◌, ◌≤◌, ◌+◌, ◌&&◌, List, [], ◌∷◌, ℕ, Bool, true, false, Option, Some, None, cond, is_some, map, not, unwrap_or, refl, sym, ap, subst, ◌∙◌, arith, if◌then◌else◌}
 use Rattle.std.specs.BTreeMap.{is_at}
 use Rattle.std.specs.Cmp.{IsTotalOrder}
 use Rattle.std.specs.List.{AllByRecursion, sum_by}
@@ -20,9 +20,9 @@ use Rattle.broker_core.specs.Names.{AreSame, Name, name_cmp, text_cmp}
 use Rattle.broker_core.specs.Operations.{copied_to_names, uses}
 use Rattle.broker_core.specs.Waiting.{Lines, Shared, left_from, left_shared, line_at, line_for, line_from, returned, with_line, with_message}
 use Rattle.broker_core.proofs.KeyedLines.{IsRising, absent-removed, other_line}
-use Rattle.broker_core.proofs.Keys.{is_eq-name_cmp, name_itself, names_total, same_names, same_texts, texts_total}
+use Rattle.broker_core.proofs.Keys.{is_eq-name_cmp, names_total, same_names, same_texts, texts_total}
 use Rattle.broker_core.proofs.Lookups.{is_equal, lookup_new, lookup_removed}
-use Rattle.broker_core.proofs.Restarts.{message_put, name_back_from, queue_back_from}
+use Rattle.broker_core.proofs.Restarts.{message_put, name_back_from, queue_back_from, uses_by}
 use Rattle.broker_core.proofs.SharedOrder.{AreRising}
 
 -- What the line of one key weighs, after a line is changed.
@@ -117,9 +117,6 @@ module _ (weight : Message → ℕ) where
       -- a message that is handed out leaves its line
       pub queue_left : (to : List ℕ) → line_for shared sub ≡ m ∷ rest → sum_by weight (line_at text_cmp to (left_shared shared sub rest).queues) + (if takes_from to sub then weight m else 0) ≡ sum_by weight (line_at text_cmp to shared.queues)
       queue_left to line = queue_left_from to sub.durable line
-
-      abbrev uses_by : Name → Option Name → Bool
-      uses_by name o = elim o as (λ x. Bool) [ None ↦ false | Some other ↦ bytes_eq name.0 other.0 && bytes_eq name.1 other.1 ]
 
       name_left_by : (name : Name) (kind : Bool) → sum_by weight (line_at name_cmp name (if kind then record shared { queues = with_line text_cmp sub.destination rest shared.queues } else shared).names) + 0 ≡ sum_by weight (line_at name_cmp name shared.names)
       name_left_by name true = omega arith

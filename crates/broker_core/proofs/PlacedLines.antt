@@ -1,4 +1,4 @@
-use Rattle.std.proofs.Common.{◌≡◌, ◌<◌, ◌≤◌, ◌+◌, ◌&&◌, ◌||◌, ◌++◌, List, [], ◌∷◌, ℕ, Bool, true, false, true≢false, IfSome, IsSome, Option, Some, None, cond, fold, filter, is_some, map, not, unwrap_or, refl, sym, ap, subst, ◌∙◌, arith, if◌then◌else◌}
+use Rattle.std.proofs.Common.{◌≡◌, ◌&&◌, ◌++◌, List, [], ◌∷◌, ℕ, Bool, true, false, true≢false, IfSome, IsSome, Option, Some, None, cond, filter, is_some, map, not, unwrap_or, refl, sym, ap, subst, ◌∙◌, if◌then◌else◌}
 use Rattle.std.specs.BTreeMap.{insert_entry, is_at}
 use Rattle.std.specs.List.{AllByRecursion}
 use Rattle.std.specs.List.Sorted.{IsStrictlySortedBy}
@@ -28,7 +28,6 @@ use Rattle.broker_core.proofs.Keys.{name_itself, names_total, same_names, same_t
 use Rattle.broker_core.proofs.Lookups.{is_equal, lookup_inserted, lookup_removed, none_found, other_way}
 use Rattle.broker_core.proofs.Ordered.{IsOrdered}
 use Rattle.broker_core.proofs.Picked.{all_picked, all_with_first}
-use Rattle.broker_core.proofs.Restarts.{some_in}
 use Rattle.broker_core.proofs.Sendings.{spread_by}
 use Rattle.broker_core.proofs.SortedEntries.{all_removed}
 use Rattle.broker_core.proofs.Walk.{Keeps, KeepsFrom}

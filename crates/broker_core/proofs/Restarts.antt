@@ -82,7 +82,8 @@ name_back_by : (name : Name) (shared : Shared) (sub : Subscription) (kind : Bool
 name_back_by name shared sub true = refl
 name_back_by name shared sub false = refl
 
-abbrev uses_by : Name → Option Name → Bool
+-- whether it is the durable name that a subscription has
+abbrev pub uses_by : Name → Option Name → Bool
 uses_by name o = elim o as (λ x. Bool) [ None ↦ false | Some other ↦ bytes_eq name.0 other.0 && bytes_eq name.1 other.1 ]
 
 pub name_back_from : (name : Name) (shared : Shared) (sub : Subscription) (o : Option Name) → line_at name_cmp name (returned_from shared sub o).names ≡ with_all (line_at name_cmp name shared.names) (if uses_by name o then map (λ (d : ℕ × Message). d.1) sub.unacknowledged else [])

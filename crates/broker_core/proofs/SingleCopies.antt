@@ -1,7 +1,5 @@
-use Rattle.std.proofs.Common.{◌≡◌, ◌<◌, ◌≤◌, ◌+◌, ◌||◌, ◌++◌, List, [], ◌∷◌, ℕ, Bool, true, false, Option, Some, None, cond, is_some, map, not, refl, sym, ap, ◌∙◌, arith, if◌then◌else◌}
-use Rattle.std.specs.BTreeMap.{is_at}
+use Rattle.std.proofs.Common.{◌≡◌, ◌≤◌, ◌+◌, ◌||◌, ◌++◌, List, [], ◌∷◌, ℕ, Bool, true, false, Option, Some, None, cond, is_some, map, not, refl, sym, ap, ◌∙◌, arith, if◌then◌else◌}
 use Rattle.std.specs.List.{AllByRecursion, sum_by}
-use Rattle.std.specs.Map.{remove_entry}
 use Rattle.std.specs.Ordering.{is_eq}
 use Rattle.std.proofs.lemmas.List.Sums.{sum_by-cons, sum_by_push}
 use Rattle.frame_core.proofs.Lists.{all_push, all_weaker}
@@ -10,8 +8,6 @@ use Rattle.command_core.specs.Sendings.{SendingValue}
 use Rattle.line_core.specs.declared.message.Message.{Message}
 use Rattle.line_core.proofs.Flights.{sum_by-settled}
 use Rattle.line_core.proofs.Inserted.{sum_by-inserted}
-use Rattle.line_core.specs.Lines.{inserted}
-use Rattle.std.proofs.lemmas.Map.Text.{is_eq-slice_cmp}
 use Rattle.broker_core.specs.declared.subscription.Subscription.{Subscription}
 use Rattle.broker_core.specs.HandOut.{can_take, delivered, handed, is_auto}
 use Rattle.broker_core.specs.Kept.{takes_from}
@@ -20,16 +16,16 @@ use Rattle.broker_core.specs.Names.{Name, name_cmp, text_cmp}
 use Rattle.broker_core.specs.Operations.{awaits, copied, forgotten, message_of, settled_by, spread, uses, without}
 use Rattle.broker_core.specs.States.{State, weight_of_subscription}
 use Rattle.broker_core.specs.Waiting.{Shared, is_own, left_line, line_at, line_for, line_from}
-use Rattle.broker_core.proofs.Counts.{sum_mapped}
+use Rattle.broker_core.proofs.Counts.{sum_first_less, sum_mapped}
 use Rattle.broker_core.proofs.Deliveries.{sum_picked}
-use Rattle.broker_core.proofs.Keys.{name_itself, names_total, same_names, same_texts, texts_total}
+use Rattle.broker_core.proofs.Keys.{names_total, same_names, same_texts, texts_total}
 use Rattle.broker_core.proofs.LineWeights.{flying, name_back, name_copied, name_left, part, queue_back, queue_left, weight_put, weight_removed}
 use Rattle.broker_core.proofs.Ordered.{IsOrdered}
 use Rattle.broker_core.proofs.Picked.{all_picked, all_with_first}
 use Rattle.broker_core.proofs.Sendings.{spread_by}
 use Rattle.broker_core.proofs.Served.{flight_more}
 use Rattle.broker_core.proofs.Walk.{Keeps, KeepsFrom}
-use Rattle.broker_core.proofs.Weights.{copied_keeps, weight-settled_by}
+use Rattle.broker_core.proofs.Weights.{copied_keeps}
 
 -- A weight stands for the messages of one number: in a line and what is unacknowledged from it, it weighs one at most.
 module _ (weight : Message → ℕ) where
@@ -63,15 +59,6 @@ module _ (weight : Message → ℕ) where
   more_by : (b : Bool) (x y z : ℕ) → x ≤ y + z → (if b then x else 0) ≤ (if b then y else 0) + (if b then z else 0)
   more_by true x y z less = less
   more_by false x y z less = omega arith
-
-  sum_first_less : (f : Subscription → ℕ) (g : Subscription → Subscription) (p : Subscription → Bool) → ((x : Subscription) → f (g x) ≤ f x) → (xs : List Subscription) → sum_by f (with_first p g xs) ≤ sum_by f xs
-  sum_first_less f g p less [] = omega arith
-  sum_first_less f g p less (x ∷ xs) =
-      let rest = sum_first_less f g p less xs in
-      elim (p x) as (λ b. sum_by f (if b then g x ∷ xs else x ∷ with_first p g xs) ≤ sum_by f (x ∷ xs)) [
-        | true ↦ omega (arith, less x, sum_by-cons f x xs, sum_by-cons f (g x) xs)
-        | false ↦ omega (arith, rest, sum_by-cons f x xs, sum_by-cons f x (with_first p g xs))
-      ]
 
   settled_flying : (delivery : ℕ) (x : Subscription) → flying weight (settled_by delivery x).unacknowledged ≤ flying weight x.unacknowledged
   settled_flying delivery x =
@@ -186,7 +173,8 @@ module _ (weight : Message → ℕ) where
         by true = queue_spread
         by false = topic_spread number known
 
-  less_left : (before left : ℕ) (s : State) → left ≤ before → IsSingle before s → IsSingle left s
+  -- and with less that is left
+  pub less_left : (before left : ℕ) (s : State) → left ≤ before → IsSingle before s → IsSingle left s
   less_left before left s less now = record {
     queues = λ to. omega (arith, now.queues to, less);
     names = λ name. omega (arith, now.names name, less);

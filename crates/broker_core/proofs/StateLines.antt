@@ -1,6 +1,5 @@
-use Rattle.std.proofs.Common.{◌≡◌, ◌≢◌, ◌<◌, ◌≤◌, ◌+◌, ◌-◌, ◌&&◌, ◌||◌, ◌++◌, ◌⊎◌, inl, inr, List, [], ◌∷◌, ℕ, Bool, true, false, IfSome, Option, Some, None, cond, count_by, is_some, map, not, refl, sym, ap, ◌∙◌, arith, if◌then◌else◌}
-use Rattle.std.specs.BTreeMap.{is_at}
-use Rattle.std.specs.List.{AllByRecursion, flat_map, sum_by}
+use Rattle.std.proofs.Common.{◌≡◌, ◌≢◌, ◌<◌, ◌≤◌, ◌+◌, ◌-◌, ◌&&◌, ◌||◌, ◌++◌, ◌⊎◌, inl, inr, List, [], ◌∷◌, ℕ, Bool, true, false, Option, Some, None, cond, count_by, is_some, map, not, refl, ap, ◌∙◌, arith, if◌then◌else◌}
+use Rattle.std.specs.List.{AllByRecursion, sum_by}
 use Rattle.std.specs.Str.{bytes_eq}
 use Rattle.std.proofs.lemmas.Bool.{cases_lt}
 use Rattle.std.proofs.lemmas.List.Sums.{sum_by-append, sum_by-cons}
@@ -25,7 +24,7 @@ use Rattle.broker_core.proofs.LineWeights.{flown, flown_where, flying, part}
 use Rattle.broker_core.proofs.MessageNumbers.{same_parts, sum_nothing}
 use Rattle.broker_core.proofs.Ordered.{IsOrdered, led_in_order, ordered_first, ordered_from, restarted_keeps_in_order}
 use Rattle.broker_core.proofs.PlacedLines.{IsNamed, IsPlaced, placed_changes, placed_from}
-use Rattle.broker_core.proofs.SingleCopies.{IsMetered, IsSingle, IsSingleOwn, in_queue, single_changes, single_from, under}
+use Rattle.broker_core.proofs.SingleCopies.{IsMetered, IsSingle, IsSingleOwn, in_queue, less_left, single_changes, single_from, under}
 use Rattle.broker_core.proofs.Standing.{all_stand}
 use Rattle.broker_core.proofs.Walk.{beside, beside_from, led_keeps, restarted_keeps}
 
@@ -124,13 +123,6 @@ module _ (number : MessageNumber) where
     own = all_weaker (λ sub. AreOnce (had_by sub)) (IsSingleOwn copies 0) (λ sub once own. omega (arith, once number, had_copies sub)) s.subscriptions now.once_of_own;
   }
 
-  fewer_left : (s : State) (some : ℕ) → IsSingle copies some s → IsSingle copies 0 s
-  fewer_left s some now = record {
-    queues = λ to. omega (arith, now.queues to);
-    names = λ name. omega (arith, now.names name);
-    own = all_weaker (IsSingleOwn copies some) (IsSingleOwn copies 0) (λ sub single own. omega (arith, single own)) s.subscriptions now.own;
-  }
-
   -- a step leaves one at most
   single_led : (s : State) (c : CommandValue) → IsInOrder s → HasNumbers s → HasLines s → IsSingle copies 0 (led_to s c.session c.op).state
   single_led s c order numbers now = by (cases_lt number.command s.count)
@@ -140,8 +132,8 @@ module _ (number : MessageNumber) where
           (led_in_order s order (λ place. IsSingle copies 0) (single_from copies s.count (λ place. 0) (none_metered s.count (λ same. omega (arith, same, earlier)))) c (single_of s now)).2
       by (inr later) =
           let first = single_yet s (none_stands s numbers.messages later) in
-          let after = led_in_order s order (λ place. IsSingle copies (left place)) (single_from copies s.count left (metered s.count)) c (record { queues = λ to. omega (arith, first.queues to); names = λ name. omega (arith, first.names name); own = all_weaker (IsSingleOwn copies 1) (IsSingleOwn copies (left 0)) (λ sub single own. omega (arith, single own)) s.subscriptions first.own }) in
-          fewer_left (led_to s c.session c.op).state (left after.0) after.2
+          let after = led_in_order s order (λ place. IsSingle copies (left place)) (single_from copies s.count left (metered s.count)) c (less_left copies 1 (left 0) s (omega arith) first) in
+          less_left copies (left after.0) 0 (led_to s c.session c.op).state (omega arith) after.2
 
   single_restarted : (s : State) → IsInOrder s → HasLines s → IsSingle copies 0 (restarted s)
   single_restarted s order now =
@@ -208,7 +200,6 @@ lines_of s placed single = record {
 
 placed_of : (s : State) → HasLines s → IsPlaced s
 placed_of s now = record { queues = now.queues; names = now.names; to = now.to; own = now.own }
-
 
 -- nothing stands at first
 pub empty_lines : HasLines empty_state
