@@ -32,3 +32,7 @@ pub mod Ordered
 pub mod SubscriptionLimits
 pub mod BoundNames
 pub mod HeldLimits
+pub mod LineWeights
+pub mod SingleCopies
+pub mod PlacedLines
+pub mod StateLines

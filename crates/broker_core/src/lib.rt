@@ -11,6 +11,7 @@ mod durable_name;
 mod fault;
 mod hand_out;
 mod laws;
+mod line_laws;
 mod lines;
 mod number_laws;
 mod order;
@@ -32,6 +33,7 @@ pub use laws::{
     outputs_have_the_number_of_their_command, refused_operations_end_their_session,
     restarts_keep_what_is_kept, states_stay_in_order,
 };
+pub use line_laws::lines_keep_their_messages;
 pub use number_laws::numbers_stay_under_the_next;
 pub use sound_laws::{
     durable_names_stay_bound, limits_are_kept, subscriptions_stay_within_their_limits,
