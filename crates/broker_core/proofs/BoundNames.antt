@@ -28,6 +28,7 @@ use Rattle.broker_core.proofs.Keys.{is_eq-name_cmp, name_itself, names_total, sa
 use Rattle.broker_core.proofs.Lookups.{among_keys, each_has, is_equal, length-inserted, length-removed_entry, lookup_inserted, lookup_new, lookup_removed, none_found, other_way, some_inserted}
 use Rattle.broker_core.proofs.Ordered.{IsOrdered, led_in_order, restarted_keeps_in_order}
 use Rattle.broker_core.proofs.Picked.{all_picked, all_with_first}
+use Rattle.broker_core.proofs.Restarts.{uses_by}
 use Rattle.broker_core.proofs.Sendings.{spread_by}
 use Rattle.broker_core.proofs.SharedOrder.{AreRising}
 use Rattle.broker_core.proofs.SortedEntries.{all_inserted, all_removed}
@@ -64,10 +65,6 @@ session_known P sessions session client is all =
     by : (o : Option (Option (List ℕ))) → unwrap_or o None ≡ Some client → is_some o ≡ true
     by None is = absurd cc
     by (Some c) is = refl
-
--- who uses a durable name
-abbrev uses_by : Name → Option Name → Bool
-uses_by name o = elim o as (λ x. Bool) [ None ↦ false | Some other ↦ bytes_eq name.0 other.0 && bytes_eq name.1 other.1 ]
 
 same_used : (name other : Name) → (bytes_eq name.0 other.0 && bytes_eq name.1 other.1) ≡ true → name ≡ other
 same_used name other is = same_names name other (is_equal (name_cmp name other) (is_eq-name_cmp name other ∙ is))
@@ -303,7 +300,7 @@ module _ (s : State) (now : HasNames s) where
           whole (spread_by s m false) (record { few = now.few; topics = now.topics; lines = known_copied s.durables m s.durables (each_has name_cmp name_itself s.durables) s.shared.names now.lines }) (used_copied s.sessions s.durables s.subscriptions (used_in s now) m)
 
 module _ (number : ℕ) where
-  names_changes : Keeps (IsOrdered number) HasNames
+  pub names_changes : Keeps (IsOrdered number) HasNames
   names_changes = record {
     opened = λ s client_id earlier known now. names_opened s now client_id earlier;
     begun = λ s session id to mode can known now. names_begun s now session id to mode;
@@ -318,7 +315,7 @@ module _ (number : ℕ) where
     handed = λ s sub others m rest is line known now. names_handed s now sub others m rest is;
   }
 
-  names_from : KeepsFrom (IsOrdered number) (λ place. HasNames)
+  pub names_from : KeepsFrom (IsOrdered number) (λ place. HasNames)
   names_from = record {
     changes = λ place. names_changes;
     next = λ place s known now. now;

@@ -1,6 +1,6 @@
-use Rattle.std.proofs.Common.{◌≡◌, ◌≤◌, ◌+◌, List, [], ◌∷◌, ℕ, Bool, true, false, None, Some, refl, arith, if◌then◌else◌}
+use Rattle.std.proofs.Common.{◌≡◌, ◌≤◌, ◌+◌, List, ℕ, Bool, true, false, None, Some, refl, arith}
 use Rattle.std.specs.List.{sum_by}
-use Rattle.std.proofs.lemmas.List.Sums.{sum_by-cons, sum_by_push}
+use Rattle.std.proofs.lemmas.List.Sums.{sum_by_push}
 use Rattle.command_core.specs.Commands.{CommandValue}
 use Rattle.command_core.specs.Destinations.{is_queue}
 use Rattle.command_core.specs.Sendings.{SendingValue}
@@ -11,6 +11,7 @@ use Rattle.broker_core.specs.Names.{name_cmp, text_cmp}
 use Rattle.broker_core.specs.Operations.{awaits, fresh, message_of, settled_by, spread}
 use Rattle.broker_core.specs.States.{IsInOrder, State, weight_of, weight_of_subscription}
 use Rattle.broker_core.specs.Steps.{step}
+use Rattle.broker_core.proofs.Counts.{sum_first_less}
 use Rattle.broker_core.proofs.Deliveries.{handed_weight, sum_picked}
 use Rattle.broker_core.proofs.KeyedLines.{weight-removed, weight-with_message}
 use Rattle.broker_core.proofs.Keys.{same_texts, texts_total}
@@ -33,13 +34,8 @@ pub record IsAllotted (weight : Message → ℕ) (number : ℕ) (left : ℕ → 
 
 module _ (weight : Message → ℕ) where
   acknowledged_weight : (p : Subscription → Bool) (delivery : ℕ) (subs : List Subscription) → sum_by (weight_of_subscription weight) (with_first p (settled_by delivery) subs) ≤ sum_by (weight_of_subscription weight) subs
-  acknowledged_weight p delivery [] = omega arith
-  acknowledged_weight p delivery (x ∷ subs) =
-      let rest = acknowledged_weight p delivery subs in
-      elim (p x) as (λ b. sum_by (weight_of_subscription weight) (if b then settled_by delivery x ∷ subs else x ∷ with_first p (settled_by delivery) subs) ≤ sum_by (weight_of_subscription weight) (x ∷ subs)) [
-        | true ↦ omega (arith, weight-settled_by weight delivery x, sum_by-cons (weight_of_subscription weight) (settled_by delivery x) subs, sum_by-cons (weight_of_subscription weight) x subs)
-        | false ↦ omega (arith, rest, sum_by-cons (weight_of_subscription weight) x subs, sum_by-cons (weight_of_subscription weight) x (with_first p (settled_by delivery) subs))
-      ]
+  acknowledged_weight p delivery subs =
+      sum_first_less (weight_of_subscription weight) (settled_by delivery) p (λ x. omega (arith, weight-settled_by weight delivery x)) subs
 
   module _ (most number : ℕ) where
     -- No change but a sending makes more of what is held.

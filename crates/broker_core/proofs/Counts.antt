@@ -21,6 +21,16 @@ module _ {X : Type 0} (f : X → ℕ) (g : X → X) (same : (x : X) → f (g x) 
         | false ↦ omega (arith, rest, sum_by-cons f x xs, sum_by-cons f x (with_first p g xs))
       ]
 
+-- a sum is no more where the change of one item makes its part no more
+pub sum_first_less : {X : Type 0} (f : X → ℕ) (g : X → X) (p : X → Bool) → ((x : X) → f (g x) ≤ f x) → (xs : List X) → sum_by f (with_first p g xs) ≤ sum_by f xs
+sum_first_less f g p less [] = omega arith
+sum_first_less f g p less (x ∷ xs) =
+    let rest = sum_first_less f g p less xs in
+    elim (p x) as (λ b. sum_by f (if b then g x ∷ xs else x ∷ with_first p g xs) ≤ sum_by f (x ∷ xs)) [
+      | true ↦ omega (arith, less x, sum_by-cons f x xs, sum_by-cons f (g x) xs)
+      | false ↦ omega (arith, rest, sum_by-cons f x xs, sum_by-cons f x (with_first p g xs))
+    ]
+
 -- where there is none that passes, each fails
 pub none_passes : {X : Type 0} (p : X → Bool) (xs : List X) → list_any p xs ≡ false → NonePass p xs
 none_passes p [] none = tt

@@ -1,13 +1,12 @@
-use Rattle.std.proofs.Common.{◌≡◌, ◌≢◌, ◌<◌, ◌≤◌, ◌+◌, ◌^◌, ◌==◌, ◌&&◌, ◌++◌, ◌⊎◌, inl, inr, List, [], ◌∷◌, ℕ, Bool, true, false, cond, Some, count_by, filter, map, not, refl, sym, subst, ap, ◌∙◌, arith, if◌then◌else◌}
+use Rattle.std.proofs.Common.{◌≡◌, ◌≤◌, ◌+◌, ◌^◌, ◌==◌, ◌&&◌, ◌++◌, List, [], ◌∷◌, ℕ, Bool, true, false, cond, Some, count_by, filter, map, not, refl, sym, subst, ap, arith, if◌then◌else◌}
 use Rattle.std.specs.List.{AllByRecursion, sum_by}
 use Rattle.std.specs.Str.{bytes_eq}
 use Rattle.std.proofs.lemmas.Bool.{eqb-true, ne_eqb}
 use Rattle.std.proofs.lemmas.List.Sums.{sum_by-cons, sum_by_push}
 use Rattle.frame_core.proofs.Lists.{all_push}
 use Rattle.command_core.specs.Destinations.{is_queue}
-use Rattle.command_core.specs.Sendings.{SendingValue}
 use Rattle.line_core.specs.declared.message.Message.{Message}
-use Rattle.line_core.specs.Flights.{IsOver, settles, unsettled}
+use Rattle.line_core.specs.Flights.{IsOver, settles}
 use Rattle.line_core.specs.Lines.{inserted}
 use Rattle.broker_core.specs.declared.subscription.Subscription.{Subscription}
 use Rattle.broker_core.specs.HandOut.{can_take, delivered, handed, is_auto}
@@ -17,6 +16,7 @@ use Rattle.broker_core.specs.Operations.{awaits, copied, copied_to_names, messag
 use Rattle.broker_core.specs.States.{State}
 use Rattle.broker_core.specs.Tables.{IsNext}
 use Rattle.broker_core.specs.Waiting.{is_own, left_line, with_message}
+use Rattle.broker_core.proofs.Counts.{sum_first_less}
 use Rattle.broker_core.proofs.Deliveries.{sum_picked}
 use Rattle.broker_core.proofs.Picked.{all_picked, all_with_first, picked_passes}
 use Rattle.broker_core.proofs.Served.{number_of_ready, over_delivered, over_next}
@@ -62,12 +62,8 @@ module _ (delivery : ℕ) where
       ]
 
   acknowledged_times : (p : Subscription → Bool) (settled : ℕ) (subs : List Subscription) → all_times delivery (with_first p (settled_by settled) subs) ≤ all_times delivery subs
-  acknowledged_times p settled [] = omega arith
-  acknowledged_times p settled (x ∷ subs) =
-      elim (p x) as (λ b. all_times delivery (if b then settled_by settled x ∷ subs else x ∷ with_first p (settled_by settled) subs) ≤ all_times delivery (x ∷ subs)) [
-        | true ↦ omega (arith, fewer_times (λ (item : ℕ × Message). not (settles x.mode settled item.0)) x.unacknowledged, sum_by-cons (times delivery) (settled_by settled x) subs, sum_by-cons (times delivery) x subs)
-        | false ↦ omega (arith, acknowledged_times p settled subs, sum_by-cons (times delivery) x subs, sum_by-cons (times delivery) x (with_first p (settled_by settled) subs))
-      ]
+  acknowledged_times p settled subs =
+      sum_first_less (times delivery) (settled_by settled) p (λ x. fewer_times (λ (item : ℕ × Message). not (settles x.mode settled item.0)) x.unacknowledged) subs
 
   -- one more delivery has its own number once
   delivered_times : (auto : Bool) (flight : List (ℕ × Message)) (d : ℕ) (m : Message) → count_by (λ (x : ℕ × Message). x.0 == delivery) (if auto then flight else flight ++ (d, m) ∷ []) ≤ count_by (λ (x : ℕ × Message). x.0 == delivery) flight + cond (d == delivery) 1 0

@@ -39,3 +39,7 @@ pub mod SeenIds
 pub mod SeenCounts
 pub mod SeenNames
 pub mod Settled
+pub mod LineWeights
+pub mod SingleCopies
+pub mod PlacedLines
+pub mod StateLines

@@ -57,7 +57,7 @@ pub after_numbers : (commands : List CommandValue) → AllByRecursion (λ m. m.n
 after_numbers commands =
     (after_all IsNumbered step_numbered empty_state (record { order = empty_in_order; numbers = tt }) commands).numbers
 
-same_parts : (a b : MessageNumber) → is_same a b ≡ true → (a.command ≡ b.command) × (a.place ≡ b.place)
+pub same_parts : (a b : MessageNumber) → is_same a b ≡ true → (a.command ≡ b.command) × (a.place ≡ b.place)
 same_parts a b same =
     let parts = exact_pairs nat_cmp nat_cmp exact_unsigned exact_unsigned (a.command, a.place) (b.command, b.place) ((Equal-is (by_number a b)).0 same) in
     (ap (λ p. p.0) parts, ap (λ p. p.1) parts)

@@ -21,14 +21,14 @@ use Rattle.broker_core.proofs.Lookups.{is_equal, lookup_new}
 use Rattle.broker_core.proofs.Keys.{is_eq-name_cmp, names_total, same_names, same_texts, texts_total}
 
 -- a message is among those of the line that it is put into
-some_in : (m : Message) (line : List Message) → is_none (inserted m line) ≡ false
+pub some_in : (m : Message) (line : List Message) → is_none (inserted m line) ≡ false
 some_in m [] = refl
 some_in m (x ∷ line) =
     elim (is_lt (by_number m.number x.number)) as (λ b. is_none (if b then m ∷ x ∷ line else x ∷ inserted m line) ≡ false) [ true ↦ refl | false ↦ refl ]
 
 module _ {K : Type 0} (cmp : K → K → Ordering) (total : IsTotalOrder cmp) (same : AreSame cmp) where
   -- a line has the message that is put there
-  message_put : (key : K) (m : Message) (lines : Lines K) → is_eq (cmp key key) ≡ true → line_at cmp key (with_message cmp key m lines) ≡ inserted m (line_at cmp key lines)
+  pub message_put : (key : K) (m : Message) (lines : Lines K) → is_eq (cmp key key) ≡ true → line_at cmp key (with_message cmp key m lines) ≡ inserted m (line_at cmp key lines)
   message_put key m lines itself =
       let line = inserted m (line_at cmp key lines) in
       let others = remove_entry (is_at (cmp key)) lines in
@@ -74,7 +74,7 @@ queue_back_by to shared sub true =
     put_by text_cmp texts_total same_texts to sub.destination (bytes_eq to sub.destination) (is_eq-slice_cmp to sub.destination) sub.unacknowledged shared.queues
 queue_back_by to shared sub false = refl
 
-queue_back_from : (to : List ℕ) (shared : Shared) (sub : Subscription) (o : Option Name) → line_at text_cmp to (returned_from shared sub o).queues ≡ with_all (line_at text_cmp to shared.queues) (if not (is_some o) && is_queue sub.destination && bytes_eq to sub.destination then map (λ (d : ℕ × Message). d.1) sub.unacknowledged else [])
+pub queue_back_from : (to : List ℕ) (shared : Shared) (sub : Subscription) (o : Option Name) → line_at text_cmp to (returned_from shared sub o).queues ≡ with_all (line_at text_cmp to shared.queues) (if not (is_some o) && is_queue sub.destination && bytes_eq to sub.destination then map (λ (d : ℕ × Message). d.1) sub.unacknowledged else [])
 queue_back_from to shared sub (Some name) = refl
 queue_back_from to shared sub None = queue_back_by to shared sub (is_queue sub.destination)
 
@@ -82,10 +82,11 @@ name_back_by : (name : Name) (shared : Shared) (sub : Subscription) (kind : Bool
 name_back_by name shared sub true = refl
 name_back_by name shared sub false = refl
 
-abbrev uses_by : Name → Option Name → Bool
+-- whether it is the durable name that a subscription has
+abbrev pub uses_by : Name → Option Name → Bool
 uses_by name o = elim o as (λ x. Bool) [ None ↦ false | Some other ↦ bytes_eq name.0 other.0 && bytes_eq name.1 other.1 ]
 
-name_back_from : (name : Name) (shared : Shared) (sub : Subscription) (o : Option Name) → line_at name_cmp name (returned_from shared sub o).names ≡ with_all (line_at name_cmp name shared.names) (if uses_by name o then map (λ (d : ℕ × Message). d.1) sub.unacknowledged else [])
+pub name_back_from : (name : Name) (shared : Shared) (sub : Subscription) (o : Option Name) → line_at name_cmp name (returned_from shared sub o).names ≡ with_all (line_at name_cmp name shared.names) (if uses_by name o then map (λ (d : ℕ × Message). d.1) sub.unacknowledged else [])
 name_back_from name shared sub (Some other) =
     put_by name_cmp names_total same_names name other (bytes_eq name.0 other.0 && bytes_eq name.1 other.1) (is_eq-name_cmp name other) sub.unacknowledged shared.names
 name_back_from name shared sub None = name_back_by name shared sub (is_queue sub.destination)

@@ -13,6 +13,7 @@ mod hand_out;
 mod laws;
 mod limit_checks;
 mod line_checks;
+mod line_laws;
 mod lines;
 mod name_checks;
 mod number_checks;
@@ -38,6 +39,7 @@ pub use laws::{
     outputs_have_the_number_of_their_command, refused_operations_end_their_session,
     restarts_keep_what_is_kept, states_stay_in_order,
 };
+pub use line_laws::lines_keep_their_messages;
 pub use number_laws::numbers_stay_under_the_next;
 pub use parts::Parts;
 pub use sound_laws::{

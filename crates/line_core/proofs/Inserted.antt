@@ -26,7 +26,8 @@ turned : (a b : MessageNumber) (o : Ordering) → by_number b a ≡ o → by_num
 turned a b o is = by_number-total.antisymm a b ∙ ap ordering_reverse is
 
 module _ (m : Message) where
-  all_inserted : (P : Message → Type 0) (line : List Message) → P m → AllByRecursion P line → AllByRecursion P (inserted m line)
+  -- what holds of all holds of them with one more message of which it holds
+  pub all_inserted : (P : Message → Type 0) (line : List Message) → P m → AllByRecursion P line → AllByRecursion P (inserted m line)
   all_inserted P [] new all = (new, tt)
   all_inserted P (x ∷ line) new all =
       elim (is_lt (by_number m.number x.number)) as (λ b. AllByRecursion P (cond b (m ∷ x ∷ line) (x ∷ inserted m line))) [ true ↦ (new, all) | false ↦ (all.0, all_inserted P line new all.1) ]

@@ -4,7 +4,8 @@ use std::test::Fail;
 
 const NAMED: &str = "0 CONNECT%0Aaccept-version:1.2%0Aclient-id:c1~";
 
-const DURABLE: &str = "0 SUBSCRIBE%0Aid:d%0Adestination:/topic/t%0Aack:client%0Aactivemq.subscriptionName:n~";
+const DURABLE: &str =
+    "0 SUBSCRIBE%0Aid:d%0Adestination:/topic/t%0Aack:client%0Aactivemq.subscriptionName:n~";
 
 #[test]
 fn a_durable_subscriber_finds_its_messages_when_it_comes_again(
