@@ -25,11 +25,11 @@ abbrev pub IsNext : State → Type 0
 IsNext s = AllByRecursion (λ sub. IsOver s.next_delivery sub.unacknowledged) s.subscriptions
 
 -- What is counted is what is held, which is within the limits; the next delivery has a new number; and no command and no
--- delivery gives more than one slot.
+-- delivery gives more than one slot, beside those of the subscriptions that were there at the start.
 pub record IsTallied (number : ℕ) (t : Tables) : Type 0 where
   pub counted : IsCounted number t
   pub few : t.held.messages ≤ 4096
   pub small : t.held.bytes ≤ 16777216
   pub next : IsNext (state_of number t)
   pub deliveries : t.next_delivery ≤ 2 ^ 63
-  pub added : t.order.added ≤ number + t.next_delivery
+  pub added : t.order.added ≤ number + t.next_delivery + 2 ^ 63

@@ -1,14 +1,17 @@
 //! The broker, one command after another.
 
-ghost use Rattle.std.specs.Prelude.{◌≡◌, ◌+◌, ◌<◌, ◌^◌, ◌↔◌, true, false, IfOk, IfErr, OnOk, OnErr};
+ghost use Rattle.std.specs.Prelude.{◌≡◌, ◌+◌, ◌<◌, ◌^◌, ◌↔◌, true, false, IfOk, IfErr, IfSome, IsSome, OnOk, OnErr};
 ghost use Rattle.broker_core.specs.Operations.{restarted};
+ghost use Rattle.broker_core.specs.PartsOf.{state_of_parts};
+ghost use Rattle.broker_core.specs.Sound.{IsSound};
 ghost use Rattle.broker_core.specs.States.{empty_state, held_messages, held_bytes};
 ghost use Rattle.broker_core.specs.Steps.{step, outs};
 
 use crate::fault::BrokerFault;
+use crate::parts::Parts;
 use crate::tables::{Held, Tables};
 use command_core::{Command, Out};
-use std::alloc::Global;
+use std::alloc::{AllocError, Global};
 use std::marker::Model;
 
 /// The broker: it carries out commands one after another, numbered from 0, and answers each. Contracts see its state
@@ -42,6 +45,24 @@ impl Broker {
             tables: Tables::new(alloc),
             broken: false,
         }
+    }
+
+    /// A broker of the state that has these parts, or none where no broker can have it: where they do not go together, or
+    /// something is over its limit. Want of memory leaves nothing.
+    pub fn from_parts(alloc: Global, parts: Parts) -> Result<Option<Broker>, AllocError>
+        ensures sound { IfOk result (λ found. IsSome found ↔ IsSound (state_of_parts parts)) }
+        ensures state { IfOk result (λ found. IfSome found (λ broker. broker ≡ record { state = state_of_parts parts; broken = false })) }
+    {
+        if !parts.are_sound(alloc)? {
+            return Ok(None);
+        }
+        let count = parts.count;
+        let tables = Tables::of(alloc, parts)?;
+        Ok(Some(Broker {
+            count,
+            tables,
+            broken: false,
+        }))
     }
 
     /// Carries out the command of the next number, and answers its outputs. `Memory` where memory is refused: part of

@@ -21,6 +21,7 @@ mod number_laws;
 mod order;
 mod parts;
 mod sending;
+mod stub_lines;
 mod shared_lines;
 mod sound_laws;
 mod subscribing;
@@ -50,5 +51,7 @@ pub use tables::Held;
 
 #[cfg(test)]
 mod durable_tests;
+#[cfg(test)]
+mod parts_tests;
 #[cfg(test)]
 mod tests;

@@ -104,6 +104,22 @@ fn are_within(parts: &Parts) -> bool
     room_beside_all(MOST, parts).is_some()
 }
 
+/// How much is held, where that is no more than may be.
+pub fn held_of(parts: &Parts) -> Held
+    requires messages { held_messages (state_of_parts parts.now) ≤ 4096 }
+    requires bytes { held_bytes (state_of_parts parts.now) ≤ 16777216 }
+    ensures messages { result.messages ≡ held_messages (state_of_parts parts.now) }
+    ensures bytes { result.bytes ≡ held_bytes (state_of_parts parts.now) }
+{
+    match room_beside_all(MOST, parts) {
+        Some(left) => Held {
+            messages: MOST.messages - left.messages,
+            bytes: MOST.bytes - left.bytes,
+        },
+        None => unreachable!(),
+    }
+}
+
 /// Whether a message waits for a subscription.
 fn has_message(parts: &Parts, sub: &Subscription) -> bool
     ensures { result ≡ not (is_none (line_for (state_of_parts parts.now).shared sub.now)) }

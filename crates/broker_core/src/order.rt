@@ -11,7 +11,7 @@ use std::marker::Model;
 #[derive(Clone, Copy, Debug, PartialEq, Eq, Hash)]
 pub struct Key {
     pub session: u64,
-    pub slot: u64,
+    pub slot: u128,
 }
 
 /// The subscriptions in waiting order: the first one that can be served is served next, and then waits last. Contracts
@@ -19,7 +19,7 @@ pub struct Key {
 #[derive(Debug, Drop)]
 pub struct Order {
     all: IndexMap<Key, Subscription>,
-    added: u64,
+    added: u128,
 }
 
 impl Model for Order {
@@ -72,7 +72,7 @@ impl Order {
 
     /// One more, which waits last.
     pub fn add(&mut self, sub: Subscription) -> Result<(), AllocError>
-        requires { self.old.added + 1 < 2 ^ 64 }
+        requires { self.old.added + 1 < 2 ^ 128 }
         ensures ok { OnOk result (self.new.subscriptions ≡ self.old.subscriptions ++ sub ∷ []) }
         ensures added { OnOk result (self.new.added ≡ self.old.added + 1) }
         ensures same { OnErr result (self.new ≡ self.old) }
@@ -125,5 +125,17 @@ impl Order {
             Err(SettleFault::Memory(refused)) => Err(refused),
             Err(SettleFault::Unknown) => unreachable!(),
         }
+    }
+
+    /// These subscriptions in their order.
+    pub fn of(alloc: Global, subscriptions: Vec<Subscription>) -> Result<Order, AllocError>
+        ensures subscriptions { IfOk result (λ order. order.subscriptions ≡ subscriptions.items) }
+        ensures added { IfOk result (λ order. order.added ≡ length subscriptions.items) }
+    {
+        let mut order = Order::new(alloc);
+        for sub in subscriptions {
+            order.add(sub)?;
+        }
+        Ok(order)
     }
 }

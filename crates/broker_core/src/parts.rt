@@ -1,9 +1,19 @@
 //! The parts of a broker's state, apart.
 
+ghost use Rattle.std.specs.Prelude.{◌↔◌, IfOk, IsTrue};
+ghost use Rattle.broker_core.specs.PartsOf.{state_of_parts};
+ghost use Rattle.broker_core.specs.Sound.{IsSound};
+
 use crate::durable_name::DurableName;
+use crate::limit_checks::has_limits;
+use crate::stub_lines::has_lines;
+use crate::name_checks::has_names;
+use crate::number_checks::{has_numbers, is_in_order};
 use crate::subscription::Subscription;
+use crate::subscription_checks::has_subscriptions;
 use command_core::{Dest, HeaderText};
 use line_core::Line;
+use std::alloc::{AllocError, Global};
 use std::collections::BTreeMap;
 
 /// The parts of a state, as they are read from a snapshot: nothing is known of how they go together.
@@ -22,4 +32,19 @@ pub struct Parts {
     pub queues: BTreeMap<Dest, Line>,
     /// In waiting order.
     pub subscriptions: Vec<Subscription>,
+}
+
+impl Parts {
+    /// Whether these are the parts of a state that a broker can have.
+    pub fn are_sound(&self, alloc: Global) -> Result<bool, AllocError>
+        ensures { IfOk result (λ yes. IsTrue yes ↔ IsSound (state_of_parts self.now)) }
+    {
+        if !is_in_order(self) || !has_limits(self) {
+            return Ok(false);
+        }
+        if !has_subscriptions(alloc, self)? || !has_names(alloc, self)? {
+            return Ok(false);
+        }
+        Ok(has_numbers(alloc, self)? && has_lines(alloc, self)?)
+    }
 }

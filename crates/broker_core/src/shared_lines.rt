@@ -55,6 +55,13 @@ impl SharedLines {
         }
     }
 
+    /// These lines of durable names and of queues. No memory is taken.
+    pub fn of(names: BTreeMap<DurableName, Line>, queues: BTreeMap<Dest, Line>) -> SharedLines
+        ensures { result ≡ record { names = names.entries; queues = queues.entries } }
+    {
+        SharedLines { names, queues }
+    }
+
     /// The lines stand by rising key, each once. Nothing changes.
     pub fn stand_in_order(&self)
         ensures names { IsStrictlySortedBy name_cmp (keys_of self.now.names) }

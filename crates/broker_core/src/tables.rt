@@ -2,13 +2,17 @@
 
 ghost use Rattle.broker_core.specs.States.{empty_state};
 ghost use Rattle.broker_core.specs.Tables.{IsTallied, state_of};
-ghost use Rattle.std.specs.Prelude.{◌≡◌};
+ghost use Rattle.broker_core.specs.PartsOf.{state_of_parts};
+ghost use Rattle.broker_core.specs.Sound.{IsSound};
+ghost use Rattle.std.specs.Prelude.{◌≡◌, IfOk};
 
 use crate::durable_name::DurableName;
+use crate::limit_checks::held_of;
 use crate::order::Order;
+use crate::parts::Parts;
 use crate::shared_lines::SharedLines;
 use command_core::{Dest, HeaderText};
-use std::alloc::Global;
+use std::alloc::{AllocError, Global};
 use std::collections::BTreeMap;
 
 /// How much the broker holds. A message counts in each line and for each subscription where it stands.
@@ -49,5 +53,22 @@ impl Tables {
                 bytes: 0,
             },
         }
+    }
+
+    /// The tables of a state that a broker can have.
+    pub fn of(alloc: Global, parts: Parts) -> Result<Tables, AllocError>
+        requires { IsSound (state_of_parts parts) }
+        ensures state { IfOk result (λ tables. state_of parts.count tables ≡ state_of_parts parts) }
+        ensures tallied { IfOk result (λ tables. IsTallied parts.count tables) }
+    {
+        let held = held_of(&parts);
+        Ok(Tables {
+            next_delivery: parts.next_delivery,
+            sessions: parts.sessions,
+            durables: parts.durables,
+            shared: SharedLines::of(parts.names, parts.queues),
+            order: Order::of(alloc, parts.subscriptions)?,
+            held,
+        })
     }
 }

@@ -47,7 +47,7 @@ fn name_text(alloc: Global, text: &str) -> Result<HeaderText, Fail>
     Ok(name)
 }
 
-fn greeting(alloc: Global, to: &str) -> Result<Sending, Fail> {
+pub fn greeting(alloc: Global, to: &str) -> Result<Sending, Fail> {
     let destination = Dest::read(alloc, to)?;
     let body = Bytes::new(Vec::from_slice(alloc, b"hi")?);
     Ok(Sending::new(destination, Headers::new(Vec::new(alloc)), body))

@@ -1,0 +1,66 @@
+use super::*;
+use crate::tests::{Event, are_messages, carry_out, greeting};
+use command_core::{AckMode, Dest};
+use line_core::{Line, Message, MessageNumber};
+use std::alloc::Global;
+use std::collections::BTreeMap;
+use std::test::Fail;
+
+// Session 0 is open, and that many commands were carried out.
+fn parts_of(alloc: Global, count: u64) -> Result<Parts, Fail> {
+    let mut sessions = BTreeMap::new(alloc);
+    sessions.insert(0, None)?;
+    Ok(Parts {
+        count,
+        next_delivery: 3,
+        sessions,
+        durables: BTreeMap::new(alloc),
+        names: BTreeMap::new(alloc),
+        queues: BTreeMap::new(alloc),
+        subscriptions: Vec::new(alloc),
+    })
+}
+
+// A line with one message, which the command of that number sent to `to`.
+fn line_of(alloc: Global, command: u64, to: &str) -> Result<Line, Fail> {
+    let mut line = Line::new(alloc);
+    line.put(Message {
+        number: MessageNumber { command, place: 0 },
+        sending: greeting(alloc, to)?,
+    })?;
+    Ok(line)
+}
+
+// The same, and in `/queue/q` waits that line.
+fn parts_with(alloc: Global, count: u64, line: Line) -> Result<Parts, Fail> {
+    let mut parts = parts_of(alloc, count)?;
+    parts.queues.insert(Dest::read(alloc, "/queue/q")?, line)?;
+    Ok(parts)
+}
+
+#[test]
+fn a_broker_goes_on_from_its_parts(rt: HostRuntime) -> Result<(), Fail> {
+    let alloc = rt.alloc();
+    let parts = parts_with(alloc, 2, line_of(alloc, 1, "/queue/q")?)?;
+    let mut broker = Broker::from_parts(alloc, parts)?.ok_or("a broker has these parts")?;
+    assert_eq!(rt; broker.count(), 2);
+    assert_eq!(rt; broker.held().messages, 1);
+    let listen = Event::Subscribe(0, "s", "/queue/q", AckMode::Auto);
+    let outs = carry_out(alloc, &mut broker, &listen)?;
+    assert!(rt; are_messages(outs.as_slice(), &[(0, "s", "1.0")]));
+    Ok(())
+}
+
+#[test]
+fn parts_that_no_broker_has_give_none(rt: HostRuntime) -> Result<(), Fail> {
+    let alloc = rt.alloc();
+    let early = Broker::from_parts(alloc, parts_of(alloc, 0)?)?;
+    assert!(rt; early.is_none());
+    let empty = Broker::from_parts(alloc, parts_with(alloc, 2, Line::new(alloc))?)?;
+    assert!(rt; empty.is_none());
+    let late = line_of(alloc, 2, "/queue/q")?;
+    assert!(rt; Broker::from_parts(alloc, parts_with(alloc, 2, late)?)?.is_none());
+    let elsewhere = line_of(alloc, 1, "/queue/other")?;
+    assert!(rt; Broker::from_parts(alloc, parts_with(alloc, 2, elsewhere)?)?.is_none());
+    Ok(())
+}
