@@ -39,3 +39,4 @@ pub mod SeenIds
 pub mod SeenCounts
 pub mod SeenNames
 pub mod Settled
+pub mod SeenNumbers

@@ -14,6 +14,7 @@ mod laws;
 mod limit_checks;
 mod line_checks;
 mod lines;
+mod message_checks;
 mod name_checks;
 mod number_checks;
 mod number_laws;
