@@ -133,7 +133,7 @@ fn are_new_under_names<'a>(
 }
 
 /// Whether of each queue no message stands twice in its line and what is unacknowledged.
-fn are_once_in_queues(alloc: Global, parts: &Parts) -> Result<bool, AllocError>
+pub fn are_once_in_queues(alloc: Global, parts: &Parts) -> Result<bool, AllocError>
     ensures { IfOk result (λ yes. IsTrue yes
         ↔ ((to : List ℕ) → AreOnce (line_at text_cmp to parts.now.queues.entries ++ unacknowledged_by (takes_from to) parts.now.subscriptions.items))) }
 {
@@ -145,7 +145,7 @@ fn are_once_in_queues(alloc: Global, parts: &Parts) -> Result<bool, AllocError>
 }
 
 /// Whether of each durable name no message stands twice in its line and what is unacknowledged.
-fn are_once_under_names(alloc: Global, parts: &Parts) -> Result<bool, AllocError>
+pub fn are_once_under_names(alloc: Global, parts: &Parts) -> Result<bool, AllocError>
     ensures { IfOk result (λ yes. IsTrue yes
         ↔ ((name : Name) → AreOnce (line_at name_cmp name parts.now.names.entries ++ unacknowledged_by (uses name) parts.now.subscriptions.items))) }
 {
@@ -168,7 +168,7 @@ fn has_once(alloc: Global, sub: &Subscription) -> Result<bool, AllocError>
 }
 
 /// Whether no subscription has a message twice.
-fn have_once(alloc: Global, subscriptions: &[Subscription]) -> Result<bool, AllocError>
+pub fn have_once(alloc: Global, subscriptions: &[Subscription]) -> Result<bool, AllocError>
     ensures { IfOk result (λ yes. IsTrue yes ↔ AllByRecursion (λ sub. AreOnce (had_by sub)) subscriptions.now) }
 {
     for sub in subscriptions {
