@@ -76,7 +76,7 @@ module _ {K : Type 0} (cmp : K → K → Ordering) (total : IsTotalOrder cmp) wh
 
   module _ (same : AreSame cmp) where
     -- behind a key there is no other that is the same
-    absent_behind : (key : K) (lines : Lines K) → AllByRecursion (λ k. cmp key k ≡ Less) (keys_of lines) → lookup (is_at (cmp key)) lines ≡ None
+    pub absent_behind : (key : K) (lines : Lines K) → AllByRecursion (λ k. cmp key k ≡ Less) (keys_of lines) → lookup (is_at (cmp key)) lines ≡ None
     absent_behind key [] all = refl
     absent_behind key (e ∷ lines) all =
         ap (λ o. cond (is_eq o) (Some e.1) (lookup (is_at (cmp key)) lines)) all.0 ∙ absent_behind key lines all.1

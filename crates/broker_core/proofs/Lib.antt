@@ -43,3 +43,4 @@ pub mod LineWeights
 pub mod SingleCopies
 pub mod PlacedLines
 pub mod StateLines
+pub mod SeenNumbers

@@ -33,6 +33,10 @@ used_by q name sub is =
 pub uses_own : (name : Name) (sub : Subscription) → sub.durable ≡ Some name → uses name sub ≡ true
 uses_own name sub is = used_by name name sub is ∙ name_itself name
 
+-- one without a name has none
+pub unnamed : (q : Name) (sub : Subscription) → sub.durable ≡ None → uses q sub ≡ false
+unnamed q sub none = ap (is_that q) none
+
 module _ (subs : List Subscription) (at : ℕ) (sub : Subscription) (is : slice_get subs at ≡ Some sub) where
   -- where the durable names of the subscriptions so far were noted, each of one alone, and the next one's is new and noted
   -- too, this holds with the next one
@@ -40,6 +44,6 @@ module _ (subs : List Subscription) (at : ℕ) (sub : Subscription) (is : slice_
   used_more name has old new fresh more noted =
       noted_more uses name (λ q. is_eq (name_cmp name q)) subs at sub is (λ q. old (key_of q)) (λ q. new (key_of q)) (λ q. used_by q name sub has) (λ q same. ap (λ k. count_by (uses k) (take at subs)) (sym (same_names name q (is_equal _ same)))) fresh (λ q. more (key_of q)) noted
 
-  -- one without a name has none
+  -- one without a name adds none
   pub used_same : sub.durable ≡ None → (q : Name) → count_by (uses q) (take (at + 1) subs) ≡ count_by (uses q) (take at subs)
-  used_same none q = count_same (uses q) subs at sub is (ap (is_that q) none)
+  used_same none q = count_same (uses q) subs at sub is (unnamed q sub none)

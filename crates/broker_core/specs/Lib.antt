@@ -14,3 +14,4 @@ pub mod Kept
 pub mod Sound
 pub mod PartsOf
 pub mod Rooms
+pub mod Seen

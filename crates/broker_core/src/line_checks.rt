@@ -1,19 +1,22 @@
 //! Whether lines have messages of their destination alone, and what else stands where it may.
 
-ghost use Rattle.std.specs.Prelude.{◌≡◌, ◌↔◌, [], IfSome, IsTrue, false, true};
+ghost use Rattle.std.specs.Prelude.{◌≡◌, ◌↔◌, [], IfOk, IfSome, IsTrue, false, true};
 ghost use Rattle.std.specs.List.{AllByRecursion};
 ghost use Rattle.command_core.specs.Destinations.{is_queue};
 ghost use Rattle.broker_core.specs.Lists.{is_none};
 ghost use Rattle.broker_core.specs.Operations.{topic_of};
-ghost use Rattle.broker_core.specs.Sound.{AreTo, had_by};
+ghost use Rattle.broker_core.specs.PartsOf.{state_of_parts};
+ghost use Rattle.broker_core.specs.Sound.{AreTo, HasLines, had_by};
 ghost use Rattle.broker_core.specs.Waiting.{is_own};
 
 use crate::durable_name::DurableName;
+use crate::message_checks::{are_once_in_queues, are_once_under_names, have_once};
 use crate::parts::Parts;
 use crate::sending::is_own;
 use crate::subscription::Subscription;
 use command_core::Dest;
 use line_core::{Flight, Line, Message};
+use std::alloc::{AllocError, Global};
 use std::collections::BTreeMap;
 
 /// Whether a message is to that destination.
@@ -71,7 +74,7 @@ fn is_of_name(durables: &BTreeMap<DurableName, Dest>, name: &DurableName, line: 
 fn are_of_names(parts: &Parts) -> bool
     ensures { IsTrue result
         ↔ AllByRecursion (λ line. (is_none line.1 ≡ false) × IfSome (topic_of line.0 parts.now.durables.entries) (λ topic. AreTo topic line.1))
-            parts.now.names.entries }
+        parts.now.names.entries }
 {
     let durables = &parts.durables;
     parts
@@ -107,4 +110,25 @@ fn wait_in_their_own(subscriptions: &[Subscription]) -> bool
     ensures { IsTrue result ↔ AllByRecursion (λ sub. is_own sub ≡ false → sub.line ≡ []) subscriptions.now }
 {
     subscriptions.iter().all(|sub| waits_in_its_own(sub))
+}
+
+/// Whether no line is empty, messages stand in lines of their destination alone and only where they may, and none stands
+/// twice in a line and what is unacknowledged from it.
+pub fn has_lines(alloc: Global, parts: &Parts) -> Result<bool, AllocError>
+    ensures { IfOk result (λ yes. IsTrue yes ↔ HasLines (state_of_parts parts.now)) }
+{
+    let subscriptions = parts.subscriptions.as_slice();
+    if !are_of_queues(&parts.queues) || !are_of_names(parts) {
+        return Ok(false);
+    }
+    if !have_their_own(subscriptions) || !wait_in_their_own(subscriptions) {
+        return Ok(false);
+    }
+    if !are_once_in_queues(alloc, parts)? {
+        return Ok(false);
+    }
+    if !are_once_under_names(alloc, parts)? {
+        return Ok(false);
+    }
+    have_once(alloc, subscriptions)
 }

@@ -6,7 +6,7 @@ ghost use Rattle.broker_core.specs.Sound.{IsSound};
 
 use crate::durable_name::DurableName;
 use crate::limit_checks::has_limits;
-use crate::stub_lines::has_lines;
+use crate::line_checks::has_lines;
 use crate::name_checks::has_names;
 use crate::number_checks::{has_numbers, is_in_order};
 use crate::subscription::Subscription;
