@@ -20,7 +20,7 @@ use line_core::{Message, size};
 use std::alloc::{AllocError, Global};
 
 /// From this number on nothing is delivered.
-const LAST_DELIVERY: u64 = 1 << 63;
+pub const LAST_DELIVERY: u64 = 1 << 63;
 
 /// How many deliveries of a subscription may be unacknowledged.
 const WINDOW: usize = 16;

@@ -74,7 +74,7 @@ fn is_of_name(durables: &BTreeMap<DurableName, Dest>, name: &DurableName, line: 
 fn are_of_names(parts: &Parts) -> bool
     ensures { IsTrue result
         ↔ AllByRecursion (λ line. (is_none line.1 ≡ false) × IfSome (topic_of line.0 parts.now.durables.entries) (λ topic. AreTo topic line.1))
-            parts.now.names.entries }
+        parts.now.names.entries }
 {
     let durables = &parts.durables;
     parts

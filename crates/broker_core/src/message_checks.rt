@@ -49,10 +49,10 @@ fn deliveries_are_new<'a, K: Ord>(
     requires { AreSame K.cmp }
     ensures new { IfOk result (λ yes. IsTrue yes
         ↔ ((number : MessageNumber) → seen_at K.cmp seen.old key.now number
-            + count_by (λ d. is_same number d.1.number) deliveries.now ≤ 1)) }
+        + count_by (λ d. is_same number d.1.number) deliveries.now ≤ 1)) }
     ensures seen { IfOk result (λ yes. IsTrue yes → (at : K) (number : MessageNumber)
         → seen_at K.cmp seen.new at number ≡ seen_at K.cmp seen.old at number
-            + cond (is_at (K.cmp at) key.now) (count_by (λ d. is_same number d.1.number) deliveries.now) 0) }
+        + cond (is_at (K.cmp at) key.now) (count_by (λ d. is_same number d.1.number) deliveries.now) 0) }
 {
     for (_, message) in deliveries {
         if !seen.insert((key, message.number))? {
@@ -100,7 +100,7 @@ fn are_new_in_queues<'a>(
 ) -> Result<bool, AllocError>
     ensures { IfOk result (λ yes. IsTrue yes
         ↔ ((to : List ℕ) (number : MessageNumber) → seen_at text_cmp seen.old to number
-            + count_of number (unacknowledged_by (takes_from to) subscriptions.now) ≤ 1)) }
+        + count_of number (unacknowledged_by (takes_from to) subscriptions.now) ≤ 1)) }
 {
     for sub in subscriptions {
         if let Some(queue) = queue_of(sub) {
@@ -120,7 +120,7 @@ fn are_new_under_names<'a>(
 ) -> Result<bool, AllocError>
     ensures { IfOk result (λ yes. IsTrue yes
         ↔ ((name : Name) (number : MessageNumber) → seen_at name_cmp seen.old name number
-            + count_of number (unacknowledged_by (uses name) subscriptions.now) ≤ 1)) }
+        + count_of number (unacknowledged_by (uses name) subscriptions.now) ≤ 1)) }
 {
     for sub in subscriptions {
         if let Some(name) = &sub.durable {

@@ -9,6 +9,6 @@ use Rattle.broker_core.proofs.message_checks.lines_are_new.Given as goal
 abbrev pub invariant-loop-key : goal.invariant-loop-key
 invariant-loop-key g l = record {
   noted : (q : g.row.K.Denot) (number : MessageNumber) → seen_at g.K.Ord.cmp l.seen q number + count_of number (line_at g.K.Ord.cmp q l.key-iterator)
-    ≡ seen_at g.K.Ord.cmp l.fn.seen q number + count_of number (line_at g.K.Ord.cmp q l.lines.entries);
+      ≡ seen_at g.K.Ord.cmp l.fn.seen q number + count_of number (line_at g.K.Ord.cmp q l.lines.entries);
   rising : IsStrictlySortedBy g.K.Ord.cmp (keys_of l.key-iterator);
 }
