@@ -10,9 +10,10 @@ ghost use Rattle.broker_core.specs.Sound.{HasLimits};
 ghost use Rattle.broker_core.specs.States.{held_bytes, held_messages, weight_of, weight_of_subscription};
 ghost use Rattle.broker_core.specs.Waiting.{line_for, weight_of_lines};
 
-use crate::hand_out::has_room;
+use crate::hand_out::{LAST_DELIVERY, has_room};
 use crate::lines::has_some;
 use crate::parts::Parts;
+use crate::sending::{MOST_BYTES, MOST_MESSAGES};
 use crate::subscription::Subscription;
 use crate::tables::Held;
 use line_core::{Flight, Line, Message, size};
@@ -20,12 +21,9 @@ use std::collections::BTreeMap;
 
 /// How much may be held.
 const MOST: Held = Held {
-    messages: 4096,
-    bytes: 16_777_216,
+    messages: MOST_MESSAGES,
+    bytes: MOST_BYTES,
 };
-
-/// From this number on nothing is delivered.
-const LAST_DELIVERY: u64 = 1 << 63;
 
 /// The room that a message leaves, where it fits.
 fn room_beside(room: Held, message: &Message) -> Option<Held>

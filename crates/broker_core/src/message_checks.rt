@@ -1,4 +1,4 @@
-//! Whether messages stand once where they stand.
+//! Whether no message stands twice in a line and what is unacknowledged from it.
 
 ghost use Rattle.std.specs.Prelude.{◌≡◌, ◌+◌, ◌++◌, ◌≤◌, ◌↔◌, IfOk, IsTrue, List, MatchOption, ℕ, cond, count_by, false};
 ghost use Rattle.std.specs.BTreeMap.{is_at};
@@ -40,7 +40,7 @@ fn line_is_new<'a, K: Ord>(
     Ok(true)
 }
 
-/// The same of the messages of deliveries.
+/// Whether the messages of deliveries have numbers that differ and that were not seen under the key. They were seen then.
 fn deliveries_are_new<'a, K: Ord>(
     seen: &mut BTreeSet<(&'a K, MessageNumber)>,
     key: &'a K,
@@ -81,7 +81,7 @@ fn lines_are_new<'a, K: Ord>(
     Ok(true)
 }
 
-/// The queue from which a subscription takes its messages.
+/// The queue from which a subscription takes its messages, where it is one of a queue.
 fn queue_of(sub: &Subscription) -> Option<&Dest>
     ensures { MatchOption result ((to : List ℕ) → takes_from to sub.now ≡ false)
         (λ queue. (to : List ℕ) → takes_from to sub.now ≡ is_at (text_cmp to) queue.now) }
@@ -156,7 +156,7 @@ pub fn are_once_under_names(alloc: Global, parts: &Parts) -> Result<bool, AllocE
     are_new_under_names(&mut seen, parts.subscriptions.as_slice())
 }
 
-/// Whether a subscription has no message twice.
+/// Whether a subscription has no message twice. They are seen under its id, the only key here.
 fn has_once(alloc: Global, sub: &Subscription) -> Result<bool, AllocError>
     ensures { IfOk result (λ yes. IsTrue yes ↔ AreOnce (had_by sub.now)) }
 {

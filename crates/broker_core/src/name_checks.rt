@@ -10,13 +10,11 @@ ghost use Rattle.broker_core.specs.Sound.{HasNames, OwnsName};
 
 use crate::durable_name::DurableName;
 use crate::parts::Parts;
+use crate::subscribing::MOST_NAMES;
 use crate::subscription::Subscription;
 use command_core::{Dest, HeaderText};
 use std::alloc::{AllocError, Global};
 use std::collections::{BTreeMap, BTreeSet};
-
-/// How many durable names there may be.
-const MOST_NAMES: usize = 256;
 
 /// Whether no more durable names are bound than may be.
 fn are_few(parts: &Parts) -> bool

@@ -18,9 +18,9 @@ use std::alloc::{AllocError, Global};
 use std::collections::BTreeMap;
 
 /// How many messages may be held, and how many bytes.
-const MOST_MESSAGES: u64 = 4096;
+pub const MOST_MESSAGES: u64 = 4096;
 
-const MOST_BYTES: u64 = 16_777_216;
+pub const MOST_BYTES: u64 = 16_777_216;
 
 /// Whether a subscription has a line of its own: one of a topic with no durable name.
 pub fn is_own(sub: &Subscription) -> bool

@@ -23,7 +23,7 @@ use std::collections::BTreeMap;
 pub const MOST_SUBSCRIPTIONS: usize = 16;
 
 /// How many durable names there may be.
-const MOST_NAMES: usize = 256;
+pub const MOST_NAMES: usize = 256;
 
 /// Where the subscription of that session and id waits.
 fn find_named(order: &Order, session: u64, id: &HeaderText) -> Option<usize>

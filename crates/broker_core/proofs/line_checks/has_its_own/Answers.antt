@@ -1,4 +1,4 @@
-use Rattle.std.proofs.Common.{◌≡◌, ◌<◌, ℕ, List, map, refl, subst, sym}
+use Rattle.std.proofs.Common.{◌≡◌, ℕ, List, map, refl, subst, sym}
 use Rattle.std.specs.List.{AllByRecursion}
 use Rattle.frame_core.proofs.Lists.{all_append, all_left, all_right}
 use Rattle.line_core.specs.declared.message.Message.{Message}

@@ -1,12 +1,11 @@
-use Rattle.std.proofs.Common.{◌≡◌, ◌∙◌, Bool, Some, ap, arith, cond, false, length, refl, slice_get, sym, take, true}
+use Rattle.std.proofs.Common.{◌≡◌, ◌∙◌, Some, ap, arith, cond, false, length, refl, slice_get, true}
 use Rattle.std.proofs.lemmas.Option.{slice_get_read}
 use Rattle.std.specs.BTreeMap.{is_at}
-use Rattle.line_core.specs.declared.message.MessageNumber.{MessageNumber}
-use Rattle.broker_core.specs.Kept.{takes_from, unacknowledged_by}
+use Rattle.broker_core.specs.Kept.{takes_from}
 use Rattle.broker_core.specs.Names.{text_cmp}
-use Rattle.broker_core.specs.Seen.{count_of, seen_at}
+use Rattle.broker_core.specs.Seen.{seen_at}
 use Rattle.broker_core.proofs.Keys.{same_texts, texts_total}
-use Rattle.broker_core.proofs.SeenNumbers.{in_flight, itself, turned, unacknowledged_more, unacknowledged_part}
+use Rattle.broker_core.proofs.SeenNumbers.{in_flight, itself, unacknowledged_more, unacknowledged_part}
 use Rattle.broker_core.proofs.message_checks.are_new_in_queues.Goals.{in-Some+in_ok-deliveries_are_new+else-not-branch, in_default}
 use Rattle.broker_core.proofs.message_checks.are_new_in_queues.Goals as goal
 

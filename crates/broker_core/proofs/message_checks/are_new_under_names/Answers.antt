@@ -1,11 +1,9 @@
-use Rattle.std.proofs.Common.{◌≡◌, ◌∙◌, Bool, Some, ap, arith, cond, false, length, refl, slice_get, sym, take, true}
+use Rattle.std.proofs.Common.{◌≡◌, ◌∙◌, Some, ap, arith, cond, false, length, refl, slice_get, true}
 use Rattle.std.proofs.lemmas.Option.{slice_get_read}
 use Rattle.std.specs.BTreeMap.{is_at}
-use Rattle.line_core.specs.declared.message.MessageNumber.{MessageNumber}
-use Rattle.broker_core.specs.Kept.{unacknowledged_by}
-use Rattle.broker_core.specs.Names.{Name, name_cmp}
+use Rattle.broker_core.specs.Names.{name_cmp}
 use Rattle.broker_core.specs.Operations.{uses}
-use Rattle.broker_core.specs.Seen.{count_of, seen_at}
+use Rattle.broker_core.specs.Seen.{seen_at}
 use Rattle.broker_core.proofs.Keys.{same_names, names_total}
 use Rattle.broker_core.proofs.SeenNames.{unnamed, used_by}
 use Rattle.broker_core.proofs.SeenNumbers.{in_flight, itself, turned, unacknowledged_more, unacknowledged_part}

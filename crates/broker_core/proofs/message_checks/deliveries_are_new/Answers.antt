@@ -1,4 +1,4 @@
-use Rattle.std.proofs.Common.{◌≡◌, ◌+◌, ◌∙◌, Some, ap, arith, cond, count_by, length, refl, slice_get, sym, take, true}
+use Rattle.std.proofs.Common.{◌≡◌, ◌+◌, ◌∙◌, Some, ap, arith, cond, length, refl, slice_get, sym, take, true}
 use Rattle.std.proofs.lemmas.Option.{slice_get_read}
 use Rattle.std.specs.BTreeSet as tree
 use Rattle.line_core.proofs.RisingLines.{by_number-total}

@@ -1,4 +1,4 @@
-use Rattle.std.proofs.Common.{◌≡◌, ◌≤◌, ◌+◌, ◌↔◌, Bool, IsTrue, ap, arith, cond, map, ℕ, true}
+use Rattle.std.proofs.Common.{◌≡◌, ◌≤◌, ◌+◌, ◌↔◌, Bool, IsTrue, ap, arith, map, ℕ, true}
 use Rattle.line_core.specs.declared.message.Message.{Message}
 use Rattle.line_core.specs.declared.message.MessageNumber.{MessageNumber}
 use Rattle.broker_core.specs.Names.{text_cmp}
