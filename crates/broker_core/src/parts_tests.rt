@@ -1,5 +1,5 @@
 use super::*;
-use crate::tests::{Event, are_messages, carry_out, greeting};
+use crate::tests::{Event, are_messages, carry_out, greeting, header_text};
 use command_core::{AckMode, Dest};
 use line_core::{Line, Message, MessageNumber};
 use std::alloc::Global;
@@ -62,5 +62,19 @@ fn parts_that_no_broker_has_give_none(rt: HostRuntime) -> Result<(), Fail> {
     assert!(rt; Broker::from_parts(alloc, parts_with(alloc, 2, late)?)?.is_none());
     let elsewhere = line_of(alloc, 1, "/queue/other")?;
     assert!(rt; Broker::from_parts(alloc, parts_with(alloc, 2, elsewhere)?)?.is_none());
+    Ok(())
+}
+
+fn durable_name(alloc: Global, client: &str, name: &str) -> Result<DurableName, Fail> {
+    Ok(DurableName::new(header_text(alloc, client)?, header_text(alloc, name)?))
+}
+
+#[test]
+fn durable_names_stand_by_client_and_then_by_name(rt: HostRuntime) -> Result<(), Fail> {
+    let first = durable_name(rt.alloc(), "a", "y")?;
+    let second = durable_name(rt.alloc(), "b", "x")?;
+    assert_eq!(rt; first.client().as_str(), "a");
+    assert_eq!(rt; first.name().as_str(), "y");
+    assert!(rt; first < second && first != second);
     Ok(())
 }

@@ -28,7 +28,7 @@ pub enum Event<'a> {
     End(u64, End),
 }
 
-fn header_text(alloc: Global, text: &str) -> Result<HeaderText, Fail> {
+pub fn header_text(alloc: Global, text: &str) -> Result<HeaderText, Fail> {
     let text = Text::new(String::from_str(alloc, text)?);
     if !command_core::is_header_text(text.as_str()) {
         return Err(Fail::from("no text of a header"));

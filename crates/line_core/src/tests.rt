@@ -42,6 +42,8 @@ fn messages_wait_in_the_order_of_their_numbers(rt: HostRuntime) -> Result<(), Fa
     line.put(message(rt.alloc(), 7, 0)?)?;
     assert_eq!(rt; line.len(), 3);
     assert!(rt; matches!(line.first(), Some(message) if message.number.command == 3));
+    assert!(rt; matches!(line.get(2), Some(message) if message.number.command == 7));
+    assert!(rt; line.get(3).is_none());
     assert!(rt; is_next(&mut line, 3, 0) && is_next(&mut line, 3, 1) && is_next(&mut line, 7, 0));
     assert!(rt; line.is_empty());
     Ok(())
