@@ -44,3 +44,4 @@ pub mod SingleCopies
 pub mod PlacedLines
 pub mod StateLines
 pub mod SeenNumbers
+pub mod SoundSteps

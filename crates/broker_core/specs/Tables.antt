@@ -2,6 +2,7 @@ use Rattle.std.specs.Prelude.{◌≡◌, ◌+◌, ◌≤◌, ◌^◌, ℕ}
 use Rattle.std.specs.List.{AllByRecursion}
 use Rattle.line_core.specs.Flights.{IsOver}
 use Rattle.broker_core.specs.declared.tables.Tables.{Tables}
+use Rattle.broker_core.specs.Sound.{IsSound}
 use Rattle.broker_core.specs.States.{State, held_bytes, held_messages}
 
 -- the state that the tables show before the command of that number
@@ -33,3 +34,8 @@ pub record IsTallied (number : ℕ) (t : Tables) : Type 0 where
   pub next : IsNext (state_of number t)
   pub deliveries : t.next_delivery ≤ 2 ^ 63
   pub added : t.order.added ≤ number + t.next_delivery + 2 ^ 63
+
+-- Tables of a state that a broker can have, with what is counted.
+pub record IsWhole (number : ℕ) (t : Tables) : Type 0 where
+  pub tallied : IsTallied number t
+  pub sound : IsSound (state_of number t)

@@ -1,17 +1,22 @@
 //! The broker, one command after another.
 
-ghost use Rattle.std.specs.Prelude.{◌≡◌, ◌+◌, ◌<◌, ◌^◌, ◌↔◌, true, false, IfOk, IfErr, IfSome, IsSome, OnOk, OnErr};
+ghost use Rattle.std.specs.Prelude.{◌≡◌, ◌+◌, ◌<◌, ◌^◌, ◌↔◌, true, false, IfOk, IfErr, IfSome, IsSome, OnOk, OnErr, Some, length, slice_get};
 ghost use Rattle.broker_core.specs.Operations.{restarted};
 ghost use Rattle.broker_core.specs.PartsOf.{state_of_parts};
 ghost use Rattle.broker_core.specs.Sound.{IsSound};
 ghost use Rattle.broker_core.specs.States.{empty_state, held_messages, held_bytes};
 ghost use Rattle.broker_core.specs.Steps.{step, outs};
 
+use crate::durable_name::DurableName;
 use crate::fault::BrokerFault;
+use crate::given_name::GivenName;
 use crate::parts::Parts;
+use crate::shared_lines::SharedLines;
+use crate::subscription::Subscription;
 use crate::tables::{Held, Tables};
-use command_core::{Command, Out};
+use command_core::{Command, Dest, Out};
 use std::alloc::{AllocError, Global};
+use std::collections::BTreeMap;
 use std::marker::Model;
 
 /// The broker: it carries out commands one after another, numbered from 0, and answers each. Contracts see its state
@@ -26,13 +31,13 @@ pub struct Broker {
 impl Model for Broker {
     ghost use Rattle.std.specs.Prelude.{◌≡◌, false};
     ghost use Rattle.broker_core.specs.States.{BrokerValue};
-    ghost use Rattle.broker_core.specs.Tables.{IsTallied, state_of};
+    ghost use Rattle.broker_core.specs.Tables.{IsWhole, state_of};
 
     ghost Value = { BrokerValue };
 
     ghost view = { λ a. record { state = state_of a.count a.tables; broken = a.broken } };
 
-    ghost invariant = { λ a. a.broken ≡ false → IsTallied a.count a.tables };
+    ghost invariant = { λ a. a.broken ≡ false → IsWhole a.count a.tables };
 }
 
 impl Broker {
@@ -117,6 +122,57 @@ impl Broker {
         ensures { result ≡ self.now.state.count }
     {
         self.count
+    }
+
+    /// Whether memory was refused within a command. If not, its state is one that a broker can have.
+    pub fn is_broken(&self) -> bool
+        ensures value { result ≡ self.now.broken }
+        ensures sound { self.now.broken ≡ false → IsSound self.now.state }
+    {
+        self.broken
+    }
+
+    /// The number of the next delivery.
+    pub fn next_delivery(&self) -> u64
+        ensures { result ≡ self.now.state.next_delivery }
+    {
+        self.tables.next_delivery
+    }
+
+    /// The open sessions, each with the name of its client where it has one.
+    pub fn sessions(&self) -> &BTreeMap<u64, Option<GivenName>>
+        ensures { result.now.entries ≡ self.now.state.sessions }
+    {
+        &self.tables.sessions
+    }
+
+    /// The topic of each durable name.
+    pub fn durables(&self) -> &BTreeMap<DurableName, Dest>
+        ensures { result.now.entries ≡ self.now.state.durables }
+    {
+        &self.tables.durables
+    }
+
+    /// The lines that stay when a subscription ends.
+    pub fn shared(&self) -> &SharedLines
+        ensures { result.now ≡ self.now.state.shared }
+    {
+        &self.tables.shared
+    }
+
+    /// How many subscriptions there are.
+    pub fn subscription_count(&self) -> usize
+        ensures { result ≡ length self.now.state.subscriptions }
+    {
+        self.tables.order.len()
+    }
+
+    /// The subscription in that place of the waiting order; the one that waits longest has the place 0.
+    pub fn subscription(&self, at: usize) -> &Subscription
+        requires { at < length self.now.state.subscriptions }
+        ensures { slice_get self.now.state.subscriptions at ≡ Some result.now }
+    {
+        self.tables.order.get(at)
     }
 
     /// How much it holds, unless it is broken.

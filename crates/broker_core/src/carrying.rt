@@ -1,6 +1,7 @@
 //! A command is carried out.
 
 ghost use Rattle.std.specs.Prelude.{◌≡◌, ◌+◌, ◌∷◌, ◌++◌, ◌<◌, ◌^◌, ℕ, [], false, IfOk, IsErr, OnOk};
+ghost use Rattle.command_core.specs.Operations.{IsGiven, IsOp};
 ghost use Rattle.command_core.specs.Replies.{connected};
 ghost use Rattle.broker_core.specs.HandOut.{settled};
 ghost use Rattle.broker_core.specs.Operations.{carried, opened};
@@ -9,6 +10,7 @@ ghost use Rattle.broker_core.specs.Steps.{accepted_or_ended, answers, is_opening
 ghost use Rattle.broker_core.specs.Tables.{IsTallied, state_of};
 
 use crate::answers::{answer_done, answer_end, answer_open, answer_refused};
+use crate::given_name::given;
 use crate::tables::Tables;
 use command_core::{Command, End, Fault, HeaderText, Member, Op, Out};
 use std::alloc::{AllocError, Global};
@@ -46,6 +48,7 @@ impl Tables {
     ) -> Result<Vec<Out>, AllocError>
         requires small { number < 2 ^ 62 }
         requires tallied { IsTallied number self.old }
+        requires form { IsOp op }
         requires other { is_opening op ≡ false }
         ensures state { OnOk result (state_of number self.new ≡ (led_to (state_of number self.old) session op).state) }
         ensures outs { IfOk result (λ given. given.items
@@ -65,13 +68,14 @@ impl Tables {
         number: u64,
         client_id: Option<HeaderText>,
     ) -> Result<Vec<Out>, AllocError>
+        requires form { IsGiven client_id }
         requires small { number < 2 ^ 62 }
         requires tallied { IsTallied number self.old }
         ensures state { OnOk result (state_of number self.new ≡ (settled (opened (state_of number self.old) client_id)).state) }
         ensures outs { IfOk result (λ given. given.items ≡ (settled (opened (state_of number self.old) client_id)).outs ++ outs_to number number (connected number ∷ [])) }
         ensures tallied { OnOk result (IsTallied (number + 1) self.new) }
     {
-        self.sessions.insert(number, client_id)?;
+        self.sessions.insert(number, given(client_id))?;
         let mut outs = Vec::new(alloc);
         self.settle(alloc, number, &mut outs)?;
         answer_open(alloc, number, &mut outs)?;
@@ -89,6 +93,7 @@ impl Tables {
     ) -> Result<Vec<Out>, AllocError>
         requires small { number < 2 ^ 62 }
         requires tallied { IsTallied number self.old }
+        requires form { IsOp op }
         requires other { is_opening op ≡ false }
         ensures state { OnOk result (state_of number self.new ≡ (settled (accepted_or_ended (state_of number self.old) session (carried (state_of number self.old) session op))).state) }
         ensures outs { IfOk result (λ given. given.items ≡ (settled (accepted_or_ended (state_of number self.old) session (carried (state_of number self.old) session op))).outs ++ outs_to number session (replies (state_of number self.old) session op receipt)) }
@@ -126,6 +131,7 @@ impl Tables {
     ) -> Result<Result<(), Fault>, AllocError>
         requires small { number < 2 ^ 62 }
         requires tallied { IsTallied number self.old }
+        requires form { IsOp op }
         requires other { (is_opening op ≡ false) × (is_end op ≡ false) }
         ensures carried { IfOk result (λ r. carried (state_of number self.old) session op ≡ leaving r (state_of number self.new)) }
         ensures same { IfOk result (λ r. IsErr r → self.new ≡ self.old) }

@@ -2,18 +2,18 @@
 
 ghost use Rattle.std.specs.Prelude.{◌≡◌};
 
-use command_core::HeaderText;
+use crate::given_name::GivenName;
 use std::alloc::AllocError;
 use std::cmp::Ordering;
 use std::marker::Model;
 
 /// The name of a durable subscription: that of its client (`client-id` of CONNECT) and its own
-/// (`activemq.subscriptionName` of SUBSCRIBE). Names stand by the client's, and then by their own. Contracts see the pair
+/// (`activemq.subscriptionName` of SUBSCRIBE), neither empty. Names stand by the client's, and then by their own. Contracts see the pair
 /// of their bytes.
 #[derive(Debug, Drop)]
 pub struct DurableName {
-    client: HeaderText,
-    name: HeaderText,
+    client: GivenName,
+    name: GivenName,
 }
 
 impl Model for DurableName {
@@ -26,19 +26,19 @@ impl Model for DurableName {
 
 impl DurableName {
     /// No memory is taken.
-    pub fn new(client: HeaderText, name: HeaderText) -> DurableName
+    pub fn new(client: GivenName, name: GivenName) -> DurableName
         ensures { result ≡ (client, name) }
     {
         DurableName { client, name }
     }
 
-    pub fn client(&self) -> &HeaderText
+    pub fn client(&self) -> &GivenName
         ensures { result.now ≡ self.now.0 }
     {
         &self.client
     }
 
-    pub fn name(&self) -> &HeaderText
+    pub fn name(&self) -> &GivenName
         ensures { result.now ≡ self.now.1 }
     {
         &self.name

@@ -9,6 +9,7 @@ mod carrying;
 mod committing;
 mod durable_name;
 mod fault;
+mod given_name;
 mod hand_out;
 mod laws;
 mod limit_checks;
@@ -33,6 +34,7 @@ mod trial;
 pub use broker::Broker;
 pub use durable_name::DurableName;
 pub use fault::BrokerFault;
+pub use given_name::GivenName;
 pub use laws::{
     closed_sessions_change_nothing, commands_follow_one_another,
     deliveries_in_auto_leave_the_state, handing_out_ends, held_counts_what_stands,
@@ -43,6 +45,7 @@ pub use laws::{
 pub use line_laws::lines_keep_their_messages;
 pub use number_laws::numbers_stay_under_the_next;
 pub use parts::Parts;
+pub use shared_lines::SharedLines;
 pub use sound_laws::{
     durable_names_stay_bound, limits_are_kept, subscriptions_stay_within_their_limits,
 };

@@ -9,10 +9,11 @@ ghost use Rattle.broker_core.specs.PartsOf.{state_of_parts};
 ghost use Rattle.broker_core.specs.Sound.{HasNames, OwnsName};
 
 use crate::durable_name::DurableName;
+use crate::given_name::GivenName;
 use crate::parts::Parts;
 use crate::subscribing::MOST_NAMES;
 use crate::subscription::Subscription;
-use command_core::{Dest, HeaderText};
+use command_core::Dest;
 use std::alloc::{AllocError, Global};
 use std::collections::{BTreeMap, BTreeSet};
 
@@ -31,7 +32,7 @@ fn are_of_topics(durables: &BTreeMap<DurableName, Dest>) -> bool
 }
 
 /// Whether a session has a client of that name.
-fn is_client(parts: &Parts, session: u64, client: &HeaderText) -> bool
+fn is_client(parts: &Parts, session: u64, client: &GivenName) -> bool
     ensures { IsTrue result ↔ (client_of (state_of_parts parts.now) session ≡ Some client.now) }
 {
     match parts.sessions.get(&session) {

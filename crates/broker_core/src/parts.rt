@@ -5,13 +5,14 @@ ghost use Rattle.broker_core.specs.PartsOf.{state_of_parts};
 ghost use Rattle.broker_core.specs.Sound.{IsSound};
 
 use crate::durable_name::DurableName;
+use crate::given_name::GivenName;
 use crate::limit_checks::has_limits;
 use crate::line_checks::has_lines;
 use crate::name_checks::has_names;
 use crate::number_checks::{has_numbers, is_in_order};
 use crate::subscription::Subscription;
 use crate::subscription_checks::has_subscriptions;
-use command_core::{Dest, HeaderText};
+use command_core::Dest;
 use line_core::Line;
 use std::alloc::{AllocError, Global};
 use std::collections::BTreeMap;
@@ -23,7 +24,7 @@ pub struct Parts {
     pub count: u64,
     pub next_delivery: u64,
     /// The open sessions, each with the name of its client where it has one.
-    pub sessions: BTreeMap<u64, Option<HeaderText>>,
+    pub sessions: BTreeMap<u64, Option<GivenName>>,
     /// The topic of each durable name.
     pub durables: BTreeMap<DurableName, Dest>,
     /// The lines of durable names that have messages.

@@ -65,16 +65,24 @@ fn parts_that_no_broker_has_give_none(rt: HostRuntime) -> Result<(), Fail> {
     Ok(())
 }
 
+fn given_name(alloc: Global, text: &str) -> Result<GivenName, Fail> {
+    let text = header_text(alloc, text)?;
+    if text.as_str().is_empty() {
+        return Err("an empty name".into());
+    }
+    Ok(GivenName::new(text))
+}
+
 fn durable_name(alloc: Global, client: &str, name: &str) -> Result<DurableName, Fail> {
-    Ok(DurableName::new(header_text(alloc, client)?, header_text(alloc, name)?))
+    Ok(DurableName::new(given_name(alloc, client)?, given_name(alloc, name)?))
 }
 
 #[test]
 fn durable_names_stand_by_client_and_then_by_name(rt: HostRuntime) -> Result<(), Fail> {
     let first = durable_name(rt.alloc(), "a", "y")?;
     let second = durable_name(rt.alloc(), "b", "x")?;
-    assert_eq!(rt; first.client().as_str(), "a");
-    assert_eq!(rt; first.name().as_str(), "y");
+    assert_eq!(rt; first.client().as_text().as_str(), "a");
+    assert_eq!(rt; first.name().as_text().as_str(), "y");
     assert!(rt; first < second && first != second);
     Ok(())
 }

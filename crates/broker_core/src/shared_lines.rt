@@ -62,6 +62,20 @@ impl SharedLines {
         SharedLines { names, queues }
     }
 
+    /// The lines of durable names that have messages.
+    pub fn names(&self) -> &BTreeMap<DurableName, Line>
+        ensures { result.now.entries ≡ self.now.names }
+    {
+        &self.names
+    }
+
+    /// The lines of queues that have messages.
+    pub fn queues(&self) -> &BTreeMap<Dest, Line>
+        ensures { result.now.entries ≡ self.now.queues }
+    {
+        &self.queues
+    }
+
     /// The lines stand by rising key, each once. Nothing changes.
     pub fn stand_in_order(&self)
         ensures names { IsStrictlySortedBy name_cmp (keys_of self.now.names) }

@@ -3,6 +3,7 @@
 ghost use Rattle.std.specs.Prelude.{◌≡◌, ◌+◌, ◌-◌, ◌<◌, ◌≤◌, ◌^◌, [], ℕ, IfOk, IfSome, IsErr, MatchOption, OnOk, Some, count_by, drop, length, remove, slice_get, take};
 ghost use Rattle.std.specs.List.{list_any, sum_by};
 ghost use Rattle.line_core.specs.declared.message.Message.{Message};
+ghost use Rattle.command_core.specs.Operations.{IsGiven};
 ghost use Rattle.command_core.specs.declared.command.Op.TheVariants.{Unsubscribe};
 ghost use Rattle.broker_core.specs.Operations.{begun, carried, client_in, ended, forgotten, given_up_for, is_named, is_of, name_for, restarted, subscribed, uses, with_subscription, without};
 ghost use Rattle.broker_core.specs.Parts.{IsFirst, IsGivenAt, NonePass, but_at, leaving, without_at};
@@ -11,6 +12,7 @@ ghost use Rattle.broker_core.specs.Tables.{IsTallied, state_of};
 ghost use Rattle.broker_core.specs.declared.subscription.Subscription.{Subscription};
 
 use crate::durable_name::DurableName;
+use crate::given_name::GivenName;
 use crate::order::Order;
 use crate::subscription::Subscription;
 use crate::tables::{Held, Tables};
@@ -139,7 +141,7 @@ pub fn let_deliveries_go(held: &mut Held, deliveries: &[(u64, Message)])
 
 impl Tables {
     /// The name of a session's client, where it has one.
-    fn client_of(&self, session: u64) -> Result<Option<HeaderText>, AllocError>
+    fn client_of(&self, session: u64) -> Result<Option<GivenName>, AllocError>
         ensures { IfOk result (λ client. client ≡ client_in self.now.sessions.entries session) }
     {
         match self.sessions.get(&session) {
@@ -156,11 +158,12 @@ impl Tables {
         destination: &Dest,
         durable: Option<HeaderText>,
     ) -> Result<Result<Option<DurableName>, Fault>, AllocError>
+        requires { IsGiven durable }
         ensures { IfOk result (λ r. r ≡ name_for (client_in self.now.sessions.entries session) destination.now durable) }
     {
         match durable {
             Some(name) if !destination.is_queue() => match self.client_of(session)? {
-                Some(client) => Ok(Ok(Some(DurableName::new(client, name)))),
+                Some(client) => Ok(Ok(Some(DurableName::new(client, GivenName::new(name))))),
                 None => Ok(Err(Fault::NoClientId)),
             },
             _ => Ok(Ok(None)),
@@ -180,6 +183,7 @@ impl Tables {
         mode: AckMode,
         durable: Option<HeaderText>,
     ) -> Result<Result<(), Fault>, AllocError>
+        requires form { IsGiven durable }
         requires small { number < 2 ^ 62 }
         requires tallied { IsTallied number self.old }
         ensures subscribed { IfOk result (λ r. subscribed (state_of number self.old) session id destination mode durable ≡ leaving r (state_of number self.new)) }
@@ -270,6 +274,7 @@ impl Tables {
         id: Option<HeaderText>,
         durable: Option<HeaderText>,
     ) -> Result<Result<(), Fault>, AllocError>
+        requires form { IsGiven durable }
         requires tallied { IsTallied number self.old }
         ensures carried { IfOk result (λ r. carried (state_of number self.old) session (Unsubscribe id durable) ≡ leaving r (state_of number self.new)) }
         ensures same { IfOk result (λ r. IsErr r → self.new ≡ self.old) }
@@ -277,7 +282,7 @@ impl Tables {
     {
         let at = find_given(&self.order, session, &id);
         if let Some(name) = durable {
-            return self.give_up(alloc, number, session, at, name);
+            return self.give_up(alloc, number, session, at, GivenName::new(name));
         }
         match at {
             None => Ok(Err(Fault::UnknownSubscription)),
@@ -297,7 +302,7 @@ impl Tables {
         number: u64,
         session: u64,
         at: Option<usize>,
-        name: HeaderText,
+        name: GivenName,
     ) -> Result<Result<(), Fault>, AllocError>
         requires tallied { IsTallied number self.old }
         requires place { IfSome at (λ i. i < length self.old.order.subscriptions) }

@@ -7,11 +7,12 @@ ghost use Rattle.broker_core.specs.Sound.{IsSound};
 ghost use Rattle.std.specs.Prelude.{◌≡◌, IfOk};
 
 use crate::durable_name::DurableName;
+use crate::given_name::GivenName;
 use crate::limit_checks::held_of;
 use crate::order::Order;
 use crate::parts::Parts;
 use crate::shared_lines::SharedLines;
-use command_core::{Dest, HeaderText};
+use command_core::Dest;
 use std::alloc::{AllocError, Global};
 use std::collections::BTreeMap;
 
@@ -29,7 +30,7 @@ pub struct Held {
 #[derive(Debug, Drop)]
 pub struct Tables {
     pub next_delivery: u64,
-    pub sessions: BTreeMap<u64, Option<HeaderText>>,
+    pub sessions: BTreeMap<u64, Option<GivenName>>,
     /// The topic of each durable name.
     pub durables: BTreeMap<DurableName, Dest>,
     pub shared: SharedLines,

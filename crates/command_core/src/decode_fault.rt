@@ -5,11 +5,11 @@ ghost use Rattle.std.specs.Prelude.{◌≡◌};
 use std::alloc::{AllocError, AllocFailed};
 use thiserror::Error;
 
-/// Why no command was read from bytes.
+/// Why nothing was read from bytes.
 #[derive(Debug, Drop, Error)]
 pub enum DecodeFault {
-    /// No front of the bytes is the record of a command.
-    #[error("bytes that are no command")]
+    /// They do not spell what was to be read.
+    #[error("bytes that spell nothing")]
     NoSpelling,
     /// Memory was refused.
     #[error("no memory")]

@@ -1,9 +1,12 @@
-//! The parts of records, read from the front of bytes. Each reader answers what it read and the bytes behind it.
+//! The parts of records, read from the front of bytes. Each reader answers what it read and the bytes behind it, or
+//! `NoSpelling` just where no spelling of its part begins the bytes, and `Memory` where memory is refused. A text, a list or
+//! a body over its limit is refused before memory is taken for it.
 
 ghost use Rattle.std.specs.Prelude.{◌≡◌, ◌≤◌, IfOk, length};
 ghost use Rattle.std.specs.Int.{w16, w32, w64};
 ghost use Rattle.command_core.specs.Reading.{Gives, byte_at, number_at, counted_at, text_at, optional_at, name_at, destination_at, mode_at, pair_at, many_at, list_at, sending_at};
 ghost use Rattle.command_core.specs.Reading.{is_kept_named as keeps};
+ghost use Rattle.command_core.specs.Operations.{IsGiven};
 ghost use Rattle.command_core.specs.Texts.{IsHeaderText};
 
 use crate::ack_mode::AckMode;
@@ -14,7 +17,8 @@ use crate::sending::{Sending, is_kept_name};
 use frame_core::{Bytes, Headers, Text};
 use std::alloc::Global;
 
-pub(crate) fn byte_of(bytes: &[u8]) -> Result<(u8, &[u8]), DecodeFault>
+/// A byte.
+pub fn byte_of(bytes: &[u8]) -> Result<(u8, &[u8]), DecodeFault>
     ensures { Gives (λ x. (x.0, x.1.now)) result (byte_at bytes.now) }
 {
     match bytes {
@@ -33,7 +37,8 @@ pub(crate) fn u16_of(bytes: &[u8]) -> Result<(u16, &[u8]), DecodeFault>
     Ok((u16::from_be_bytes([front[0], front[1]]), rest))
 }
 
-pub(crate) fn u32_of(bytes: &[u8]) -> Result<(u32, &[u8]), DecodeFault>
+/// A number of four bytes.
+pub fn u32_of(bytes: &[u8]) -> Result<(u32, &[u8]), DecodeFault>
     ensures { Gives (λ x. (x.0, x.1.now)) result (number_at w32 bytes.now) }
 {
     if bytes.len() < 4 {
@@ -44,7 +49,8 @@ pub(crate) fn u32_of(bytes: &[u8]) -> Result<(u32, &[u8]), DecodeFault>
     Ok((number, rest))
 }
 
-pub(crate) fn u64_of(bytes: &[u8]) -> Result<(u64, &[u8]), DecodeFault>
+/// A number of eight bytes.
+pub fn u64_of(bytes: &[u8]) -> Result<(u64, &[u8]), DecodeFault>
     ensures { Gives (λ x. (x.0, x.1.now)) result (number_at w64 bytes.now) }
 {
     if bytes.len() < 8 {
@@ -89,7 +95,8 @@ fn str_of(bytes: &[u8]) -> Result<(&str, &[u8]), DecodeFault>
     Ok((text, rest))
 }
 
-pub(crate) fn text_of(alloc: Global, bytes: &[u8]) -> Result<(HeaderText, &[u8]), DecodeFault>
+/// A text: how many bytes, in four, at most 8,192, and so many bytes of UTF-8 without NUL.
+pub fn text_of(alloc: Global, bytes: &[u8]) -> Result<(HeaderText, &[u8]), DecodeFault>
     ensures { Gives (λ x. (x.0, x.1.now)) result (text_at bytes.now) }
 {
     let (text, rest) = str_of(bytes)?;
@@ -115,13 +122,11 @@ pub(crate) fn optional_of(
     }
 }
 
-// A text that may be absent, and isn't empty where it is there.
+/// A text that may be absent, and is not empty where it is there: the byte 0, or the byte 1 and the text.
 #[tactic(auto, unfolding(crate::specs::Reading::name_at))]
-pub(crate) fn name_of(
-    alloc: Global,
-    bytes: &[u8],
-) -> Result<(Option<HeaderText>, &[u8]), DecodeFault>
-    ensures { Gives (λ x. (x.0, x.1.now)) result (name_at bytes.now) }
+pub fn name_of(alloc: Global, bytes: &[u8]) -> Result<(Option<HeaderText>, &[u8]), DecodeFault>
+    ensures read { Gives (λ x. (x.0, x.1.now)) result (name_at bytes.now) }
+    ensures given { IfOk result (λ x. IsGiven x.0) }
 {
     let (name, rest) = optional_of(alloc, bytes)?;
     if let Some(name) = &name {
@@ -132,8 +137,9 @@ pub(crate) fn name_of(
     Ok((name, rest))
 }
 
+/// A destination, as a text.
 #[tactic(auto, unfolding(crate::specs::Reading::destination_at))]
-pub(crate) fn destination_of(alloc: Global, bytes: &[u8]) -> Result<(Dest, &[u8]), DecodeFault>
+pub fn destination_of(alloc: Global, bytes: &[u8]) -> Result<(Dest, &[u8]), DecodeFault>
     ensures { Gives (λ x. (x.0, x.1.now)) result (destination_at bytes.now) }
 {
     let (text, rest) = str_of(bytes)?;
@@ -144,8 +150,9 @@ pub(crate) fn destination_of(alloc: Global, bytes: &[u8]) -> Result<(Dest, &[u8]
     }
 }
 
+/// A mode of acknowledgement, as its byte.
 #[tactic(auto, unfolding(crate::specs::Reading::mode_at))]
-pub(crate) fn mode_of(bytes: &[u8]) -> Result<(AckMode, &[u8]), DecodeFault>
+pub fn mode_of(bytes: &[u8]) -> Result<(AckMode, &[u8]), DecodeFault>
     ensures { Gives (λ x. (x.0, x.1.now)) result (mode_at bytes.now) }
 {
     let (mode, rest) = byte_of(bytes)?;
@@ -207,8 +214,9 @@ fn headers_of(alloc: Global, bytes: &[u8]) -> Result<(Headers, &[u8]), DecodeFau
     Ok((Headers::new(headers), rest))
 }
 
+/// What is sent: destination, at most 64 headers such as a message keeps, a body of at most 65,536 bytes.
 #[tactic(auto, unfolding(crate::specs::Reading::sending_at))]
-pub(crate) fn sending_of(alloc: Global, bytes: &[u8]) -> Result<(Sending, &[u8]), DecodeFault>
+pub fn sending_of(alloc: Global, bytes: &[u8]) -> Result<(Sending, &[u8]), DecodeFault>
     ensures { Gives (λ x. (x.0, x.1.now)) result (sending_at bytes.now) }
 {
     let (destination, rest) = destination_of(alloc, bytes)?;

@@ -1,4 +1,5 @@
-//! The parts of records, written at the end of bytes.
+//! The parts of records, written at the end of bytes. Each writer adds the one spelling of its part behind what was there,
+//! which is on disk what `docs/JOURNAL.md` calls it. Want of memory may leave a part of it behind.
 
 ghost use Rattle.std.specs.Prelude.{◌≡◌, ◌<◌, ◌≤◌, ◌^◌, ◌++◌, IfSome, OnOk, length};
 ghost use Rattle.std.specs.List.{AllByRecursion};
@@ -23,14 +24,16 @@ fn put_counted(out: &mut Vec<u8>, bytes: &[u8]) -> Result<(), AllocError>
     out.extend_from_slice(bytes)
 }
 
-pub(crate) fn put_text(out: &mut Vec<u8>, text: &HeaderText) -> Result<(), AllocError>
+/// A text: how many bytes, in four, and the bytes.
+pub fn put_text(out: &mut Vec<u8>, text: &HeaderText) -> Result<(), AllocError>
     ensures put { OnOk result (out.new.items ≡ out.old.items ++ counted text.now) }
     ensures form { IsText text.now }
 {
     put_counted(out, text.as_str().as_bytes())
 }
 
-pub(crate) fn put_optional(out: &mut Vec<u8>, text: &Option<HeaderText>) -> Result<(), AllocError>
+/// A text that may be absent: the byte 0, or the byte 1 and the text.
+pub fn put_optional(out: &mut Vec<u8>, text: &Option<HeaderText>) -> Result<(), AllocError>
     ensures put { OnOk result (out.new.items ≡ out.old.items ++ optional text.now) }
     ensures form { OnOk result (IfSome text.now IsText) }
 {
@@ -43,7 +46,8 @@ pub(crate) fn put_optional(out: &mut Vec<u8>, text: &Option<HeaderText>) -> Resu
     }
 }
 
-pub(crate) fn put_destination(out: &mut Vec<u8>, destination: &Dest) -> Result<(), AllocError>
+/// A destination, as a text.
+pub fn put_destination(out: &mut Vec<u8>, destination: &Dest) -> Result<(), AllocError>
     ensures put { OnOk result (out.new.items ≡ out.old.items ++ counted destination.now) }
     ensures form { IsDestination destination.now }
 {
@@ -73,7 +77,8 @@ fn put_headers(out: &mut Vec<u8>, headers: &[(Text, Text)]) -> Result<(), AllocE
     Ok(())
 }
 
-pub(crate) fn put_sending(out: &mut Vec<u8>, sending: &Sending) -> Result<(), AllocError>
+/// What is sent: destination, headers, body.
+pub fn put_sending(out: &mut Vec<u8>, sending: &Sending) -> Result<(), AllocError>
     ensures put { OnOk result (out.new.items ≡ out.old.items ++ records.sending sending.now) }
     ensures form { OnOk result (IsSent sending.now) }
 {
@@ -82,7 +87,8 @@ pub(crate) fn put_sending(out: &mut Vec<u8>, sending: &Sending) -> Result<(), Al
     put_counted(out, sending.body().as_slice())
 }
 
-pub(crate) fn mode_byte(mode: AckMode) -> u8
+/// The byte for a mode of acknowledgement: 0 for `auto`, 1 for `client`, 2 for `client-individual`.
+pub fn mode_byte(mode: AckMode) -> u8
     ensures { result ≡ records.mode_byte mode }
 {
     match mode {

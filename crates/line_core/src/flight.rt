@@ -51,6 +51,14 @@ impl<T: Drop> Flight<T> {
         }
     }
 
+    /// These deliveries, which stand by rising number and move: no memory is taken.
+    pub fn of(deliveries: Vec<(u64, T)>) -> Flight<T>
+        requires { IsRising deliveries.items }
+        ensures { result ≡ deliveries.items }
+    {
+        Flight { deliveries }
+    }
+
     /// How many deliveries wait.
     pub fn len(&self) -> usize
         ensures count { result ≡ length self.now }

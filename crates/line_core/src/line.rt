@@ -40,6 +40,16 @@ impl Line {
         }
     }
 
+    /// A line of these messages, which stand by rising number and move: no memory is taken.
+    pub fn of(messages: Vec<Message>) -> Line
+        requires { IsRising messages.items }
+        ensures { result ≡ messages.items }
+    {
+        Line {
+            messages: VecDeque::from(messages),
+        }
+    }
+
     /// How many messages wait.
     pub fn len(&self) -> usize
         ensures count { result ≡ length self.now }

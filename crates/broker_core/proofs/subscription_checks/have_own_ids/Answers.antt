@@ -1,4 +1,4 @@
-use Rattle.std.proofs.Common.{◌≡◌, ◌∙◌, ◌≤◌, Bool, Some, true, false, ap, arith, cond, count_by, eq-eqb, length, not, refl, slice_get, sym, take}
+use Rattle.std.proofs.Common.{◌≡◌, ◌∙◌, Some, true, ap, arith, cond, count_by, length, refl, slice_get, sym, take}
 use Rattle.std.proofs.lemmas.Option.{slice_get_read}
 use Rattle.std.specs.BTreeSet as tree
 use Rattle.broker_core.specs.Operations.{is_named}

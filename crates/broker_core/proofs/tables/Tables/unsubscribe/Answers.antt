@@ -16,7 +16,7 @@ pub returns-in-Some-clause-carried : goal.returns-in-Some-clause-carried
 returns-in-Some-clause-carried c =
     let s = state_of c.args.number c.args.self.now in
     let left = ap (λ (t : State). given_up_for t (client_in c.args.self.now.sessions.entries c.args.session) c.in-Some.name) (without_given s c.args.session c.args.id c.find_given-at.result c.find_given-at.ensures) in
-    IfOk-weaker c.give_up.result _ _ (λ r is. ap (λ o. carried s c.args.session (Unsubscribe c.args.id o)) c.in-Some.is ∙ left ∙ is) c.give_up.ensures.given_up
+    IfOk-weaker c.give_up.result _ _ (λ r is. ap (λ o. carried s c.args.session (Unsubscribe c.args.id o)) c.in-Some.is ∙ left ∙ is) (rw c.new.ensures at c.give_up.ensures.given_up)
 
 pub returns-clause-carried : goal.returns-clause-carried
 returns-clause-carried c =
