@@ -1,0 +1,12 @@
+//! The snapshot of a broker's state: its bytes in the journal.
+
+#![tactic(auto)]
+
+mod decoding;
+mod encoding;
+mod laws;
+mod reading;
+
+pub use decoding::decode_state;
+pub use encoding::encode_state;
+pub use laws::snapshots_begin_no_other;
