@@ -17,8 +17,7 @@ use crate::sending::{Sending, is_kept_name};
 use frame_core::{Bytes, Headers, Text};
 use std::alloc::Global;
 
-/// A byte.
-pub fn byte_of(bytes: &[u8]) -> Result<(u8, &[u8]), DecodeFault>
+pub(crate) fn byte_of(bytes: &[u8]) -> Result<(u8, &[u8]), DecodeFault>
     ensures { Gives (λ x. (x.0, x.1.now)) result (byte_at bytes.now) }
 {
     match bytes {
