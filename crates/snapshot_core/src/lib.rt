@@ -10,3 +10,6 @@ mod reading;
 pub use decoding::decode_state;
 pub use encoding::encode_state;
 pub use laws::snapshots_begin_no_other;
+
+#[cfg(test)]
+mod tests;
