@@ -129,7 +129,8 @@ impl Broker {
         ensures value { result ≡ self.now.broken }
         ensures sound { self.now.broken ≡ false → IsSound self.now.state }
     {
-        self.broken
+        let Broker { broken, .. } = self;
+        *broken
     }
 
     /// The number of the next delivery.
