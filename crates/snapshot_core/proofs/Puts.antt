@@ -1,10 +1,8 @@
-use Rattle.std.proofs.Common.{◌≡◌, ◌∙◌, ℕ, List, [], ◌∷◌, ◌++◌, length, flat_map, ap, sym, append-nil, append_assoc}
+use Rattle.std.proofs.Common.{◌≡◌, ◌∙◌, ℕ, List, [], ◌∷◌, ◌++◌, Result, OnOk, length, flat_map, ap, sym, append-nil, append_assoc}
 use Rattle.std.specs.Int.{w32, to_be_bytes}
 use Rattle.std.specs.List.{AllByRecursion}
-use Rattle.std.specs.Result.{OnOk, Result}
 use Rattle.std.proofs.lemmas.Result.{on_ok_weaker}
 use Rattle.snapshot_core.specs.Snapshots.{listed}
-
 -- what stands behind what was there, once more stands behind it
 pub then_put : (old p q mid now : List ℕ) → mid ≡ old ++ p → now ≡ mid ++ q → now ≡ old ++ (p ++ q)
 then_put old p q mid now first put = put ∙ ap (λ bytes. bytes ++ q) first ∙ append_assoc old p q
