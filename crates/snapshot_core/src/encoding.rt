@@ -277,12 +277,13 @@ pub fn encode_state(alloc: Global, broker: &Broker) -> Result<Vec<u8>, AllocErro
     ensures { IfOk result (λ spelling. Spells spelling.items broker.now.state) }
 {
     prove!(!broker.is_broken());
+    let shared = broker.shared();
     let mut out = Vec::with_capacity(alloc, room_for(broker))?;
     out.extend_from_slice(&broker.count().to_be_bytes())?;
     out.extend_from_slice(&broker.next_delivery().to_be_bytes())?;
     put_sessions(&mut out, broker.sessions())?;
-    put_durables(&mut out, broker.durables(), broker.shared())?;
-    put_queues(&mut out, broker.shared().queues())?;
+    put_durables(&mut out, broker.durables(), shared)?;
+    put_queues(&mut out, shared.queues())?;
     put_subscriptions(&mut out, broker)?;
     Ok(out)
 }
