@@ -15,6 +15,7 @@ use Rattle.broker_core.proofs.Keys.{name_itself, same_names}
 use Rattle.broker_core.proofs.Lookups.{among_keys, other_way}
 
 module _ {K : Type 0} (cmp : K → K → Ordering) (same : AreSame cmp) (itself : (k : K) → is_eq (cmp k k) ≡ true) where
+  -- the lines `xs` are those under their keys
   abbrev AreAtKeys : Lines K → Lines K → Type 0
   AreAtKeys lines xs = AllByRecursion (λ (e : K × List Message). line_at cmp e.0 lines ≡ e.1) xs
 

@@ -7,16 +7,16 @@ ghost use Rattle.std.specs.List.{AllByRecursion};
 ghost use Rattle.command_core.specs.Destinations.{IsDestination};
 ghost use Rattle.command_core.specs.Operations.{IsGiven};
 ghost use Rattle.command_core.specs.Spellings.{IsText, counted, optional};
-ghost use Rattle.line_core.specs.Flights as flights;
 ghost use Rattle.broker_core.specs.Names.{Name, name_cmp};
 ghost use Rattle.broker_core.specs.Sound.{IsSound};
 ghost use Rattle.broker_core.specs.Waiting.{is_own, line_at};
-ghost use Rattle.snapshot_core.specs.Snapshots.{IsDelivery, IsLine, IsMessage, IsName, IsSession, IsSubscription, Spells, listed};
+ghost use Rattle.snapshot_core.specs.Snapshots.{IsDelivery, IsLine, IsMessage, IsName, IsSession, IsSubscription};
+ghost use Rattle.snapshot_core.specs.Snapshots.{Spells, listed};
 ghost use Rattle.snapshot_core.specs.Snapshots as spelled;
 
 use broker_core::{Broker, DurableName, GivenName, SharedLines, Subscription};
 use command_core::{Dest, mode_byte, put_destination, put_sending, put_text};
-use line_core::{Flight, Line, Message};
+use line_core::{Line, Message};
 use std::alloc::{AllocError, Global};
 use std::collections::BTreeMap;
 
@@ -75,9 +75,14 @@ fn put_line(out: &mut Vec<u8>, line: &Line) -> Result<(), AllocError>
 }
 
 // The line under a durable name; where none stands there, it has no messages.
-fn put_line_under(out: &mut Vec<u8>, name: &DurableName, shared: &SharedLines) -> Result<(), AllocError>
+fn put_line_under(
+    out: &mut Vec<u8>,
+    name: &DurableName,
+    shared: &SharedLines,
+) -> Result<(), AllocError>
     requires { length (line_at name_cmp name.now shared.now.names) < 2 ^ 32 }
-    ensures put { OnOk result (out.new.items ≡ out.old.items ++ spelled.line (line_at name_cmp name.now shared.now.names)) }
+    ensures put { OnOk result (out.new.items
+        ≡ out.old.items ++ spelled.line (line_at name_cmp name.now shared.now.names)) }
     ensures form { OnOk result (IsLine (line_at name_cmp name.now shared.now.names)) }
 {
     match shared.names().get(name) {
@@ -95,7 +100,11 @@ fn put_session(out: &mut Vec<u8>, number: u64, client: &Option<GivenName>) -> Re
     put_client(out, client)
 }
 
-fn put_sessions(out: &mut Vec<u8>, sessions: &BTreeMap<u64, Option<GivenName>>) -> Result<(), AllocError>
+// The open sessions by rising number.
+fn put_sessions(
+    out: &mut Vec<u8>,
+    sessions: &BTreeMap<u64, Option<GivenName>>,
+) -> Result<(), AllocError>
     requires { length sessions.now.entries < 2 ^ 32 }
     ensures put { OnOk result (out.new.items ≡ out.old.items ++ listed spelled.session sessions.now.entries) }
     ensures form { OnOk result (AllByRecursion IsSession sessions.now.entries) }
@@ -125,6 +134,7 @@ fn put_durable(
     put_line_under(out, name, shared)
 }
 
+// The durable names by rising name, with their lines.
 fn put_durables(
     out: &mut Vec<u8>,
     durables: &BTreeMap<DurableName, Dest>,
@@ -132,9 +142,11 @@ fn put_durables(
 ) -> Result<(), AllocError>
     requires few { length durables.now.entries < 2 ^ 32 }
     requires short { (name : Name) → length (line_at name_cmp name shared.now.names) < 2 ^ 32 }
-    ensures put { OnOk result (out.new.items ≡ out.old.items ++ listed (spelled.durable shared.now) durables.now.entries) }
+    ensures put { OnOk result (out.new.items
+        ≡ out.old.items ++ listed (spelled.durable shared.now) durables.now.entries) }
     ensures form { OnOk result (AllByRecursion (λ e. IsName e.0 × IsDestination e.1) durables.now.entries) }
-    ensures lines { OnOk result (AllByRecursion (λ e. IsLine (line_at name_cmp e.0 shared.now.names)) durables.now.entries) }
+    ensures lines { OnOk result
+        (AllByRecursion (λ e. IsLine (line_at name_cmp e.0 shared.now.names)) durables.now.entries) }
 {
     put_count(out, durables.len())?;
     for (name, topic) in durables {
@@ -153,6 +165,7 @@ fn put_queue(out: &mut Vec<u8>, queue: &Dest, line: &Line) -> Result<(), AllocEr
     put_line(out, line)
 }
 
+// The queues with messages, by rising bytes.
 fn put_queues(out: &mut Vec<u8>, queues: &BTreeMap<Dest, Line>) -> Result<(), AllocError>
     requires few { length queues.now.entries < 2 ^ 32 }
     requires short { AllByRecursion (λ e. length e.1 < 2 ^ 32) queues.now.entries }
@@ -175,6 +188,7 @@ fn put_delivery(out: &mut Vec<u8>, number: u64, message: &Message) -> Result<(),
     put_message(out, message)
 }
 
+// What a subscription has not acknowledged, by rising number.
 fn put_deliveries(out: &mut Vec<u8>, deliveries: &[(u64, Message)]) -> Result<(), AllocError>
     requires { length deliveries.now < 2 ^ 32 }
     ensures put { OnOk result (out.new.items ≡ out.old.items ++ listed spelled.delivery deliveries.now) }
@@ -197,7 +211,8 @@ fn stands_as_name(name: &DurableName)
 
 // The own part of a durable name, which a subscription may have.
 fn put_own_name(out: &mut Vec<u8>, durable: &Option<DurableName>) -> Result<(), AllocError>
-    ensures put { OnOk result (out.new.items ≡ out.old.items ++ optional (option_map (λ (name : Name). name.1) durable.now)) }
+    ensures put { OnOk result (out.new.items
+        ≡ out.old.items ++ optional (option_map (λ (name : Name). name.1) durable.now)) }
     ensures form { OnOk result (IfSome durable.now IsName) }
 {
     match durable {
@@ -223,8 +238,8 @@ fn put_own_line(out: &mut Vec<u8>, sub: &Subscription) -> Result<(), AllocError>
     put_line(out, &sub.line)
 }
 
-// A subscription: the session, the id, the destination, a byte for the mode, its own part of a durable name, a line of its
-// own, and what it has not acknowledged.
+// A subscription: the session, the id, the destination, a byte for the mode, its own part of a durable name, a line of
+// its own, and what it has not acknowledged.
 fn put_subscription(out: &mut Vec<u8>, sub: &Subscription) -> Result<(), AllocError>
     requires short { length sub.now.line < 2 ^ 32 }
     requires few { length sub.now.unacknowledged < 2 ^ 32 }
@@ -245,7 +260,8 @@ fn put_subscription(out: &mut Vec<u8>, sub: &Subscription) -> Result<(), AllocEr
 fn put_subscriptions(out: &mut Vec<u8>, broker: &Broker) -> Result<(), AllocError>
     requires sound { IsSound broker.now.state }
     requires few { length broker.now.state.subscriptions < 2 ^ 32 }
-    ensures put { OnOk result (out.new.items ≡ out.old.items ++ listed spelled.subscription broker.now.state.subscriptions) }
+    ensures put { OnOk result (out.new.items
+        ≡ out.old.items ++ listed spelled.subscription broker.now.state.subscriptions) }
     ensures form { OnOk result (AllByRecursion IsSubscription broker.now.state.subscriptions) }
 {
     put_count(out, broker.subscription_count())?;
@@ -255,17 +271,19 @@ fn put_subscriptions(out: &mut Vec<u8>, broker: &Broker) -> Result<(), AllocErro
     Ok(())
 }
 
-// About as many bytes as the snapshot has, and mostly more.
+// About as many bytes as the snapshot has, and mostly more: a message takes 22 beside its texts and 8 for each header,
+// and the texts of the others are mostly short.
 fn room_for(broker: &Broker) -> usize {
     let held = broker.held();
-    let messages = (held.messages as usize).saturating_mul(64);
-    let entries = broker
+    let others = broker
         .sessions()
         .len()
         .saturating_add(broker.durables().len())
         .saturating_add(broker.subscription_count());
-    let messages = messages.saturating_add(held.bytes as usize);
-    messages.saturating_add(entries.saturating_mul(128))
+    (held.bytes as usize)
+        .saturating_add(32)
+        .saturating_add((held.messages as usize).saturating_mul(64))
+        .saturating_add(others.saturating_mul(128))
 }
 
 /// The snapshot of a broker's state, which is its one spelling. It fails only where memory is refused.
@@ -276,6 +294,7 @@ pub fn encode_state(alloc: Global, broker: &Broker) -> Result<Vec<u8>, AllocErro
     requires few_subscriptions { length broker.now.state.subscriptions < 2 ^ 32 }
     ensures { IfOk result (λ spelling. Spells spelling.items broker.now.state) }
 {
+    // So the state is one that a broker can have, and four bytes count its lines too.
     prove!(!broker.is_broken());
     let shared = broker.shared();
     let mut out = Vec::with_capacity(alloc, room_for(broker))?;

@@ -1,9 +1,5 @@
-use Rattle.std.proofs.Common.{◌≡◌, ◌++◌, ◌∙◌, List, [], ℕ, ap, rules, sym, subst, ◌<◌, ◌^◌, length}
+use Rattle.std.proofs.Common.{◌≡◌, ◌++◌, [], rules}
 use Rattle.std.specs.Int.{w64, to_be_bytes}
-use Rattle.std.specs.List.{AllByRecursion}
-use Rattle.line_core.specs.declared.message.Message.{Message}
-use Rattle.broker_core.specs.Names.{Name, name_cmp}
-use Rattle.broker_core.specs.Waiting.{Lines, Shared, line_at}
 use Rattle.snapshot_core.specs.Snapshots.{IsLine, durable, listed, queue, session, subscription}
 use Rattle.snapshot_core.proofs.Counted.{few_in_queues, few_queues, few_under_names}
 use Rattle.snapshot_core.proofs.NamedLines.{lines_of_bound}
