@@ -1,0 +1,12 @@
+use Rattle.std.proofs.Common.{◌≡◌, ◌<◌, ◌^◌, ◌++◌, length}
+use Rattle.std.specs.List.{AllByRecursion, flat_map}
+use Rattle.command_core.specs.Destinations.{IsDestination}
+use Rattle.snapshot_core.specs.Snapshots.{IsLine, listed, queue}
+use Rattle.snapshot_core.proofs.encoding.put_queues.Given as goal
+
+abbrev pub invariant-loop-queue : goal.invariant-loop-queue
+invariant-loop-queue l = record {
+  put : l.out.items ++ flat_map queue l.queue-iterator ≡ l.fn.out.items ++ listed queue l.queues.entries;
+  form : AllByRecursion (λ e. IsDestination e.0 × IsLine e.1) l.queue-iterator → AllByRecursion (λ e. IsDestination e.0 × IsLine e.1) l.queues.entries;
+  short : AllByRecursion (λ e. length e.1 < 2 ^ 32) l.queue-iterator;
+}
