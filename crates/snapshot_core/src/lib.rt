@@ -5,6 +5,7 @@
 mod decoding;
 mod encoding;
 mod laws;
+mod message_reading;
 mod reading;
 
 pub use decoding::decode_state;
