@@ -7,6 +7,7 @@ mod encoding;
 mod laws;
 mod message_reading;
 mod reading;
+mod rising;
 
 pub use decoding::decode_state;
 pub use encoding::encode_state;
