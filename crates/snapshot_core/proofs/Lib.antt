@@ -1,1 +1,2 @@
 pub mod RisingLists
+pub mod Appended

@@ -8,7 +8,7 @@ use Rattle.std.specs.Ordering.{is_lt}
 use Rattle.std.specs.declared.cmp.Ordering.{Ordering}
 use Rattle.std.specs.declared.cmp.Ordering.TheVariants.{Less, Equal, Greater}
 use Rattle.std.proofs.lemmas.Bool.{and_from, and_parts, both_ways, false_from_ne_true, false≢true, not-true, not_from_false}
-use Rattle.std.proofs.lemmas.List.{get_or-map}
+use Rattle.std.proofs.lemmas.List.{get_or-map, get_or_default}
 use Rattle.std.proofs.lemmas.List.Sorted.{sorted_far}
 use Rattle.std.proofs.lemmas.Map.Entries.{length-keys_of}
 use Rattle.std.proofs.lemmas.Map.Keys.{Less-from_sorted, sorted_from_all_adjacent}
@@ -90,11 +90,45 @@ module _ {K : Type 0} (cmp : K → K → Ordering) where
     pub entries_rise : IsTotalOrder cmp → (items : List (K × X)) → AllAdjacentBelow IsUnder items (length items) → rises cmp (keys_of items) ≡ true
     entries_rise total items near = rises_from (keys_of items) (sorted_entries total items near)
 
-    pub entries_fall : (items : List (K × X)) (place : ℕ) (a b : K × X) → 0 < place → place < length items → a ≡ get_or items (place - 1) a → b ≡ get_or items place b → is_lt (cmp a.0 b.0) ≡ false → rises cmp (keys_of items) ≡ false
-    entries_fall items place a b some within at_a at_b not_less =
+    pub entries_fall : (items : List (K × X)) (place : ℕ) (d e : K × X) → 0 < place → place < length items → is_lt (cmp (get_or items (place - 1) d).0 (get_or items place e).0) ≡ false → rises cmp (keys_of items) ≡ false
+    entries_fall items place d e some within over =
         false_from_ne_true (rises cmp (keys_of items)) (λ is.
             let count = length-keys_of items in
-            let there = far_apart (λ x y. is_lt (cmp x y)) (keys_of items) (place - 1) place a.0 (sym (rises_on (keys_of items)) ∙ is) (omega (arith, some)) (omega (arith, within, count)) in
-            let first : get_or (keys_of items) (place - 1) a.0 ≡ a.0 = get_or-map (λ (x : K × X). x.0) items (place - 1) a a.0 (omega (arith, within)) ∙ ap (λ (x : K × X). x.0) (sym at_a) in
-            let second : get_or (keys_of items) place a.0 ≡ b.0 = get_or-map (λ (x : K × X). x.0) items place b a.0 within ∙ ap (λ (x : K × X). x.0) (sym at_b) in
-            both_ways (is_lt (cmp a.0 b.0)) not_less (rw (first, second) at there))
+            let there = far_apart (λ x y. is_lt (cmp x y)) (keys_of items) (place - 1) place d.0 (sym (rises_on (keys_of items)) ∙ is) (omega (arith, some)) (omega (arith, within, count)) in
+            let first = get_or-map (λ (x : K × X). x.0) items (place - 1) d d.0 (omega (arith, within)) in
+            let second = get_or-map (λ (x : K × X). x.0) items place e d.0 within in
+            both_ways (is_lt (cmp (get_or items (place - 1) d).0 (get_or items place e).0)) over (rw (first, second) at there))
+
+-- Messages, none with a number under that of one before it.
+
+-- a message is not over the next one
+abbrev pub IsUpTo : Message → Message → Type 0
+IsUpTo a b = is_lt (by_number b.number a.number) ≡ false
+
+rising_on : (messages : List Message) → is_rising messages ≡ go_on (λ a b. not (is_lt (by_number b.number a.number))) messages
+unfolding is_rising
+rising_on [] = refl
+rising_on (m ∷ messages) = ap (λ b. list_all (λ (other : Message). not (is_lt (by_number other.number m.number))) messages && b) (rising_on messages)
+
+all_up_to : (m : Message) (messages : List Message) → list_all (λ (other : Message). not (is_lt (by_number other.number m.number))) messages ≡ true → AllByRecursion (λ (other : Message). is_lt (by_number other.number m.number) ≡ false) messages
+all_up_to m [] all = tt
+all_up_to m (x ∷ messages) all =
+    let p = and_parts (not (is_lt (by_number x.number m.number))) (list_all (λ (other : Message). not (is_lt (by_number other.number m.number))) messages) all in
+    (not-true (is_lt (by_number x.number m.number)) p.0, all_up_to m messages p.1)
+
+pub rising_from : (messages : List Message) → is_rising messages ≡ true → IsRising messages
+unfolding is_rising
+rising_from [] is = tt
+rising_from (m ∷ messages) is =
+    let p = and_parts (list_all (λ (other : Message). not (is_lt (by_number other.number m.number))) messages) (is_rising messages) is in
+    (all_up_to m messages p.0, rising_from messages p.1)
+
+pub messages_rise : (messages : List Message) → AllAdjacentBelow IsUpTo messages (length messages) → is_rising messages ≡ true
+messages_rise messages near =
+    rising_on messages ∙ from_places (λ a b. not (is_lt (by_number b.number a.number))) messages (λ i j d before within. not_from_false _ (sorted_far (λ (x y : Message). is_lt (by_number x.number y.number)) ranks messages (λ k e _ inside. near k e inside) i j d (omega (arith, before)) within))
+
+pub messages_fall : (messages : List Message) (place : ℕ) (d e : Message) → 0 < place → place < length messages → is_lt (by_number (get_or messages place e).number (get_or messages (place - 1) d).number) ≡ true → is_rising messages ≡ false
+messages_fall messages place d e some within under =
+    false_from_ne_true (is_rising messages) (λ is.
+        let there = far_apart (λ x y. not (is_lt (by_number y.number x.number))) messages (place - 1) place d (sym (rising_on messages) ∙ is) (omega (arith, some)) within in
+        both_ways (is_lt (by_number (get_or messages place e).number (get_or messages (place - 1) d).number)) (not-true _ (rw (get_or_default messages place d e within) at there)) under)
