@@ -4,6 +4,7 @@
 
 mod decoding;
 mod encoding;
+mod entry_reading;
 mod laws;
 mod message_reading;
 mod reading;

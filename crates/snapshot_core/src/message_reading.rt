@@ -3,10 +3,12 @@
 ghost use Rattle.std.specs.Prelude.{◌≡◌};
 ghost use Rattle.std.specs.Int.{w32, w64};
 ghost use Rattle.command_core.specs.Reading.{Gives, many_at, number_at};
-ghost use Rattle.snapshot_core.specs.Reading.{delivery_at, listed_at, message_at};
+ghost use Rattle.snapshot_core.specs.Reading.{delivery_at, keyed_at, listed_at, message_at, waiting_at};
+ghost use Rattle.std.specs.Ordering.{nat_cmp};
 
 use command_core::{DecodeFault, sending_of, u32_of, u64_of};
-use line_core::{Message, MessageNumber};
+use crate::rising::{is_rising, rises};
+use line_core::{Flight, Line, Message, MessageNumber};
 use std::alloc::Global;
 
 /// A message: the number of its command, its place there, and what is sent.
@@ -82,4 +84,28 @@ fn deliveries_of(alloc: Global, bytes: &[u8]) -> Result<(Vec<(u64, Message)>, &[
 {
     let (count, rest) = u32_of(bytes)?;
     deliveries_after_count(alloc, count, rest)
+}
+
+/// Messages that wait: behind their count, by rising number.
+#[tactic(auto, unfolding(crate::specs::Reading::waiting_at))]
+pub fn line_of(alloc: Global, bytes: &[u8]) -> Result<(Line, &[u8]), DecodeFault>
+    ensures { Gives (λ x. (x.0, x.1.now)) result (waiting_at bytes.now) }
+{
+    let (messages, rest) = messages_of(alloc, bytes)?;
+    if !is_rising(messages.as_slice()) {
+        return Err(DecodeFault::NoSpelling);
+    }
+    Ok((Line::of(messages), rest))
+}
+
+/// Deliveries that are not acknowledged: behind their count, by rising number.
+#[tactic(auto, unfolding(crate::specs::Reading::keyed_at))]
+pub fn flight_of(alloc: Global, bytes: &[u8]) -> Result<(Flight<Message>, &[u8]), DecodeFault>
+    ensures { Gives (λ x. (x.0, x.1.now)) result (keyed_at nat_cmp delivery_at bytes.now) }
+{
+    let (deliveries, rest) = deliveries_of(alloc, bytes)?;
+    if !rises(deliveries.as_slice()) {
+        return Err(DecodeFault::NoSpelling);
+    }
+    Ok((Flight::of(deliveries), rest))
 }

@@ -1,5 +1,5 @@
 use Rattle.snapshot_core.proofs.Appended.{one_more}
-use Rattle.snapshot_core.proofs.rising.map_of.Goals as goal
+use Rattle.snapshot_core.proofs.rising.filled.Goals as goal
 
 pub loop-key-preserved-in_ok-insert : goal.loop-key-preserved-in_ok-insert
 loop-key-preserved-in_ok-insert g c =
