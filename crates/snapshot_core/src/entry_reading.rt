@@ -7,7 +7,7 @@ ghost use Rattle.std.specs.Ordering.{nat_cmp};
 ghost use Rattle.command_core.specs.Operations.{IsGiven};
 ghost use Rattle.command_core.specs.Reading.{Gives, many_at, name_at};
 ghost use Rattle.broker_core.specs.Names.{name_cmp, text_cmp};
-ghost use Rattle.snapshot_core.specs.Reading.{durable_at, given_at, keyed_at, queue_at, session_at};
+ghost use Rattle.snapshot_core.specs.Reading.{durable_at, given_at, keyed_at, listed_at, queue_at, session_at};
 
 use crate::message_reading::line_of;
 use crate::rising::{map_of, rises};
@@ -123,8 +123,20 @@ fn durables_after_count(
     Ok((durables, rest))
 }
 
+/// Durable names with their topics and lines, behind their count.
+#[tactic(auto, unfolding(crate::specs::Reading::listed_at))]
+fn listed_durables_of(
+    alloc: Global,
+    bytes: &[u8],
+) -> Result<(Vec<(DurableName, (Dest, Line))>, &[u8]), DecodeFault>
+    ensures { Gives (λ x. (x.0.items, x.1.now)) result (listed_at durable_at bytes.now) }
+{
+    let (count, rest) = u32_of(bytes)?;
+    durables_after_count(alloc, count, rest)
+}
+
 /// The durable names with their topics and lines: behind their count, by rising name.
-#[tactic(auto, unfolding(crate::specs::Reading::keyed_at, crate::specs::Reading::listed_at))]
+#[tactic(auto, unfolding(crate::specs::Reading::keyed_at))]
 pub fn durables_of(
     alloc: Global,
     bytes: &[u8],
@@ -132,8 +144,7 @@ pub fn durables_of(
     ensures read { Gives (λ x. (x.0.items, x.1.now)) result (keyed_at name_cmp durable_at bytes.now) }
     ensures rising { IfOk result (λ x. IsStrictlySortedBy name_cmp (keys_of x.0.items)) }
 {
-    let (count, rest) = u32_of(bytes)?;
-    let (durables, rest) = durables_after_count(alloc, count, rest)?;
+    let (durables, rest) = listed_durables_of(alloc, bytes)?;
     if !rises(durables.as_slice()) {
         return Err(DecodeFault::NoSpelling);
     }
