@@ -1,2 +1,3 @@
 pub mod RisingLists
 pub mod Appended
+pub mod NameLists
