@@ -1,8 +1,8 @@
 -- Lists of which each item goes with those after it: rising keys, and rising messages.
-use Rattle.std.proofs.Common.{◌≡◌, ◌+◌, ◌-◌, ◌<◌, ◌≤◌, ◌&&◌, ℕ, zero, suc, Bool, true, false, List, [], ◌∷◌, length, get_or, map, not, refl, sym, ap, ◌∙◌, subst, arith}
+use Rattle.std.proofs.Common.{◌≡◌, ◌+◌, ◌-◌, ◌<◌, ◌&&◌, ℕ, zero, suc, Bool, true, false, List, [], ◌∷◌, length, get_or, not, refl, sym, ap, ◌∙◌, arith}
 use Rattle.std.specs.Cmp.{IsTotalOrder}
 use Rattle.std.specs.List.{AllAdjacentBelow, AllByRecursion, list_all}
-use Rattle.std.specs.List.Sorted.{IsSortedBy, IsStrictlySortedBy}
+use Rattle.std.specs.List.Sorted.{IsStrictlySortedBy}
 use Rattle.std.specs.Map.{keys_of}
 use Rattle.std.specs.Ordering.{is_lt}
 use Rattle.std.specs.declared.cmp.Ordering.{Ordering}
@@ -93,11 +93,11 @@ module _ {K : Type 0} (cmp : K → K → Ordering) where
     pub entries_fall : (items : List (K × X)) (place : ℕ) (d e : K × X) → 0 < place → place < length items → is_lt (cmp (get_or items (place - 1) d).0 (get_or items place e).0) ≡ false → rises cmp (keys_of items) ≡ false
     entries_fall items place d e some within over =
         false_from_ne_true (rises cmp (keys_of items)) (λ is.
-            let count = length-keys_of items in
-            let there = far_apart (λ x y. is_lt (cmp x y)) (keys_of items) (place - 1) place d.0 (sym (rises_on (keys_of items)) ∙ is) (omega (arith, some)) (omega (arith, within, count)) in
-            let first = get_or-map (λ (x : K × X). x.0) items (place - 1) d d.0 (omega (arith, within)) in
-            let second = get_or-map (λ (x : K × X). x.0) items place e d.0 within in
-            both_ways (is_lt (cmp (get_or items (place - 1) d).0 (get_or items place e).0)) over (rw (first, second) at there))
+        let count = length-keys_of items in
+        let there = far_apart (λ x y. is_lt (cmp x y)) (keys_of items) (place - 1) place d.0 (sym (rises_on (keys_of items)) ∙ is) (omega (arith, some)) (omega (arith, within, count)) in
+        let first = get_or-map (λ (x : K × X). x.0) items (place - 1) d d.0 (omega (arith, within)) in
+        let second = get_or-map (λ (x : K × X). x.0) items place e d.0 within in
+        both_ways (is_lt (cmp (get_or items (place - 1) d).0 (get_or items place e).0)) over (rw (first, second) at there))
 
 -- Messages, none with a number under that of one before it.
 
@@ -130,5 +130,5 @@ messages_rise messages near =
 pub messages_fall : (messages : List Message) (place : ℕ) (d e : Message) → 0 < place → place < length messages → is_lt (by_number (get_or messages place e).number (get_or messages (place - 1) d).number) ≡ true → is_rising messages ≡ false
 messages_fall messages place d e some within under =
     false_from_ne_true (is_rising messages) (λ is.
-        let there = far_apart (λ x y. not (is_lt (by_number y.number x.number))) messages (place - 1) place d (sym (rising_on messages) ∙ is) (omega (arith, some)) within in
-        both_ways (is_lt (by_number (get_or messages place e).number (get_or messages (place - 1) d).number)) (not-true _ (rw (get_or_default messages place d e within) at there)) under)
+    let there = far_apart (λ x y. not (is_lt (by_number y.number x.number))) messages (place - 1) place d (sym (rising_on messages) ∙ is) (omega (arith, some)) within in
+    both_ways (is_lt (by_number (get_or messages place e).number (get_or messages (place - 1) d).number)) (not-true _ (rw (get_or_default messages place d e within) at there)) under)

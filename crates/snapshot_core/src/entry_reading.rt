@@ -12,7 +12,9 @@ ghost use Rattle.snapshot_core.specs.Reading.{durable_at, given_at, keyed_at, li
 use crate::message_reading::line_of;
 use crate::rising::{map_of, rises};
 use broker_core::{DurableName, GivenName};
-use command_core::{DecodeFault, Dest, HeaderText, destination_of, name_of, text_of, u32_of, u64_of};
+use command_core::{
+    DecodeFault, Dest, HeaderText, destination_of, name_of, text_of, u32_of, u64_of,
+};
 use line_core::Line;
 use std::alloc::Global;
 use std::collections::BTreeMap;
@@ -180,10 +182,7 @@ fn queues_after_count(
 
 /// The queues with their lines: behind their count, by rising destination.
 #[tactic(auto, unfolding(crate::specs::Reading::keyed_at, crate::specs::Reading::listed_at))]
-pub fn queues_of(
-    alloc: Global,
-    bytes: &[u8],
-) -> Result<(BTreeMap<Dest, Line>, &[u8]), DecodeFault>
+pub fn queues_of(alloc: Global, bytes: &[u8]) -> Result<(BTreeMap<Dest, Line>, &[u8]), DecodeFault>
     ensures { Gives (λ x. (x.0.entries, x.1.now)) result (keyed_at text_cmp queue_at bytes.now) }
 {
     let (count, rest) = u32_of(bytes)?;

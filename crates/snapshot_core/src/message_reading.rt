@@ -1,13 +1,11 @@
 //! Messages, lines of them and deliveries, read from the front of bytes, as `reading` says.
 
-ghost use Rattle.std.specs.Prelude.{◌≡◌};
-ghost use Rattle.std.specs.Int.{w32, w64};
-ghost use Rattle.command_core.specs.Reading.{Gives, many_at, number_at};
-ghost use Rattle.snapshot_core.specs.Reading.{delivery_at, keyed_at, listed_at, message_at, waiting_at};
 ghost use Rattle.std.specs.Ordering.{nat_cmp};
+ghost use Rattle.command_core.specs.Reading.{Gives, many_at};
+ghost use Rattle.snapshot_core.specs.Reading.{delivery_at, keyed_at, listed_at, message_at, waiting_at};
 
-use command_core::{DecodeFault, sending_of, u32_of, u64_of};
 use crate::rising::{is_rising, rises};
+use command_core::{DecodeFault, sending_of, u32_of, u64_of};
 use line_core::{Flight, Line, Message, MessageNumber};
 use std::alloc::Global;
 
@@ -23,7 +21,6 @@ fn message_of(alloc: Global, bytes: &[u8]) -> Result<(Message, &[u8]), DecodeFau
     Ok((Message { number, sending }, rest))
 }
 
-// No room is taken by the count: it may lie.
 fn messages_after_count(
     alloc: Global,
     count: u32,

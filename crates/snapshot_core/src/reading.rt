@@ -1,5 +1,6 @@
 //! The parts of a snapshot, read from the front of bytes. Each reader answers what it read and the bytes behind it, or
-//! `NoSpelling` just where no spelling of its part begins the bytes, and `Memory` where memory is refused.
+//! `NoSpelling` just where no spelling of its part begins the bytes, and `Memory` where memory is refused. No room is
+//! taken by a count that was read: it may lie.
 
 ghost use Rattle.command_core.specs.Reading.{Gives};
 ghost use Rattle.broker_core.specs.PartsOf.{state_of_parts};

@@ -86,7 +86,8 @@ fn subscriptions_after_count<'a>(
     count: u32,
     bytes: &'a [u8],
 ) -> Result<(Vec<Subscription>, &'a [u8]), DecodeFault>
-    ensures { Gives (λ x. (x.0.items, x.1.now)) result (many_at (subscription_at sessions.now.entries) count bytes.now) }
+    ensures { Gives (λ x. (x.0.items, x.1.now)) result
+        (many_at (subscription_at sessions.now.entries) count bytes.now) }
 {
     let mut subscriptions = Vec::new(alloc);
     let mut rest = bytes;

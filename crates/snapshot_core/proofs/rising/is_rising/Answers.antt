@@ -1,4 +1,4 @@
-use Rattle.std.proofs.Common.{◌≡◌, ◌-◌, ◌∙◌, get_or, sym, ap, arith}
+use Rattle.std.proofs.Common.{◌-◌, ◌∙◌, get_or, sym, ap, arith}
 use Rattle.std.specs.Cmp.{Some-then}
 use Rattle.std.specs.Ordering.{is_lt, is_some_and, nat_cmp}
 use Rattle.snapshot_core.proofs.RisingLists.{messages_fall, messages_rise, rising_from}
