@@ -4,8 +4,13 @@
 
 mod decoding;
 mod encoding;
+mod entry_reading;
 mod laws;
+mod message_reading;
+mod name_tables;
 mod reading;
+mod rising;
+mod subscription_reading;
 
 pub use decoding::decode_state;
 pub use encoding::encode_state;

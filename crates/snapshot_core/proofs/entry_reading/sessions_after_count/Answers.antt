@@ -1,0 +1,18 @@
+use Rattle.std.proofs.lemmas.Result.{err_from_is_err_and}
+use Rattle.command_core.specs.Reading.{many_at}
+use Rattle.command_core.proofs.ReadLoops.{goes_on, ends, is_done}
+use Rattle.snapshot_core.specs.Reading.{session_at}
+use Rattle.snapshot_core.proofs.entry_reading.sessions_after_count.Goals as goal
+
+pub returns-in_err-session : goal.returns-in_err-session
+returns-in_err-session c =
+    let p = err_from_is_err_and c.from_residual.result c.from_residual.ensures.1 in
+    rw (p.1, p.2) (ends c.in_err-session.field-0.0 session_at c.loop.sessions.items c.args.count c.loop.counter c.loop.rest.now (many_at session_at c.args.count c.args.bytes.now) c.loop-test.true c.in_err-session.ensures c.loop.invariant)
+
+pub loop-preserved : goal.loop-preserved
+loop-preserved c =
+    let read = c.in_ok-session in
+    rw c.in_ok-push.ensures.items (goes_on session_at c.loop.sessions.items c.args.count c.loop.counter c.loop.rest.now read.session read.after.now (many_at session_at c.args.count c.args.bytes.now) c.loop-test.true read.ensures c.loop.invariant)
+
+pub returns : goal.returns
+returns c = is_done session_at c.loop.sessions.items c.args.count c.loop.counter c.loop.rest.now (many_at session_at c.args.count c.args.bytes.now) c.loop-test.false c.loop.invariant

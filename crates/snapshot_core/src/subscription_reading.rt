@@ -1,0 +1,113 @@
+//! Subscriptions, read from the front of bytes, as `reading` says.
+
+ghost use Rattle.std.specs.Prelude.{◌≡◌, option_map};
+ghost use Rattle.command_core.specs.Reading.{Gives, many_at};
+ghost use Rattle.broker_core.specs.Operations.{client_in as client_among};
+ghost use Rattle.snapshot_core.specs.Reading.{listed_at, named_by, own_line_at, subscription_at};
+
+use crate::entry_reading::optional_name_of;
+use crate::message_reading::{flight_of, line_of};
+use broker_core::{DurableName, GivenName, Subscription};
+use command_core::{DecodeFault, destination_of, mode_of, text_of, u32_of, u64_of};
+use line_core::Line;
+use std::alloc::Global;
+use std::collections::BTreeMap;
+
+/// The name of a session's client, where the session is open and its client has one.
+fn client_in(sessions: &BTreeMap<u64, Option<GivenName>>, session: u64) -> Option<&GivenName>
+    ensures { option_map (λ client. client.now) result ≡ client_among sessions.now.entries session }
+{
+    match sessions.get(&session) {
+        Some(Some(client)) => Some(client),
+        _ => None,
+    }
+}
+
+/// The durable name of a subscription, of which its own part was read: the client has to have a name then.
+fn durable_of(
+    client: Option<&GivenName>,
+    own: Option<GivenName>,
+) -> Result<Option<DurableName>, DecodeFault>
+    ensures { Gives (λ name. name) result (named_by (option_map (λ c. c.now) client.entry) own) }
+{
+    let Some(own) = own else {
+        return Ok(None);
+    };
+    let Some(client) = client else {
+        return Err(DecodeFault::NoSpelling);
+    };
+    Ok(Some(DurableName::new(client.clone()?, own)))
+}
+
+/// The line of a subscription's own. Nothing is read where it has none.
+fn own_line_of(alloc: Global, is_own: bool, bytes: &[u8]) -> Result<(Line, &[u8]), DecodeFault>
+    ensures { Gives (λ x. (x.0, x.1.now)) result (own_line_at is_own bytes.now) }
+{
+    if is_own {
+        line_of(alloc, bytes)
+    } else {
+        Ok((Line::new(alloc), bytes))
+    }
+}
+
+/// A subscription of one of these sessions.
+#[tactic(auto, unfolding(crate::specs::Reading::subscription_at))]
+fn subscription_of<'a>(
+    alloc: Global,
+    sessions: &BTreeMap<u64, Option<GivenName>>,
+    bytes: &'a [u8],
+) -> Result<(Subscription, &'a [u8]), DecodeFault>
+    ensures { Gives (λ x. (x.0, x.1.now)) result (subscription_at sessions.now.entries bytes.now) }
+{
+    let (session, rest) = u64_of(bytes)?;
+    let (id, rest) = text_of(alloc, rest)?;
+    let (destination, rest) = destination_of(alloc, rest)?;
+    let (mode, rest) = mode_of(rest)?;
+    let (own, rest) = optional_name_of(alloc, rest)?;
+    let durable = durable_of(client_in(sessions, session), own)?;
+    let is_own = !(durable.is_some() || destination.is_queue());
+    let (line, rest) = own_line_of(alloc, is_own, rest)?;
+    let (unacknowledged, rest) = flight_of(alloc, rest)?;
+    let subscription = Subscription {
+        session,
+        id,
+        destination,
+        mode,
+        durable,
+        line,
+        unacknowledged,
+    };
+    Ok((subscription, rest))
+}
+
+fn subscriptions_after_count<'a>(
+    alloc: Global,
+    sessions: &BTreeMap<u64, Option<GivenName>>,
+    count: u32,
+    bytes: &'a [u8],
+) -> Result<(Vec<Subscription>, &'a [u8]), DecodeFault>
+    ensures { Gives (λ x. (x.0.items, x.1.now)) result
+        (many_at (subscription_at sessions.now.entries) count bytes.now) }
+{
+    let mut subscriptions = Vec::new(alloc);
+    let mut rest = bytes;
+    for _ in 0..count {
+        let (subscription, after) = subscription_of(alloc, sessions, rest)?;
+        subscriptions.push(subscription)?;
+        rest = after;
+    }
+    Ok((subscriptions, rest))
+}
+
+/// The subscriptions of these sessions, in waiting order behind their count.
+#[tactic(auto, unfolding(crate::specs::Reading::listed_at))]
+pub fn subscriptions_of<'a>(
+    alloc: Global,
+    sessions: &BTreeMap<u64, Option<GivenName>>,
+    bytes: &'a [u8],
+) -> Result<(Vec<Subscription>, &'a [u8]), DecodeFault>
+    ensures { Gives (λ x. (x.0.items, x.1.now)) result (listed_at (subscription_at sessions.now.entries) bytes.now) }
+{
+    let (count, rest) = u32_of(bytes)?;
+    subscriptions_after_count(alloc, sessions, count, rest)
+}
