@@ -1,1 +1,3 @@
 pub mod SnapshotParts
+pub mod SnapshotEntries
+pub mod SnapshotSubscriptions
