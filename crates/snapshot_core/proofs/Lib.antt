@@ -1,3 +1,4 @@
 pub mod SnapshotParts
 pub mod SnapshotEntries
 pub mod SnapshotSubscriptions
+pub mod SnapshotNames

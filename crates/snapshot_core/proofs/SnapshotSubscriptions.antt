@@ -12,7 +12,7 @@ use Rattle.command_core.specs.Destinations.{IsDestination, is_queue}
 use Rattle.command_core.specs.Operations.{IsGiven}
 use Rattle.command_core.specs.Reading.{◌>>=◌, destination_at, mode_at, name_at, text_at}
 use Rattle.command_core.specs.Spellings.{AreBytes, IsText, counted, mode_byte, optional}
-use Rattle.command_core.proofs.Formats.{Format, Takes, Takes-then, bind_some, last_takes}
+use Rattle.command_core.proofs.Formats.{Format, Takes, Takes-then, bind_some, first_takes, last_takes}
 use Rattle.command_core.proofs.RecordOperations.{mode_format}
 use Rattle.command_core.proofs.RecordTexts as texts
 use Rattle.command_core.proofs.RecordTexts.{destination_format, name_format, text_format}
@@ -83,11 +83,26 @@ pub record IsRead (sessions : List (ℕ × Option (List ℕ))) (sub : Subscripti
 abbrev deliveries_format : Format (listed delivery) (Keyed nat_cmp IsDelivery) (keyed_at nat_cmp delivery_at)
 deliveries_format = keyed_format nat_cmp delivery_format
 
-module _ (sessions : List (ℕ × Option (List ℕ))) where
-  abbrev made : ℕ → List ℕ → List ℕ → AckMode → Option Name → List Message → List (ℕ × Message) → Subscription
-  made session id destination mode durable waiting unacknowledged =
-      record { session = session; id = id; destination = destination; mode = mode; durable = durable; line = waiting; unacknowledged = unacknowledged }
+abbrev made : ℕ → List ℕ → List ℕ → AckMode → Option Name → List Message → List (ℕ × Message) → Subscription
+made session id destination mode durable waiting unacknowledged =
+    record { session = session; id = id; destination = destination; mode = mode; durable = durable; line = waiting; unacknowledged = unacknowledged }
 
+-- its parts behind one another
+joined : (s : ℕ) (i d : List ℕ) (m : AckMode) (own : Option (List ℕ)) (durable : Option Name) (w : List Message) (u : List (ℕ × Message)) (b0 b1 b2 b3 b4 b5 b6 b7 : List ℕ) → own_part durable ≡ own
+    → Takes b0 (to_be_bytes w64 s) b1 → Takes b1 (counted i) b2 → Takes b2 (counted d) b3 → Takes b3 (mode_byte m ∷ []) b4 → Takes b4 (optional own) b5 → Takes b5 (line_where (not (is_some durable || is_queue d)) w) b6 → Takes b6 (listed delivery u) b7
+    → Takes b0 (subscription (made s i d m durable w u)) b7
+joined s i d m own durable w u b0 b1 b2 b3 b4 b5 b6 b7 is session id destination mode name waiting deliveries =
+    let it = made s i d m durable w u in
+    let name_bytes = mode_byte m ∷ optional (own_part durable) in
+    let named : Takes b4 (optional (own_part durable)) b5 = subst (λ (o : Option (List ℕ)). Takes b4 (optional o) b5) (sym is) name in
+    let t1 = Takes-then b0 (to_be_bytes w64 s) b1 (counted i) b2 session id in
+    let t2 = Takes-then b0 (to_be_bytes w64 s ++ counted i) b2 (counted d) b3 t1 destination in
+    let t3 = Takes-then b3 (mode_byte m ∷ []) b4 (optional (own_part durable)) b5 mode named in
+    let t4 = Takes-then b0 (to_be_bytes w64 s ++ counted i ++ counted d) b3 name_bytes b5 t2 t3 in
+    let t5 = Takes-then b0 (to_be_bytes w64 s ++ counted i ++ counted d ++ name_bytes) b5 (own_line it) b6 t4 waiting in
+    Takes-then b0 (to_be_bytes w64 s ++ counted i ++ counted d ++ name_bytes ++ own_line it) b6 (listed delivery u) b7 t5 deliveries
+
+module _ (sessions : List (ℕ × Option (List ℕ))) where
   abbrev after_line : ℕ → List ℕ → List ℕ → AckMode → Option Name → List Message × List ℕ → Option (Subscription × List ℕ)
   after_line s i d m durable w = keyed_at nat_cmp delivery_at w.1 >>= λ u. Some (made s i d m durable w.0 u.0, u.1)
 
@@ -115,17 +130,12 @@ module _ (sessions : List (ℕ × Option (List ℕ))) where
       let m = step_takes mode_format (after_mode s.value i.value d.value) d.rest (sub, rest) d.taken.fits d.then in
       let o = step_takes name_format (λ o. named_by (client_in sessions s.value) o.0 >>= after_name s.value i.value d.value m.value o.1) m.rest (sub, rest) m.taken.fits m.then in
       let n = bind_some (named_by (client_in sessions s.value) o.value) (after_name s.value i.value d.value m.value o.rest) (sub, rest) o.then in
-      let w = step_takes (own_format (not (is_some n.0 || is_queue d.value))) (after_line s.value i.value d.value m.value n.0) o.rest (sub, rest) o.taken.fits n.2 in
+      let own = not (is_some n.0 || is_queue d.value) in
+      let w = first_takes (line_where own) (IsLineWhere own) (own_line_at own) (own_format own) (after_line s.value i.value d.value m.value n.0) o.rest (sub, rest) o.taken.fits n.2 in
       let u = step_takes deliveries_format (λ u. Some (made s.value i.value d.value m.value n.0 w.value u.0, u.1)) w.rest (sub, rest) w.taken.fits w.then in
       let it = made s.value i.value d.value m.value n.0 w.value u.value in
       let name = named_takes (client_in sessions s.value) o.value n.0 (client_formed sessions each s.value) o.form n.1 in
-      let t1 = Takes-then bytes (to_be_bytes w64 s.value) s.rest (counted i.value) i.rest s.taken i.taken in
-      let t2 = Takes-then bytes (to_be_bytes w64 s.value ++ counted i.value) i.rest (counted d.value) d.rest t1 d.taken in
-      let t3 = Takes-then d.rest (mode_byte m.value ∷ []) m.rest (optional o.value) o.rest m.taken o.taken in
-      let named : Takes d.rest (mode_byte m.value ∷ optional (own_part n.0)) o.rest = subst (λ (own : Option (List ℕ)). Takes d.rest (mode_byte m.value ∷ optional own) o.rest) (sym name.0) t3 in
-      let t4 = Takes-then bytes (to_be_bytes w64 s.value ++ counted i.value ++ counted d.value) d.rest (mode_byte m.value ∷ optional (own_part n.0)) o.rest t2 named in
-      let t5 = Takes-then bytes (to_be_bytes w64 s.value ++ counted i.value ++ counted d.value ++ mode_byte m.value ∷ optional (own_part n.0)) o.rest (own_line it) w.rest t4 w.taken in
-      let whole : Takes bytes (subscription it) u.rest = Takes-then bytes (to_be_bytes w64 s.value ++ counted i.value ++ counted d.value ++ mode_byte m.value ∷ optional (own_part n.0) ++ own_line it) w.rest (listed delivery u.value) u.rest t5 u.taken in
+      let whole = joined s.value i.value d.value m.value o.value n.0 w.value u.value bytes s.rest i.rest d.rest m.rest o.rest w.rest u.rest name.0 s.taken i.taken d.taken m.taken o.taken w.taken u.taken in
       let form : IsSubscription it = record { session = s.form; id = i.form; destination = d.form; durable = name.1; line = w.form.1.1; each = u.form.0.1; rising = u.form.1 } in
       let client : named_by (client_in sessions s.value) (own_part n.0) ≡ Some n.0 = ap (named_by (client_in sessions s.value)) name.0 ∙ n.1 in
       last_takes subscription (IsRead sessions) bytes (it, u.rest) (sub, rest) u.then
