@@ -87,20 +87,9 @@ abbrev made : ℕ → List ℕ → List ℕ → AckMode → Option Name → List
 made session id destination mode durable waiting unacknowledged =
     record { session = session; id = id; destination = destination; mode = mode; durable = durable; line = waiting; unacknowledged = unacknowledged }
 
--- its parts behind one another
-joined : (s : ℕ) (i d : List ℕ) (m : AckMode) (own : Option (List ℕ)) (durable : Option Name) (w : List Message) (u : List (ℕ × Message)) (b0 b1 b2 b3 b4 b5 b6 b7 : List ℕ) → own_part durable ≡ own
-    → Takes b0 (to_be_bytes w64 s) b1 → Takes b1 (counted i) b2 → Takes b2 (counted d) b3 → Takes b3 (mode_byte m ∷ []) b4 → Takes b4 (optional own) b5 → Takes b5 (line_where (not (is_some durable || is_queue d)) w) b6 → Takes b6 (listed delivery u) b7
-    → Takes b0 (subscription (made s i d m durable w u)) b7
-joined s i d m own durable w u b0 b1 b2 b3 b4 b5 b6 b7 is session id destination mode name waiting deliveries =
-    let it = made s i d m durable w u in
-    let name_bytes = mode_byte m ∷ optional (own_part durable) in
-    let named : Takes b4 (optional (own_part durable)) b5 = subst (λ (o : Option (List ℕ)). Takes b4 (optional o) b5) (sym is) name in
-    let t1 = Takes-then b0 (to_be_bytes w64 s) b1 (counted i) b2 session id in
-    let t2 = Takes-then b0 (to_be_bytes w64 s ++ counted i) b2 (counted d) b3 t1 destination in
-    let t3 = Takes-then b3 (mode_byte m ∷ []) b4 (optional (own_part durable)) b5 mode named in
-    let t4 = Takes-then b0 (to_be_bytes w64 s ++ counted i ++ counted d) b3 name_bytes b5 t2 t3 in
-    let t5 = Takes-then b0 (to_be_bytes w64 s ++ counted i ++ counted d ++ name_bytes) b5 (own_line it) b6 t4 waiting in
-    Takes-then b0 (to_be_bytes w64 s ++ counted i ++ counted d ++ name_bytes ++ own_line it) b6 (listed delivery u) b7 t5 deliveries
+-- what stands before the line
+abbrev head : ℕ → List ℕ → List ℕ → AckMode → Option (List ℕ) → List ℕ
+head s i d m own = to_be_bytes w64 s ++ counted i ++ counted d ++ mode_byte m ∷ optional own
 
 module _ (sessions : List (ℕ × Option (List ℕ))) where
   abbrev after_line : ℕ → List ℕ → List ℕ → AckMode → Option Name → List Message × List ℕ → Option (Subscription × List ℕ)
@@ -121,6 +110,29 @@ module _ (sessions : List (ℕ × Option (List ℕ))) where
   abbrev after_session : ℕ × List ℕ → Option (Subscription × List ℕ)
   after_session s = text_at s.1 >>= after_id s.0
 
+  -- the line and the deliveries, behind what was read of a subscription
+  rest_takes : (s : ℕ) (i d : List ℕ) (m : AckMode) (durable : Option Name) (bytes behind : List ℕ) → s < 2 ^ 64 → IsText i → IsDestination d → IfSome durable IsName → named_by (client_in sessions s) (own_part durable) ≡ Some durable → Takes bytes (head s i d m (own_part durable)) behind
+      → (sub : Subscription) (rest : List ℕ) → after_name s i d m behind durable ≡ Some (sub, rest) → Takes bytes (subscription sub) rest × IsRead sessions sub
+  rest_takes s i d m durable bytes behind small id_form destination_form name_form named taken sub rest e =
+      let w = step_takes (own_format (not (is_some durable || is_queue d))) (after_line s i d m durable) behind (sub, rest) taken.fits e in
+      let u = step_takes deliveries_format (λ u. Some (made s i d m durable w.value u.0, u.1)) w.rest (sub, rest) w.taken.fits w.then in
+      let it = made s i d m durable w.value u.value in
+      let front = Takes-then bytes (head s i d m (own_part durable)) behind (own_line it) w.rest taken w.taken in
+      let whole = Takes-then bytes (head s i d m (own_part durable) ++ own_line it) w.rest (listed delivery u.value) u.rest front u.taken in
+      let form : IsSubscription it = record { session = small; id = id_form; destination = destination_form; durable = name_form; line = w.form.1.1; each = u.form.0.1; rising = u.form.1 } in
+      last_takes subscription (IsRead sessions) bytes (it, u.rest) (sub, rest) u.then
+      (whole, record { form = form; own = w.form.0; few_waiting = w.form.1.0; few_deliveries = u.form.0.0; named = named })
+
+  -- the durable name, as what stands before it was read
+  name_takes : AllByRecursion IsSession sessions → (s : ℕ) (i d : List ℕ) (m : AckMode) (own : Option (List ℕ)) (bytes behind : List ℕ) → s < 2 ^ 64 → IsText i → IsDestination d → texts.IsName own → Takes bytes (head s i d m own) behind
+      → (sub : Subscription) (rest : List ℕ) → (named_by (client_in sessions s) own >>= after_name s i d m behind) ≡ Some (sub, rest) → Takes bytes (subscription sub) rest × IsRead sessions sub
+  name_takes each s i d m own bytes behind small id_form destination_form own_form taken sub rest e =
+      let n = bind_some (named_by (client_in sessions s) own) (after_name s i d m behind) (sub, rest) e in
+      let name = named_takes (client_in sessions s) own n.0 (client_formed sessions each s) own_form n.1 in
+      let named : named_by (client_in sessions s) (own_part n.0) ≡ Some n.0 = ap (named_by (client_in sessions s)) name.0 ∙ n.1 in
+      let before : Takes bytes (head s i d m (own_part n.0)) behind = subst (λ (o : Option (List ℕ)). Takes bytes (head s i d m o) behind) (sym name.0) taken in
+      rest_takes s i d m n.0 bytes behind small id_form destination_form name.1 named before sub rest n.2
+
   subscription_takes : AllByRecursion IsSession sessions → (bytes : List ℕ) (sub : Subscription) (rest : List ℕ) → AreBytes bytes → subscription_at sessions bytes ≡ Some (sub, rest) → Takes bytes (subscription sub) rest × IsRead sessions sub
   unfolding subscription_at
   subscription_takes each bytes sub rest fits e =
@@ -129,17 +141,17 @@ module _ (sessions : List (ℕ × Option (List ℕ))) where
       let d = step_takes destination_format (after_destination s.value i.value) i.rest (sub, rest) i.taken.fits i.then in
       let m = step_takes mode_format (after_mode s.value i.value d.value) d.rest (sub, rest) d.taken.fits d.then in
       let o = step_takes name_format (λ o. named_by (client_in sessions s.value) o.0 >>= after_name s.value i.value d.value m.value o.1) m.rest (sub, rest) m.taken.fits m.then in
-      let n = bind_some (named_by (client_in sessions s.value) o.value) (after_name s.value i.value d.value m.value o.rest) (sub, rest) o.then in
-      let own = not (is_some n.0 || is_queue d.value) in
-      let w = first_takes (line_where own) (IsLineWhere own) (own_line_at own) (own_format own) (after_line s.value i.value d.value m.value n.0) o.rest (sub, rest) o.taken.fits n.2 in
-      let u = step_takes deliveries_format (λ u. Some (made s.value i.value d.value m.value n.0 w.value u.0, u.1)) w.rest (sub, rest) w.taken.fits w.then in
-      let it = made s.value i.value d.value m.value n.0 w.value u.value in
-      let name = named_takes (client_in sessions s.value) o.value n.0 (client_formed sessions each s.value) o.form n.1 in
-      let whole = joined s.value i.value d.value m.value o.value n.0 w.value u.value bytes s.rest i.rest d.rest m.rest o.rest w.rest u.rest name.0 s.taken i.taken d.taken m.taken o.taken w.taken u.taken in
-      let form : IsSubscription it = record { session = s.form; id = i.form; destination = d.form; durable = name.1; line = w.form.1.1; each = u.form.0.1; rising = u.form.1 } in
-      let client : named_by (client_in sessions s.value) (own_part n.0) ≡ Some n.0 = ap (named_by (client_in sessions s.value)) name.0 ∙ n.1 in
-      last_takes subscription (IsRead sessions) bytes (it, u.rest) (sub, rest) u.then
-      (whole, record { form = form; own = w.form.0; few_waiting = w.form.1.0; few_deliveries = u.form.0.0; named = client })
+      let t1 = Takes-then bytes (to_be_bytes w64 s.value) s.rest (counted i.value) i.rest s.taken i.taken in
+      let t2 = Takes-then bytes (to_be_bytes w64 s.value ++ counted i.value) i.rest (counted d.value) d.rest t1 d.taken in
+      let t3 = Takes-then d.rest (mode_byte m.value ∷ []) m.rest (optional o.value) o.rest m.taken o.taken in
+      let t4 = Takes-then bytes (to_be_bytes w64 s.value ++ counted i.value ++ counted d.value) d.rest (mode_byte m.value ∷ optional o.value) o.rest t2 t3 in
+      name_takes each s.value i.value d.value m.value o.value bytes o.rest s.form i.form d.form o.form t4 sub rest o.then
+
+  rest_again : (sub : Subscription) (rest : List ℕ) → IsRead sessions sub → after_name sub.session sub.id sub.destination sub.mode (own_line sub ++ (listed delivery sub.unacknowledged ++ rest)) sub.durable ≡ Some (sub, rest)
+  rest_again sub rest read =
+      let behind = listed delivery sub.unacknowledged ++ rest in
+      step_again (own_format (is_own sub)) (after_line sub.session sub.id sub.destination sub.mode sub.durable) (own_line sub ++ behind) sub.line behind (Some (sub, rest)) refl (read.own, (read.few_waiting, read.form.line))
+      (step_again deliveries_format (λ u. Some (made sub.session sub.id sub.destination sub.mode sub.durable sub.line u.0, u.1)) behind sub.unacknowledged rest (Some (sub, rest)) refl ((read.few_deliveries, read.form.each), read.form.rising) refl)
 
   subscription_again : (sub : Subscription) (rest : List ℕ) → IsRead sessions sub → subscription_at sessions (subscription sub ++ rest) ≡ Some (sub, rest)
   unfolding subscription_at
@@ -149,24 +161,19 @@ module _ (sessions : List (ℕ × Option (List ℕ))) where
       let id = counted sub.id in
       let destination = counted sub.destination in
       let name = mode_byte sub.mode ∷ optional (own_part sub.durable) in
-      let b5 = listed delivery sub.unacknowledged ++ rest in
-      let b4 = own_line sub ++ b5 in
+      let b4 = own_line sub ++ (listed delivery sub.unacknowledged ++ rest) in
       let b3 = optional (own_part sub.durable) ++ b4 in
       let b2 = mode_byte sub.mode ∷ b3 in
       let b1 = destination ++ b2 in
-      let b0 = id ++ b1 in
-      let parts : subscription sub ++ rest ≡ session ++ b0 =
-          append_assoc (session ++ id ++ destination ++ name ++ own_line sub) (listed delivery sub.unacknowledged) rest ∙ append_assoc (session ++ id ++ destination ++ name) (own_line sub) b5
+      let parts : subscription sub ++ rest ≡ session ++ (id ++ b1) =
+          append_assoc (session ++ id ++ destination ++ name ++ own_line sub) (listed delivery sub.unacknowledged) rest ∙ append_assoc (session ++ id ++ destination ++ name) (own_line sub) (listed delivery sub.unacknowledged ++ rest)
           ∙ append_assoc (session ++ id ++ destination) name b4 ∙ append_assoc (session ++ id) destination b2 ∙ append_assoc session id b1 in
-      let answer = Some (sub, rest) in
-      let deliveries = step_again deliveries_format (λ u. Some (made sub.session sub.id sub.destination sub.mode sub.durable sub.line u.0, u.1)) b5 sub.unacknowledged rest answer refl ((read.few_deliveries, form.each), form.rising) refl in
-      let own = step_again (own_format (is_own sub)) (after_line sub.session sub.id sub.destination sub.mode sub.durable) b4 sub.line b5 answer refl (read.own, (read.few_waiting, form.line)) deliveries in
-      let named = ap (λ o. o >>= after_name sub.session sub.id sub.destination sub.mode b4) read.named ∙ own in
-      step_again numbers64 after_session (subscription sub ++ rest) sub.session b0 answer parts form.session
-      (step_again text_format (after_id sub.session) b0 sub.id b1 answer refl form.id
-      (step_again destination_format (after_destination sub.session sub.id) b1 sub.destination b2 answer refl form.destination
-      (step_again mode_format (after_mode sub.session sub.id sub.destination) b2 sub.mode b3 answer refl tt
-      (step_again name_format (λ o. named_by (client_in sessions sub.session) o.0 >>= after_name sub.session sub.id sub.destination sub.mode o.1) b3 (own_part sub.durable) b4 answer refl (own_named sub.durable form.durable) named))))
+      step_again numbers64 after_session (subscription sub ++ rest) sub.session (id ++ b1) (Some (sub, rest)) parts form.session
+      (step_again text_format (after_id sub.session) (id ++ b1) sub.id b1 (Some (sub, rest)) refl form.id
+      (step_again destination_format (after_destination sub.session sub.id) b1 sub.destination b2 (Some (sub, rest)) refl form.destination
+      (step_again mode_format (after_mode sub.session sub.id sub.destination) b2 sub.mode b3 (Some (sub, rest)) refl tt
+      (step_again name_format (λ o. named_by (client_in sessions sub.session) o.0 >>= after_name sub.session sub.id sub.destination sub.mode o.1) b3 (own_part sub.durable) b4 (Some (sub, rest)) refl (own_named sub.durable form.durable)
+      (ap (λ o. o >>= after_name sub.session sub.id sub.destination sub.mode b4) read.named ∙ rest_again sub rest read)))))
 
   pub subscription_format : AllByRecursion IsSession sessions → Format subscription (IsRead sessions) (subscription_at sessions)
   subscription_format each = record { takes = subscription_takes each; again = subscription_again }
