@@ -2,3 +2,4 @@ pub mod SnapshotParts
 pub mod SnapshotEntries
 pub mod SnapshotSubscriptions
 pub mod SnapshotNames
+pub mod SnapshotStates
