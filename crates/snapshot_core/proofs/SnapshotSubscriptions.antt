@@ -55,7 +55,7 @@ client_formed (e ∷ sessions) each n =
     elim (is_eq (nat_cmp n e.0)) as (λ b. texts.IsName (unwrap_or (cond b (Some e.1) (lookup (is_at (nat_cmp n)) sessions)) None)) [ true ↦ (each.0.1, each.0.2) | false ↦ rest ]
 
 -- its own part of a durable name
-abbrev own_part : Option Name → Option (List ℕ)
+abbrev pub own_part : Option Name → Option (List ℕ)
 own_part durable = option_map (λ (name : Name). name.1) durable
 
 named_takes : (client own : Option (List ℕ)) (durable : Option Name) → texts.IsName client → texts.IsName own → named_by client own ≡ Some durable → (own_part durable ≡ own) × IfSome durable IsName
