@@ -1,14 +1,16 @@
 -- States that are sound and have the form of a snapshot, against those that are read from one.
-use Rattle.std.proofs.Common.{◌≡◌, ℕ, ◌<◌, ◌≤◌, ◌^◌, ◌++◌, cond, List, [], ◌∷◌, length, map, true, false, unwrap_or, IfSome, Option, Some, None, refl, ap, sym, subst, ◌∙◌, arith}
+use Rattle.std.proofs.Common.{◌≡◌, ℕ, ◌<◌, ◌≤◌, ◌^◌, ◌++◌, cond, List, [], ◌∷◌, length, map, true, false, unwrap_or, IfSome, Option, Some, None, refl, ap, sym, subst, ◌∙◌, append-nil, arith, eqb, true≢false}
 use Rattle.std.specs.BTreeMap.{is_at}
 use Rattle.std.specs.List.{AllByRecursion, sum_by}
 use Rattle.std.specs.List.Sorted.{IsStrictlySortedBy}
 use Rattle.std.specs.Map.{keys_of, lookup}
 use Rattle.std.specs.Ordering.{is_eq, nat_cmp}
 use Rattle.std.proofs.lemmas.List.{length-map}
-use Rattle.std.proofs.lemmas.Option.{some_pair_parts}
+use Rattle.std.proofs.lemmas.Bool.{eqb-true}
+use Rattle.std.proofs.lemmas.Option.{none-some, some_pair_parts}
 use Rattle.frame_core.proofs.Lists.{all_both, all_weaker}
 use Rattle.command_core.specs.Destinations.{IsDestination, is_queue}
+use Rattle.command_core.specs.Spellings.{AreBytes}
 use Rattle.line_core.specs.declared.message.Message.{Message}
 use Rattle.broker_core.specs.declared.subscription.Subscription.{Subscription}
 use Rattle.broker_core.specs.Lists.{is_none}
@@ -126,3 +128,33 @@ begins_no_other a b p q x y first second same =
     let both : Some (a, x) ≡ Some (b, y) = sym (spelled_is_read p x a first) ∙ ap state_at same ∙ spelled_is_read q y b second in
     let one = some_pair_parts a b x y both in
     (one.0, first.spelled ∙ ap snapshot_of one.0 ∙ sym second.spelled)
+
+-- ---- whole bytes
+
+-- bytes that spell a state are read to their end
+whole_is_read : (bytes : List ℕ) (s : State) → Spells bytes s → state_at bytes ≡ Some (s, [])
+whole_is_read bytes s spells = ap state_at (sym (append-nil bytes)) ∙ spelled_is_read bytes [] s spells
+
+pub none_is_spelled : (bytes : List ℕ) → state_at bytes ≡ None → (s : State) → Spells bytes s → ⊥
+none_is_spelled bytes none s spells = none-some (s, []) (sym none ∙ whole_is_read bytes s spells)
+
+no_rest : (rest : List ℕ) → eqb (length rest) 0 ≡ true → rest ≡ []
+no_rest [] e = refl
+no_rest (b ∷ rest) e = absurd (omega (arith, eqb-true _ _ e))
+
+module _ (bytes : List ℕ) (t : State) (rest : List ℕ) (read : state_at bytes ≡ Some (t, rest)) where
+  -- what bytes spell is what is read of them
+  read_is : (s : State) → Spells bytes s → (s ≡ t) × ([] ≡ rest)
+  read_is s spells = some_pair_parts s t [] rest (sym (whole_is_read bytes s spells) ∙ read)
+
+  -- where bytes are left, or no broker can have the state, nothing is spelled
+  pub longer_is_none : eqb (length rest) 0 ≡ false → (s : State) → Spells bytes s → ⊥
+  longer_is_none left s spells = true≢false (ap (λ (r : List ℕ). eqb (length r) 0) (read_is s spells).1 ∙ left)
+
+  pub unsound_is_none : (IsSound t → ⊥) → (s : State) → Spells bytes s → ⊥
+  unsound_is_none unsound s spells = unsound (subst IsSound (read_is s spells).0 spells.sound)
+
+  pub read_is_spelled : AreBytes bytes → eqb (length rest) 0 ≡ true → IsSound t → Spells bytes t
+  read_is_spelled fits whole sound =
+      let taken = state_format.takes bytes t rest fits read in
+      record { sound = sound; form = formed t taken.1; spelled = taken.0.parts ∙ ap (λ (r : List ℕ). snapshot_of t ++ r) (no_rest rest whole) ∙ append-nil (snapshot_of t) }
