@@ -4,7 +4,7 @@ use Rattle.std.specs.BTreeMap.{is_at}
 use Rattle.std.specs.List.{AllByRecursion, sum_by}
 use Rattle.std.specs.List.Sorted.{IsStrictlySortedBy}
 use Rattle.std.specs.Map.{keys_of, lookup}
-use Rattle.std.specs.Ordering.{is_eq, nat_cmp}
+use Rattle.std.specs.Ordering.{is_eq}
 use Rattle.std.proofs.lemmas.List.{length-map}
 use Rattle.std.proofs.lemmas.Bool.{eqb-true}
 use Rattle.std.proofs.lemmas.Option.{none-some, some_pair_parts}
@@ -22,7 +22,7 @@ use Rattle.broker_core.specs.Waiting.{Lines, is_own, line_at, weight_of_lines}
 use Rattle.broker_core.proofs.Alls.{all_given, each_given}
 use Rattle.snapshot_core.specs.Reading.{lines_of, named_by, state_at}
 use Rattle.snapshot_core.specs.Snapshots.{HasForm, IsLine, IsName, IsSubscription, Spells, snapshot_of}
-use Rattle.snapshot_core.proofs.SnapshotParts.{Keyed, Listed}
+use Rattle.snapshot_core.proofs.SnapshotParts.{Keyed}
 use Rattle.snapshot_core.proofs.SnapshotEntries.{Entry, IsEntry, IsQueueEntry}
 use Rattle.snapshot_core.proofs.SnapshotSubscriptions.{IsRead, own_part}
 use Rattle.snapshot_core.proofs.SnapshotNames.{all_lines, entry_in, lines_again}
@@ -63,9 +63,9 @@ entries_shaped : (s : State) → IsSound s → HasForm s → Keyed name_cmp IsEn
 entries_shaped s sound form =
     let few : length (entries_of s) < 2 ^ 32 = omega (arith, length-map s.durables (entry_in s.shared.names), sound.names.few) in
     let entry = λ (d : Name × List ℕ) (is : IsName d.0 × IsDestination d.1).
-        let short : length (line_at name_cmp d.0 s.shared.names) < 2 ^ 32 = omega (arith, line_within name_cmp d.0 s.shared.names, sound.limits.messages) in
-        let whole : IsEntry (entry_in s.shared.names d) = (is.0, is.1, (short, line_formed d.0 s.shared.names form.names)) in
-        whole in
+    let short : length (line_at name_cmp d.0 s.shared.names) < 2 ^ 32 = omega (arith, line_within name_cmp d.0 s.shared.names, sound.limits.messages) in
+    let whole : IsEntry (entry_in s.shared.names d) = (is.0, is.1, (short, line_formed d.0 s.shared.names form.names)) in
+    whole in
     let each = all_given IsEntry (entry_in s.shared.names) s.durables (all_weaker (λ (d : Name × List ℕ). IsName d.0 × IsDestination d.1) (λ (d : Name × List ℕ). IsEntry (entry_in s.shared.names d)) entry s.durables form.durables) in
     ((few, each), subst (IsStrictlySortedBy name_cmp) (sym (keys_again s.shared.names s.durables)) sound.order.durables)
 

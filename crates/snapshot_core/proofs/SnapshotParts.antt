@@ -1,5 +1,5 @@
 -- Lists, messages and lines in snapshots.
-use Rattle.std.proofs.Common.{◌≡◌, ℕ, zero, suc, ◌<◌, ◌^◌, ◌++◌, ◌&&◌, Bool, true, false, cond, List, [], ◌∷◌, length, flat_map, not, Option, Some, None, refl, ap, sym, subst, ◌∙◌, append_assoc}
+use Rattle.std.proofs.Common.{◌≡◌, ℕ, zero, suc, ◌<◌, ◌^◌, ◌++◌, Bool, true, false, List, [], ◌∷◌, length, flat_map, not, Option, Some, refl, ap, sym, subst, ◌∙◌, append_assoc}
 use Rattle.std.specs.Int.{w32, w64, to_be_bytes}
 use Rattle.std.specs.List.{AllByRecursion, list_all}
 use Rattle.std.specs.List.Sorted.{IsStrictlySortedBy}
@@ -11,7 +11,7 @@ use Rattle.std.proofs.lemmas.Bool.{and_parts}
 use Rattle.std.proofs.lemmas.List.Concat.{flat_map-cons}
 use Rattle.command_core.specs.Reading.{◌>>=◌, Reader, many_at, number_at, sending_at}
 use Rattle.command_core.specs.Sendings.{SendingValue}
-use Rattle.command_core.specs.Spellings.{AreBytes, IsSent, sending}
+use Rattle.command_core.specs.Spellings.{AreBytes, sending}
 use Rattle.command_core.proofs.Formats.{Format, Takes, Takes-then, First, bind_some, first_again, first_takes, last_takes, number, tested, wide32, wide64}
 use Rattle.command_core.proofs.RecordMessages.{sending_format}
 use Rattle.line_core.specs.declared.message.Message.{Message}

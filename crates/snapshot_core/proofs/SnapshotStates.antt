@@ -8,7 +8,6 @@ use Rattle.std.proofs.lemmas.List.Folds.{flat_map-map}
 use Rattle.command_core.specs.Reading.{◌>>=◌, number_at}
 use Rattle.command_core.specs.Spellings.{AreBytes}
 use Rattle.command_core.proofs.Formats.{Format, Takes, Takes-then, last_takes}
-use Rattle.line_core.specs.declared.message.Message.{Message}
 use Rattle.broker_core.specs.declared.subscription.Subscription.{Subscription}
 use Rattle.broker_core.specs.Names.{Name, name_cmp, text_cmp}
 use Rattle.broker_core.specs.States.{State}
@@ -96,9 +95,10 @@ made_takes : (c n : ℕ) (ss : List (ℕ × Option (List ℕ))) (es : List Entry
     → Takes b0 (snapshot_of (made c n ss es qs subs)) b6 × IsShaped (made c n ss es qs subs)
 made_takes c n ss es qs subs b0 b1 b2 b3 b4 b5 b6 small next_small ss_form es_form qs_form subs_form count next sessions entries queues subscriptions =
     let same : entries_of (made c n ss es qs subs) ≡ es = entries_again es es_form.1 in
-    let names : Takes b3 (listed entry (entries_of (made c n ss es qs subs))) b4 = subst (λ (xs : List Entry). Takes b3 (listed entry xs) b4) (sym same) entries in
-    (joined (made c n ss es qs subs) b0 b1 b2 b3 b4 b5 b6 count next sessions names queues subscriptions,
-        record { count = small; next = next_small; sessions = ss_form; durables = subst (Keyed name_cmp IsEntry) (sym same) es_form; names = ap lines_of same; queues = qs_form; subscriptions = subs_form })
+    let names : Takes b3 (listed entry (entries_of (made c n ss es qs subs))) b4 = subst (λ (xs : List Entry). Takes b3 (listed entry xs) b4) (sym same) entries in (
+      joined (made c n ss es qs subs) b0 b1 b2 b3 b4 b5 b6 count next sessions names queues subscriptions,
+      record { count = small; next = next_small; sessions = ss_form; durables = subst (Keyed name_cmp IsEntry) (sym same) es_form; names = ap lines_of same; queues = qs_form; subscriptions = subs_form },
+    )
 
 state_takes : (bytes : List ℕ) (s : State) (rest : List ℕ) → AreBytes bytes → state_at bytes ≡ Some (s, rest) → Takes bytes (snapshot_of s) rest × IsShaped s
 unfolding state_at
@@ -138,7 +138,7 @@ state_again s rest form =
     let b5 = listed subscription s.subscriptions ++ rest in
     let b3 = ds ++ (qs ++ b5) in
     let parts : snapshot_of s ++ rest ≡ c ++ (n ++ (ss ++ b3)) =
-        append_assoc (c ++ n ++ ss ++ ds ++ qs) (listed subscription s.subscriptions) rest ∙ append_assoc (c ++ n ++ ss ++ ds) qs b5 ∙ append_assoc (c ++ n ++ ss) ds (qs ++ b5) ∙ append_assoc (c ++ n) ss b3 ∙ append_assoc c n (ss ++ b3) in
+    append_assoc (c ++ n ++ ss ++ ds ++ qs) (listed subscription s.subscriptions) rest ∙ append_assoc (c ++ n ++ ss ++ ds) qs b5 ∙ append_assoc (c ++ n ++ ss) ds (qs ++ b5) ∙ append_assoc (c ++ n) ss b3 ∙ append_assoc c n (ss ++ b3) in
     step_again numbers64 after_count (snapshot_of s ++ rest) s.count (n ++ (ss ++ b3)) (Some (s, rest)) parts form.count
     (step_again numbers64 (after_next s.count) (n ++ (ss ++ b3)) s.next_delivery (ss ++ b3) (Some (s, rest)) refl form.next
     (step_again sessions_format (after_sessions s.count s.next_delivery) (ss ++ b3) s.sessions b3 (Some (s, rest)) refl form.sessions (names_again s rest form)))

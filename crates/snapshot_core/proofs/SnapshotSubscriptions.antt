@@ -9,10 +9,9 @@ use Rattle.std.specs.Ordering.{is_eq, nat_cmp}
 use Rattle.std.proofs.lemmas.Option.{none-some, same_Some}
 use Rattle.command_core.specs.declared.ack_mode.AckMode.{AckMode}
 use Rattle.command_core.specs.Destinations.{IsDestination, is_queue}
-use Rattle.command_core.specs.Operations.{IsGiven}
 use Rattle.command_core.specs.Reading.{◌>>=◌, destination_at, mode_at, name_at, text_at}
 use Rattle.command_core.specs.Spellings.{AreBytes, IsText, counted, mode_byte, optional}
-use Rattle.command_core.proofs.Formats.{Format, Takes, Takes-then, bind_some, first_takes, last_takes}
+use Rattle.command_core.proofs.Formats.{Format, Takes, Takes-then, bind_some, last_takes}
 use Rattle.command_core.proofs.RecordOperations.{mode_format}
 use Rattle.command_core.proofs.RecordTexts as texts
 use Rattle.command_core.proofs.RecordTexts.{destination_format, name_format, text_format}
@@ -166,8 +165,8 @@ module _ (sessions : List (ℕ × Option (List ℕ))) where
       let b2 = mode_byte sub.mode ∷ b3 in
       let b1 = destination ++ b2 in
       let parts : subscription sub ++ rest ≡ session ++ (id ++ b1) =
-          append_assoc (session ++ id ++ destination ++ name ++ own_line sub) (listed delivery sub.unacknowledged) rest ∙ append_assoc (session ++ id ++ destination ++ name) (own_line sub) (listed delivery sub.unacknowledged ++ rest)
-          ∙ append_assoc (session ++ id ++ destination) name b4 ∙ append_assoc (session ++ id) destination b2 ∙ append_assoc session id b1 in
+      append_assoc (session ++ id ++ destination ++ name ++ own_line sub) (listed delivery sub.unacknowledged) rest ∙ append_assoc (session ++ id ++ destination ++ name) (own_line sub) (listed delivery sub.unacknowledged ++ rest)
+      ∙ append_assoc (session ++ id ++ destination) name b4 ∙ append_assoc (session ++ id) destination b2 ∙ append_assoc session id b1 in
       step_again numbers64 after_session (subscription sub ++ rest) sub.session (id ++ b1) (Some (sub, rest)) parts form.session
       (step_again text_format (after_id sub.session) (id ++ b1) sub.id b1 (Some (sub, rest)) refl form.id
       (step_again destination_format (after_destination sub.session sub.id) b1 sub.destination b2 (Some (sub, rest)) refl form.destination

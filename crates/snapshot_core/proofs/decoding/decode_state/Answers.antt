@@ -1,4 +1,4 @@
-use Rattle.std.proofs.Common.{Option, Some, arith, is_some, ap, sym, subst, ◌∙◌}
+use Rattle.std.proofs.Common.{arith, is_some, ap, sym, subst, ◌∙◌}
 use Rattle.std.proofs.lemmas.Bool.{false≢true}
 use Rattle.std.proofs.lemmas.Result.{err_from_is_err_and}
 use Rattle.command_core.proofs.RecordCommands.{failed}
