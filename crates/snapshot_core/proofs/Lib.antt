@@ -4,3 +4,10 @@ pub mod NamedLines
 pub mod RisingLists
 pub mod Appended
 pub mod NameLists
+pub mod SnapshotParts
+pub mod SnapshotEntries
+pub mod SnapshotSubscriptions
+pub mod SnapshotNames
+pub mod SnapshotStates
+pub mod SnapshotBounds
+pub mod SnapshotForms

@@ -1,0 +1,201 @@
+-- Lists, messages and lines in snapshots.
+use Rattle.std.proofs.Common.{◌≡◌, ℕ, zero, suc, ◌<◌, ◌^◌, ◌++◌, Bool, true, false, List, [], ◌∷◌, length, flat_map, not, Option, Some, refl, ap, sym, subst, ◌∙◌, append_assoc}
+use Rattle.std.specs.Int.{w32, w64, to_be_bytes}
+use Rattle.std.specs.List.{AllByRecursion, list_all}
+use Rattle.std.specs.List.Sorted.{IsStrictlySortedBy}
+use Rattle.std.specs.Map.{keys_of}
+use Rattle.std.specs.Ordering.{is_lt}
+use Rattle.std.specs.declared.cmp.Ordering.{Ordering}
+use Rattle.std.specs.declared.cmp.Ordering.TheVariants.{Less, Equal, Greater}
+use Rattle.std.proofs.lemmas.Bool.{and_parts}
+use Rattle.std.proofs.lemmas.List.Concat.{flat_map-cons}
+use Rattle.command_core.specs.Reading.{◌>>=◌, Reader, many_at, number_at, sending_at}
+use Rattle.command_core.specs.Sendings.{SendingValue}
+use Rattle.command_core.specs.Spellings.{AreBytes, sending}
+use Rattle.command_core.proofs.Formats.{Format, Takes, Takes-then, First, bind_some, first_again, first_takes, last_takes, number, tested, wide32, wide64}
+use Rattle.command_core.proofs.RecordMessages.{sending_format}
+use Rattle.line_core.specs.declared.message.Message.{Message}
+use Rattle.line_core.specs.Lines.{IsRising, by_number}
+use Rattle.snapshot_core.specs.Reading.{delivery_at, is_rising, keyed_at, listed_at, message_at, rises, waiting_at}
+use Rattle.snapshot_core.specs.Snapshots.{IsDelivery, IsLine, IsMessage, delivery, line, listed, message}
+
+-- ---- steps
+
+-- the first of two steps, of a format that says by itself what is spelled and read
+module _ {A B : Type 0} {spell : A → List ℕ} {Form : A → Type 0} {read : Reader A} (format : Format spell Form read) (f : A × List ℕ → Option B) where
+  pub step_takes : (bytes : List ℕ) (y : B) → AreBytes bytes → (read bytes >>= f) ≡ Some y → First spell Form f bytes y
+  step_takes bytes y fits e = first_takes spell Form read format f bytes y fits e
+
+  pub step_again : (bytes : List ℕ) (x : A) (rest : List ℕ) (y : Option B) → bytes ≡ spell x ++ rest → Form x → f (x, rest) ≡ y → (read bytes >>= f) ≡ y
+  step_again bytes x rest y is form then = first_again spell Form read format f bytes x rest y is form then
+
+-- ---- numbers
+
+pub numbers32 : Format (to_be_bytes w32) (λ n. n < 2 ^ 32) (number_at w32)
+numbers32 = number w32 (2 ^ 32) wide32
+
+pub numbers64 : Format (to_be_bytes w64) (λ n. n < 2 ^ 64) (number_at w64)
+numbers64 = number w64 (2 ^ 64) wide64
+
+-- ---- lists
+
+abbrev pub Listed : {A : Type 0} → (A → Type 0) → List A → Type 0
+Listed Form xs = (length xs < 2 ^ 32) × AllByRecursion Form xs
+
+abbrev pub Keyed : {K X : Type 0} → (K → K → Ordering) → (K × X → Type 0) → List (K × X) → Type 0
+Keyed cmp Form xs = Listed Form xs × IsStrictlySortedBy cmp (keys_of xs)
+
+module _ {A : Type 0} {spell : A → List ℕ} {Form : A → Type 0} {read : Reader A} (format : Format spell Form read) where
+  many_takes : (n : ℕ) (bytes : List ℕ) (xs : List A) (rest : List ℕ) → AreBytes bytes → many_at read n bytes ≡ Some (xs, rest) → Takes bytes (flat_map spell xs) rest × ((length xs ≡ n) × AllByRecursion Form xs)
+  unfolding many_at
+  many_takes zero bytes xs rest fits e =
+      last_takes (flat_map spell) (λ ys. (length ys ≡ 0) × AllByRecursion Form ys) bytes ([], bytes) (xs, rest) e (record { parts = refl; fits = fits }, (refl, tt))
+  many_takes (suc n) bytes xs rest fits e =
+      let first = step_takes format (λ x. many_at read n x.1 >>= λ others. Some (x.0 ∷ others.0, others.1)) bytes (xs, rest) fits e in
+      let b = bind_some (many_at read n first.rest) (λ others. Some (first.value ∷ others.0, others.1)) (xs, rest) first.then in
+      let others = many_takes n first.rest b.0.0 b.0.1 first.taken.fits b.1 in
+      let both = Takes-then bytes (spell first.value) first.rest (flat_map spell b.0.0) b.0.1 first.taken others.0 in
+      last_takes (flat_map spell) (λ ys. (length ys ≡ suc n) × AllByRecursion Form ys) bytes (first.value ∷ b.0.0, b.0.1) (xs, rest) b.2 (rw flat_map-cons both, (ap suc others.1.0, (first.form, others.1.1)))
+
+  many_again : (xs : List A) (rest : List ℕ) → AllByRecursion Form xs → many_at read (length xs) (flat_map spell xs ++ rest) ≡ Some (xs, rest)
+  unfolding many_at
+  many_again [] rest forms = refl
+  many_again (x ∷ xs) rest forms =
+      step_again format (λ y. many_at read (length xs) y.1 >>= λ others. Some (y.0 ∷ others.0, others.1)) (flat_map spell (x ∷ xs) ++ rest) x (flat_map spell xs ++ rest) (Some (x ∷ xs, rest))
+      (ap (λ (y : List ℕ). y ++ rest) (flat_map-cons spell x xs) ∙ append_assoc (spell x) (flat_map spell xs) rest) forms.0
+      (ap (λ o. o >>= λ others. Some (x ∷ others.0, others.1)) (many_again xs rest forms.1))
+
+  -- behind their count
+  listed_takes : (bytes : List ℕ) (xs : List A) (rest : List ℕ) → AreBytes bytes → listed_at read bytes ≡ Some (xs, rest) → Takes bytes (listed spell xs) rest × Listed Form xs
+  unfolding listed_at
+  listed_takes bytes xs rest fits e =
+      let count = step_takes numbers32 (λ n. many_at read n.0 n.1) bytes (xs, rest) fits e in
+      let many = many_takes count.value count.rest xs rest count.taken.fits count.then in
+      let both = Takes-then bytes (to_be_bytes w32 count.value) count.rest (flat_map spell xs) rest count.taken many.0 in
+      (subst (λ (n : ℕ). Takes bytes (to_be_bytes w32 n ++ flat_map spell xs) rest) (sym many.1.0) both, (subst (λ (n : ℕ). n < 2 ^ 32) (sym many.1.0) count.form, many.1.1))
+
+  listed_again : (xs : List A) (rest : List ℕ) → Listed Form xs → listed_at read (listed spell xs ++ rest) ≡ Some (xs, rest)
+  unfolding listed_at
+  listed_again xs rest form =
+      step_again numbers32 (λ n. many_at read n.0 n.1) (listed spell xs ++ rest) (length xs) (flat_map spell xs ++ rest) (Some (xs, rest))
+      (append_assoc (to_be_bytes w32 (length xs)) (flat_map spell xs) rest) form.0 (many_again xs rest form.1)
+
+  pub listed_format : Format (listed spell) (Listed Form) (listed_at read)
+  listed_format = record { takes = listed_takes; again = listed_again }
+
+-- ---- tests of each item
+
+module _ {X : Type 0} (P : X → Type 0) (p : X → Bool) where
+  all_from : ((x : X) → p x ≡ true → P x) → (xs : List X) → list_all p xs ≡ true → AllByRecursion P xs
+  all_from tells [] e = tt
+  all_from tells (x ∷ xs) e = let a = and_parts (p x) (list_all p xs) e in (tells x a.0, all_from tells xs a.1)
+
+  from_all : ((x : X) → P x → p x ≡ true) → (xs : List X) → AllByRecursion P xs → list_all p xs ≡ true
+  from_all told [] all = refl
+  from_all told (x ∷ xs) all = rw (told x all.0, from_all told xs all.1) refl
+
+-- ---- lists by rising key
+
+less_from : (o : Ordering) → is_lt o ≡ true → o ≡ Less
+less_from Less e = refl
+less_from Equal e = absurd cc
+less_from Greater e = absurd cc
+
+module _ {K : Type 0} (cmp : K → K → Ordering) where
+  sorted_from : (ks : List K) → rises cmp ks ≡ true → IsStrictlySortedBy cmp ks
+  unfolding rises IsStrictlySortedBy
+  sorted_from [] e = tt
+  sorted_from (k ∷ ks) e =
+      let a = and_parts (list_all (λ other. is_lt (cmp k other)) ks) (rises cmp ks) e in
+      (all_from (λ other. cmp k other ≡ Less) (λ other. is_lt (cmp k other)) (λ other is. less_from (cmp k other) is) ks a.0, sorted_from ks a.1)
+
+  from_sorted : (ks : List K) → IsStrictlySortedBy cmp ks → rises cmp ks ≡ true
+  unfolding rises IsStrictlySortedBy
+  from_sorted [] sorted = refl
+  from_sorted (k ∷ ks) sorted =
+      rw (from_all (λ other. cmp k other ≡ Less) (λ other. is_lt (cmp k other)) (λ other is. ap is_lt is) ks sorted.0, from_sorted ks sorted.1) refl
+
+pub keyed_format : {K X : Type 0} {spell : K × X → List ℕ} {Form : K × X → Type 0} {read : Reader (K × X)} (cmp : K → K → Ordering) → Format spell Form read → Format (listed spell) (Keyed cmp Form) (keyed_at cmp read)
+unfolding keyed_at
+keyed_format {K} {X} {spell} {Form} {read} cmp format =
+    tested (listed spell) (Listed Form) (Keyed cmp Form) (listed_at read) (λ xs. rises cmp (keys_of xs)) (listed_format format) (λ xs e form. (form, sorted_from cmp (keys_of xs) e)) (λ xs form. (form.0, from_sorted cmp (keys_of xs) form.1))
+
+-- ---- messages
+
+abbrev message_value : ℕ → ℕ → SendingValue × List ℕ → Option (Message × List ℕ)
+message_value command place s = Some (record { number = record { command = command; place = place }; sending = s.0 }, s.1)
+
+message_takes : (bytes : List ℕ) (m : Message) (rest : List ℕ) → AreBytes bytes → message_at bytes ≡ Some (m, rest) → Takes bytes (message m) rest × IsMessage m
+unfolding message_at
+message_takes bytes m rest fits e =
+    let c = step_takes numbers64 (λ c. number_at w32 c.1 >>= λ p. sending_at p.1 >>= message_value c.0 p.0) bytes (m, rest) fits e in
+    let p = step_takes numbers32 (λ p. sending_at p.1 >>= message_value c.value p.0) c.rest (m, rest) c.taken.fits c.then in
+    let s = step_takes sending_format (message_value c.value p.value) p.rest (m, rest) p.taken.fits p.then in
+    let front = Takes-then bytes (to_be_bytes w64 c.value) c.rest (to_be_bytes w32 p.value) p.rest c.taken p.taken in
+    let whole = Takes-then bytes (to_be_bytes w64 c.value ++ to_be_bytes w32 p.value) p.rest (sending s.value) s.rest front s.taken in
+    last_takes message IsMessage bytes (record { number = record { command = c.value; place = p.value }; sending = s.value }, s.rest) (m, rest) s.then (whole, record { command = c.form; place = p.form; sending = s.form })
+
+message_again : (m : Message) (rest : List ℕ) → IsMessage m → message_at (message m ++ rest) ≡ Some (m, rest)
+unfolding message_at
+message_again m rest form =
+    let command = to_be_bytes w64 m.number.command in
+    let place = to_be_bytes w32 m.number.place in
+    step_again numbers64 (λ c. number_at w32 c.1 >>= λ p. sending_at p.1 >>= message_value c.0 p.0) (message m ++ rest) m.number.command (place ++ (sending m.sending ++ rest)) (Some (m, rest))
+    (append_assoc (command ++ place) (sending m.sending) rest ∙ append_assoc command place (sending m.sending ++ rest)) form.command
+    (step_again numbers32 (λ p. sending_at p.1 >>= message_value m.number.command p.0) (place ++ (sending m.sending ++ rest)) m.number.place (sending m.sending ++ rest) (Some (m, rest)) refl form.place
+    (step_again sending_format (message_value m.number.command m.number.place) (sending m.sending ++ rest) m.sending rest (Some (m, rest)) refl form.sending refl))
+
+pub message_format : Format message IsMessage message_at
+message_format = record { takes = message_takes; again = message_again }
+
+-- ---- lines
+
+-- a line that four bytes can count
+abbrev pub IsWaiting : List Message → Type 0
+IsWaiting messages = (length messages < 2 ^ 32) × IsLine messages
+
+not_less : (o : Ordering) → not (is_lt o) ≡ true → is_lt o ≡ false
+not_less Less e = absurd cc
+not_less Equal e = refl
+not_less Greater e = refl
+
+rising_from : (messages : List Message) → is_rising messages ≡ true → IsRising messages
+unfolding is_rising
+rising_from [] e = tt
+rising_from (m ∷ messages) e =
+    let a = and_parts (list_all (λ other. not (is_lt (by_number other.number m.number))) messages) (is_rising messages) e in
+    (all_from (λ other. is_lt (by_number other.number m.number) ≡ false) (λ other. not (is_lt (by_number other.number m.number))) (λ other is. not_less (by_number other.number m.number) is) messages a.0, rising_from messages a.1)
+
+from_rising : (messages : List Message) → IsRising messages → is_rising messages ≡ true
+unfolding is_rising
+from_rising [] rising = refl
+from_rising (m ∷ messages) rising =
+    rw (from_all (λ other. is_lt (by_number other.number m.number) ≡ false) (λ other. not (is_lt (by_number other.number m.number))) (λ other is. ap not is) messages rising.0, from_rising messages rising.1) refl
+
+pub waiting_format : Format line IsWaiting waiting_at
+unfolding waiting_at
+waiting_format =
+    tested line (Listed IsMessage) IsWaiting (listed_at message_at) is_rising (listed_format message_format)
+    (λ messages e form. (form.0, record { each = form.1; rising = rising_from messages e })) (λ messages form. ((form.0, form.1.each), from_rising messages form.1.rising))
+
+-- ---- deliveries
+
+abbrev delivery_value : ℕ → Message × List ℕ → Option ((ℕ × Message) × List ℕ)
+delivery_value n m = Some ((n, m.0), m.1)
+
+delivery_takes : (bytes : List ℕ) (d : ℕ × Message) (rest : List ℕ) → AreBytes bytes → delivery_at bytes ≡ Some (d, rest) → Takes bytes (delivery d) rest × IsDelivery d
+unfolding delivery_at
+delivery_takes bytes d rest fits e =
+    let n = step_takes numbers64 (λ n. message_at n.1 >>= delivery_value n.0) bytes (d, rest) fits e in
+    let m = step_takes message_format (delivery_value n.value) n.rest (d, rest) n.taken.fits n.then in
+    let both = Takes-then bytes (to_be_bytes w64 n.value) n.rest (message m.value) m.rest n.taken m.taken in
+    last_takes delivery IsDelivery bytes ((n.value, m.value), m.rest) (d, rest) m.then (both, (n.form, m.form))
+
+delivery_again : (d : ℕ × Message) (rest : List ℕ) → IsDelivery d → delivery_at (delivery d ++ rest) ≡ Some (d, rest)
+unfolding delivery_at
+delivery_again d rest form =
+    step_again numbers64 (λ n. message_at n.1 >>= delivery_value n.0) (delivery d ++ rest) d.0 (message d.1 ++ rest) (Some (d, rest)) (append_assoc (to_be_bytes w64 d.0) (message d.1) rest) form.0
+    (step_again message_format (delivery_value d.0) (message d.1 ++ rest) d.1 rest (Some (d, rest)) refl form.1 refl)
+
+pub delivery_format : Format delivery IsDelivery delivery_at
+delivery_format = record { takes = delivery_takes; again = delivery_again }
