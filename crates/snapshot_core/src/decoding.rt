@@ -9,8 +9,9 @@ use broker_core::Broker;
 use command_core::DecodeFault;
 use std::alloc::Global;
 
-/// The broker of the state that the bytes spell, from the first to the last. A text, a list or a body over its limit is
-/// refused before memory is taken for it.
+/// The broker of the state that the bytes spell, from the first to the last. `NoSpelling` where they spell no state that a
+/// broker can have, and `Memory` where memory is refused. A text or a body over its limit is refused before memory is taken
+/// for it, and lists take room as their items are read, whatever count stands before them.
 pub fn decode_state(alloc: Global, bytes: &[u8]) -> Result<Broker, DecodeFault>
     // The bytes are the snapshot of the broker's state.
     ensures spelled { IfOk result (λ broker. Spells bytes.now broker.state) }

@@ -45,7 +45,10 @@ fn goes_both_ways(alloc: Global, bytes: &[u8]) -> Result<bool, Fail> {
 fn the_first_state_is_32_zero_bytes(rt: HostRuntime) -> Result<(), Fail> {
     let alloc = rt.alloc();
     let zeros = [0; 33];
-    assert_eq!(rt; snapshot(alloc, &Broker::new(alloc))?.as_slice(), &zeros[..32]);
+    assert_eq!(rt;
+        snapshot(alloc, &Broker::new(alloc))?.as_slice(),
+        &zeros[..32]
+    );
     assert!(rt; goes_both_ways(alloc, &zeros[..32])?);
     assert!(rt; is_no_state(alloc, &zeros));
     assert!(rt; is_no_state(alloc, &zeros[..31]));
