@@ -1,4 +1,4 @@
-use Rattle.std.proofs.Common.{◌≡◌, ◌<◌, ◌≤◌, ◌+◌, ◌^◌, ◌∙◌, List, [], ◌∷◌, ℕ, Some, false, length, map, slice_get, ap, arith}
+use Rattle.std.proofs.Common.{◌≡◌, ◌<◌, ◌≤◌, ◌+◌, ◌^◌, ◌∙◌, List, [], ◌∷◌, ℕ, Some, false, length, slice_get, ap, arith}
 use Rattle.std.specs.List.{AllByRecursion, sum_by}
 use Rattle.std.specs.Map.{values_of}
 use Rattle.std.specs.declared.cmp.Ordering.{Ordering}
