@@ -255,15 +255,16 @@ fn put_message(bytes: &mut Vec<u8>, command: u64) -> Result<(), AllocError> {
 
 // Session 0 has a subscription of `/topic/t` with so many deliveries to acknowledge, of the commands from 2 on, and the
 // next message in its own line.
-fn with_own_line(alloc: Global, deliveries: u64) -> Result<Vec<u8>, AllocError> {
+fn with_own_line(alloc: Global, deliveries: u32) -> Result<Vec<u8>, AllocError> {
     let mut bytes = Vec::from_slice(alloc, b"\0\0\0\0\0\0\0")?;
     bytes.extend_from_slice(b"\x13\0\0\0\0\0\0\0\x10")?;
     bytes.extend_from_slice(b"\0\0\0\x01\0\0\0\0\0\0\0\0\0\0\0\0\0\0\0\0\0\0\0\0\x01")?;
     bytes.extend_from_slice(b"\0\0\0\0\0\0\0\0\0\0\0\x01s\0\0\0\x08/topic/t\x01\0")?;
     bytes.extend_from_slice(b"\0\0\0\x01")?;
     put_message(&mut bytes, 18)?;
-    bytes.extend_from_slice(&(deliveries as u32).to_be_bytes())?;
-    for delivery in 0..deliveries {
+    bytes.extend_from_slice(&deliveries.to_be_bytes())?;
+    for number in 0..deliveries {
+        let delivery = u64::from(number);
         bytes.extend_from_slice(&delivery.to_be_bytes())?;
         put_message(&mut bytes, 2 + delivery)?;
     }
