@@ -1,2 +1,3 @@
 pub mod Snapshots
 pub mod Reading
+pub mod Worked

@@ -11,10 +11,12 @@ mod name_tables;
 mod reading;
 mod rising;
 mod subscription_reading;
+mod worked;
 
 pub use decoding::decode_state;
 pub use encoding::encode_state;
 pub use laws::snapshots_begin_no_other;
+pub use worked::states_are_spelled;
 
 #[cfg(test)]
 mod tests;
