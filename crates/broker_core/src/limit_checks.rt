@@ -1,19 +1,18 @@
 //! Whether the parts of a state hold no more than may be held, and nothing waits that could be handed out.
 
-ghost use Rattle.std.specs.Prelude.{◌≡◌, ◌≤◌, ◌↔◌, IsTrue, None, not};
+ghost use Rattle.std.specs.Prelude.{◌≡◌, ◌≤◌, ◌↔◌, IsTrue, None};
 ghost use Rattle.std.specs.List.{sum_by};
 ghost use Rattle.broker_core.specs.HandOut.{can_take, hand_out};
-ghost use Rattle.broker_core.specs.Lists.{is_none};
 ghost use Rattle.broker_core.specs.PartsOf.{state_of_parts};
 ghost use Rattle.broker_core.specs.Rooms.{IsLeft};
 ghost use Rattle.broker_core.specs.Sound.{HasLimits};
 ghost use Rattle.broker_core.specs.States.{held_bytes, held_messages, weight_of, weight_of_subscription};
-ghost use Rattle.broker_core.specs.Waiting.{line_for, weight_of_lines};
+ghost use Rattle.broker_core.specs.Waiting.{weight_of_lines};
 
 use crate::hand_out::{LAST_DELIVERY, has_room};
-use crate::lines::has_some;
 use crate::parts::Parts;
 use crate::sending::{MOST_BYTES, MOST_MESSAGES};
+use crate::shared_lines::has_message;
 use crate::subscription::Subscription;
 use crate::tables::Held;
 use line_core::{Flight, Line, Message, size};
@@ -118,22 +117,13 @@ pub fn held_of(parts: &Parts) -> Held
     }
 }
 
-/// Whether a message waits for a subscription.
-fn has_message(parts: &Parts, sub: &Subscription) -> bool
-    ensures { result ≡ not (is_none (line_for (state_of_parts parts.now).shared sub.now)) }
-{
-    match &sub.durable {
-        Some(name) => has_some(&parts.names, name),
-        None if sub.destination.is_queue() => has_some(&parts.queues, &sub.destination),
-        None => !sub.line.is_empty(),
-    }
-}
-
 /// Whether a subscription can be served now.
 fn can_take(parts: &Parts, sub: &Subscription) -> bool
     ensures { result ≡ can_take (state_of_parts parts.now) sub.now }
 {
-    parts.next_delivery < LAST_DELIVERY && has_room(sub) && has_message(parts, sub)
+    parts.next_delivery < LAST_DELIVERY
+        && has_room(sub)
+        && has_message(&parts.names, &parts.queues, sub)
 }
 
 /// Whether nothing can be handed out.

@@ -44,6 +44,21 @@ pub struct Gone {
     pub deliveries: Vec<(u64, Message)>,
 }
 
+/// Whether a message waits for a subscription: in one of these lines of durable names and of queues, or in its own.
+pub fn has_message(
+    names: &BTreeMap<DurableName, Line>,
+    queues: &BTreeMap<Dest, Line>,
+    sub: &Subscription,
+) -> bool
+    ensures { result ≡ not (is_none (line_for (record { names = names.now.entries; queues = queues.now.entries }) sub.now)) }
+{
+    match &sub.durable {
+        Some(name) => lines::has_some(names, name),
+        None if sub.destination.is_queue() => lines::has_some(queues, &sub.destination),
+        None => !sub.line.is_empty(),
+    }
+}
+
 impl SharedLines {
     /// No lines. No memory is taken.
     pub fn new(alloc: Global) -> SharedLines
@@ -89,11 +104,7 @@ impl SharedLines {
     pub fn has_message(&self, sub: &Subscription) -> bool
         ensures { result ≡ not (is_none (line_for self.now sub.now)) }
     {
-        match &sub.durable {
-            Some(name) => lines::has_some(&self.names, name),
-            None if sub.destination.is_queue() => lines::has_some(&self.queues, &sub.destination),
-            None => !sub.line.is_empty(),
-        }
+        has_message(&self.names, &self.queues, sub)
     }
 
     /// Takes the least message for a subscription out of its line, which has one.
