@@ -26,7 +26,7 @@ use Rattle.snapshot_core.proofs.SnapshotParts.{Keyed}
 use Rattle.snapshot_core.proofs.SnapshotEntries.{Entry, IsEntry, IsQueueEntry}
 use Rattle.snapshot_core.proofs.SnapshotSubscriptions.{IsRead, own_part}
 use Rattle.snapshot_core.proofs.SnapshotNames.{all_lines, entry_in, lines_again}
-use Rattle.snapshot_core.proofs.SnapshotBounds.{few_lines, line_within, lines_within, own_within, small_window}
+use Rattle.snapshot_core.proofs.Counted.{HoldsFew, few_held, few_in_queues, few_queues, few_under_names}
 use Rattle.snapshot_core.proofs.SnapshotStates.{IsShaped, entries_of, state_format}
 
 -- ---- what is read has the form
@@ -63,8 +63,7 @@ entries_shaped : (s : State) → IsSound s → HasForm s → Keyed name_cmp IsEn
 entries_shaped s sound form =
     let few : length (entries_of s) < 2 ^ 32 = omega (arith, length-map s.durables (entry_in s.shared.names), sound.names.few) in
     let entry = λ (d : Name × List ℕ) (is : IsName d.0 × IsDestination d.1).
-    let short : length (line_at name_cmp d.0 s.shared.names) < 2 ^ 32 = omega (arith, line_within name_cmp d.0 s.shared.names, sound.limits.messages) in
-    let whole : IsEntry (entry_in s.shared.names d) = (is.0, is.1, (short, line_formed d.0 s.shared.names form.names)) in
+    let whole : IsEntry (entry_in s.shared.names d) = (is.0, is.1, (few_under_names s sound d.0, line_formed d.0 s.shared.names form.names)) in
     whole in
     let each = all_given IsEntry (entry_in s.shared.names) s.durables (all_weaker (λ (d : Name × List ℕ). IsName d.0 × IsDestination d.1) (λ (d : Name × List ℕ). IsEntry (entry_in s.shared.names d)) entry s.durables form.durables) in
     ((few, each), subst (IsStrictlySortedBy name_cmp) (sym (keys_again s.shared.names s.durables)) sound.order.durables)
@@ -74,13 +73,15 @@ names_shaped s sound =
     let some = all_weaker (λ (l : Name × List Message). (is_none l.1 ≡ false) × IfSome (topic_of l.0 s.durables) (λ topic. AreTo topic l.1)) (λ (l : Name × List Message). is_none l.1 ≡ false) (λ l is. is.0) s.shared.names sound.lines.names in
     lines_again s.durables s.shared.names sound.order.durables (record { rising = sound.order.names; some = some; bound = sound.names.lines })
 
+-- where the lines under all bound names have the form, all lines have it
+pub names_formed : (s : State) → IsSound s → AllByRecursion (λ (d : Name × List ℕ). IsLine (line_at name_cmp d.0 s.shared.names)) s.durables → AllByRecursion (λ (l : Name × List Message). IsLine l.1) s.shared.names
+names_formed s sound each =
+    subst (AllByRecursion (λ (l : Name × List Message). IsLine l.1)) (names_shaped s sound) (all_lines (λ (l : Name × List Message). IsLine l.1) (entries_of s) (all_given (λ (e : Entry). IsLine e.1.1) (entry_in s.shared.names) s.durables each))
+
 queues_shaped : (s : State) → IsSound s → HasForm s → Keyed text_cmp IsQueueEntry s.shared.queues
 queues_shaped s sound form =
-    let held : weight_of_lines one s.shared.queues ≤ 4096 = omega (arith, sound.limits.messages) in
-    let some = all_weaker (λ (q : List ℕ × List Message). (is_queue q.0 ≡ true) × (is_none q.1 ≡ false) × AreTo q.0 q.1) (λ (q : List ℕ × List Message). is_none q.1 ≡ false) (λ q is. is.1) s.shared.queues sound.lines.queues in
-    let few : length s.shared.queues < 2 ^ 32 = omega (arith, few_lines s.shared.queues some, held) in
-    let each = all_both (λ (q : List ℕ × List Message). length q.1 ≤ 4096) (λ (q : List ℕ × List Message). IsDestination q.0 × IsLine q.1) IsQueueEntry (λ q short is. (is.0, (omega (arith, short), is.1))) s.shared.queues (lines_within 4096 s.shared.queues held) form.queues in
-    ((few, each), sound.order.queues)
+    let each = all_both (λ (q : List ℕ × List Message). length q.1 < 2 ^ 32) (λ (q : List ℕ × List Message). IsDestination q.0 × IsLine q.1) IsQueueEntry (λ q short is. (is.0, (short, is.1))) s.shared.queues (few_in_queues s sound) form.queues in
+    ((few_queues s sound, each), sound.order.queues)
 
 -- the client of a subscription's durable name is that of its session
 named_again : (client : Option (List ℕ)) (durable : Option Name) → IfSome durable (λ name. client ≡ Some name.0) → named_by client (own_part durable) ≡ Some durable
@@ -89,8 +90,7 @@ named_again client (Some name) owns = ap (λ c. named_by c (Some name.1)) owns
 
 subscriptions_shaped : (s : State) → IsSound s → HasForm s → AllByRecursion (IsRead s.sessions) s.subscriptions
 subscriptions_shaped s sound form =
-    let held : sum_by (weight_of_subscription one) s.subscriptions ≤ 4096 = omega (arith, sound.limits.messages) in
-    all_of s.subscriptions form.subscriptions sound.lines.own (own_within 4096 s.subscriptions held) sound.subscriptions.window sound.names.own
+    all_of s.subscriptions form.subscriptions sound.lines.own (few_held s sound) sound.names.own
   where
     named : (sub : Subscription) → OwnsName s sub → named_by (client_in s.sessions sub.session) (own_part sub.durable) ≡ Some sub.durable
     named sub owns = named_again (client_in s.sessions sub.session) sub.durable (client sub.durable owns)
@@ -99,11 +99,10 @@ subscriptions_shaped s sound form =
         client None has = tt
         client (Some name) has = has.0
 
-    all_of : (subs : List Subscription) → AllByRecursion IsSubscription subs → AllByRecursion (λ (sub : Subscription). is_own sub ≡ false → sub.line ≡ []) subs → AllByRecursion (λ (sub : Subscription). length sub.line ≤ 4096) subs
-        → AllByRecursion (λ (sub : Subscription). length sub.unacknowledged ≤ window_of sub.mode) subs → AllByRecursion (OwnsName s) subs → AllByRecursion (IsRead s.sessions) subs
-    all_of [] forms own waiting window owns = tt
-    all_of (sub ∷ subs) forms own waiting window owns =
-        (record { form = forms.0; own = own.0; few_waiting = omega (arith, waiting.0); few_deliveries = omega (arith, window.0, small_window sub.mode); named = named sub owns.0 }, all_of subs forms.1 own.1 waiting.1 window.1 owns.1)
+    all_of : (subs : List Subscription) → AllByRecursion IsSubscription subs → AllByRecursion (λ (sub : Subscription). is_own sub ≡ false → sub.line ≡ []) subs → AllByRecursion HoldsFew subs → AllByRecursion (OwnsName s) subs → AllByRecursion (IsRead s.sessions) subs
+    all_of [] forms own few owns = tt
+    all_of (sub ∷ subs) forms own few owns =
+        (record { form = forms.0; own = own.0; few_waiting = few.0.0; few_deliveries = few.0.1; named = named sub owns.0 }, all_of subs forms.1 own.1 few.1 owns.1)
 
 pub shaped : (s : State) → IsSound s → HasForm s → IsShaped s
 shaped s sound form = record {
