@@ -5,7 +5,7 @@ use Rattle.std.specs.List.{AllByRecursion, sum_by}
 use Rattle.std.specs.List.Sorted.{IsStrictlySortedBy}
 use Rattle.std.specs.Map.{keys_of, lookup}
 use Rattle.std.specs.Ordering.{is_eq}
-use Rattle.std.proofs.lemmas.List.{length-map}
+use Rattle.std.proofs.lemmas.List.{length-map, nil_from_length}
 use Rattle.std.proofs.lemmas.Bool.{eqb-true}
 use Rattle.std.proofs.lemmas.Option.{none-some, some_pair_parts}
 use Rattle.frame_core.proofs.Lists.{all_both, all_weaker}
@@ -24,7 +24,7 @@ use Rattle.snapshot_core.specs.Reading.{lines_of, named_by, state_at}
 use Rattle.snapshot_core.specs.Snapshots.{HasForm, IsLine, IsName, IsSubscription, Spells, snapshot_of}
 use Rattle.snapshot_core.proofs.SnapshotParts.{Keyed}
 use Rattle.snapshot_core.proofs.SnapshotEntries.{Entry, IsEntry, IsQueueEntry}
-use Rattle.snapshot_core.proofs.SnapshotSubscriptions.{IsRead, own_part}
+use Rattle.snapshot_core.proofs.SnapshotSubscriptions.{IsRead, found_has, own_part}
 use Rattle.snapshot_core.proofs.SnapshotNames.{all_lines, entry_in, lines_again}
 use Rattle.snapshot_core.proofs.Counted.{HoldsFew, few_held, few_in_queues, few_queues, few_under_names}
 use Rattle.snapshot_core.proofs.SnapshotStates.{IsShaped, entries_of, state_format}
@@ -48,13 +48,6 @@ formed s shaped =
 
 -- ---- what is sound and has the form is read
 
--- the line of a name is one of those that stand
-line_formed : (q : Name) (names : Lines Name) → AllByRecursion (λ (l : Name × List Message). IsLine l.1) names → IsLine (line_at name_cmp q names)
-line_formed q [] each = record { each = tt; rising = tt }
-line_formed q (l ∷ names) each =
-    let rest = line_formed q names each.1 in
-    elim (is_eq (name_cmp q l.0)) as (λ b. IsLine (unwrap_or (cond b (Some l.1) (lookup (is_at (name_cmp q)) names)) [])) [ true ↦ each.0 | false ↦ rest ]
-
 keys_again : (names : Lines Name) (durables : List (Name × List ℕ)) → keys_of (map (entry_in names) durables) ≡ keys_of durables
 keys_again names [] = refl
 keys_again names (d ∷ durables) = ap (λ (ks : List Name). d.0 ∷ ks) (keys_again names durables)
@@ -63,7 +56,7 @@ entries_shaped : (s : State) → IsSound s → HasForm s → Keyed name_cmp IsEn
 entries_shaped s sound form =
     let few : length (entries_of s) < 2 ^ 32 = omega (arith, length-map s.durables (entry_in s.shared.names), sound.names.few) in
     let entry = λ (d : Name × List ℕ) (is : IsName d.0 × IsDestination d.1).
-    let whole : IsEntry (entry_in s.shared.names d) = (is.0, is.1, (few_under_names s sound d.0, line_formed d.0 s.shared.names form.names)) in
+    let whole : IsEntry (entry_in s.shared.names d) = (is.0, is.1, (few_under_names s sound d.0, found_has IsLine (is_at (name_cmp d.0)) [] (record { each = tt; rising = tt }) s.shared.names form.names)) in
     whole in
     let each = all_given IsEntry (entry_in s.shared.names) s.durables (all_weaker (λ (d : Name × List ℕ). IsName d.0 × IsDestination d.1) (λ (d : Name × List ℕ). IsEntry (entry_in s.shared.names d)) entry s.durables form.durables) in
     ((few, each), subst (IsStrictlySortedBy name_cmp) (sym (keys_again s.shared.names s.durables)) sound.order.durables)
@@ -137,10 +130,6 @@ whole_is_read bytes s spells = ap state_at (sym (append-nil bytes)) ∙ spelled_
 pub none_is_spelled : (bytes : List ℕ) → state_at bytes ≡ None → (s : State) → Spells bytes s → ⊥
 none_is_spelled bytes none s spells = none-some (s, []) (sym none ∙ whole_is_read bytes s spells)
 
-no_rest : (rest : List ℕ) → eqb (length rest) 0 ≡ true → rest ≡ []
-no_rest [] e = refl
-no_rest (b ∷ rest) e = absurd (omega (arith, eqb-true _ _ e))
-
 module _ (bytes : List ℕ) (t : State) (rest : List ℕ) (read : state_at bytes ≡ Some (t, rest)) where
   -- what bytes spell is what is read of them
   read_is : (s : State) → Spells bytes s → (s ≡ t) × ([] ≡ rest)
@@ -156,4 +145,4 @@ module _ (bytes : List ℕ) (t : State) (rest : List ℕ) (read : state_at bytes
   pub read_is_spelled : AreBytes bytes → eqb (length rest) 0 ≡ true → IsSound t → Spells bytes t
   read_is_spelled fits whole sound =
       let taken = state_format.takes bytes t rest fits read in
-      record { sound = sound; form = formed t taken.1; spelled = taken.0.parts ∙ ap (λ (r : List ℕ). snapshot_of t ++ r) (no_rest rest whole) ∙ append-nil (snapshot_of t) }
+      record { sound = sound; form = formed t taken.1; spelled = taken.0.parts ∙ ap (λ (r : List ℕ). snapshot_of t ++ r) (nil_from_length rest (eqb-true (length rest) 0 whole)) ∙ append-nil (snapshot_of t) }
