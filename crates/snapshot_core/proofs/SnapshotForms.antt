@@ -1,24 +1,23 @@
 -- States that are sound and have the form of a snapshot, against those that are read from one.
-use Rattle.std.proofs.Common.{◌≡◌, ℕ, ◌<◌, ◌≤◌, ◌^◌, ◌++◌, cond, List, [], ◌∷◌, length, map, true, false, unwrap_or, IfSome, Option, Some, None, refl, ap, sym, subst, ◌∙◌, append-nil, arith, eqb, true≢false}
+use Rattle.std.proofs.Common.{◌≡◌, ℕ, ◌<◌, ◌^◌, ◌++◌, List, [], ◌∷◌, length, map, true, false, IfSome, Option, Some, None, refl, ap, sym, subst, ◌∙◌, append-nil, arith, eqb, true≢false}
 use Rattle.std.specs.BTreeMap.{is_at}
-use Rattle.std.specs.List.{AllByRecursion, sum_by}
+use Rattle.std.specs.List.{AllByRecursion}
 use Rattle.std.specs.List.Sorted.{IsStrictlySortedBy}
-use Rattle.std.specs.Map.{keys_of, lookup}
-use Rattle.std.specs.Ordering.{is_eq}
+use Rattle.std.specs.Map.{keys_of}
 use Rattle.std.proofs.lemmas.List.{length-map, nil_from_length}
 use Rattle.std.proofs.lemmas.Bool.{eqb-true}
 use Rattle.std.proofs.lemmas.Option.{none-some, some_pair_parts}
 use Rattle.frame_core.proofs.Lists.{all_both, all_weaker}
-use Rattle.command_core.specs.Destinations.{IsDestination, is_queue}
+use Rattle.command_core.specs.Destinations.{IsDestination}
 use Rattle.command_core.specs.Spellings.{AreBytes}
 use Rattle.line_core.specs.declared.message.Message.{Message}
 use Rattle.broker_core.specs.declared.subscription.Subscription.{Subscription}
 use Rattle.broker_core.specs.Lists.{is_none}
 use Rattle.broker_core.specs.Names.{Name, name_cmp, text_cmp}
 use Rattle.broker_core.specs.Operations.{client_in, topic_of}
-use Rattle.broker_core.specs.Sound.{AreTo, IsSound, OwnsName, window_of}
-use Rattle.broker_core.specs.States.{State, one, weight_of_subscription}
-use Rattle.broker_core.specs.Waiting.{Lines, is_own, line_at, weight_of_lines}
+use Rattle.broker_core.specs.Sound.{AreTo, IsSound, OwnsName}
+use Rattle.broker_core.specs.States.{State}
+use Rattle.broker_core.specs.Waiting.{Lines, is_own, line_at}
 use Rattle.broker_core.proofs.Alls.{all_given, each_given}
 use Rattle.snapshot_core.specs.Reading.{lines_of, named_by, state_at}
 use Rattle.snapshot_core.specs.Snapshots.{HasForm, IsLine, IsName, IsSubscription, Spells, snapshot_of}
