@@ -11,7 +11,7 @@ use Rattle.broker_core.specs.Sound.{IsSound}
 use Rattle.broker_core.specs.States.{State, one, weight_of_subscription}
 use Rattle.broker_core.specs.Waiting.{Lines, is_own, line_at, weight_of_lines}
 use Rattle.broker_core.proofs.KeyedLines.{weight-removed}
-use Rattle.broker_core.proofs.Weights.{all_at, ones, sum_by-part}
+use Rattle.broker_core.proofs.Weights.{all_at, ones}
 
 -- What stands in a state that a broker can have, four bytes can count: no more than 4,096 messages are held.
 
@@ -39,6 +39,16 @@ module _ {K : Type 0} where
   lines_counted P some (e ∷ lines) all =
       omega (arith, weight_first e lines, some_counted e.1 (some e all.0), lines_counted P some lines all.1)
 
+-- a subscription of which four bytes can count what waits, and what is not acknowledged
+abbrev pub HoldsFew : Subscription → Type 0
+HoldsFew sub = (length sub.line < 2 ^ 32) × (length sub.unacknowledged < 2 ^ 32)
+
+each_few : (subs : List Subscription) → sum_by (weight_of_subscription one) subs < 2 ^ 32 → AllByRecursion HoldsFew subs
+each_few [] most = tt
+each_few (sub ∷ subs) most =
+    let whole = sum_by-cons (weight_of_subscription one) sub subs in
+    ((omega (arith, whole, ones sub.line, most), omega (arith, whole, ones sub.unacknowledged, most)), each_few subs (omega (arith, whole, most)))
+
 module _ (s : State) (sound : IsSound s) where
   held_in_names : weight_of_lines one s.shared.names < 2 ^ 32
   held_in_names = omega (arith, sound.limits.messages)
@@ -55,15 +65,12 @@ module _ (s : State) (sound : IsSound s) where
   pub few_queues : length s.shared.queues < 2 ^ 32
   few_queues = omega (arith, lines_counted _ (λ e keeps. keeps.1) s.shared.queues sound.lines.queues, held_in_queues)
 
+  pub few_held : AllByRecursion HoldsFew s.subscriptions
+  few_held = each_few s.subscriptions (omega (arith, sound.limits.messages))
+
   module _ (at : ℕ) (sub : Subscription) (is : slice_get s.subscriptions at ≡ Some sub) where
-    held_by : sum_by one sub.line + sum_by (λ (d : ℕ × Message). one d.1) sub.unacknowledged < 2 ^ 32
-    held_by = omega (arith, sum_by-part (weight_of_subscription one) s.subscriptions at sub is, sound.limits.messages)
-
-    pub few_waiting : length sub.line < 2 ^ 32
-    few_waiting = omega (arith, held_by, ones sub.line)
-
-    pub few_deliveries : length sub.unacknowledged < 2 ^ 32
-    few_deliveries = omega (arith, held_by, ones sub.unacknowledged)
+    pub holds_few : HoldsFew sub
+    holds_few = all_at HoldsFew s.subscriptions at sub is few_held
 
     pub waits_in_own : is_own sub ≡ false → sub.line ≡ []
     waits_in_own = all_at (λ (x : Subscription). is_own x ≡ false → x.line ≡ []) s.subscriptions at sub is sound.lines.own

@@ -1,6 +1,5 @@
 pub mod Puts
 pub mod Counted
-pub mod NamedLines
 pub mod RisingLists
 pub mod Appended
 pub mod NameLists
@@ -9,5 +8,4 @@ pub mod SnapshotEntries
 pub mod SnapshotSubscriptions
 pub mod SnapshotNames
 pub mod SnapshotStates
-pub mod SnapshotBounds
 pub mod SnapshotForms

@@ -1,32 +1,31 @@
 -- States that are sound and have the form of a snapshot, against those that are read from one.
-use Rattle.std.proofs.Common.{◌≡◌, ℕ, ◌<◌, ◌≤◌, ◌^◌, ◌++◌, cond, List, [], ◌∷◌, length, map, true, false, unwrap_or, IfSome, Option, Some, None, refl, ap, sym, subst, ◌∙◌, append-nil, arith, eqb, true≢false}
+use Rattle.std.proofs.Common.{◌≡◌, ℕ, ◌<◌, ◌^◌, ◌++◌, List, [], ◌∷◌, length, map, true, false, IfSome, Option, Some, None, refl, ap, sym, subst, ◌∙◌, append-nil, arith, eqb, true≢false}
 use Rattle.std.specs.BTreeMap.{is_at}
-use Rattle.std.specs.List.{AllByRecursion, sum_by}
+use Rattle.std.specs.List.{AllByRecursion}
 use Rattle.std.specs.List.Sorted.{IsStrictlySortedBy}
-use Rattle.std.specs.Map.{keys_of, lookup}
-use Rattle.std.specs.Ordering.{is_eq}
-use Rattle.std.proofs.lemmas.List.{length-map}
+use Rattle.std.specs.Map.{keys_of}
+use Rattle.std.proofs.lemmas.List.{length-map, nil_from_length}
 use Rattle.std.proofs.lemmas.Bool.{eqb-true}
 use Rattle.std.proofs.lemmas.Option.{none-some, some_pair_parts}
 use Rattle.frame_core.proofs.Lists.{all_both, all_weaker}
-use Rattle.command_core.specs.Destinations.{IsDestination, is_queue}
+use Rattle.command_core.specs.Destinations.{IsDestination}
 use Rattle.command_core.specs.Spellings.{AreBytes}
 use Rattle.line_core.specs.declared.message.Message.{Message}
 use Rattle.broker_core.specs.declared.subscription.Subscription.{Subscription}
 use Rattle.broker_core.specs.Lists.{is_none}
 use Rattle.broker_core.specs.Names.{Name, name_cmp, text_cmp}
 use Rattle.broker_core.specs.Operations.{client_in, topic_of}
-use Rattle.broker_core.specs.Sound.{AreTo, IsSound, OwnsName, window_of}
-use Rattle.broker_core.specs.States.{State, one, weight_of_subscription}
-use Rattle.broker_core.specs.Waiting.{Lines, is_own, line_at, weight_of_lines}
+use Rattle.broker_core.specs.Sound.{AreTo, IsSound, OwnsName}
+use Rattle.broker_core.specs.States.{State}
+use Rattle.broker_core.specs.Waiting.{Lines, is_own, line_at}
 use Rattle.broker_core.proofs.Alls.{all_given, each_given}
 use Rattle.snapshot_core.specs.Reading.{lines_of, named_by, state_at}
 use Rattle.snapshot_core.specs.Snapshots.{HasForm, IsLine, IsName, IsSubscription, Spells, snapshot_of}
 use Rattle.snapshot_core.proofs.SnapshotParts.{Keyed}
 use Rattle.snapshot_core.proofs.SnapshotEntries.{Entry, IsEntry, IsQueueEntry}
-use Rattle.snapshot_core.proofs.SnapshotSubscriptions.{IsRead, own_part}
+use Rattle.snapshot_core.proofs.SnapshotSubscriptions.{IsRead, found_has, own_part}
 use Rattle.snapshot_core.proofs.SnapshotNames.{all_lines, entry_in, lines_again}
-use Rattle.snapshot_core.proofs.SnapshotBounds.{few_lines, line_within, lines_within, own_within, small_window}
+use Rattle.snapshot_core.proofs.Counted.{HoldsFew, few_held, few_in_queues, few_queues, few_under_names}
 use Rattle.snapshot_core.proofs.SnapshotStates.{IsShaped, entries_of, state_format}
 
 -- ---- what is read has the form
@@ -48,13 +47,6 @@ formed s shaped =
 
 -- ---- what is sound and has the form is read
 
--- the line of a name is one of those that stand
-line_formed : (q : Name) (names : Lines Name) → AllByRecursion (λ (l : Name × List Message). IsLine l.1) names → IsLine (line_at name_cmp q names)
-line_formed q [] each = record { each = tt; rising = tt }
-line_formed q (l ∷ names) each =
-    let rest = line_formed q names each.1 in
-    elim (is_eq (name_cmp q l.0)) as (λ b. IsLine (unwrap_or (cond b (Some l.1) (lookup (is_at (name_cmp q)) names)) [])) [ true ↦ each.0 | false ↦ rest ]
-
 keys_again : (names : Lines Name) (durables : List (Name × List ℕ)) → keys_of (map (entry_in names) durables) ≡ keys_of durables
 keys_again names [] = refl
 keys_again names (d ∷ durables) = ap (λ (ks : List Name). d.0 ∷ ks) (keys_again names durables)
@@ -63,8 +55,7 @@ entries_shaped : (s : State) → IsSound s → HasForm s → Keyed name_cmp IsEn
 entries_shaped s sound form =
     let few : length (entries_of s) < 2 ^ 32 = omega (arith, length-map s.durables (entry_in s.shared.names), sound.names.few) in
     let entry = λ (d : Name × List ℕ) (is : IsName d.0 × IsDestination d.1).
-    let short : length (line_at name_cmp d.0 s.shared.names) < 2 ^ 32 = omega (arith, line_within name_cmp d.0 s.shared.names, sound.limits.messages) in
-    let whole : IsEntry (entry_in s.shared.names d) = (is.0, is.1, (short, line_formed d.0 s.shared.names form.names)) in
+    let whole : IsEntry (entry_in s.shared.names d) = (is.0, is.1, (few_under_names s sound d.0, found_has IsLine (is_at (name_cmp d.0)) [] (record { each = tt; rising = tt }) s.shared.names form.names)) in
     whole in
     let each = all_given IsEntry (entry_in s.shared.names) s.durables (all_weaker (λ (d : Name × List ℕ). IsName d.0 × IsDestination d.1) (λ (d : Name × List ℕ). IsEntry (entry_in s.shared.names d)) entry s.durables form.durables) in
     ((few, each), subst (IsStrictlySortedBy name_cmp) (sym (keys_again s.shared.names s.durables)) sound.order.durables)
@@ -74,13 +65,15 @@ names_shaped s sound =
     let some = all_weaker (λ (l : Name × List Message). (is_none l.1 ≡ false) × IfSome (topic_of l.0 s.durables) (λ topic. AreTo topic l.1)) (λ (l : Name × List Message). is_none l.1 ≡ false) (λ l is. is.0) s.shared.names sound.lines.names in
     lines_again s.durables s.shared.names sound.order.durables (record { rising = sound.order.names; some = some; bound = sound.names.lines })
 
+-- where the lines under all bound names have the form, all lines have it
+pub names_formed : (s : State) → IsSound s → AllByRecursion (λ (d : Name × List ℕ). IsLine (line_at name_cmp d.0 s.shared.names)) s.durables → AllByRecursion (λ (l : Name × List Message). IsLine l.1) s.shared.names
+names_formed s sound each =
+    subst (AllByRecursion (λ (l : Name × List Message). IsLine l.1)) (names_shaped s sound) (all_lines (λ (l : Name × List Message). IsLine l.1) (entries_of s) (all_given (λ (e : Entry). IsLine e.1.1) (entry_in s.shared.names) s.durables each))
+
 queues_shaped : (s : State) → IsSound s → HasForm s → Keyed text_cmp IsQueueEntry s.shared.queues
 queues_shaped s sound form =
-    let held : weight_of_lines one s.shared.queues ≤ 4096 = omega (arith, sound.limits.messages) in
-    let some = all_weaker (λ (q : List ℕ × List Message). (is_queue q.0 ≡ true) × (is_none q.1 ≡ false) × AreTo q.0 q.1) (λ (q : List ℕ × List Message). is_none q.1 ≡ false) (λ q is. is.1) s.shared.queues sound.lines.queues in
-    let few : length s.shared.queues < 2 ^ 32 = omega (arith, few_lines s.shared.queues some, held) in
-    let each = all_both (λ (q : List ℕ × List Message). length q.1 ≤ 4096) (λ (q : List ℕ × List Message). IsDestination q.0 × IsLine q.1) IsQueueEntry (λ q short is. (is.0, (omega (arith, short), is.1))) s.shared.queues (lines_within 4096 s.shared.queues held) form.queues in
-    ((few, each), sound.order.queues)
+    let each = all_both (λ (q : List ℕ × List Message). length q.1 < 2 ^ 32) (λ (q : List ℕ × List Message). IsDestination q.0 × IsLine q.1) IsQueueEntry (λ q short is. (is.0, (short, is.1))) s.shared.queues (few_in_queues s sound) form.queues in
+    ((few_queues s sound, each), sound.order.queues)
 
 -- the client of a subscription's durable name is that of its session
 named_again : (client : Option (List ℕ)) (durable : Option Name) → IfSome durable (λ name. client ≡ Some name.0) → named_by client (own_part durable) ≡ Some durable
@@ -89,8 +82,7 @@ named_again client (Some name) owns = ap (λ c. named_by c (Some name.1)) owns
 
 subscriptions_shaped : (s : State) → IsSound s → HasForm s → AllByRecursion (IsRead s.sessions) s.subscriptions
 subscriptions_shaped s sound form =
-    let held : sum_by (weight_of_subscription one) s.subscriptions ≤ 4096 = omega (arith, sound.limits.messages) in
-    all_of s.subscriptions form.subscriptions sound.lines.own (own_within 4096 s.subscriptions held) sound.subscriptions.window sound.names.own
+    all_of s.subscriptions form.subscriptions sound.lines.own (few_held s sound) sound.names.own
   where
     named : (sub : Subscription) → OwnsName s sub → named_by (client_in s.sessions sub.session) (own_part sub.durable) ≡ Some sub.durable
     named sub owns = named_again (client_in s.sessions sub.session) sub.durable (client sub.durable owns)
@@ -99,11 +91,10 @@ subscriptions_shaped s sound form =
         client None has = tt
         client (Some name) has = has.0
 
-    all_of : (subs : List Subscription) → AllByRecursion IsSubscription subs → AllByRecursion (λ (sub : Subscription). is_own sub ≡ false → sub.line ≡ []) subs → AllByRecursion (λ (sub : Subscription). length sub.line ≤ 4096) subs
-        → AllByRecursion (λ (sub : Subscription). length sub.unacknowledged ≤ window_of sub.mode) subs → AllByRecursion (OwnsName s) subs → AllByRecursion (IsRead s.sessions) subs
-    all_of [] forms own waiting window owns = tt
-    all_of (sub ∷ subs) forms own waiting window owns =
-        (record { form = forms.0; own = own.0; few_waiting = omega (arith, waiting.0); few_deliveries = omega (arith, window.0, small_window sub.mode); named = named sub owns.0 }, all_of subs forms.1 own.1 waiting.1 window.1 owns.1)
+    all_of : (subs : List Subscription) → AllByRecursion IsSubscription subs → AllByRecursion (λ (sub : Subscription). is_own sub ≡ false → sub.line ≡ []) subs → AllByRecursion HoldsFew subs → AllByRecursion (OwnsName s) subs → AllByRecursion (IsRead s.sessions) subs
+    all_of [] forms own few owns = tt
+    all_of (sub ∷ subs) forms own few owns =
+        (record { form = forms.0; own = own.0; few_waiting = few.0.0; few_deliveries = few.0.1; named = named sub owns.0 }, all_of subs forms.1 own.1 few.1 owns.1)
 
 pub shaped : (s : State) → IsSound s → HasForm s → IsShaped s
 shaped s sound form = record {
@@ -138,10 +129,6 @@ whole_is_read bytes s spells = ap state_at (sym (append-nil bytes)) ∙ spelled_
 pub none_is_spelled : (bytes : List ℕ) → state_at bytes ≡ None → (s : State) → Spells bytes s → ⊥
 none_is_spelled bytes none s spells = none-some (s, []) (sym none ∙ whole_is_read bytes s spells)
 
-no_rest : (rest : List ℕ) → eqb (length rest) 0 ≡ true → rest ≡ []
-no_rest [] e = refl
-no_rest (b ∷ rest) e = absurd (omega (arith, eqb-true _ _ e))
-
 module _ (bytes : List ℕ) (t : State) (rest : List ℕ) (read : state_at bytes ≡ Some (t, rest)) where
   -- what bytes spell is what is read of them
   read_is : (s : State) → Spells bytes s → (s ≡ t) × ([] ≡ rest)
@@ -157,4 +144,4 @@ module _ (bytes : List ℕ) (t : State) (rest : List ℕ) (read : state_at bytes
   pub read_is_spelled : AreBytes bytes → eqb (length rest) 0 ≡ true → IsSound t → Spells bytes t
   read_is_spelled fits whole sound =
       let taken = state_format.takes bytes t rest fits read in
-      record { sound = sound; form = formed t taken.1; spelled = taken.0.parts ∙ ap (λ (r : List ℕ). snapshot_of t ++ r) (no_rest rest whole) ∙ append-nil (snapshot_of t) }
+      record { sound = sound; form = formed t taken.1; spelled = taken.0.parts ∙ ap (λ (r : List ℕ). snapshot_of t ++ r) (nil_from_length rest (eqb-true (length rest) 0 whole)) ∙ append-nil (snapshot_of t) }

@@ -1,13 +1,10 @@
 -- Lists, messages and lines in snapshots.
-use Rattle.std.proofs.Common.{◌≡◌, ℕ, zero, suc, ◌<◌, ◌^◌, ◌++◌, Bool, true, false, List, [], ◌∷◌, length, flat_map, not, Option, Some, refl, ap, sym, subst, ◌∙◌, append_assoc}
+use Rattle.std.proofs.Common.{◌≡◌, ℕ, zero, suc, ◌<◌, ◌^◌, ◌++◌, List, [], ◌∷◌, length, flat_map, Option, Some, refl, ap, sym, subst, ◌∙◌, append_assoc}
 use Rattle.std.specs.Int.{w32, w64, to_be_bytes}
-use Rattle.std.specs.List.{AllByRecursion, list_all}
+use Rattle.std.specs.List.{AllByRecursion}
 use Rattle.std.specs.List.Sorted.{IsStrictlySortedBy}
 use Rattle.std.specs.Map.{keys_of}
-use Rattle.std.specs.Ordering.{is_lt}
 use Rattle.std.specs.declared.cmp.Ordering.{Ordering}
-use Rattle.std.specs.declared.cmp.Ordering.TheVariants.{Less, Equal, Greater}
-use Rattle.std.proofs.lemmas.Bool.{and_parts}
 use Rattle.std.proofs.lemmas.List.Concat.{flat_map-cons}
 use Rattle.command_core.specs.Reading.{◌>>=◌, Reader, many_at, number_at, sending_at}
 use Rattle.command_core.specs.Sendings.{SendingValue}
@@ -15,9 +12,9 @@ use Rattle.command_core.specs.Spellings.{AreBytes, sending}
 use Rattle.command_core.proofs.Formats.{Format, Takes, Takes-then, First, bind_some, first_again, first_takes, last_takes, number, tested, wide32, wide64}
 use Rattle.command_core.proofs.RecordMessages.{sending_format}
 use Rattle.line_core.specs.declared.message.Message.{Message}
-use Rattle.line_core.specs.Lines.{IsRising, by_number}
 use Rattle.snapshot_core.specs.Reading.{delivery_at, is_rising, keyed_at, listed_at, message_at, rises, waiting_at}
 use Rattle.snapshot_core.specs.Snapshots.{IsDelivery, IsLine, IsMessage, delivery, line, listed, message}
+use Rattle.snapshot_core.proofs.RisingLists.{from_rising, rises_from, rising_from, sorted_from}
 
 -- ---- steps
 
@@ -83,42 +80,12 @@ module _ {A : Type 0} {spell : A → List ℕ} {Form : A → Type 0} {read : Rea
   pub listed_format : Format (listed spell) (Listed Form) (listed_at read)
   listed_format = record { takes = listed_takes; again = listed_again }
 
--- ---- tests of each item
-
-module _ {X : Type 0} (P : X → Type 0) (p : X → Bool) where
-  all_from : ((x : X) → p x ≡ true → P x) → (xs : List X) → list_all p xs ≡ true → AllByRecursion P xs
-  all_from tells [] e = tt
-  all_from tells (x ∷ xs) e = let a = and_parts (p x) (list_all p xs) e in (tells x a.0, all_from tells xs a.1)
-
-  from_all : ((x : X) → P x → p x ≡ true) → (xs : List X) → AllByRecursion P xs → list_all p xs ≡ true
-  from_all told [] all = refl
-  from_all told (x ∷ xs) all = rw (told x all.0, from_all told xs all.1) refl
-
 -- ---- lists by rising key
-
-less_from : (o : Ordering) → is_lt o ≡ true → o ≡ Less
-less_from Less e = refl
-less_from Equal e = absurd cc
-less_from Greater e = absurd cc
-
-module _ {K : Type 0} (cmp : K → K → Ordering) where
-  sorted_from : (ks : List K) → rises cmp ks ≡ true → IsStrictlySortedBy cmp ks
-  unfolding rises IsStrictlySortedBy
-  sorted_from [] e = tt
-  sorted_from (k ∷ ks) e =
-      let a = and_parts (list_all (λ other. is_lt (cmp k other)) ks) (rises cmp ks) e in
-      (all_from (λ other. cmp k other ≡ Less) (λ other. is_lt (cmp k other)) (λ other is. less_from (cmp k other) is) ks a.0, sorted_from ks a.1)
-
-  from_sorted : (ks : List K) → IsStrictlySortedBy cmp ks → rises cmp ks ≡ true
-  unfolding rises IsStrictlySortedBy
-  from_sorted [] sorted = refl
-  from_sorted (k ∷ ks) sorted =
-      rw (from_all (λ other. cmp k other ≡ Less) (λ other. is_lt (cmp k other)) (λ other is. ap is_lt is) ks sorted.0, from_sorted ks sorted.1) refl
 
 pub keyed_format : {K X : Type 0} {spell : K × X → List ℕ} {Form : K × X → Type 0} {read : Reader (K × X)} (cmp : K → K → Ordering) → Format spell Form read → Format (listed spell) (Keyed cmp Form) (keyed_at cmp read)
 unfolding keyed_at
 keyed_format {K} {X} {spell} {Form} {read} cmp format =
-    tested (listed spell) (Listed Form) (Keyed cmp Form) (listed_at read) (λ xs. rises cmp (keys_of xs)) (listed_format format) (λ xs e form. (form, sorted_from cmp (keys_of xs) e)) (λ xs form. (form.0, from_sorted cmp (keys_of xs) form.1))
+    tested (listed spell) (Listed Form) (Keyed cmp Form) (listed_at read) (λ xs. rises cmp (keys_of xs)) (listed_format format) (λ xs e form. (form, sorted_from cmp (keys_of xs) e)) (λ xs form. (form.0, rises_from cmp (keys_of xs) form.1))
 
 -- ---- messages
 
@@ -153,24 +120,6 @@ message_format = record { takes = message_takes; again = message_again }
 -- a line that four bytes can count
 abbrev pub IsWaiting : List Message → Type 0
 IsWaiting messages = (length messages < 2 ^ 32) × IsLine messages
-
-not_less : (o : Ordering) → not (is_lt o) ≡ true → is_lt o ≡ false
-not_less Less e = absurd cc
-not_less Equal e = refl
-not_less Greater e = refl
-
-rising_from : (messages : List Message) → is_rising messages ≡ true → IsRising messages
-unfolding is_rising
-rising_from [] e = tt
-rising_from (m ∷ messages) e =
-    let a = and_parts (list_all (λ other. not (is_lt (by_number other.number m.number))) messages) (is_rising messages) e in
-    (all_from (λ other. is_lt (by_number other.number m.number) ≡ false) (λ other. not (is_lt (by_number other.number m.number))) (λ other is. not_less (by_number other.number m.number) is) messages a.0, rising_from messages a.1)
-
-from_rising : (messages : List Message) → IsRising messages → is_rising messages ≡ true
-unfolding is_rising
-from_rising [] rising = refl
-from_rising (m ∷ messages) rising =
-    rw (from_all (λ other. is_lt (by_number other.number m.number) ≡ false) (λ other. not (is_lt (by_number other.number m.number))) (λ other is. ap not is) messages rising.0, from_rising messages rising.1) refl
 
 pub waiting_format : Format line IsWaiting waiting_at
 unfolding waiting_at

@@ -5,8 +5,9 @@ use Rattle.std.specs.Int.{w64, to_be_bytes}
 use Rattle.std.specs.List.{AllByRecursion}
 use Rattle.std.specs.Map.{lookup}
 use Rattle.std.specs.Option.{option_map}
-use Rattle.std.specs.Ordering.{is_eq, nat_cmp}
+use Rattle.std.specs.Ordering.{nat_cmp}
 use Rattle.std.proofs.lemmas.Option.{none-some, same_Some}
+use Rattle.frame_core.proofs.Lists.{all_weaker}
 use Rattle.command_core.specs.declared.ack_mode.AckMode.{AckMode}
 use Rattle.command_core.specs.Destinations.{IsDestination, is_queue}
 use Rattle.command_core.specs.Reading.{◌>>=◌, destination_at, mode_at, name_at, text_at}
@@ -46,12 +47,17 @@ own_format own = record { takes = own_takes own; again = own_again own }
 
 -- ---- durable names of subscriptions
 
+-- what each value has, and what stands in place of none, the value of a key has
+pub found_has : {K X : Type 0} (P : X → Type 0) (test : K → Bool) (none : X) → P none → (es : List (K × X)) → AllByRecursion (λ (e : K × X). P e.1) es → P (unwrap_or (lookup test es) none)
+found_has P test none has [] each = has
+found_has P test none has (e ∷ es) each =
+    let rest = found_has P test none has es each.1 in
+    elim (test e.0) as (λ b. P (unwrap_or (cond b (Some e.1) (lookup test es)) none)) [ true ↦ each.0 | false ↦ rest ]
+
 -- the name of a session's client is one that was read with the session
 client_formed : (sessions : List (ℕ × Option (List ℕ))) → AllByRecursion IsSession sessions → (n : ℕ) → texts.IsName (client_in sessions n)
-client_formed [] each n = (tt, tt)
-client_formed (e ∷ sessions) each n =
-    let rest = client_formed sessions each.1 n in
-    elim (is_eq (nat_cmp n e.0)) as (λ b. texts.IsName (unwrap_or (cond b (Some e.1) (lookup (is_at (nat_cmp n)) sessions)) None)) [ true ↦ (each.0.1, each.0.2) | false ↦ rest ]
+client_formed sessions each n =
+    found_has texts.IsName (is_at (nat_cmp n)) None (tt, tt) sessions (all_weaker IsSession (λ (e : ℕ × Option (List ℕ)). texts.IsName e.1) (λ e form. (form.1, form.2)) sessions each)
 
 -- its own part of a durable name
 abbrev pub own_part : Option Name → Option (List ℕ)

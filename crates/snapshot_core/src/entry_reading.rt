@@ -5,16 +5,15 @@ ghost use Rattle.std.specs.List.Sorted.{IsStrictlySortedBy};
 ghost use Rattle.std.specs.Map.{keys_of};
 ghost use Rattle.std.specs.Ordering.{nat_cmp};
 ghost use Rattle.command_core.specs.Operations.{IsGiven};
-ghost use Rattle.command_core.specs.Reading.{Gives, many_at, name_at};
+ghost use Rattle.command_core.specs.Reading.{Gives, name_at};
 ghost use Rattle.broker_core.specs.Names.{name_cmp, text_cmp};
 ghost use Rattle.snapshot_core.specs.Reading.{durable_at, given_at, keyed_at, listed_at, queue_at, session_at};
 
+use crate::list_reading::listed_of;
 use crate::message_reading::line_of;
 use crate::rising::{map_of, rises};
 use broker_core::{DurableName, GivenName};
-use command_core::{
-    DecodeFault, Dest, HeaderText, destination_of, name_of, text_of, u32_of, u64_of,
-};
+use command_core::{DecodeFault, Dest, HeaderText, destination_of, name_of, text_of, u64_of};
 use line_core::Line;
 use std::alloc::Global;
 use std::collections::BTreeMap;
@@ -63,33 +62,15 @@ fn session_of(alloc: Global, bytes: &[u8]) -> Result<((u64, Option<GivenName>), 
     Ok(((number, client), rest))
 }
 
-fn sessions_after_count(
-    alloc: Global,
-    count: u32,
-    bytes: &[u8],
-) -> Result<(Vec<(u64, Option<GivenName>)>, &[u8]), DecodeFault>
-    ensures { Gives (λ x. (x.0.items, x.1.now)) result (many_at session_at count bytes.now) }
-{
-    let mut sessions = Vec::new(alloc);
-    let mut rest = bytes;
-    for _ in 0..count {
-        let (session, after) = session_of(alloc, rest)?;
-        sessions.push(session)?;
-        rest = after;
-    }
-    Ok((sessions, rest))
-}
-
 /// The open sessions: behind their count, by rising number.
-#[tactic(auto, unfolding(crate::specs::Reading::keyed_at, crate::specs::Reading::listed_at))]
+#[tactic(auto, unfolding(crate::specs::Reading::keyed_at))]
 pub fn sessions_of(
     alloc: Global,
     bytes: &[u8],
 ) -> Result<(BTreeMap<u64, Option<GivenName>>, &[u8]), DecodeFault>
     ensures { Gives (λ x. (x.0.entries, x.1.now)) result (keyed_at nat_cmp session_at bytes.now) }
 {
-    let (count, rest) = u32_of(bytes)?;
-    let (sessions, rest) = sessions_after_count(alloc, count, rest)?;
+    let (sessions, rest) = listed_of(alloc, bytes, |rest| session_of(alloc, rest))?;
     Ok((map_of(alloc, sessions)?, rest))
 }
 
@@ -108,33 +89,14 @@ fn durable_of(
     Ok(((DurableName::new(client, own), (topic, line)), rest))
 }
 
-fn durables_after_count(
-    alloc: Global,
-    count: u32,
-    bytes: &[u8],
-) -> Result<(Vec<(DurableName, (Dest, Line))>, &[u8]), DecodeFault>
-    ensures { Gives (λ x. (x.0.items, x.1.now)) result (many_at durable_at count bytes.now) }
-{
-    let mut durables = Vec::new(alloc);
-    let mut rest = bytes;
-    for _ in 0..count {
-        let (durable, after) = durable_of(alloc, rest)?;
-        durables.push(durable)?;
-        rest = after;
-    }
-    Ok((durables, rest))
-}
-
 /// Durable names with their topics and lines, behind their count.
-#[tactic(auto, unfolding(crate::specs::Reading::listed_at))]
 fn listed_durables_of(
     alloc: Global,
     bytes: &[u8],
 ) -> Result<(Vec<(DurableName, (Dest, Line))>, &[u8]), DecodeFault>
     ensures { Gives (λ x. (x.0.items, x.1.now)) result (listed_at durable_at bytes.now) }
 {
-    let (count, rest) = u32_of(bytes)?;
-    durables_after_count(alloc, count, rest)
+    listed_of(alloc, bytes, |rest| durable_of(alloc, rest))
 }
 
 /// The durable names with their topics and lines: behind their count, by rising name.
@@ -163,29 +125,11 @@ fn queue_of(alloc: Global, bytes: &[u8]) -> Result<((Dest, Line), &[u8]), Decode
     Ok(((destination, line), rest))
 }
 
-fn queues_after_count(
-    alloc: Global,
-    count: u32,
-    bytes: &[u8],
-) -> Result<(Vec<(Dest, Line)>, &[u8]), DecodeFault>
-    ensures { Gives (λ x. (x.0.items, x.1.now)) result (many_at queue_at count bytes.now) }
-{
-    let mut queues = Vec::new(alloc);
-    let mut rest = bytes;
-    for _ in 0..count {
-        let (queue, after) = queue_of(alloc, rest)?;
-        queues.push(queue)?;
-        rest = after;
-    }
-    Ok((queues, rest))
-}
-
 /// The queues with their lines: behind their count, by rising destination.
-#[tactic(auto, unfolding(crate::specs::Reading::keyed_at, crate::specs::Reading::listed_at))]
+#[tactic(auto, unfolding(crate::specs::Reading::keyed_at))]
 pub fn queues_of(alloc: Global, bytes: &[u8]) -> Result<(BTreeMap<Dest, Line>, &[u8]), DecodeFault>
     ensures { Gives (λ x. (x.0.entries, x.1.now)) result (keyed_at text_cmp queue_at bytes.now) }
 {
-    let (count, rest) = u32_of(bytes)?;
-    let (queues, rest) = queues_after_count(alloc, count, rest)?;
+    let (queues, rest) = listed_of(alloc, bytes, |rest| queue_of(alloc, rest))?;
     Ok((map_of(alloc, queues)?, rest))
 }

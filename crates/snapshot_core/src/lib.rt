@@ -6,6 +6,7 @@ mod decoding;
 mod encoding;
 mod entry_reading;
 mod laws;
+mod list_reading;
 mod message_reading;
 mod name_tables;
 mod reading;

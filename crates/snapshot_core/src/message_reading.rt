@@ -1,9 +1,10 @@
 //! Messages, lines of them and deliveries, read from the front of bytes, as `reading` says.
 
 ghost use Rattle.std.specs.Ordering.{nat_cmp};
-ghost use Rattle.command_core.specs.Reading.{Gives, many_at};
+ghost use Rattle.command_core.specs.Reading.{Gives};
 ghost use Rattle.snapshot_core.specs.Reading.{delivery_at, keyed_at, listed_at, message_at, waiting_at};
 
+use crate::list_reading::listed_of;
 use crate::rising::{is_rising, rises};
 use command_core::{DecodeFault, sending_of, u32_of, u64_of};
 use line_core::{Flight, Line, Message, MessageNumber};
@@ -21,30 +22,11 @@ fn message_of(alloc: Global, bytes: &[u8]) -> Result<(Message, &[u8]), DecodeFau
     Ok((Message { number, sending }, rest))
 }
 
-fn messages_after_count(
-    alloc: Global,
-    count: u32,
-    bytes: &[u8],
-) -> Result<(Vec<Message>, &[u8]), DecodeFault>
-    ensures { Gives (λ x. (x.0.items, x.1.now)) result (many_at message_at count bytes.now) }
-{
-    let mut messages = Vec::new(alloc);
-    let mut rest = bytes;
-    for _ in 0..count {
-        let (message, after) = message_of(alloc, rest)?;
-        messages.push(message)?;
-        rest = after;
-    }
-    Ok((messages, rest))
-}
-
 /// Messages behind their count.
-#[tactic(auto, unfolding(crate::specs::Reading::listed_at))]
 fn messages_of(alloc: Global, bytes: &[u8]) -> Result<(Vec<Message>, &[u8]), DecodeFault>
     ensures { Gives (λ x. (x.0.items, x.1.now)) result (listed_at message_at bytes.now) }
 {
-    let (count, rest) = u32_of(bytes)?;
-    messages_after_count(alloc, count, rest)
+    listed_of(alloc, bytes, |rest| message_of(alloc, rest))
 }
 
 /// A delivery: its number, and the message.
@@ -57,30 +39,11 @@ fn delivery_of(alloc: Global, bytes: &[u8]) -> Result<((u64, Message), &[u8]), D
     Ok(((number, message), rest))
 }
 
-fn deliveries_after_count(
-    alloc: Global,
-    count: u32,
-    bytes: &[u8],
-) -> Result<(Vec<(u64, Message)>, &[u8]), DecodeFault>
-    ensures { Gives (λ x. (x.0.items, x.1.now)) result (many_at delivery_at count bytes.now) }
-{
-    let mut deliveries = Vec::new(alloc);
-    let mut rest = bytes;
-    for _ in 0..count {
-        let (delivery, after) = delivery_of(alloc, rest)?;
-        deliveries.push(delivery)?;
-        rest = after;
-    }
-    Ok((deliveries, rest))
-}
-
 /// Deliveries behind their count.
-#[tactic(auto, unfolding(crate::specs::Reading::listed_at))]
 fn deliveries_of(alloc: Global, bytes: &[u8]) -> Result<(Vec<(u64, Message)>, &[u8]), DecodeFault>
     ensures { Gives (λ x. (x.0.items, x.1.now)) result (listed_at delivery_at bytes.now) }
 {
-    let (count, rest) = u32_of(bytes)?;
-    deliveries_after_count(alloc, count, rest)
+    listed_of(alloc, bytes, |rest| delivery_of(alloc, rest))
 }
 
 /// Messages that wait: behind their count, by rising number.

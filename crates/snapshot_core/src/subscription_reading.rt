@@ -1,14 +1,15 @@
 //! Subscriptions, read from the front of bytes, as `reading` says.
 
 ghost use Rattle.std.specs.Prelude.{◌≡◌, option_map};
-ghost use Rattle.command_core.specs.Reading.{Gives, many_at};
+ghost use Rattle.command_core.specs.Reading.{Gives};
 ghost use Rattle.broker_core.specs.Operations.{client_in as client_among};
 ghost use Rattle.snapshot_core.specs.Reading.{listed_at, named_by, own_line_at, subscription_at};
 
 use crate::entry_reading::optional_name_of;
+use crate::list_reading::listed_of;
 use crate::message_reading::{flight_of, line_of};
 use broker_core::{DurableName, GivenName, Subscription};
-use command_core::{DecodeFault, destination_of, mode_of, text_of, u32_of, u64_of};
+use command_core::{DecodeFault, destination_of, mode_of, text_of, u64_of};
 use line_core::Line;
 use std::alloc::Global;
 use std::collections::BTreeMap;
@@ -80,27 +81,7 @@ fn subscription_of<'a>(
     Ok((subscription, rest))
 }
 
-fn subscriptions_after_count<'a>(
-    alloc: Global,
-    sessions: &BTreeMap<u64, Option<GivenName>>,
-    count: u32,
-    bytes: &'a [u8],
-) -> Result<(Vec<Subscription>, &'a [u8]), DecodeFault>
-    ensures { Gives (λ x. (x.0.items, x.1.now)) result
-        (many_at (subscription_at sessions.now.entries) count bytes.now) }
-{
-    let mut subscriptions = Vec::new(alloc);
-    let mut rest = bytes;
-    for _ in 0..count {
-        let (subscription, after) = subscription_of(alloc, sessions, rest)?;
-        subscriptions.push(subscription)?;
-        rest = after;
-    }
-    Ok((subscriptions, rest))
-}
-
 /// The subscriptions of these sessions, in waiting order behind their count.
-#[tactic(auto, unfolding(crate::specs::Reading::listed_at))]
 pub fn subscriptions_of<'a>(
     alloc: Global,
     sessions: &BTreeMap<u64, Option<GivenName>>,
@@ -108,6 +89,5 @@ pub fn subscriptions_of<'a>(
 ) -> Result<(Vec<Subscription>, &'a [u8]), DecodeFault>
     ensures { Gives (λ x. (x.0.items, x.1.now)) result (listed_at (subscription_at sessions.now.entries) bytes.now) }
 {
-    let (count, rest) = u32_of(bytes)?;
-    subscriptions_after_count(alloc, sessions, count, rest)
+    listed_of(alloc, bytes, |rest| subscription_of(alloc, sessions, rest))
 }

@@ -1,9 +1,9 @@
 use Rattle.std.proofs.Common.{◌≡◌, ◌++◌, [], rules}
 use Rattle.std.specs.Int.{w64, to_be_bytes}
-use Rattle.snapshot_core.specs.Snapshots.{IsLine, durable, listed, queue, session, subscription}
+use Rattle.snapshot_core.specs.Snapshots.{durable, listed, queue, session, subscription}
 use Rattle.snapshot_core.proofs.Counted.{few_in_queues, few_queues, few_under_names}
-use Rattle.snapshot_core.proofs.NamedLines.{lines_of_bound}
 use Rattle.snapshot_core.proofs.Puts.{then_put}
+use Rattle.snapshot_core.proofs.SnapshotForms.{names_formed}
 use Rattle.snapshot_core.proofs.encoding.encode_state.Goals as goal
 
 pub put_durables-requires-clause-short : goal.put_durables-requires-clause-short
@@ -41,7 +41,7 @@ returns c =
         sessions = sessions.form;
         few_sessions = c.requires.few_sessions;
         durables = durables.form;
-        names = lines_of_bound IsLine s.shared.names s.durables sound.order.names sound.names.lines durables.lines;
+        names = names_formed s sound durables.lines;
         queues = queues.form;
         subscriptions = subscriptions.form;
         few_subscriptions = c.requires.few_subscriptions;

@@ -3,16 +3,16 @@ use Rattle.std.proofs.Common.{length, sym}
 use Rattle.std.proofs.lemmas.Option.{get_or_from_slice_get, slice_get_within}
 use Rattle.command_core.proofs.Walks.{all_more, put_more}
 use Rattle.snapshot_core.specs.Snapshots.{IsSubscription, subscription}
-use Rattle.snapshot_core.proofs.Counted.{few_deliveries, few_waiting, waits_in_own}
+use Rattle.snapshot_core.proofs.Counted.{holds_few, waits_in_own}
 use Rattle.snapshot_core.proofs.encoding.put_subscriptions.Goals as goal
 
 pub put_subscription-requires-clause-short : goal.put_subscription-requires-clause-short
 put_subscription-requires-clause-short c =
-    few_waiting c.args.broker.now.state c.requires.sound c.loop-at.at c.subscription.result.now c.subscription.ensures
+    (holds_few c.args.broker.now.state c.requires.sound c.loop-at.at c.subscription.result.now c.subscription.ensures).0
 
 pub put_subscription-requires-clause-few : goal.put_subscription-requires-clause-few
 put_subscription-requires-clause-few c =
-    few_deliveries c.args.broker.now.state c.requires.sound c.loop-at.at c.subscription.result.now c.subscription.ensures
+    (holds_few c.args.broker.now.state c.requires.sound c.loop-at.at c.subscription.result.now c.subscription.ensures).1
 
 pub put_subscription-requires-clause-own : goal.put_subscription-requires-clause-own
 put_subscription-requires-clause-own c =

@@ -1,7 +1,7 @@
 use Rattle.std.proofs.Common.{◌-◌, ◌∙◌, get_or, sym, ap, arith}
 use Rattle.std.specs.Cmp.{Some-then}
 use Rattle.std.specs.Ordering.{is_lt, is_some_and, nat_cmp}
-use Rattle.snapshot_core.proofs.RisingLists.{messages_fall, messages_rise, rising_from}
+use Rattle.snapshot_core.proofs.RisingLists.{from_rising, messages_fall, rising_near}
 use Rattle.snapshot_core.proofs.rising.is_rising.Goals as goal
 
 pub returns-then-lt-clause-test : goal.returns-then-lt-clause-test
@@ -15,8 +15,8 @@ returns-then-lt-clause-test c =
 
 pub returns-clause-test : goal.returns-clause-test
 returns-clause-test c =
-    sym (messages_rise c.args.messages.now (λ k d within. c.loop-place.invariant k d (omega arith)))
+    sym (from_rising c.args.messages.now (rising_near c.args.messages.now (λ k d within. c.loop-place.invariant k d (omega arith))))
 
 pub returns-clause-rising : goal.returns-clause-rising
 returns-clause-rising c _ =
-    rising_from c.args.messages.now (messages_rise c.args.messages.now (λ k d within. c.loop-place.invariant k d (omega arith)))
+    rising_near c.args.messages.now (λ k d within. c.loop-place.invariant k d (omega arith))

@@ -1,7 +1,7 @@
 use Rattle.std.proofs.Common.{◌∙◌, sym, ap, arith}
 use Rattle.std.specs.Map.{keys_of}
 use Rattle.std.specs.Ordering.{is_lt}
-use Rattle.snapshot_core.proofs.RisingLists.{entries_fall, entries_rise, sorted_from}
+use Rattle.snapshot_core.proofs.RisingLists.{entries_fall, rises_from, sorted_near}
 use Rattle.snapshot_core.proofs.rising.rises.Goals as goal
 
 pub returns-then-not-is_lt-clause-test : goal.returns-then-not-is_lt-clause-test
@@ -11,8 +11,8 @@ returns-then-not-is_lt-clause-test g c =
 
 pub returns-clause-test : goal.returns-clause-test
 returns-clause-test g c =
-    sym (entries_rise g.K.Ord.cmp g.met.K.Ord.total c.args.items.now (λ k d within. c.loop-place.invariant k d (omega arith)))
+    sym (rises_from g.K.Ord.cmp (keys_of c.args.items.now) (sorted_near g.K.Ord.cmp g.met.K.Ord.total c.args.items.now (λ k d within. c.loop-place.invariant k d (omega arith))))
 
 pub returns-clause-rising : goal.returns-clause-rising
 returns-clause-rising g c _ =
-    sorted_from g.K.Ord.cmp (keys_of c.args.items.now) (entries_rise g.K.Ord.cmp g.met.K.Ord.total c.args.items.now (λ k d within. c.loop-place.invariant k d (omega arith)))
+    sorted_near g.K.Ord.cmp g.met.K.Ord.total c.args.items.now (λ k d within. c.loop-place.invariant k d (omega arith))

@@ -1,0 +1,19 @@
+use Rattle.std.proofs.Common.{Err, Ok}
+use Rattle.std.proofs.lemmas.Result.{err_from_is_err_and}
+use Rattle.command_core.specs.Reading.{many_at}
+use Rattle.command_core.proofs.ReadLoops.{ends, goes_on, is_done}
+use Rattle.snapshot_core.proofs.list_reading.many_of.Goals as goal
+
+pub returns-in_err-item : goal.returns-in_err-item
+returns-in_err-item g c one reads =
+    let p = err_from_is_err_and c.from_residual.result c.from_residual.ensures.1 in
+    rw (p.1, p.2) (ends c.in_err-item.field-0.0 one c.loop.items.items c.args.count c.loop.counter c.loop.rest.now (many_at one c.args.count c.args.bytes.now) c.loop-test.true (reads c.loop.rest (Err c.in_err-item.field-0.0) c.in_err-item.ensures) (c.loop.invariant one reads))
+
+pub loop-preserved : goal.loop-preserved
+loop-preserved g c one reads =
+    let read = c.in_ok-item in
+    rw c.in_ok-push.ensures.items (goes_on one c.loop.items.items c.args.count c.loop.counter c.loop.rest.now read.item read.after.now (many_at one c.args.count c.args.bytes.now) c.loop-test.true (reads c.loop.rest (Ok (read.item, read.after)) read.ensures) (c.loop.invariant one reads))
+
+pub returns : goal.returns
+returns g c one reads =
+    is_done one c.loop.items.items c.args.count c.loop.counter c.loop.rest.now (many_at one c.args.count c.args.bytes.now) c.loop-test.false (c.loop.invariant one reads)
