@@ -1,11 +1,9 @@
 -- Reading one after the other, as a loop does.
-use Rattle.std.proofs.Common.{◌≡◌, ℕ, zero, suc, ◌-◌, ◌+◌, ◌≤◌, ◌<◌, List, [], ◌∷◌, ◌++◌, Option, Some, None, length, refl, sym, ap, ◌∙◌, append_assoc, arith}
+use Rattle.std.proofs.Common.{◌≡◌, ℕ, suc, ◌-◌, ◌+◌, ◌≤◌, ◌<◌, List, [], ◌∷◌, ◌++◌, Option, Some, None, refl, sym, ap, ◌∙◌, append_assoc, arith}
 use Rattle.std.proofs.lemmas.List.{append-nil}
-use Rattle.std.proofs.lemmas.Option.{some_pair_parts}
 use Rattle.command_core.specs.declared.decode_fault.DecodeFault.{DecodeFault}
 use Rattle.command_core.specs.declared.decode_fault.DecodeFault.TheVariants as faults
 use Rattle.command_core.specs.Reading.{◌>>=◌, Fails, Reader, many_at}
-use Rattle.command_core.proofs.Formats.{bind_some}
 
 -- what was read before, and what is still read
 abbrev pub with_front : {A : Type 0} → List A → Option (List A × List ℕ) → Option (List A × List ℕ)
@@ -38,13 +36,3 @@ is_done {A} read front count i bytes total le so_far =
     let k : count - i ≡ 0 = omega arith in
     let turn : with_front front (many_at read (count - i) bytes) ≡ Some (front, bytes) = rw k (ap (λ (all : List A). Some (all, bytes)) (append-nil front)) in
     sym so_far ∙ turn
-
--- as many are read as were to be
-pub many_length : {A : Type 0} (read : Reader A) (n : ℕ) (bytes : List ℕ) (xs : List A) (rest : List ℕ) → many_at read n bytes ≡ Some (xs, rest) → length xs ≡ n
-unfolding many_at
-many_length read zero bytes xs rest e = ap length (sym (some_pair_parts [] xs bytes rest e).0)
-many_length read (suc n) bytes xs rest e =
-    let first = bind_some (read bytes) (λ first. many_at read n first.1 >>= λ others. Some (first.0 ∷ others.0, others.1)) (xs, rest) e in
-    let others = bind_some (many_at read n first.0.1) (λ others. Some (first.0.0 ∷ others.0, others.1)) (xs, rest) first.2 in
-    let same = some_pair_parts (first.0.0 ∷ others.0.0) xs others.0.1 rest others.2 in
-    ap length (sym same.0) ∙ ap suc (many_length read n first.0.1 others.0.0 others.0.1 others.1)

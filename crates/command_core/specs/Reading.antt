@@ -1,5 +1,6 @@
 -- Reading from the front of bytes: what is read and the bytes behind it, or nothing where no spelling begins them.
 use Rattle.std.specs.Prelude.{◌≡◌, ◌==◌, ◌&&◌, ◌||◌, ℕ, zero, suc, Bool, true, List, [], ◌∷◌, Option, Some, None, Result, Ok, Err, length, take, drop, is_some, not, if◌then◌else◌, nat_lt, nat_le}
+use Rattle.std.specs.Borrow.{Bor}
 use Rattle.std.specs.Int.{Width, w16, w32, w64, byte_len, from_be_bytes}
 use Rattle.std.specs.List.{list_all}
 use Rattle.std.specs.Str.{is_utf8}
@@ -41,6 +42,11 @@ Gives view (Err e) read = Fails e read
 
 abbrev pub Reader : Type 0 → Type 0
 Reader A = List ℕ → Option (A × List ℕ)
+
+-- What each call answers, whose arguments and answers these are, is what reading gives.
+abbrev pub Reads : {A : Type 0} → (Bor (List ℕ) → Result (A × Bor (List ℕ)) DecodeFault → Type 0) → Reader A → Type 0
+Reads {A} post one =
+    (bytes : Bor (List ℕ)) (r : Result (A × Bor (List ℕ)) DecodeFault) → post bytes r → Gives (λ x. (x.0, x.1.now)) r (one bytes.now)
 
 -- what is read, made into something else
 abbrev pub made : {A B : Type 0} → (A → B) → Option (A × List ℕ) → Option (B × List ℕ)

@@ -4,7 +4,7 @@ ghost use Rattle.std.specs.Prelude.{◌≡◌, ◌≤◌, ◌&&◌, ℕ, IfOk, I
 ghost use Rattle.std.specs.Int.{w64};
 ghost use Rattle.command_core.specs.declared.decode_fault.DecodeFault.{DecodeFault};
 ghost use Rattle.command_core.specs.Commands.{CommandValue};
-ghost use Rattle.command_core.specs.Reading.{Gives, fault_at, end_at, subscribe_at, unsubscribe_at, member_at, many_at, list_at, operation_at, command_at};
+ghost use Rattle.command_core.specs.Reading.{Gives, fault_at, end_at, subscribe_at, unsubscribe_at, member_at, list_at, operation_at, command_at};
 ghost use Rattle.command_core.specs.Reading.{fits as fits_with};
 ghost use Rattle.command_core.specs.Spellings.{Spells};
 
@@ -14,7 +14,8 @@ use crate::fault::Fault;
 use crate::header_text::HeaderText;
 use crate::member::{Member, Members};
 use crate::reading::{
-    byte_of, destination_of, mode_of, name_of, optional_of, sending_of, text_of, u16_of, u64_of,
+    byte_of, destination_of, many_of, mode_of, name_of, optional_of, sending_of, text_of, u16_of,
+    u64_of,
 };
 use std::alloc::Global;
 
@@ -99,23 +100,6 @@ fn member_of(alloc: Global, bytes: &[u8]) -> Result<(Member, &[u8]), DecodeFault
     }
 }
 
-fn members_after_count(
-    alloc: Global,
-    count: u16,
-    bytes: &[u8],
-) -> Result<(Vec<Member>, &[u8]), DecodeFault>
-    ensures { Gives (λ x. (x.0.items, x.1.now)) result (many_at member_at count bytes.now) }
-{
-    let mut members = Vec::new(alloc);
-    let mut rest = bytes;
-    for _ in 0..count {
-        let (member, after) = member_of(alloc, rest)?;
-        members.push(member)?;
-        rest = after;
-    }
-    Ok((members, rest))
-}
-
 #[tactic(auto, unfolding(crate::specs::Reading::list_at))]
 fn members_of(alloc: Global, bytes: &[u8]) -> Result<(Members, &[u8]), DecodeFault>
     ensures { Gives (λ x. (x.0, x.1.now)) result (list_at member_at bytes.now) }
@@ -124,7 +108,7 @@ fn members_of(alloc: Global, bytes: &[u8]) -> Result<(Members, &[u8]), DecodeFau
     if count > 64 {
         return Err(DecodeFault::NoSpelling);
     }
-    let (members, rest) = members_after_count(alloc, count, rest)?;
+    let (members, rest) = many_of(alloc, u32::from(count), rest, |rest| member_of(alloc, rest))?;
     Ok((Members::new(members), rest))
 }
 

@@ -31,7 +31,7 @@ pub use header_text::{HeaderText, is_header_text};
 pub use laws::spellings_begin_no_other;
 pub use member::{Member, Members};
 pub use out::Out;
-pub use reading::{destination_of, mode_of, name_of, sending_of, text_of, u32_of, u64_of};
+pub use reading::{destination_of, many_of, mode_of, name_of, sending_of, text_of, u32_of, u64_of};
 pub use replies::{connected_reply, error_reply, message_reply, receipt_reply};
 pub use sending::{Sending, is_kept_name};
 pub use sizes::{member_size, op_size};

@@ -4,7 +4,7 @@
 
 ghost use Rattle.std.specs.Prelude.{◌≡◌, ◌≤◌, IfOk, length};
 ghost use Rattle.std.specs.Int.{w16, w32, w64};
-ghost use Rattle.command_core.specs.Reading.{Gives, byte_at, number_at, counted_at, text_at, optional_at, name_at, destination_at, mode_at, pair_at, many_at, list_at, sending_at};
+ghost use Rattle.command_core.specs.Reading.{Gives, Reader, Reads, byte_at, number_at, counted_at, text_at, optional_at, name_at, destination_at, mode_at, pair_at, many_at, list_at, sending_at};
 ghost use Rattle.command_core.specs.Reading.{is_kept_named as keeps};
 ghost use Rattle.command_core.specs.Operations.{IsGiven};
 ghost use Rattle.command_core.specs.Texts.{IsHeaderText};
@@ -184,21 +184,26 @@ fn header_of(alloc: Global, bytes: &[u8]) -> Result<((Text, Text), &[u8]), Decod
     Ok(((name, value), rest))
 }
 
-fn headers_after_count(
+/// So many items behind one another, each as `read` reads one. No room is taken by the count: it may be a lie.
+pub fn many_of<'a, X: Drop, F: Fn(&'a [u8]) -> Result<(X, &'a [u8]), DecodeFault>>(
     alloc: Global,
-    count: u16,
-    bytes: &[u8],
-) -> Result<(Vec<(Text, Text)>, &[u8]), DecodeFault>
-    ensures { Gives (λ x. (x.0.items, x.1.now)) result (many_at pair_at count bytes.now) }
+    count: u32,
+    bytes: &'a [u8],
+    read: F,
+) -> Result<(Vec<X>, &'a [u8]), DecodeFault>
+    requires { F.IsAlwaysCallable read }
+    ensures read { (one : Reader X) → Reads (F.post read) one
+        → Gives (λ x. (x.0.items, x.1.now)) result (many_at one count bytes.now) }
+    ensures count { IfOk result (λ x. length x.0.items ≡ count) }
 {
-    let mut headers = Vec::new(alloc);
+    let mut items = Vec::new(alloc);
     let mut rest = bytes;
     for _ in 0..count {
-        let (header, after) = header_of(alloc, rest)?;
-        headers.push(header)?;
+        let (item, after) = read(rest)?;
+        items.push(item)?;
         rest = after;
     }
-    Ok((headers, rest))
+    Ok((items, rest))
 }
 
 #[tactic(auto, unfolding(crate::specs::Reading::list_at))]
@@ -209,7 +214,7 @@ fn headers_of(alloc: Global, bytes: &[u8]) -> Result<(Headers, &[u8]), DecodeFau
     if count > 64 {
         return Err(DecodeFault::NoSpelling);
     }
-    let (headers, rest) = headers_after_count(alloc, count, rest)?;
+    let (headers, rest) = many_of(alloc, u32::from(count), rest, |rest| header_of(alloc, rest))?;
     Ok((Headers::new(headers), rest))
 }
 

@@ -1,15 +1,13 @@
 -- Reading the parts of a snapshot from the front of bytes: what is read and the bytes behind it, or nothing where no
 -- spelling begins them.
-use Rattle.std.specs.Prelude.{◌&&◌, ◌||◌, ℕ, Bool, true, false, List, [], ◌∷◌, Option, Some, None, Result, length, map, is_some, not, nat_lt, if◌then◌else◌}
-use Rattle.std.specs.Borrow.{Bor}
+use Rattle.std.specs.Prelude.{◌&&◌, ◌||◌, ℕ, Bool, true, false, List, [], ◌∷◌, Option, Some, None, length, map, is_some, not, nat_lt, if◌then◌else◌}
 use Rattle.std.specs.Int.{w32, w64}
 use Rattle.std.specs.List.{list_all}
 use Rattle.std.specs.Map.{keys_of}
 use Rattle.std.specs.Ordering.{is_lt, nat_cmp}
 use Rattle.std.specs.declared.cmp.Ordering.{Ordering}
 use Rattle.command_core.specs.Destinations.{is_queue}
-use Rattle.command_core.specs.declared.decode_fault.DecodeFault.{DecodeFault}
-use Rattle.command_core.specs.Reading.{◌>>=◌, Gives, Reader, destination_at, many_at, mode_at, name_at, number_at, sending_at, text_at}
+use Rattle.command_core.specs.Reading.{◌>>=◌, Reader, destination_at, many_at, mode_at, name_at, number_at, sending_at, text_at}
 use Rattle.line_core.specs.declared.message.Message.{Message}
 use Rattle.line_core.specs.Lines.{by_number}
 use Rattle.broker_core.specs.declared.subscription.Subscription.{Subscription}
@@ -26,11 +24,6 @@ unfoldable pub listed_at : {A : Type 0} → Reader A → Reader (List A)
 listed_at one bytes = do
   n ← number_at w32 bytes
   many_at one n.0 n.1
-
--- what each call answers, whose arguments and answers these are, is what reading gives
-abbrev pub Reads : {A : Type 0} → (Bor (List ℕ) → Result (A × Bor (List ℕ)) DecodeFault → Type 0) → Reader A → Type 0
-Reads {A} post one =
-    (bytes : Bor (List ℕ)) (r : Result (A × Bor (List ℕ)) DecodeFault) → post bytes r → Gives (λ x. (x.0, x.1.now)) r (one bytes.now)
 
 -- whether each key is under those after it
 unfoldable pub rises : {K : Type 0} → (K → K → Ordering) → List K → Bool
