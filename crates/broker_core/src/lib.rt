@@ -51,10 +51,3 @@ pub use sound_laws::{
 };
 pub use subscription::Subscription;
 pub use tables::Held;
-
-#[cfg(test)]
-mod durable_tests;
-#[cfg(test)]
-mod parts_tests;
-#[cfg(test)]
-mod tests;

@@ -1,5 +1,5 @@
-use super::*;
 use crate::tests::{Event, are_messages, carry_out, greeting, header_text};
+use broker_core::{Broker, DurableName, GivenName, Parts};
 use command_core::{AckMode, Dest};
 use line_core::{Line, Message, MessageNumber};
 use std::alloc::Global;

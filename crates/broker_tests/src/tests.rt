@@ -1,6 +1,6 @@
 ghost use Rattle.std.specs.Prelude.{◌<◌, IfOk, length};
 
-use super::*;
+use broker_core::Broker;
 use command_core::{
     AckMode, Command, Dest, End, Fault, HeaderText, Member, Members, Op, Out, Sending,
 };

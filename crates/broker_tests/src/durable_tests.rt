@@ -1,5 +1,5 @@
-use crate::Broker;
 use crate::tests::{Event, are_messages, carry_out, is_one, last_of, many};
+use broker_core::Broker;
 use command_core::{AckMode, End, Out};
 use frame_core::Verb;
 use std::alloc::Global;

@@ -1,0 +1,11 @@
+//! Tests of the broker by its public face. They are a crate of their own, since a crate that has tests is proved twice: once
+//! without them and once with them.
+
+#![tactic(auto)]
+
+#[cfg(test)]
+mod durable_tests;
+#[cfg(test)]
+mod parts_tests;
+#[cfg(test)]
+mod tests;
