@@ -10,7 +10,7 @@ use std::test::Fail;
 
 /// What happens to a broker: by which session, and what is named.
 #[derive(Drop)]
-pub enum Event<'a> {
+pub(crate) enum Event<'a> {
     Connect,
     /// By a client that has this name.
     ConnectAs(&'a str),
@@ -28,7 +28,7 @@ pub enum Event<'a> {
     End(u64, End),
 }
 
-pub fn header_text(alloc: Global, text: &str) -> Result<HeaderText, Fail> {
+pub(crate) fn header_text(alloc: Global, text: &str) -> Result<HeaderText, Fail> {
     let text = Text::new(String::from_str(alloc, text)?);
     if !command_core::is_header_text(text.as_str()) {
         return Err(Fail::from("no text of a header"));
@@ -47,7 +47,7 @@ fn name_text(alloc: Global, text: &str) -> Result<HeaderText, Fail>
     Ok(name)
 }
 
-pub fn greeting(alloc: Global, to: &str) -> Result<Sending, Fail> {
+pub(crate) fn greeting(alloc: Global, to: &str) -> Result<Sending, Fail> {
     let destination = Dest::read(alloc, to)?;
     let body = Bytes::new(Vec::from_slice(alloc, b"hi")?);
     Ok(Sending::new(destination, Headers::new(Vec::new(alloc)), body))
@@ -151,7 +151,11 @@ fn command_of(alloc: Global, event: &Event<'_>) -> Result<Command, Fail> {
 }
 
 /// Carries the command out, where the broker can count one more.
-pub fn carry_out(alloc: Global, broker: &mut Broker, event: &Event<'_>) -> Result<Vec<Out>, Fail> {
+pub(crate) fn carry_out(
+    alloc: Global,
+    broker: &mut Broker,
+    event: &Event<'_>,
+) -> Result<Vec<Out>, Fail> {
     if broker.count() >= 10_000 {
         return Err(Fail::from("too many commands"));
     }
@@ -160,7 +164,11 @@ pub fn carry_out(alloc: Global, broker: &mut Broker, event: &Event<'_>) -> Resul
 }
 
 /// Carries all out, and gives what the last one gives.
-pub fn last_of(alloc: Global, broker: &mut Broker, events: &[Event<'_>]) -> Result<Vec<Out>, Fail> {
+pub(crate) fn last_of(
+    alloc: Global,
+    broker: &mut Broker,
+    events: &[Event<'_>],
+) -> Result<Vec<Out>, Fail> {
     let mut outs = Vec::new(alloc);
     for event in events {
         outs = carry_out(alloc, broker, event)?;
@@ -169,7 +177,7 @@ pub fn last_of(alloc: Global, broker: &mut Broker, events: &[Event<'_>]) -> Resu
 }
 
 /// Carries one out again and again, and gives how many outputs there are in all.
-pub fn many(
+pub(crate) fn many(
     alloc: Global,
     broker: &mut Broker,
     event: &Event<'_>,
@@ -183,7 +191,7 @@ pub fn many(
 }
 
 /// Whether it is one output to that session, of that verb, whose last header has that value.
-pub fn is_one(outs: &[Out], session: u64, verb: Verb, value: &str) -> bool {
+pub(crate) fn is_one(outs: &[Out], session: u64, verb: Verb, value: &str) -> bool {
     match outs {
         [out] => {
             let told = match out.frame().headers.as_slice() {
@@ -197,7 +205,7 @@ pub fn is_one(outs: &[Out], session: u64, verb: Verb, value: &str) -> bool {
 }
 
 /// Whether these are MESSAGEs, in order: to which session, for which subscription, which message.
-pub fn are_messages(outs: &[Out], expected: &[(u64, &str, &str)]) -> bool {
+pub(crate) fn are_messages(outs: &[Out], expected: &[(u64, &str, &str)]) -> bool {
     outs.len() == expected.len()
         && outs.iter().zip(expected).all(|(out, (session, id, name))| is_message(
             out, *session, id, name,
