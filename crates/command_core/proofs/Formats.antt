@@ -149,7 +149,7 @@ byte = record { takes = byte_takes; again = λ b rest lt. refl }
 
 -- ---- lists
 
-many_takes : {A : Type 0} (spell : A → List ℕ) (Form : A → Type 0) (read : Reader A) → Format spell Form read → (n : ℕ) (bytes : List ℕ) (xs : List A) (rest : List ℕ) → AreBytes bytes → many_at read n bytes ≡ Some (xs, rest)
+pub many_takes : {A : Type 0} (spell : A → List ℕ) (Form : A → Type 0) (read : Reader A) → Format spell Form read → (n : ℕ) (bytes : List ℕ) (xs : List A) (rest : List ℕ) → AreBytes bytes → many_at read n bytes ≡ Some (xs, rest)
     → Takes bytes (flat_map spell xs) rest × ((length xs ≡ n) × AllByRecursion Form xs)
 unfolding many_at
 many_takes {A} spell Form read format zero bytes xs rest fits e =
@@ -161,7 +161,7 @@ many_takes {A} spell Form read format (suc n) bytes xs rest fits e =
     let both = Takes-then bytes (spell first.value) first.rest (flat_map spell b.0.0) b.0.1 first.taken others.0 in
     last_takes (flat_map spell) (λ ys. (length ys ≡ suc n) × AllByRecursion Form ys) bytes (first.value ∷ b.0.0, b.0.1) (xs, rest) b.2 (rw flat_map-cons both, (ap suc others.1.0, (first.form, others.1.1)))
 
-many_again : {A : Type 0} (spell : A → List ℕ) (Form : A → Type 0) (read : Reader A) → Format spell Form read → (xs : List A) (rest : List ℕ) → AllByRecursion Form xs → many_at read (length xs) (flat_map spell xs ++ rest) ≡ Some (xs, rest)
+pub many_again : {A : Type 0} (spell : A → List ℕ) (Form : A → Type 0) (read : Reader A) → Format spell Form read → (xs : List A) (rest : List ℕ) → AllByRecursion Form xs → many_at read (length xs) (flat_map spell xs ++ rest) ≡ Some (xs, rest)
 unfolding many_at
 many_again spell Form read format [] rest forms = refl
 many_again {A} spell Form read format (x ∷ xs) rest forms =

@@ -1,15 +1,14 @@
 -- Lists, messages and lines in snapshots.
-use Rattle.std.proofs.Common.{◌≡◌, ℕ, zero, suc, ◌<◌, ◌^◌, ◌++◌, List, [], ◌∷◌, length, flat_map, Option, Some, refl, ap, sym, subst, ◌∙◌, append_assoc}
+use Rattle.std.proofs.Common.{◌≡◌, ℕ, ◌<◌, ◌^◌, ◌++◌, List, length, flat_map, Option, Some, refl, sym, subst, ◌∙◌, append_assoc}
 use Rattle.std.specs.Int.{w32, w64, to_be_bytes}
 use Rattle.std.specs.List.{AllByRecursion}
 use Rattle.std.specs.List.Sorted.{IsStrictlySortedBy}
 use Rattle.std.specs.Map.{keys_of}
 use Rattle.std.specs.declared.cmp.Ordering.{Ordering}
-use Rattle.std.proofs.lemmas.List.Concat.{flat_map-cons}
 use Rattle.command_core.specs.Reading.{◌>>=◌, Reader, many_at, number_at, sending_at}
 use Rattle.command_core.specs.Sendings.{SendingValue}
 use Rattle.command_core.specs.Spellings.{AreBytes, sending}
-use Rattle.command_core.proofs.Formats.{Format, Takes, Takes-then, First, bind_some, first_again, first_takes, last_takes, number, tested, wide32, wide64}
+use Rattle.command_core.proofs.Formats.{Format, Takes, Takes-then, First, first_again, first_takes, last_takes, many_again, many_takes, number, tested, wide32, wide64}
 use Rattle.command_core.proofs.RecordMessages.{sending_format}
 use Rattle.line_core.specs.declared.message.Message.{Message}
 use Rattle.snapshot_core.specs.Reading.{delivery_at, is_rising, keyed_at, listed_at, message_at, rises, waiting_at}
@@ -43,31 +42,12 @@ abbrev pub Keyed : {K X : Type 0} → (K → K → Ordering) → (K × X → Typ
 Keyed cmp Form xs = Listed Form xs × IsStrictlySortedBy cmp (keys_of xs)
 
 module _ {A : Type 0} {spell : A → List ℕ} {Form : A → Type 0} {read : Reader A} (format : Format spell Form read) where
-  many_takes : (n : ℕ) (bytes : List ℕ) (xs : List A) (rest : List ℕ) → AreBytes bytes → many_at read n bytes ≡ Some (xs, rest) → Takes bytes (flat_map spell xs) rest × ((length xs ≡ n) × AllByRecursion Form xs)
-  unfolding many_at
-  many_takes zero bytes xs rest fits e =
-      last_takes (flat_map spell) (λ ys. (length ys ≡ 0) × AllByRecursion Form ys) bytes ([], bytes) (xs, rest) e (record { parts = refl; fits = fits }, (refl, tt))
-  many_takes (suc n) bytes xs rest fits e =
-      let first = step_takes format (λ x. many_at read n x.1 >>= λ others. Some (x.0 ∷ others.0, others.1)) bytes (xs, rest) fits e in
-      let b = bind_some (many_at read n first.rest) (λ others. Some (first.value ∷ others.0, others.1)) (xs, rest) first.then in
-      let others = many_takes n first.rest b.0.0 b.0.1 first.taken.fits b.1 in
-      let both = Takes-then bytes (spell first.value) first.rest (flat_map spell b.0.0) b.0.1 first.taken others.0 in
-      last_takes (flat_map spell) (λ ys. (length ys ≡ suc n) × AllByRecursion Form ys) bytes (first.value ∷ b.0.0, b.0.1) (xs, rest) b.2 (rw flat_map-cons both, (ap suc others.1.0, (first.form, others.1.1)))
-
-  many_again : (xs : List A) (rest : List ℕ) → AllByRecursion Form xs → many_at read (length xs) (flat_map spell xs ++ rest) ≡ Some (xs, rest)
-  unfolding many_at
-  many_again [] rest forms = refl
-  many_again (x ∷ xs) rest forms =
-      step_again format (λ y. many_at read (length xs) y.1 >>= λ others. Some (y.0 ∷ others.0, others.1)) (flat_map spell (x ∷ xs) ++ rest) x (flat_map spell xs ++ rest) (Some (x ∷ xs, rest))
-      (ap (λ (y : List ℕ). y ++ rest) (flat_map-cons spell x xs) ∙ append_assoc (spell x) (flat_map spell xs) rest) forms.0
-      (ap (λ o. o >>= λ others. Some (x ∷ others.0, others.1)) (many_again xs rest forms.1))
-
   -- behind their count
   listed_takes : (bytes : List ℕ) (xs : List A) (rest : List ℕ) → AreBytes bytes → listed_at read bytes ≡ Some (xs, rest) → Takes bytes (listed spell xs) rest × Listed Form xs
   unfolding listed_at
   listed_takes bytes xs rest fits e =
       let count = step_takes numbers32 (λ n. many_at read n.0 n.1) bytes (xs, rest) fits e in
-      let many = many_takes count.value count.rest xs rest count.taken.fits count.then in
+      let many = many_takes spell Form read format count.value count.rest xs rest count.taken.fits count.then in
       let both = Takes-then bytes (to_be_bytes w32 count.value) count.rest (flat_map spell xs) rest count.taken many.0 in
       (subst (λ (n : ℕ). Takes bytes (to_be_bytes w32 n ++ flat_map spell xs) rest) (sym many.1.0) both, (subst (λ (n : ℕ). n < 2 ^ 32) (sym many.1.0) count.form, many.1.1))
 
@@ -75,7 +55,7 @@ module _ {A : Type 0} {spell : A → List ℕ} {Form : A → Type 0} {read : Rea
   unfolding listed_at
   listed_again xs rest form =
       step_again numbers32 (λ n. many_at read n.0 n.1) (listed spell xs ++ rest) (length xs) (flat_map spell xs ++ rest) (Some (xs, rest))
-      (append_assoc (to_be_bytes w32 (length xs)) (flat_map spell xs) rest) form.0 (many_again xs rest form.1)
+      (append_assoc (to_be_bytes w32 (length xs)) (flat_map spell xs) rest) form.0 (many_again spell Form read format xs rest form.1)
 
   pub listed_format : Format (listed spell) (Listed Form) (listed_at read)
   listed_format = record { takes = listed_takes; again = listed_again }
