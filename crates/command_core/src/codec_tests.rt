@@ -6,38 +6,81 @@ use std::test::Fail;
 // Session 0, receipt `r1`, a Send to `/queue/a` with no headers and the body `hi`.
 const GREETING: &[u8] = b"\0\0\0\0\0\0\0\0\x01\0\0\0\x02r1\x02\0\0\0\x08/queue/a\0\0\0\0\0\x02hi";
 
-// A record of each kind of operation, and of each of its forms.
-const RECORDS: [&[u8]; 22] = [
+// A record of each kind of operation, and of each of its forms. Beside each byte stands what comes of it where it is one
+// greater: `.` another record (which may be shorter), and `x` none.
+const RECORDS: [(&[u8], &str); 22] = [
     // Open, of nobody and of `me`.
-    b"\0\0\0\0\0\0\0\0\0\x01\0",
-    b"\0\0\0\0\0\0\0\0\0\x01\x01\0\0\0\x02me",
+    (b"\0\0\0\0\0\0\0\0\0\x01\0", "xxxxxxxxxxx"),
+    (
+        b"\0\0\0\0\0\0\0\0\0\x01\x01\0\0\0\x02me",
+        "xxxxxxxxxxxxxxx..",
+    ),
     // Send, with the header `k` of value `v` and no body.
-    GREETING,
-    b"\0\0\0\0\0\0\0\x05\0\x02\0\0\0\x08/topic/t\0\x01\0\0\0\x01k\0\0\0\x01v\0\0\0\0",
+    (GREETING, "........xxxxx..xxxxxxxxxxxx.xxxxxx.."),
+    (
+        b"\0\0\0\0\0\0\0\x05\0\x02\0\0\0\x08/topic/t\0\x01\0\0\0\x01k\0\0\0\x01v\0\0\0\0",
+        "........xxxxxxxxxxxxx.xxxxxx.xxxx.xxxx",
+    ),
     // Subscribe under `s`, with each mode and the durable name `d`.
-    b"\0\0\0\0\0\0\0\x05\0\x03\0\0\0\x01s\0\0\0\x08/topic/t\x02\x01\0\0\0\x01d",
-    b"\0\0\0\0\0\0\0\x05\0\x03\0\0\0\x01s\0\0\0\x08/queue/q\x01\0",
-    b"\0\0\0\0\0\0\0\x05\0\x03\0\0\0\0\0\0\0\x08/queue/q\0\0",
+    (
+        b"\0\0\0\0\0\0\0\x05\0\x03\0\0\0\x01s\0\0\0\x08/topic/t\x02\x01\0\0\0\x01d",
+        "........xxxxxx.xxxxxxxxxxx.xxxxxx.",
+    ),
+    (
+        b"\0\0\0\0\0\0\0\x05\0\x03\0\0\0\x01s\0\0\0\x08/queue/q\x01\0",
+        "........xxxxxx.xxxxxxxxxxx..x",
+    ),
+    (
+        b"\0\0\0\0\0\0\0\x05\0\x03\0\0\0\0\0\0\0\x08/queue/q\0\0",
+        "........xxxxxxxxxxxxxxxxx..x",
+    ),
     // Unsubscribe by an id, by an empty one, by a name and by both.
-    b"\0\0\0\0\0\0\0\x05\0\x04\x01\0\0\0\x01s\0",
-    b"\0\0\0\0\0\0\0\x05\0\x04\x01\0\0\0\0\0",
-    b"\0\0\0\0\0\0\0\x05\0\x04\0\x01\0\0\0\x01d",
-    b"\0\0\0\0\0\0\0\x05\0\x04\x01\0\0\0\x01s\x01\0\0\0\x01d",
+    (
+        b"\0\0\0\0\0\0\0\x05\0\x04\x01\0\0\0\x01s\0",
+        "........xxxxxxx.x",
+    ),
+    (
+        b"\0\0\0\0\0\0\0\x05\0\x04\x01\0\0\0\0\0",
+        "........xxxxxxxx",
+    ),
+    (
+        b"\0\0\0\0\0\0\0\x05\0\x04\0\x01\0\0\0\x01d",
+        "........xxxxxxxx.",
+    ),
+    (
+        b"\0\0\0\0\0\0\0\x05\0\x04\x01\0\0\0\x01s\x01\0\0\0\x01d",
+        "........x.xxxx..xxxxx.",
+    ),
     // Ack of 258 and Nack of 2^64 - 1.
-    b"\0\0\0\0\0\0\0\x05\0\x05\0\0\0\0\0\0\x01\x02",
-    b"\0\0\0\0\0\0\0\x05\0\x06\xff\xff\xff\xff\xff\xff\xff\xff",
+    (
+        b"\0\0\0\0\0\0\0\x05\0\x05\0\0\0\0\0\0\x01\x02",
+        "........x.........",
+    ),
+    (
+        b"\0\0\0\0\0\0\0\x05\0\x06\xff\xff\xff\xff\xff\xff\xff\xff",
+        "........xx........",
+    ),
     // Commit of nothing, of an Ack and a Nack, and of a Send.
-    b"\0\0\0\0\0\0\0\x05\0\x07\0\0",
-    b"\0\0\0\0\0\0\0\x05\0\x07\0\x02\x05\0\0\0\0\0\0\0\x03\x06\0\0\0\0\0\0\0\x04",
-    b"\0\0\0\0\0\0\0\x05\0\x07\0\x01\x02\0\0\0\x08/queue/a\0\0\0\0\0\x02hi",
+    (b"\0\0\0\0\0\0\0\x05\0\x07\0\0", "........x.xx"),
+    (
+        b"\0\0\0\0\0\0\0\x05\0\x07\0\x02\x05\0\0\0\0\0\0\0\x03\x06\0\0\0\0\0\0\0\x04",
+        "........x.xx.........x........",
+    ),
+    (
+        b"\0\0\0\0\0\0\0\x05\0\x07\0\x01\x02\0\0\0\x08/queue/a\0\0\0\0\0\x02hi",
+        "........x.xxxxxxxxxxxxxx.xxxxxx..",
+    ),
     // Note, without and with a receipt.
-    b"\0\0\0\0\0\0\0\x05\0\x08",
-    b"\0\0\0\0\0\0\0\x05\x01\0\0\0\0\x08",
+    (b"\0\0\0\0\0\0\0\x05\0\x08", "........xx"),
+    (b"\0\0\0\0\0\0\0\x05\x01\0\0\0\0\x08", "........xxxxxx"),
     // End: Bye, Lost, and Bad with the first and the last fault.
-    b"\0\0\0\0\0\0\0\x05\0\x09\0",
-    b"\0\0\0\0\0\0\0\x05\0\x09\x01",
-    b"\0\0\0\0\0\0\0\x05\0\x09\x02\x01",
-    b"\0\0\0\0\0\0\0\x05\x01\0\0\0\x01r\x09\x02\x14",
+    (b"\0\0\0\0\0\0\0\x05\0\x09\0", "........xx."),
+    (b"\0\0\0\0\0\0\0\x05\0\x09\x01", "........xxx"),
+    (b"\0\0\0\0\0\0\0\x05\0\x09\x02\x01", "........xxx."),
+    (
+        b"\0\0\0\0\0\0\0\x05\x01\0\0\0\x01r\x09\x02\x14",
+        "........xxxxx.xxx",
+    ),
 ];
 
 const REFUSED: [&[u8]; 23] = [
@@ -89,8 +132,41 @@ fn goes_both_ways(alloc: Global, record: &[u8]) -> Result<bool, DecodeFault> {
 
 #[test]
 fn each_record_is_read_and_written_again(rt: HostRuntime) -> Result<(), Fail> {
-    for record in &RECORDS {
+    for (record, _) in &RECORDS {
         assert!(rt; goes_both_ways(rt.alloc(), record)?);
+    }
+    Ok(())
+}
+
+// Whether a record begins the bytes, and is written as it stands there.
+fn begins_with_a_record(alloc: Global, bytes: &[u8]) -> Result<bool, DecodeFault> {
+    match decode(alloc, bytes) {
+        Ok((command, length)) => Ok(encode(alloc, &command)?.as_slice() == &bytes[..length]),
+        Err(DecodeFault::NoSpelling) => Ok(false),
+        Err(DecodeFault::Memory(refused)) => Err(DecodeFault::Memory(refused)),
+    }
+}
+
+// Whether that comes of the record which the marks say, with each byte one greater.
+fn bears_its_marks(alloc: Global, record: &[u8], marks: &str) -> Result<bool, DecodeFault> {
+    let mut bytes = Vec::from_slice(alloc, record)?;
+    for (at, mark) in marks.as_bytes().iter().enumerate() {
+        let Some(was) = record.get(at) else {
+            return Ok(false);
+        };
+        bytes[at] = was.wrapping_add(1);
+        if begins_with_a_record(alloc, &bytes)? != (*mark == b'.') {
+            return Ok(false);
+        }
+        bytes[at] = *was;
+    }
+    Ok(marks.len() == record.len())
+}
+
+#[test]
+fn each_byte_of_a_record_is_read(rt: HostRuntime) -> Result<(), Fail> {
+    for (record, marks) in &RECORDS {
+        assert!(rt; bears_its_marks(rt.alloc(), record, marks)?);
     }
     Ok(())
 }
@@ -102,10 +178,20 @@ fn nothing_else_is_read(rt: HostRuntime) {
     }
 }
 
+// Whether no front of the record is one, other than the whole.
+fn has_no_shorter(alloc: Global, record: &[u8]) -> bool {
+    for length in 0..record.len() {
+        if !is_no_spelling(alloc, &record[..length]) {
+            return false;
+        }
+    }
+    true
+}
+
 #[test]
 fn a_part_of_a_record_is_none(rt: HostRuntime) {
-    for length in 0..GREETING.len() {
-        assert!(rt; is_no_spelling(rt.alloc(), &GREETING[..length]));
+    for (record, _) in &RECORDS {
+        assert!(rt; has_no_shorter(rt.alloc(), record));
     }
 }
 
