@@ -10,7 +10,7 @@ ghost use Rattle.broker_core.specs.Steps.{accepted_or_ended, answers, is_opening
 ghost use Rattle.broker_core.specs.Tables.{IsTallied, state_of};
 
 use crate::answers::{answer_done, answer_end, answer_open, answer_refused};
-use crate::given_name::given;
+use crate::given_name::GivenName;
 use crate::tables::Tables;
 use command_core::{Command, End, Fault, HeaderText, Member, Op, Out};
 use std::alloc::{AllocError, Global};
@@ -75,7 +75,8 @@ impl Tables {
         ensures outs { IfOk result (λ given. given.items ≡ (settled (opened (state_of number self.old) client_id)).outs ++ outs_to number number (connected number ∷ [])) }
         ensures tallied { OnOk result (IsTallied (number + 1) self.new) }
     {
-        self.sessions.insert(number, given(client_id))?;
+        self.sessions
+            .insert(number, GivenName::optional(client_id))?;
         let mut outs = Vec::new(alloc);
         self.settle(alloc, number, &mut outs)?;
         answer_open(alloc, number, &mut outs)?;

@@ -33,22 +33,22 @@ impl GivenName {
         GivenName { text }
     }
 
+    /// A name that may be absent, and is not empty where it is there; it moves: no memory is taken.
+    pub fn optional(name: Option<HeaderText>) -> Option<GivenName>
+        requires { IsGiven name }
+        ensures { result ≡ name }
+    {
+        match name {
+            Some(text) => Some(GivenName::new(text)),
+            None => None,
+        }
+    }
+
     pub fn as_text(&self) -> &HeaderText
         ensures value { result.now ≡ self.now }
         ensures form { 0 < length self.now }
     {
         &self.text
-    }
-}
-
-/// A name of a command, which is not empty where it is there.
-pub fn given(name: Option<HeaderText>) -> Option<GivenName>
-    requires { IsGiven name }
-    ensures { result ≡ name }
-{
-    match name {
-        Some(text) => Some(GivenName::new(text)),
-        None => None,
     }
 }
 

@@ -4,7 +4,6 @@ ghost use Rattle.std.specs.Prelude.{◌≡◌, IfOk};
 ghost use Rattle.std.specs.List.Sorted.{IsStrictlySortedBy};
 ghost use Rattle.std.specs.Map.{keys_of};
 ghost use Rattle.std.specs.Ordering.{nat_cmp};
-ghost use Rattle.command_core.specs.Operations.{IsGiven};
 ghost use Rattle.command_core.specs.Reading.{Gives, name_at};
 ghost use Rattle.broker_core.specs.Names.{name_cmp, text_cmp};
 ghost use Rattle.snapshot_core.specs.Reading.{durable_at, given_at, keyed_at, listed_at, queue_at, session_at};
@@ -13,21 +12,10 @@ use crate::list_reading::listed_of;
 use crate::message_reading::line_of;
 use crate::rising::{map_of, rises};
 use broker_core::{DurableName, GivenName};
-use command_core::{DecodeFault, Dest, HeaderText, destination_of, name_of, text_of, u64_of};
+use command_core::{DecodeFault, Dest, destination_of, name_of, text_of, u64_of};
 use line_core::Line;
 use std::alloc::Global;
 use std::collections::BTreeMap;
-
-// A name that is not empty where it is there.
-fn given(name: Option<HeaderText>) -> Option<GivenName>
-    requires { IsGiven name }
-    ensures { result ≡ name }
-{
-    match name {
-        Some(text) => Some(GivenName::new(text)),
-        None => None,
-    }
-}
 
 /// A name that may be absent, and is not empty where it is there.
 pub fn optional_name_of(
@@ -37,7 +25,7 @@ pub fn optional_name_of(
     ensures { Gives (λ x. (x.0, x.1.now)) result (name_at bytes.now) }
 {
     let (name, rest) = name_of(alloc, bytes)?;
-    Ok((given(name), rest))
+    Ok((GivenName::optional(name), rest))
 }
 
 /// A name, which is not empty.
