@@ -286,7 +286,8 @@ fn room_for(broker: &Broker) -> usize {
         .saturating_add(others.saturating_mul(128))
 }
 
-/// The snapshot of a broker's state, which is its one spelling. It fails only where memory is refused.
+/// The snapshot of the state of a broker that is not broken, which is its one spelling. It fails only where memory is
+/// refused.
 pub fn encode_state(alloc: Global, broker: &Broker) -> Result<Vec<u8>, AllocError>
     requires whole { broker.now.broken ≡ false }
     // Four bytes count them.
