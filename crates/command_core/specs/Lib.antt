@@ -1,3 +1,4 @@
+pub mod Entries
 pub mod Faults
 pub mod Texts
 pub mod Destinations

@@ -6,6 +6,7 @@ use Rattle.std.proofs.lemmas.List.Edits.{length-between, get_or-between}
 use Rattle.std.proofs.lemmas.List.Elements.{All-push, All-cons, All-nil}
 use Rattle.std.proofs.lemmas.Bool.{cases_lt}
 use Rattle.disk_core.specs.Images.{patched, Torn, IsImage, Follows, Frees}
+use Rattle.disk_core.specs.declared.call.Call.{Call}
 use Rattle.disk_core.specs.declared.span.Span.{Span}
 use Rattle.disk_core.specs.Kept.{IsKept}
 use Rattle.disk_core.specs.Moments.{Elapses}
@@ -107,11 +108,11 @@ module _ (at : ℕ) (new content : List ℕ) (held : List (Option ℕ)) (sizes :
       ∙ sym (get_or-pairwise f held content i None 0 0 (omega arith) (omega arith)))
 
   -- a write takes no time
-  pub time : (past : List (List (Option ℕ))) (failures failed : ℕ)
-      → let old : Memory = record { content = content; held = held; past = past; failures = failures } in
-      let now : Memory = record { content = patched at new content; held = held_over at (length new) held content; past = past; failures = failed } in
+  pub time : (past : List (List (Option ℕ))) (calls called : List Call) (failures failed : ℕ)
+      → let old : Memory = record { content = content; held = held; past = past; calls = calls; failures = failures } in
+      let now : Memory = record { content = patched at new content; held = held_over at (length new) held content; past = past; calls = called; failures = failed } in
       Elapses (length past) (length past) (HadSince old) (HadSince now) (IsImage (patched at new content) (held_over at (length new) held content))
-  time past failures failed = record {
+  time past calls called failures failed = record {
     later = omega arith;
     nothing_else = λ t c _ since. elim since [
       | inl image ↦ inr image
@@ -171,16 +172,16 @@ frees_now at new content now held later sizes fits n l =
     subst (λ (c : List ℕ). Frees at (length new) (IsImage content held) (IsImage c later)) (sym n)
     (subst (λ (h : List (Option ℕ)). Frees at (length new) (IsImage content held) (IsImage (patched at new content) h)) (sym l) (frees at new content held sizes fits))
 
-pub time_now : (at : ℕ) (new content now : List ℕ) (held later : List (Option ℕ)) (past : List (List (Option ℕ))) (failures failed : ℕ) → length held ≡ length content → at + length new ≤ length content
+pub time_now : (at : ℕ) (new content now : List ℕ) (held later : List (Option ℕ)) (past : List (List (Option ℕ))) (calls called : List Call) (failures failed : ℕ) → length held ≡ length content → at + length new ≤ length content
     → now ≡ patched at new content → later ≡ held_over at (length new) held content
-    → let old : Memory = record { content = content; held = held; past = past; failures = failures } in
-    let next : Memory = record { content = now; held = later; past = past; failures = failed } in
+    → let old : Memory = record { content = content; held = held; past = past; calls = calls; failures = failures } in
+    let next : Memory = record { content = now; held = later; past = past; calls = called; failures = failed } in
     Elapses (length past) (length past) (HadSince old) (HadSince next) (IsImage now later)
-time_now at new content now held later past failures failed sizes fits n l =
-    let old : Memory = record { content = content; held = held; past = past; failures = failures } in
-    subst (λ (c : List ℕ). Elapses (length past) (length past) (HadSince old) (HadSince (record { content = c; held = later; past = past; failures = failed })) (IsImage c later)) (sym n)
-    (subst (λ (h : List (Option ℕ)). Elapses (length past) (length past) (HadSince old) (HadSince (record { content = patched at new content; held = h; past = past; failures = failed })) (IsImage (patched at new content) h)) (sym l)
-    (time at new content held sizes fits past failures failed))
+time_now at new content now held later past calls called failures failed sizes fits n l =
+    let old : Memory = record { content = content; held = held; past = past; calls = calls; failures = failures } in
+    subst (λ (c : List ℕ). Elapses (length past) (length past) (HadSince old) (HadSince (record { content = c; held = later; past = past; calls = called; failures = failed })) (IsImage c later)) (sym n)
+    (subst (λ (h : List (Option ℕ)). Elapses (length past) (length past) (HadSince old) (HadSince (record { content = patched at new content; held = h; past = past; calls = called; failures = failed })) (IsImage (patched at new content) h)) (sym l)
+    (time at new content held sizes fits past calls called failures failed))
 
 pub kept_now : (at : ℕ) (new content now : List ℕ) (held later : List (Option ℕ)) (written : Vec Span Global) → length held ≡ length content → at + length new ≤ length content
     → now ≡ patched at new content → later ≡ held_over at (length new) held content → 1 ≤ vec_capacity written

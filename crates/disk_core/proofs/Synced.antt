@@ -1,6 +1,7 @@
 -- What a sync does to the images, and the history that it adds to.
 use Rattle.std.proofs.Common.{◌≡◌, ◌⊎◌, inl, inr, ℕ, List, [], ◌∷◌, ◌++◌, length, drop, Option, None, sym, ap, refl, subst, arith}
 use Rattle.std.proofs.lemmas.List.{ext_get_or, drop-append-le, length_push, get_or-replicate}
+use Rattle.disk_core.specs.declared.call.Call.{Call}
 use Rattle.disk_core.specs.Images.{IsImage, Only}
 use Rattle.disk_core.specs.Moments.{Elapses}
 use Rattle.disk_core.specs.Memory.{Memory, none_held, crashed, synced_before, HadImage, HadSince}
@@ -30,11 +31,11 @@ pub only_content : (content : List ℕ) (n : ℕ) → length content ≡ n → O
 only_content content n size c image = ext_get_or 0 c content image.size (λ i within. image.stable i (get_or-replicate n i None None (omega (arith, image.size))))
 
 -- a sync is a moment, and what was held goes into the history
-pub time : (content : List ℕ) (held : List (Option ℕ)) (past : List (List (Option ℕ))) (n failures : ℕ) → length content ≡ n
-    → let old : Memory = record { content = content; held = held; past = past; failures = failures } in
-    let now : Memory = record { content = content; held = none_held n; past = past ++ held ∷ []; failures = failures } in
+pub time : (content : List ℕ) (held : List (Option ℕ)) (past : List (List (Option ℕ))) (calls called : List Call) (n failures : ℕ) → length content ≡ n
+    → let old : Memory = record { content = content; held = held; past = past; calls = calls; failures = failures } in
+    let now : Memory = record { content = content; held = none_held n; past = past ++ held ∷ []; calls = called; failures = failures } in
     Elapses (length past) (length (past ++ held ∷ [])) (HadSince old) (HadSince now) (IsImage content (none_held n))
-time content held past n failures size =
+time content held past calls called n failures size =
     let same : crashed None (none_held n) content ≡ content = nothing_lost None n content size in
     record {
       later = omega (arith, length_push past held);
@@ -57,12 +58,12 @@ time content held past n failures size =
     }
 
 -- the same of the fields after a sync
-pub time_now : (content : List ℕ) (held later : List (Option ℕ)) (past now : List (List (Option ℕ))) (n failures : ℕ) → length content ≡ n → later ≡ none_held n → now ≡ past ++ held ∷ []
-    → let old : Memory = record { content = content; held = held; past = past; failures = failures } in
-    let next : Memory = record { content = content; held = later; past = now; failures = failures } in
+pub time_now : (content : List ℕ) (held later : List (Option ℕ)) (past now : List (List (Option ℕ))) (calls called : List Call) (n failures : ℕ) → length content ≡ n → later ≡ none_held n → now ≡ past ++ held ∷ []
+    → let old : Memory = record { content = content; held = held; past = past; calls = calls; failures = failures } in
+    let next : Memory = record { content = content; held = later; past = now; calls = called; failures = failures } in
     Elapses (length past) (length now) (HadSince old) (HadSince next) (IsImage content later)
-time_now content held later past now n failures size l p =
-    let old : Memory = record { content = content; held = held; past = past; failures = failures } in
-    subst (λ (h : List (Option ℕ)). Elapses (length past) (length now) (HadSince old) (HadSince (record { content = content; held = h; past = now; failures = failures })) (IsImage content h)) (sym l)
-    (subst (λ (ps : List (List (Option ℕ))). Elapses (length past) (length ps) (HadSince old) (HadSince (record { content = content; held = none_held n; past = ps; failures = failures })) (IsImage content (none_held n))) (sym p)
-    (time content held past n failures size))
+time_now content held later past now calls called n failures size l p =
+    let old : Memory = record { content = content; held = held; past = past; calls = calls; failures = failures } in
+    subst (λ (h : List (Option ℕ)). Elapses (length past) (length now) (HadSince old) (HadSince (record { content = content; held = h; past = now; calls = called; failures = failures })) (IsImage content h)) (sym l)
+    (subst (λ (ps : List (List (Option ℕ))). Elapses (length past) (length ps) (HadSince old) (HadSince (record { content = content; held = none_held n; past = ps; calls = called; failures = failures })) (IsImage content (none_held n))) (sym p)
+    (time content held past calls called n failures size))

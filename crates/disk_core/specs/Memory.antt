@@ -1,15 +1,19 @@
 -- What a disk in memory keeps, and what a crash makes of it.
-use Rattle.std.specs.Prelude.{◌⊎◌, ℕ, ◌+◌, List, [], ◌∷◌, length, drop, replicate, Option, Some, None, unwrap_or, refl}
+use Rattle.std.specs.Prelude.{◌≡◌, ◌⊎◌, ◌<◌, ℕ, ◌+◌, List, [], ◌∷◌, ◌++◌, length, drop, replicate, slice_index, Option, Some, None, unwrap_or, refl}
 use Rattle.std.proofs.Common.{inl, inr}
 use Rattle.std.specs.List.{between}
-use Rattle.disk_core.specs.Images.{patched, IsImage}
+use Rattle.disk_core.specs.declared.call.Call.{Call}
+use Rattle.disk_core.specs.Faults.{IsOneMore}
+use Rattle.disk_core.specs.Images.{patched, IsImage, IsStable}
 use Rattle.disk_core.specs.Pairs.{pairwise}
 
--- Of each byte written since the last sync, `held` has what it held then; `past` has the same for each sync before.
+-- Of each byte written since the last sync, `held` has what it held then; `past` has the same for each sync before, and
+-- `calls` what the disk was asked for.
 pub record Memory : Type 0 where
   pub content : List ℕ
   pub held : List (Option ℕ)
   pub past : List (List (Option ℕ))
+  pub calls : List Call
   pub failures : ℕ
 
 -- n bytes, none of them held
@@ -18,7 +22,7 @@ none_held n = replicate n None
 
 -- a disk of zeros
 abbrev pub fresh : ℕ → Memory
-fresh n = record { content = replicate n 0; held = none_held n; past = []; failures = 0 }
+fresh n = record { content = replicate n 0; held = none_held n; past = []; calls = []; failures = 0 }
 
 -- a byte after a crash: where it was unsynced the fill, or else what it held at the last sync
 abbrev pub byte_after : Option ℕ → Option ℕ → ℕ → ℕ
@@ -51,9 +55,35 @@ HadImage (held ∷ later) synced c = IsImage (synced_before later synced) held c
 abbrev pub HadSince : Memory → ℕ → List ℕ → Type 0
 HadSince d t c = IsImage d.content d.held c ⊎ HadImage (drop t d.past) (crashed None d.held d.content) c
 
--- after a crash: nothing is unsynced, and the clock starts anew
+-- of the first n bytes, those that are not unsynced are the same
+abbrev pub IsSameTo : ℕ → List ℕ → List (Option ℕ) → List ℕ → Type 0
+IsSameTo n content held image = (i : ℕ) → i < n → IsStable held i → slice_index image i ≡ slice_index content i
+
+-- after a crash that leaves these bytes: nothing is unsynced, and the clock starts anew
+abbrev pub restarted_with : List ℕ → Memory → Memory
+restarted_with image d = record d { content = image; held = none_held (length d.content); past = []; calls = [] }
+
+-- after a crash that fills what was unsynced, or puts it back
 abbrev pub after_crash : Option ℕ → Memory → Memory
-after_crash fill d = record d { content = crashed fill d.held d.content; held = none_held (length d.content); past = [] }
+after_crash fill d = restarted_with (crashed fill d.held d.content) d
+
+-- once it was asked for a call
+abbrev pub called : Call → Memory → Memory
+called call d = record d { calls = d.calls ++ call ∷ [] }
+
+-- once these bytes are written, which are unsynced then
+abbrev pub written : ℕ → List ℕ → Memory → Memory
+written at bytes d = record d { content = patched at bytes d.content; held = held_over at (length bytes) d.held d.content }
+
+-- once all is stable
+abbrev pub synced : Memory → Memory
+synced d = record d { held = none_held (length d.content); past = d.past ++ d.held ∷ [] }
+
+-- A call failed that did this much: it is counted as a failure, and may stand among the calls.
+pub record Fails (call : Call) (done now : Memory) : Type 0 where
+  pub is : now ≡ record done { calls = now.calls; failures = now.failures }
+  pub recorded : (now.calls ≡ done.calls) ⊎ (now.calls ≡ done.calls ++ call ∷ [])
+  pub counted : IsOneMore done.failures now.failures
 
 none_had : (past : List (List (Option ℕ))) (synced c : List ℕ) → HadImage (drop (length past) past) synced c → ⊥
 none_had [] synced c had = had

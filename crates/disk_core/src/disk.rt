@@ -52,7 +52,8 @@ pub trait Disk {
             Elapses (moment self.old) (moment self.new)
             (images_since self.old) (images_since self.new) (images self.new) }
         ensures cause { HasCause (failures self.old) (failures self.new) result }
-        ensures honest { honest self.old → honest self.new };
+        ensures honest { honest self.old → honest self.new }
+        ensures was_honest { honest self.new → honest self.old };
 
     /// Writes a range, which lies within the disk. Until a sync succeeds it is unsynced, also where
     /// the write fails: then the range may read as anything, and the rest stays.
@@ -69,7 +70,8 @@ pub trait Disk {
             Elapses (moment self.old) (moment self.new)
             (images_since self.old) (images_since self.new) (images self.new) }
         ensures cause { HasCause (failures self.old) (failures self.new) result }
-        ensures honest { honest self.old → honest self.new };
+        ensures honest { honest self.old → honest self.new }
+        ensures was_honest { honest self.new → honest self.old };
 
     /// Makes all that was written stable. A sync that fails makes nothing stable, and changes
     /// nothing.
@@ -83,7 +85,8 @@ pub trait Disk {
             Elapses (moment self.old) (moment self.new)
             (images_since self.old) (images_since self.new) (images self.new) }
         ensures cause { HasCause (failures self.old) (failures self.new) result }
-        ensures honest { honest self.old → honest self.new };
+        ensures honest { honest self.old → honest self.new }
+        ensures was_honest { honest self.new → honest self.old };
 
     /// What a read gives is one of the images.
     ghost reads: { (disk : Self) → honest disk → images disk (content disk) };

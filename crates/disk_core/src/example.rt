@@ -23,6 +23,7 @@ pub fn publish<D: Disk>(disk: &mut D, payload: &[u8]) -> Result<(), DeviceFault>
         OnOk result ((c : List ℕ) → D.images disk.new c → published (length payload.now) c ≡ Some payload.now) }
     ensures cause { HasCause (D.failures disk.old) (D.failures disk.new) result }
     ensures honest { D.honest disk.old → D.honest disk.new }
+    ensures was_honest { D.honest disk.new → D.honest disk.old }
 {
     disk.write_at(1, payload)?;
     disk.sync()?;

@@ -28,3 +28,11 @@ pub(crate) fn count<E: Drop>(outcome: Result<(), E>, failures: &mut u64) -> Resu
         Err(_) => fail(failures),
     }
 }
+
+// What became of a call that was done or not.
+pub(crate) fn tell(done: bool, failures: &mut u64) -> Result<(), DeviceFault>
+    ensures variant { is_ok result ≡ done }
+    ensures cause { HasCause failures.old failures.new result }
+{
+    if done { Ok(()) } else { fail(failures) }
+}

@@ -101,6 +101,7 @@ impl<D: Disk> Disk for FuseDisk<D> {
             (D.images_since (fused self.old)) (D.images_since (fused self.new)) (D.images (fused self.new)) }
         ensures cause { HasCause (all_failures D.failures self.old) (all_failures D.failures self.new) result }
         ensures honest { D.honest (fused self.old) → D.honest (fused self.new) }
+        ensures was_honest { D.honest (fused self.new) → D.honest (fused self.old) }
 
         // It passes the call on where some are left.
         ensures passed { 0 < calls_left self.old →
@@ -128,6 +129,7 @@ impl<D: Disk> Disk for FuseDisk<D> {
             (D.images_since (fused self.old)) (D.images_since (fused self.new)) (D.images (fused self.new)) }
         ensures cause { HasCause (all_failures D.failures self.old) (all_failures D.failures self.new) result }
         ensures honest { D.honest (fused self.old) → D.honest (fused self.new) }
+        ensures was_honest { D.honest (fused self.new) → D.honest (fused self.old) }
 
         ensures passed { 0 < calls_left self.old →
             HasCause (D.failures (fused self.old)) (D.failures (fused self.new)) result }
@@ -157,6 +159,7 @@ impl<D: Disk> Disk for FuseDisk<D> {
             (D.images_since (fused self.old)) (D.images_since (fused self.new)) (D.images (fused self.new)) }
         ensures cause { HasCause (all_failures D.failures self.old) (all_failures D.failures self.new) result }
         ensures honest { D.honest (fused self.old) → D.honest (fused self.new) }
+        ensures was_honest { D.honest (fused self.new) → D.honest (fused self.old) }
 
         ensures passed { 0 < calls_left self.old →
             HasCause (D.failures (fused self.old)) (D.failures (fused self.new)) result }

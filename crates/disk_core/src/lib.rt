@@ -2,6 +2,7 @@
 //! be crashed, one that fails from a chosen call on, and a file.
 #![tactic(auto)]
 
+mod call;
 mod disk;
 mod epoch;
 mod example;
@@ -11,12 +12,10 @@ mod fuse;
 mod memory;
 mod span;
 
+pub use call::Call;
 pub use disk::Disk;
 pub use example::publish;
 pub use faults::DeviceFault;
 pub use file::{FileDisk, OpenError};
 pub use fuse::FuseDisk;
 pub use memory::MemDisk;
-
-#[cfg(test)]
-mod tests;

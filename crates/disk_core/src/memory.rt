@@ -1,12 +1,15 @@
 //! A disk in memory.
-ghost use Rattle.std.specs.Prelude.{◌≡◌, ◌+◌, ◌≤◌, length, take, drop, IsOk, IfOk, ⊤};
+ghost use Rattle.std.specs.Prelude.{◌≡◌, ◌+◌, ◌≤◌, ◌↔◌, false, length, take, drop, IfOk, IsTrue, OnOk, OnErr, ⊤};
 ghost use Rattle.std.proofs.Common.{inl};
-ghost use Rattle.disk_core.specs.Images.{IsImage, Only};
-ghost use Rattle.disk_core.specs.Memory.{Memory, fresh, after_crash, HadSince, only_now, reads_image};
+ghost use Rattle.disk_core.specs.Images.{Frees, IsImage, Only, Torn, Within};
+ghost use Rattle.disk_core.specs.Moments.{Elapses};
+ghost use Rattle.disk_core.specs.declared.call.Call.TheVariants.{Read, Write, Sync};
+ghost use Rattle.disk_core.specs.Memory.{Memory, Fails, fresh, after_crash, called, restarted_with, synced, written, HadSince, only_now, reads_image};
 
+use crate::call::{Call, record};
 use crate::epoch::Epoch;
-use crate::faults::{count, fail};
-use crate::span::{Span, add, overwrite, put_all_back, release_all};
+use crate::faults::{fail, tell};
+use crate::span::{Span, add, is_image, overwrite, put_all_back, release_all};
 use crate::{DeviceFault, Disk};
 use std::alloc::{AllocError, Global};
 use std::marker::Model;
@@ -14,7 +17,7 @@ use std::marker::Model;
 /// A disk in memory, which is honest and can be crashed.
 ///
 /// A clause sees it as a `Memory`: its content, what each unsynced byte held at the last sync, the
-/// same for each sync before, and its failures.
+/// same for each sync before, the calls that it was asked for, and its failures.
 ///
 /// It takes three bytes for each byte of its size, made by `new`. Beside them it keeps its history,
 /// so that its images since each moment are real data: for each sync a record, the ranges that were
@@ -27,7 +30,10 @@ use std::marker::Model;
 /// calls that made them. (Once memory for the list of ranges was refused, the next sync or crash
 /// goes over the whole disk.)
 ///
-/// Want of memory in a write or a sync is a `DeviceFault`. A read and a crash take none.
+/// It records each call, so that a test can see what was asked for and in which order, and can stop
+/// the disk at each of them.
+///
+/// Want of memory, for the record too, is a `DeviceFault`. A crash takes none.
 #[derive(Drop)]
 pub struct MemDisk {
     alloc: Global,
@@ -38,6 +44,8 @@ pub struct MemDisk {
     written: Vec<Span>,
     // What was held at each sync since the start.
     past: Vec<Epoch>,
+    // What it was asked for since the start.
+    calls: Vec<Call>,
     failures: u64,
 }
 
@@ -48,7 +56,7 @@ impl Model for MemDisk {
 
     ghost Value = { Memory };
 
-    ghost view = { λ a. record { content = a.bytes.items; held = a.held.items; past = a.past.items; failures = a.failures } };
+    ghost view = { λ a. record { content = a.bytes.items; held = a.held.items; past = a.past.items; calls = a.calls.items; failures = a.failures } };
 
     ghost invariant = { λ a. IsKept a.bytes.items a.held.items a.written };
 }
@@ -70,6 +78,7 @@ impl MemDisk {
             held,
             written: Vec::with_capacity(alloc, 1)?,
             past: Vec::new(alloc),
+            calls: Vec::new(alloc),
             failures: 0,
         })
     }
@@ -85,6 +94,33 @@ impl MemDisk {
         put_all_back(&self.written, &mut self.bytes, &mut self.held, fill);
         self.written.clear();
         self.past.clear();
+        self.calls.clear();
+    }
+
+    /// Stops the disk and starts it again with these bytes, if they are one of its images; if not, nothing changes. It
+    /// takes no memory.
+    pub fn crash_to(&mut self, image: &[u8]) -> bool
+        ensures image { IsTrue result ↔ IsImage self.old.content self.old.held image.now }
+        ensures crashed { IsTrue result → self.new ≡ restarted_with image.now self.old }
+        ensures same { result ≡ false → self.new ≡ self.old }
+    {
+        if !is_image(&self.bytes, &self.held, image) {
+            return false;
+        }
+        put_all_back(&self.written, &mut self.bytes, &mut self.held, None);
+        self.bytes.copy_from_slice(image);
+        self.written.clear();
+        self.past.clear();
+        self.calls.clear();
+        true
+    }
+
+    /// The calls that it was asked for since it was made or crashed, in their order. One that failed stands among them
+    /// only where memory for that was had.
+    pub fn calls(&self) -> &[Call]
+        ensures { result.now ≡ self.now.calls }
+    {
+        &self.calls
     }
 }
 
@@ -115,27 +151,56 @@ impl Disk for MemDisk {
 
     fn read_at(&mut self, at: u64, into: &mut [u8]) -> Result<(), DeviceFault>
         requires { at + length into.old ≤ length self.old.content }
-        ensures ok { IsOk result }
-        ensures bytes { into.new ≡ take (length into.old) (drop at self.old.content) }
-        ensures same { self.new ≡ self.old }
+        ensures ok { OnOk result (self.new ≡ called (Read at (length into.old)) self.old) }
+        ensures bytes { OnOk result (into.new ≡ take (length into.old) (drop at self.old.content)) }
+        ensures err { OnErr result (Fails (Read at (length into.old)) self.old self.new) }
     {
+        let call = Call::Read {
+            at,
+            len: into.len() as u64,
+        };
+        tell(record(&mut self.calls, call), &mut self.failures)?;
         let at = at as usize;
         into.copy_from_slice(&self.bytes[at..at + into.len()]);
         Ok(())
     }
 
-    fn write_at(&mut self, at: u64, bytes: &[u8]) -> Result<(), DeviceFault> {
+    fn write_at(&mut self, at: u64, bytes: &[u8]) -> Result<(), DeviceFault>
+        requires { at + length bytes.now ≤ length self.old.content }
+        ensures ok { OnOk result (self.new ≡ called (Write at (length bytes.now)) (written at bytes.now self.old)) }
+        ensures err { OnErr result (Fails (Write at (length bytes.now)) (written at bytes.now self.old) self.new) }
+        ensures content { Torn at (length bytes.now) self.old.content self.new.content }
+        ensures images { Frees at (length bytes.now)
+            (IsImage self.old.content self.old.held) (IsImage self.new.content self.new.held) }
+        ensures time { Elapses (length self.old.past) (length self.new.past)
+            (HadSince self.old) (HadSince self.new) (IsImage self.new.content self.new.held) }
+    {
+        let call = Call::Write {
+            at,
+            len: bytes.len() as u64,
+        };
+        let recorded = record(&mut self.calls, call);
         let at = at as usize;
         overwrite(&mut self.bytes, &mut self.held, at, bytes);
         let span = Span {
             at,
             len: bytes.len(),
         };
-        let listed = add(&mut self.written, span, self.bytes.len());
-        count(listed, &mut self.failures)
+        let listed = add(&mut self.written, span, self.bytes.len()).is_ok();
+        tell(recorded && listed, &mut self.failures)
     }
 
-    fn sync(&mut self) -> Result<(), DeviceFault> {
+    fn sync(&mut self) -> Result<(), DeviceFault>
+        ensures ok { OnOk result (self.new ≡ called Sync (synced self.old)) }
+        ensures err { OnErr result (Fails Sync self.old self.new) }
+        ensures images { Within
+            (IsImage self.new.content self.new.held) (IsImage self.old.content self.old.held) }
+        ensures time { Elapses (length self.old.past) (length self.new.past)
+            (HadSince self.old) (HadSince self.new) (IsImage self.new.content self.new.held) }
+    {
+        if !record(&mut self.calls, Call::Sync) {
+            return fail(&mut self.failures);
+        }
         let Ok(epoch) = Epoch::of(self.alloc, &self.written, &self.held) else {
             return fail(&mut self.failures);
         };

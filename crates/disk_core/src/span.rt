@@ -1,7 +1,7 @@
 //! Ranges of a disk, and the passes over the bytes in them.
-ghost use Rattle.std.specs.Prelude.{◌≡◌, ◌+◌, ◌≤◌, [], ◌∷◌, ◌++◌, length, OnOk, OnErr, vec_capacity};
+ghost use Rattle.std.specs.Prelude.{◌≡◌, ◌+◌, ◌≤◌, [], ◌∷◌, ◌++◌, length, OnOk, OnErr, vec_capacity, ◌↔◌, IsTrue};
 ghost use Rattle.disk_core.specs.Spans.{IsCover, whole};
-ghost use Rattle.disk_core.specs.Images.{patched};
+ghost use Rattle.disk_core.specs.Images.{patched, IsImage};
 ghost use Rattle.disk_core.specs.Memory.{none_held, byte_after, crashed, noted, held_over};
 
 use std::alloc::AllocError;
@@ -89,6 +89,22 @@ pub(crate) fn put_all_back(
         put_back(&mut bytes[span.at..end], &held[span.at..end], fill);
         release(&mut held[span.at..end]);
     }
+}
+
+// Whether a stop may leave these bytes: as many, and the same wherever nothing is held.
+pub(crate) fn is_image(bytes: &[u8], held: &[Option<u8>], image: &[u8]) -> bool
+    requires { length held.now ≡ length bytes.now }
+    ensures { IsTrue result ↔ IsImage bytes.now held.now image.now }
+{
+    if image.len() != bytes.len() {
+        return false;
+    }
+    for (at, old) in held.iter().enumerate() {
+        if old.is_none() && image[at] != bytes[at] {
+            return false;
+        }
+    }
+    true
 }
 
 // Adds a range, or takes the whole disk where memory is refused.

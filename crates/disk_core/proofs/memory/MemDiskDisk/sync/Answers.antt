@@ -5,7 +5,7 @@ use Rattle.disk_core.proofs.Synced.{time_now}
 use Rattle.disk_core.proofs.memory.MemDiskDisk.sync.Goals as goal
 
 pub returns-clause-time : goal.returns-clause-time
-returns-clause-time c _ =
+returns-clause-time c =
     let a = c.self.inside in
     let kept = c.self.invariant in
     let released = c.release_all.ensures in
@@ -16,4 +16,4 @@ returns-clause-time c _ =
     let pushed : c.push.new.self.items ≡ a.past.items ++ c.in-Ok.epoch ∷ [] = search rules in
     let copied : c.in-Ok.epoch ≡ a.held.items = c.in-Ok.ensures ∙ c.deref-2.ensures.value in
     let past : c.push.new.self.items ≡ a.past.items ++ a.held.items ∷ [] = pushed ∙ ap (λ (h : List (Option ℕ)). a.past.items ++ h ∷ []) copied in
-    rw (← c.self.view_is) (time_now a.bytes.items a.held.items _ a.past.items _ (length a.held.items) a.failures size later past)
+    rw (← c.self.view_is) (time_now a.bytes.items a.held.items _ a.past.items _ a.calls.items c.record.new.calls.items (length a.held.items) a.failures size later past)

@@ -1,4 +1,4 @@
-use crate::{DeviceFault, Disk, FileDisk, FuseDisk, MemDisk, OpenError, publish};
+use disk_core::{Call, DeviceFault, Disk, FileDisk, FuseDisk, MemDisk, OpenError, publish};
 use std::fs;
 use std::process::Abort;
 use std::test::Fail;
@@ -106,6 +106,38 @@ fn a_call_that_is_refused_memory_keeps_to_the_model(rt: HostRuntime) -> Result<(
     Ok(())
 }
 
+#[test]
+fn a_stop_leaves_an_image_and_nothing_else(rt: HostRuntime) -> Result<(), Fail> {
+    let images: [(&[u8], bool); 4] = [
+        (&[1, 9, 0, 0, 0, 0], true),
+        (&[1, 8, 9, 0, 0, 0], true),
+        (&[7, 8, 9, 0, 0, 0], false),
+        (&[1, 8, 9, 0, 0], false),
+    ];
+    for (image, may_be) in images {
+        let mut disk = MemDisk::new(rt.alloc(), 6)?;
+        write(&rt, &mut disk, 0, &[1])?;
+        disk.sync()?;
+        write(&rt, &mut disk, 1, &[2, 2])?;
+        let _ = read(&rt, &mut disk)?;
+        let calls = [
+            Call::Write { at: 0, len: 1 },
+            Call::Sync,
+            Call::Write { at: 1, len: 2 },
+            Call::Read { at: 0, len: 6 },
+        ];
+        assert!(rt; disk.calls() == calls.as_slice());
+        assert_eq!(rt; disk.crash_to(image), may_be);
+        let left: &[u8] = if may_be { image } else { &[1, 2, 2, 0, 0, 0] };
+        assert!(rt; read(&rt, &mut disk)?.as_slice() == left);
+        // Where it stopped nothing is unsynced, and else the two bytes still are.
+        disk.crash(None);
+        let left: &[u8] = if may_be { image } else { &[1, 0, 0, 0, 0, 0] };
+        assert!(rt; read(&rt, &mut disk)?.as_slice() == left);
+    }
+    Ok(())
+}
+
 // A write, a sync, a write, a sync and a read, of which the first k pass.
 #[test]
 fn a_fuse_passes_so_many_calls(rt: HostRuntime) -> Result<(), Fail> {
@@ -164,9 +196,9 @@ fn a_payload_is_there_as_a_whole_or_not_at_all(rt: HostRuntime) -> Result<(), Fa
     Ok(())
 }
 
-const FOLDER: &str = "disk_core_test";
+const FOLDER: &str = "journal_tests_disk";
 
-const PATH: &str = "disk_core_test/disk";
+const PATH: &str = "journal_tests_disk/disk";
 
 #[test]
 fn a_file_keeps_what_was_written(rt: HostRuntime) -> Result<(), Fail> {
@@ -197,7 +229,7 @@ fn a_file_keeps_what_was_written(rt: HostRuntime) -> Result<(), Fail> {
 
 #[test]
 fn a_file_that_is_cut_short_fails(rt: HostRuntime) -> Result<(), Fail> {
-    let path = "disk_core_test_cut";
+    let path = "journal_tests_disk_cut";
     let _ = fs::remove_file(&rt, path);
     let mut disk = FileDisk::create(&rt, path, 6)?;
     fs::write(&rt, path, b"abc".as_slice())?;
@@ -206,6 +238,37 @@ fn a_file_that_is_cut_short_fails(rt: HostRuntime) -> Result<(), Fail> {
         format!(in rt.alloc(); "{DeviceFault}")?.as_str(),
         "device failed"
     );
+    fs::remove_file(&rt, path)?;
+    Ok(())
+}
+
+// Of a file no contract knows what it holds: each place and each call is looked at here.
+#[test]
+fn a_file_keeps_each_of_many_writes_in_its_place(rt: HostRuntime) -> Result<(), Fail> {
+    let path = "journal_tests_disk_far";
+    let _ = fs::remove_file(&rt, path);
+    let mut disk = FileDisk::create(&rt, path, 12_000)?;
+    assert!(rt; disk.size() == 12_000);
+    for (turn, at) in [0, 4_095, 5_000, 8_191, 11_990, 5_000].iter().enumerate() {
+        write(&rt, &mut disk, *at, &[turn as u8 + 1; 10])?;
+        disk.sync()?;
+    }
+    drop(disk);
+    let mut disk = FileDisk::open(&rt, path)?;
+    assert!(rt; disk.size() == 12_000);
+    for (at, wanted) in [
+        (0, 1),
+        (4_095, 2),
+        (5_000, 6),
+        (8_191, 4),
+        (11_990, 5),
+        (6_000, 0),
+    ] {
+        let mut bytes = [0xee; 10];
+        assert!(rt; disk.size() == 12_000);
+        disk.read_at(at, &mut bytes)?;
+        assert_eq!(rt; bytes, [wanted; 10], "at {at}");
+    }
     fs::remove_file(&rt, path)?;
     Ok(())
 }

@@ -1,0 +1,7 @@
+//! Tests of the disk and the journal by their public faces. They are a crate of their own, since a crate that has tests is
+//! proved twice: once without them and once with them.
+
+#![tactic(auto)]
+
+#[cfg(test)]
+mod disk_tests;
