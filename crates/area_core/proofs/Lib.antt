@@ -1,0 +1,10 @@
+pub mod Appends
+pub mod Areas
+pub mod Batches
+pub mod Journals
+pub mod Ranges
+pub mod RecordsRead
+pub mod Formatted
+pub mod Single
+pub mod Switches
+pub mod Walked

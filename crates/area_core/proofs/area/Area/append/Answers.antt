@@ -1,0 +1,39 @@
+use Rattle.std.proofs.Common.{rules, ◌≡◌, ℕ, ◌+◌, ◌≤◌, List, ◌++◌, [], ◌∷◌, length, sym, ◌∙◌, subst, ap, arith}
+use Rattle.disk_core.proofs.Runs.{weaker}
+use Rattle.area_core.specs.Areas.{closed, commands, records, IsBlock}
+use Rattle.area_core.specs.Held.{IsAt}
+use Rattle.area_core.specs.Journals.{is_odd, start, Reads}
+use Rattle.area_core.proofs.Appends.{gated, added, no_entries}
+use Rattle.area_core.proofs.Journals.{start_most}
+use Rattle.area_core.proofs.area.Area.append.Goals as goal
+
+pub put_behind_gate-requires-clause-small : goal.put_behind_gate-requires-clause-small
+put_behind_gate-requires-clause-small g c =
+    omega (arith, c.begins.ensures, start_most c.args.self.now.size (is_odd c.args.self.now.selector), c.args.self.now.most, c.args.self.now.within)
+
+pub returns-in_err-put_behind_gate-clause-any_moment : goal.returns-in_err-put_behind_gate-clause-any_moment
+returns-in_err-put_behind_gate-clause-any_moment g c honest =
+    let form : IsBlock (commands c.args.batch.now) = record { some = λ e. c.requires.some (no_entries c.args.batch.now e); each = search rules } in
+    weaker g.D.Disk c.args.disk.now c.put_behind_gate.new.disk _ _ (c.put_behind_gate.ensures.any_moment honest)
+    (gated c.args.self.now (commands c.args.batch.now) _ (g.D.Disk.content c.args.disk.now) (g.D.Disk.images c.args.disk.now) form (search rules) (search rules) (g.met.D.Disk.reads c.args.disk.now honest) _ (search rules))
+
+pub returns-clause-any_moment : goal.returns-clause-any_moment
+returns-clause-any_moment g c honest =
+    let form : IsBlock (commands c.args.batch.now) = record { some = λ e. c.requires.some (no_entries c.args.batch.now e); each = search rules } in
+    weaker g.D.Disk c.args.disk.now c.put_behind_gate.new.disk _ _ (c.put_behind_gate.ensures.any_moment honest)
+    (gated c.args.self.now (commands c.args.batch.now) _ (g.D.Disk.content c.args.disk.now) (g.D.Disk.images c.args.disk.now) form (search rules) (search rules) (g.met.D.Disk.reads c.args.disk.now honest) _ (search rules))
+
+pub returns-clause-after : goal.returns-clause-after
+returns-clause-after g c honest snapshot blocks held image is =
+    let area = c.args.self.now in
+    let batch = commands c.args.batch.now in
+    let form : IsBlock batch = record { some = λ e. c.requires.some (no_entries c.args.batch.now e); each = search rules } in
+    let room : area.gate + 10 + length (records batch) ≤ area.size = search rules in
+    let are : c.deref.result.now ≡ closed (records batch) = search rules in
+    let at : c.begins.result + area.gate ≡ start area.size (is_odd area.selector) + area.gate = omega (arith, c.begins.ensures) in
+    let new = added area batch (c.begins.result + area.gate) (g.D.Disk.content c.args.disk.now) (g.D.Disk.images c.args.disk.now) form room at (g.met.D.Disk.reads c.args.disk.now honest) c.deref.result.now are snapshot blocks held in
+    let total : c.in-Some.records ≡ length (records batch) = search rules in
+    record {
+      reads = subst (λ (l : List ℕ). Reads area.size area.selector snapshot (blocks ++ batch ∷ []) l) (sym (c.in_ok-put_behind_gate.ensures.stable honest image is)) new.0;
+      gate = omega (arith, new.1, total);
+    }

@@ -1,0 +1,11 @@
+-- The area that is held, on the disk.
+use Rattle.std.specs.Prelude.{◌≡◌, ℕ, List, length}
+use Rattle.command_core.specs.Commands.{CommandValue}
+use Rattle.area_core.specs.declared.area.Area.{Area}
+use Rattle.area_core.specs.Areas.{front}
+use Rattle.area_core.specs.Journals.{Reads}
+
+-- The live area is the one that is held, whose gate is the first closed one.
+pub record IsAt (area : Area) (snapshot : List ℕ) (blocks : List (List CommandValue)) (image : List ℕ) : Type 0 where
+  pub reads : Reads area.size area.selector snapshot blocks image
+  pub gate : area.gate ≡ length (front snapshot blocks)

@@ -1,0 +1,29 @@
+-- The two areas while the live one changes.
+use Rattle.std.specs.Prelude.{◌≡◌, ℕ, List, [], length, drop}
+use Rattle.command_core.specs.Commands.{CommandValue}
+use Rattle.area_core.specs.declared.area.Area.{Area}
+use Rattle.area_core.specs.Areas.{IsArea}
+use Rattle.area_core.specs.Held.{IsAt}
+use Rattle.area_core.specs.Journals.{IsJournal, is_odd, other, start}
+use Rattle.area_core.specs.Puts.{Each}
+
+-- the area that is not live has the snapshot last written, and no block
+pub record HasIdle (area : Area) (snapshot : List ℕ) (image : List ℕ) : Type 0 where
+  pub idle : IsArea area.size snapshot [] (drop (start area.size (other (is_odd area.selector))) image)
+  pub written : area.written ≡ length snapshot
+
+-- both areas are whole, whatever the selector is
+pub record IsBoth (area : Area) (snapshot : List ℕ) (blocks : List (List CommandValue)) (next : List ℕ) (image : List ℕ) : Type 0 where
+  pub selector : ℕ
+  pub journal : IsJournal area.size selector image
+  pub live : IsArea area.size snapshot blocks (drop (start area.size (is_odd area.selector)) image)
+  pub idle : IsArea area.size next [] (drop (start area.size (other (is_odd area.selector))) image)
+
+-- where each image held the same at the start, so does this one
+abbrev pub KeepsLive : (List ℕ → Type 0) → Area → List ℕ → Type 0
+KeepsLive images area c = (snapshot : List ℕ) (blocks : List (List CommandValue)) → Each images (IsAt area snapshot blocks) → IsAt area snapshot blocks c
+
+-- where each image had both areas at the start, so has this one
+abbrev pub KeepsBoth : (List ℕ → Type 0) → Area → List ℕ → Type 0
+KeepsBoth images area c =
+    (snapshot : List ℕ) (blocks : List (List CommandValue)) (next : List ℕ) → Each images (IsAt area snapshot blocks) → Each images (HasIdle area next) → IsBoth area snapshot blocks next c

@@ -1,0 +1,58 @@
+//! The live area of a journal.
+
+ghost use Rattle.std.specs.Prelude.{◌≡◌, ◌+◌, ◌*◌, ◌<◌, ◌≤◌, ◌^◌, ◌↔◌, IsTrue};
+ghost use Rattle.area_core.specs.Journals.{is_odd, other, start};
+
+/// The live area of a journal, at its first closed gate. It holds no disk.
+#[derive(Debug, Drop)]
+pub struct Area {
+    pub(crate) size: u64,
+    pub(crate) selector: u8,
+    // Where the first closed gate is, from the area's first byte on.
+    pub(crate) gate: u64,
+    // How long the snapshot is that was last written into the other area.
+    pub(crate) written: u64,
+    pub(crate) broken: bool,
+    ghost within: { gate + 1 ≤ size },
+    ghost idle: { written + 9 ≤ size },
+    ghost most: { 32 + 2 * size < 2 ^ 64 },
+}
+
+impl Area {
+    // Where it begins on the disk.
+    pub(crate) fn begins(&self) -> u64
+        ensures { result ≡ start self.now.size (is_odd self.now.selector) }
+    {
+        if self.selector % 2 == 1 {
+            32 + self.size
+        } else {
+            32
+        }
+    }
+
+    // Where the other area begins.
+    pub(crate) fn idle_begins(&self) -> u64
+        ensures { result ≡ start self.now.size (other (is_odd self.now.selector)) }
+    {
+        if self.selector % 2 == 1 {
+            32
+        } else {
+            32 + self.size
+        }
+    }
+
+    /// Whether a block of so many bytes of records fits.
+    pub fn fits(&self, records: u64) -> bool
+        ensures { IsTrue result ↔ (self.now.gate + 10 + records ≤ self.now.size) }
+    {
+        let left = self.size - self.gate;
+        left >= 10 && records <= left - 10
+    }
+
+    /// How many of its bytes are used: those up to its first closed gate, and that gate.
+    pub fn used(&self) -> u64
+        ensures { result ≡ self.now.gate + 1 }
+    {
+        self.gate + 1
+    }
+}

@@ -1,0 +1,20 @@
+//! The areas of a journal: two on a disk, of which one is live, with a snapshot and blocks of commands behind gates.
+
+#![tactic(auto)]
+
+mod append;
+mod area;
+mod batch;
+mod faults;
+mod formatting;
+mod header;
+mod law;
+mod put;
+mod reading;
+mod records;
+mod switch;
+
+pub use area::Area;
+pub use faults::{AreaFault, FormatFault, ReadFault};
+pub use formatting::format;
+pub use law::an_image_has_one_reading;

@@ -1,0 +1,113 @@
+//! An area is read, from its snapshot on.
+
+ghost use Rattle.std.specs.Prelude.{◌≡◌, ◌+◌, ◌*◌, ◌≤◌, ◌<◌, ◌∷◌, ◌++◌, [], ℕ, List, false, length, take, drop, IfErr, IfOk, IfSome, MatchOption};
+ghost use Rattle.std.specs.Int.{w64, to_be_bytes};
+ghost use Rattle.command_core.specs.Commands.{CommandValue};
+ghost use Rattle.area_core.specs.Damage.{IsBlockTold, IsFrontTold, IsLengthTold, IsReadCaused};
+ghost use Rattle.area_core.specs.Held.{IsAt};
+ghost use Rattle.area_core.specs.Journals.{is_odd, start};
+ghost use Rattle.area_core.specs.Reading.{IsPast, Quiet};
+
+use crate::header::{fetch, fetch_bytes, fetch_number, header};
+use crate::records::commands_of;
+use crate::{Area, ReadFault};
+use command_core::Command;
+use disk_core::Disk;
+use std::alloc::Global;
+
+impl Area {
+    /// The live area, before its first block, and the bytes of its snapshot. Nothing is written.
+    pub fn front<D: Disk>(alloc: Global, disk: &mut D) -> Result<(Area, Vec<u8>), ReadFault>
+        ensures front { D.honest disk.old →
+            IfOk result (λ r. IsPast r.0 r.1.items [] (D.content disk.old)) }
+        ensures refused { D.honest disk.old → IfErr result (λ fault. IsFrontTold fault (D.content disk.old)) }
+        ensures whole { IfOk result (λ r. r.0.broken ≡ false) }
+        ensures room { IfOk result (λ r. 32 + 2 * r.0.size ≤ length (D.content disk.new)) }
+        ensures quiet { D.honest disk.old → Quiet D.Disk disk.old disk.new }
+        ensures size { length (D.content disk.new) ≡ length (D.content disk.old) }
+        ensures cause { IsReadCaused (D.failures disk.old) (D.failures disk.new) result }
+        ensures honest { D.honest disk.old → D.honest disk.new }
+        ensures was_honest { D.honest disk.new → D.honest disk.old }
+    {
+        let (size, selector) = header(disk)?;
+        let mut area = Area {
+            size,
+            selector,
+            gate: 8,
+            written: 0,
+            broken: false,
+        };
+        let base = area.begins();
+        let length = fetch_number(disk, base)?;
+        if length > size - 9 {
+            return Err(ReadFault::Damaged(base));
+        }
+        let snapshot = fetch_bytes(alloc, disk, base + 8, length)?;
+        area.gate = 8 + length;
+        Ok((area, snapshot))
+    }
+
+    // How many bytes the records have behind the gate at that place of the disk, which is open.
+    fn block_len<D: Disk>(&self, disk: &mut D, at: u64) -> Result<u64, ReadFault>
+        requires room { 32 + 2 * self.now.size ≤ length (D.content disk.old) }
+        requires place { at ≡ start self.now.size (is_odd self.now.selector) + self.now.gate }
+        ensures told { D.honest disk.old →
+            IfOk result (λ n. take 8 (drop (at + 1) (D.content disk.old)) ≡ to_be_bytes w64 n) }
+        ensures some { IfOk result (λ n. 1 ≤ n) }
+        ensures fits { IfOk result (λ n. self.now.gate + 10 + n ≤ self.now.size) }
+        ensures refused { D.honest disk.old → IfErr result (λ fault. IsLengthTold fault self.now (D.content disk.old)) }
+        ensures quiet { D.honest disk.old → Quiet D.Disk disk.old disk.new }
+        ensures size { length (D.content disk.new) ≡ length (D.content disk.old) }
+        ensures cause { IsReadCaused (D.failures disk.old) (D.failures disk.new) result }
+        ensures honest { D.honest disk.old → D.honest disk.new }
+        ensures was_honest { D.honest disk.new → D.honest disk.old }
+    {
+        let left = self.size - self.gate;
+        if left < 10 {
+            return Err(ReadFault::Damaged(at + 1));
+        }
+        let count = fetch_number(disk, at + 1)?;
+        if count == 0 || count > left - 10 {
+            return Err(ReadFault::Damaged(at + 1));
+        }
+        Ok(count)
+    }
+
+    /// The commands of the next block, or `None` at the first closed gate. Nothing is written. After a refusal the area
+    /// stands where it stood.
+    pub fn next_block<D: Disk>(
+        &mut self,
+        alloc: Global,
+        disk: &mut D,
+    ) -> Result<Option<Vec<Command>>, ReadFault>
+        requires room { 32 + 2 * self.old.size ≤ length (D.content disk.old) }
+        ensures block { D.honest disk.old → IfOk result (λ next. MatchOption next
+            ((snapshot : List ℕ) (blocks : List (List CommandValue)) →
+            IsPast self.old snapshot blocks (D.content disk.old) → IsAt self.new snapshot blocks (D.content disk.old))
+            (λ commands. (snapshot : List ℕ) (blocks : List (List CommandValue)) →
+            IsPast self.old snapshot blocks (D.content disk.old) →
+            IsPast self.new snapshot (blocks ++ commands.items ∷ []) (D.content disk.old))) }
+        ensures refused { D.honest disk.old → IfErr result (λ fault. IsBlockTold fault self.old (D.content disk.old)) }
+        ensures same { IfErr result (λ _. self.new ≡ self.old) }
+        ensures forward { self.old.gate ≤ self.new.gate }
+        ensures grows { IfOk result (λ next. IfSome next (λ _. self.old.gate < self.new.gate)) }
+        ensures place { (self.new.size ≡ self.old.size) × (self.new.selector ≡ self.old.selector) × (self.new.broken ≡ self.old.broken) }
+        ensures quiet { D.honest disk.old → Quiet D.Disk disk.old disk.new }
+        ensures size { length (D.content disk.new) ≡ length (D.content disk.old) }
+        ensures cause { IsReadCaused (D.failures disk.old) (D.failures disk.new) result }
+        ensures honest { D.honest disk.old → D.honest disk.new }
+        ensures was_honest { D.honest disk.new → D.honest disk.old }
+    {
+        let at = self.begins() + self.gate;
+        let mut gate = [0];
+        fetch(disk, at, &mut gate)?;
+        if gate[0] != 1 {
+            return Ok(None);
+        }
+        let count = self.block_len(disk, at)?;
+        let bytes = fetch_bytes(alloc, disk, at + 9, count)?;
+        let commands = commands_of(alloc, &bytes, at + 9)?;
+        self.gate += 9 + count;
+        Ok(Some(commands))
+    }
+}

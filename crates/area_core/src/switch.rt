@@ -1,0 +1,99 @@
+//! A snapshot is written into the other area, which is then made the live one.
+
+ghost use Rattle.std.specs.Prelude.{◌≡◌, ◌+◌, ◌*◌, ◌<◌, ◌≤◌, [], ℕ, List, true, false, length, OnOk, OnErr, IsErrOf};
+ghost use Rattle.command_core.specs.Commands.{CommandValue};
+ghost use Rattle.disk_core.specs.Images.{Only};
+ghost use Rattle.disk_core.specs.Moments.{LeavesOnly};
+ghost use Rattle.area_core.specs.Held.{IsAt};
+ghost use Rattle.area_core.specs.Puts.{Each};
+ghost use Rattle.area_core.specs.Steps.{IsCaused};
+ghost use Rattle.area_core.specs.Switches.{HasIdle, KeepsLive, KeepsBoth};
+
+use crate::put::{closed, put};
+use crate::{Area, AreaFault};
+use disk_core::Disk;
+use std::alloc::Global;
+
+impl Area {
+    /// Writes a snapshot into the area that is not live. The live one stays as it is.
+    pub fn write_snapshot<D: Disk>(
+        &mut self,
+        alloc: Global,
+        disk: &mut D,
+        snapshot: &[u8],
+    ) -> Result<(), AreaFault>
+        requires room { 32 + 2 * self.old.size ≤ length (D.content disk.old) }
+        ensures any_moment { D.honest disk.old →
+            LeavesOnly D.moment D.images_since disk.old disk.new
+            (KeepsLive (D.images disk.old) self.old) }
+        ensures idle { D.honest disk.old →
+            OnOk result (Each (D.images disk.new) (HasIdle self.new snapshot.now)) }
+        ensures full { IsErrOf result AreaFault.Full →
+            (self.old.size < length snapshot.now + 9) × (disk.new ≡ disk.old) }
+        ensures place { (self.new.size ≡ self.old.size) × (self.new.selector ≡ self.old.selector) × (self.new.gate ≡ self.old.gate) }
+        ensures only { D.honest disk.old →
+            OnOk result (Only (D.content disk.new) (D.images disk.new)) }
+        ensures broken { self.old.broken ≡ true →
+            IsErrOf result AreaFault.Broken × (disk.new ≡ disk.old) }
+        ensures sound { IsErrOf result AreaFault.Broken → self.old.broken ≡ true }
+        ensures ok { OnOk result (self.new.broken ≡ false) }
+        ensures err { OnErr result (self.new.broken ≡ true) }
+        ensures size { length (D.content disk.new) ≡ length (D.content disk.old) }
+        ensures cause { IsCaused (D.failures disk.old) (D.failures disk.new) result }
+        ensures honest { D.honest disk.old → D.honest disk.new }
+        ensures was_honest { D.honest disk.new → D.honest disk.old }
+    {
+        if self.broken {
+            return Err(AreaFault::Broken);
+        }
+        self.broken = true;
+        let size = snapshot.len() as u64;
+        if size > self.size - 9 {
+            return Err(AreaFault::Full);
+        }
+        let bytes = closed(alloc, snapshot)?;
+        put(disk, self.idle_begins(), &bytes)?;
+        self.written = size;
+        self.broken = false;
+        Ok(())
+    }
+
+    /// Makes the other area, which has the snapshot last written, the live one.
+    ///
+    /// A stop at any moment leaves both areas as they are, and one of them live.
+    pub fn switch<D: Disk>(&mut self, disk: &mut D) -> Result<(), AreaFault>
+        requires room { 32 + 2 * self.old.size ≤ length (D.content disk.old) }
+        ensures any_moment { D.honest disk.old →
+            LeavesOnly D.moment D.images_since disk.old disk.new
+            (KeepsBoth (D.images disk.old) self.old) }
+        ensures after { D.honest disk.old → OnOk result (
+            (snapshot : List ℕ) (blocks : List (List CommandValue)) (next : List ℕ) →
+            Each (D.images disk.old) (IsAt self.old snapshot blocks) →
+            Each (D.images disk.old) (HasIdle self.old next) →
+            Each (D.images disk.new) (IsAt self.new next [])) }
+        ensures place { self.new.size ≡ self.old.size }
+        ensures room { IsErrOf result AreaFault.Full → self.old.broken ≡ true }
+        ensures only { D.honest disk.old →
+            OnOk result (Only (D.content disk.new) (D.images disk.new)) }
+        ensures broken { self.old.broken ≡ true →
+            IsErrOf result AreaFault.Broken × (disk.new ≡ disk.old) }
+        ensures sound { IsErrOf result AreaFault.Broken → self.old.broken ≡ true }
+        ensures ok { OnOk result (self.new.broken ≡ false) }
+        ensures err { OnErr result (self.new.broken ≡ true) }
+        ensures size { length (D.content disk.new) ≡ length (D.content disk.old) }
+        ensures cause { IsCaused (D.failures disk.old) (D.failures disk.new) result }
+        ensures honest { D.honest disk.old → D.honest disk.new }
+        ensures was_honest { D.honest disk.new → D.honest disk.old }
+    {
+        if self.broken {
+            return Err(AreaFault::Broken);
+        }
+        self.broken = true;
+        let selector = self.selector.wrapping_add(1);
+        put(disk, 16, &[selector])?;
+        self.selector = selector;
+        self.gate = 8 + self.written;
+        self.broken = false;
+        Ok(())
+    }
+}
