@@ -41,12 +41,26 @@ impl Area {
         }
     }
 
+    /// The place on the disk of the first byte of its snapshot.
+    pub fn snapshot_place(&self) -> u64
+        ensures { result ≡ start self.now.size (is_odd self.now.selector) + 8 }
+    {
+        self.begins() + 8
+    }
+
     /// Whether a block of so many bytes of records fits.
     pub fn fits(&self, records: u64) -> bool
         ensures { IsTrue result ↔ (self.now.gate + 10 + records ≤ self.now.size) }
     {
         let left = self.size - self.gate;
         left >= 10 && records <= left - 10
+    }
+
+    /// Whether a step failed, after which each further one is refused.
+    pub fn is_broken(&self) -> bool
+        ensures { result ≡ self.now.broken }
+    {
+        self.broken
     }
 
     /// How many of its bytes are used: those up to its first closed gate, and that gate.
