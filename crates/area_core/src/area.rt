@@ -56,6 +56,13 @@ impl Area {
         left >= 10 && records <= left - 10
     }
 
+    /// How many bytes each of the two areas has.
+    pub fn size(&self) -> u64
+        ensures { result ≡ self.now.size }
+    {
+        self.size
+    }
+
     /// Whether a step failed, after which each further one is refused.
     pub fn is_broken(&self) -> bool
         ensures { result ≡ self.now.broken }

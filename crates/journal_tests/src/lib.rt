@@ -4,4 +4,6 @@
 #![tactic(auto)]
 
 #[cfg(test)]
+mod area_tests;
+#[cfg(test)]
 mod disk_tests;
