@@ -7,8 +7,8 @@ use Rattle.command_core.specs.Commands.{CommandValue}
 use Rattle.command_core.specs.Outs.{OutValue}
 use Rattle.broker_core.specs.States.{State}
 use Rattle.broker_core.specs.Steps.{state_after, outs_of, step, outs}
-use Rattle.engine_core.specs.Desks.{commands_of, line_of_out}
-use Rattle.engine_core.specs.declared.desk.Waiting.{Waiting}
+use Rattle.engine_core.specs.Queues.{commands_of, line_of_out}
+use Rattle.engine_core.specs.declared.command_queue.Waiting.{Waiting}
 
 one_more_command : (waiting : List Waiting) (w : Waiting) → commands_of (waiting ++ w ∷ []) ≡ commands_of waiting ++ w.command ∷ []
 one_more_command waiting w = map-append (λ (v : Waiting). v.command) waiting (w ∷ [])

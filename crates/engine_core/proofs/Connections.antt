@@ -60,14 +60,14 @@ no_digits tens units n none low high e =
     let second : units ≡ 48 + n % 10 = cc in
     none n (low, high, first, second)
 
--- a text of one octet
+-- a text of one byte
 pub of_one : (text : List ℕ) (found : Option ℕ) → length text ≡ 1 → MatchOption found (IsDigit (slice_index text 0) → ⊥) (λ d. (slice_index text 0 ≡ 48 + d) × (d < 10)) → MatchOption found (IsNoNumber text) (IsNumber text)
 of_one [] found short h = absurd (omega (arith, short))
 of_one (b ∷ []) None short h = λ n small e. elim (cases_lt n 10) [ inl low ↦ no_digit b n h low (e ∙ one_digit_alone n low) | inr high ↦ let two = two_digits_alone n high small in cc ]
 of_one (b ∷ []) (Some d) short h = (omega (arith, h.1), rw (h.0) (sym (one_digit_alone d h.1)))
 of_one (b ∷ c ∷ text) found short h = absurd (omega (arith, short))
 
--- a text of two octets
+-- a text of two bytes
 pub of_two : (text : List ℕ) (found : Option ℕ) → length text ≡ 2 → MatchOption found (AreNoDigits (slice_index text 0) (slice_index text 1)) (AreDigits (slice_index text 0) (slice_index text 1)) → MatchOption found (IsNoNumber text) (IsNumber text)
 of_two [] found short h = absurd (omega (arith, short))
 of_two (b ∷ []) found short h = absurd (omega (arith, short))

@@ -1,5 +1,5 @@
 pub mod Connections
-pub mod Showing
+pub mod Encodings
 pub mod Carrying
 pub mod Receiving
 pub mod Counting

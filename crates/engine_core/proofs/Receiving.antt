@@ -7,25 +7,25 @@ use Rattle.std.specs.Ordering.{nat_cmp}
 use Rattle.engine_core.specs.declared.script.Connection.{Connection}
 use Rattle.session_core.specs.declared.act.Act.{Act}
 use Rattle.session_core.specs.Sessions.{Hearing, Hears}
-use Rattle.engine_core.specs.Desks.{DeskValue, Progress, acted}
+use Rattle.engine_core.specs.Queues.{QueueValue, Progress, acted}
 use Rattle.engine_core.specs.Scripts.{connection_at, Receives}
 
-pub received : (connections : List (ℕ × Connection)) (desk after : DeskValue) (n : ℕ) (bytes start text : List ℕ) (taken : Connection) (others all : List (ℕ × Connection)) (acts : List Act) (session : Hearing) (number : ℕ)
-    → taken ≡ connection_at n (record { connections = connections; desk = desk })
+pub received : (connections : List (ℕ × Connection)) (queue after : QueueValue) (n : ℕ) (bytes start text : List ℕ) (taken : Connection) (others all : List (ℕ × Connection)) (acts : List Act) (session : Hearing) (number : ℕ)
+    → taken ≡ connection_at n (record { connections = connections; queue = queue })
     → others ≡ remove_entry (is_at (nat_cmp n)) connections
     → Hears taken.session bytes acts session
     → start ≡ []
-    → record { number = number; desk = after; text = text } ≡ fold (acted n) (record { number = taken.number; desk = desk; text = start }) acts
+    → record { number = number; queue = after; text = text } ≡ fold (acted n) (record { number = taken.number; queue = queue; text = start }) acts
     → all ≡ insert_entry nat_cmp others n (record { session = session; number = number })
-    → Receives (record { connections = connections; desk = desk }) n bytes text (record { connections = all; desk = after })
-received connections desk after n bytes start text taken others all acts session number is_taken are_others hears none done inserted =
-    let from : Connection → List ℕ → Progress = λ c t. fold (acted n) (record { number = c.number; desk = desk; text = t }) acts in
+    → Receives (record { connections = connections; queue = queue }) n bytes text (record { connections = all; queue = after })
+received connections queue after n bytes start text taken others all acts session number is_taken are_others hears none done inserted =
+    let from : Connection → List ℕ → Progress = λ c t. fold (acted n) (record { number = c.number; queue = queue; text = t }) acts in
     record {
       acts = acts;
       session = session;
       hears = subst (λ (c : Connection). Hears c.session bytes acts session) is_taken hears;
-      progress = record { number = number; desk = after; text = text };
+      progress = record { number = number; queue = after; text = text };
       done = done ∙ ap (from taken) none ∙ ap (λ (c : Connection). from c []) is_taken;
       same_text = refl;
-      after = ap (λ cs. record { connections = cs; desk = after }) (inserted ∙ ap (λ (os : List (ℕ × Connection)). insert_entry nat_cmp os n (record { session = session; number = number })) are_others);
+      after = ap (λ cs. record { connections = cs; queue = after }) (inserted ∙ ap (λ (os : List (ℕ × Connection)). insert_entry nat_cmp os n (record { session = session; number = number })) are_others);
     }

@@ -4,11 +4,11 @@ use Rattle.std.specs.List.{AllByRecursion}
 use Rattle.std.specs.Io.KnownBytes.{Appends}
 use Rattle.std.proofs.lemmas.Grind.{flat_map-append}
 use Rattle.engine_core.specs.ScriptLines.{IsOfNoForm}
-use Rattle.engine_core.specs.OfDesk.{of_desk}
+use Rattle.engine_core.specs.OfQueue.{of_queue}
 use Rattle.engine_core.specs.Runs.{Goes, Halts, StopsIn, IsTooLong}
 use Rattle.engine_core.specs.declared.run.Run.{Run}
-use Rattle.engine_core.specs.declared.fault.DeskFault.{DeskFault}
-use Rattle.engine_core.specs.declared.fault.DeskFault.TheVariants as desk
+use Rattle.engine_core.specs.declared.fault.QueueFault.{QueueFault}
+use Rattle.engine_core.specs.declared.fault.QueueFault.TheVariants as queue
 use Rattle.engine_core.specs.declared.fault.ScriptFault.{ScriptFault}
 use Rattle.engine_core.specs.declared.fault.ScriptFault.TheVariants.{Memory, NotUnderstood, CountTooLarge, Input, Output}
 use Rattle.engine_core.specs.Scripts.{ScriptValue, Prints, PrintsAll, Takes, IsLine, HasNoLf, RunsTooFar, Tries, text_of_lines}
@@ -63,11 +63,11 @@ no_lf_append (x ∷ a) b first second = (first.0, no_lf_append a b first.1 secon
 abbrev pub halts_nothing : (old : Run) (bytes : List ℕ) (contents : Option (List ℕ)) → Halts old bytes [] (old.begun.items ++ bytes) contents contents
 halts_nothing old bytes contents = record { printed = []; end = old.script; takes = takes_nothing old.script old.begun.items bytes; writes = appends_nothing contents }
 
-pub stops_at_desk : (fault : DeskFault) (given : ScriptFault) (old : Run) (bytes line : List ℕ) (contents : Option (List ℕ))
-    → line ≡ old.begun.items ++ bytes → IsLine line → (fault ≡ desk.CountTooLarge → RunsTooFar old.script line) → given ≡ of_desk fault → StopsIn given old (bytes ++ 10 ∷ []) contents contents
-stops_at_desk (desk.Memory refused) given old bytes line contents same is_line far e =
+pub stops_at_queue : (fault : QueueFault) (given : ScriptFault) (old : Run) (bytes line : List ℕ) (contents : Option (List ℕ))
+    → line ≡ old.begun.items ++ bytes → IsLine line → (fault ≡ queue.CountTooLarge → RunsTooFar old.script line) → given ≡ of_queue fault → StopsIn given old (bytes ++ 10 ∷ []) contents contents
+stops_at_queue (queue.Memory refused) given old bytes line contents same is_line far e =
     subst (λ f. StopsIn f old (bytes ++ 10 ∷ []) contents contents) (sym e) ([], old.begun.items ++ (bytes ++ 10 ∷ []), halts_nothing old (bytes ++ 10 ∷ []) contents)
-stops_at_desk desk.CountTooLarge given old bytes line contents same is_line far e =
+stops_at_queue queue.CountTooLarge given old bytes line contents same is_line far e =
     subst (λ f. StopsIn f old (bytes ++ 10 ∷ []) contents contents) (sym e) (
       [],
       old.begun.items ++ (bytes ++ 10 ∷ []),

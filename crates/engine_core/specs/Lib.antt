@@ -1,9 +1,9 @@
 pub mod ScriptLines
-pub mod Shown
-pub mod Desks
+pub mod PercentTexts
+pub mod Queues
 pub mod Scripts
 pub mod Connections
 pub mod Runs
-pub mod OfDesk
+pub mod OfQueue
 pub mod FaultTexts
 pub mod Worked

@@ -5,7 +5,7 @@ use Rattle.engine_core.specs.declared.fault.ScriptFault.{ScriptFault}
 use Rattle.engine_core.specs.declared.fault.ScriptFault.TheVariants.{Memory, NotUnderstood, CountTooLarge, Output}
 use Rattle.engine_core.specs.declared.run.Run.{Run}
 
--- octets lead a run on: the lines that end in them print, and what follows begins a line
+-- bytes lead a run on: the lines that end in them print, and what follows begins a line
 pub record Goes (old : Run) (bytes : List ℕ) (new : Run) (before after : Option (List ℕ)) : Type 0 where
   pub lines : List (List ℕ)
   pub printed : List ℕ
@@ -15,14 +15,14 @@ pub record Goes (old : Run) (bytes : List ℕ) (new : Run) (before after : Optio
   pub few : length lines ≤ length bytes
   pub writes : Appends before after printed
 
--- octets lead a run on as far as these lines, and what they print is written
+-- bytes lead a run on as far as these lines, and what they print is written
 pub record Halts (old : Run) (bytes : List ℕ) (lines : List (List ℕ)) (rest : List ℕ) (before after : Option (List ℕ)) : Type 0 where
   pub printed : List ℕ
   pub end : ScriptValue
   pub takes : Takes old.script old.begun.items bytes lines printed end rest
   pub writes : Appends before after printed
 
--- A fault stops a run within octets: unless it is the writer's, what is written is what the lines before print. The
+-- A fault stops a run within bytes: unless it is the writer's, what is written is what the lines before print. The
 -- commands are too many only where the next line is one that runs too far, and the writer fails only where the next line prints.
 abbrev pub StopsIn : ScriptFault → Run → List ℕ → Option (List ℕ) → Option (List ℕ) → Type 0
 StopsIn Output old bytes before after = Tries old.script old.begun.items bytes
@@ -51,7 +51,7 @@ EndsWithin (NotUnderstood k) old bytes left before after =
     (new : Run) × Goes old bytes new before after × IsAtEnd left × (new.begun.items ≢ []) × (k ≡ new.lines + 1)
 EndsWithin _ old bytes left before after = ⊥
 
--- a fault stops a run that has read these octets
+-- a fault stops a run that has read these bytes
 pub record Stopped (fault : ScriptFault) (old : Run) (unread left before after : Option (List ℕ)) : Type 0 where
   pub bytes : List ℕ
   pub reads : Consumes unread left bytes
@@ -67,7 +67,7 @@ pub record Begins (lines : List (List ℕ)) (rest : List ℕ) (unread left befor
   pub writes : Appends before after printed
 
 -- A fault stops a script. Unless it is the writer's, what is written is what the lines before print, and a line is told
--- only where it is none: it has too many octets, is of no form, or ends the script with no LF. The commands are too many
+-- only where it is none: it has too many bytes, is of no form, or ends the script with no LF. The commands are too many
 -- only where the next line is one that runs too far, and the writer fails only where the next line prints.
 abbrev pub Stops : ScriptFault → Option (List ℕ) → Option (List ℕ) → Option (List ℕ) → Option (List ℕ) → Type 0
 Stops Output unread left before after = (input : List ℕ) × Consumes unread left input × Tries beginning [] input

@@ -1,7 +1,7 @@
 use Rattle.std.specs.Prelude.{◌≡◌, ◌≢◌, ◌+◌, ◌/◌, ◌%◌, ◌<◌, ◌≤◌, List, [], ◌∷◌, ◌++◌, ℕ, codes, drop, length}
 use Rattle.std.specs.Fmt.{decimal}
-use Rattle.engine_core.specs.declared.line.Line.{Line}
-use Rattle.engine_core.specs.declared.line.Line.TheVariants.{Blank, Flush, Lose, Receive}
+use Rattle.engine_core.specs.declared.script_line.ScriptLine.{ScriptLine}
+use Rattle.engine_core.specs.declared.script_line.ScriptLine.TheVariants.{Blank, Flush, Lose, Receive}
 
 -- the number of a connection in decimal
 abbrev pub IsNumber : List ℕ → ℕ → Type 0
@@ -18,7 +18,7 @@ abbrev pub IsNoLoss : List ℕ → Type 0
 IsNoLoss line = (n : ℕ) → n < 32 → line ≢ codes "lost " ++ decimal n
 
 -- the line says that: nothing, `flush`, `lost` with a connection's number, or such a number, a blank and a text
-abbrev pub Says : List ℕ → Line → Type 0
+abbrev pub Says : List ℕ → ScriptLine → Type 0
 Says line Blank = line ≡ []
 Says line Flush = line ≡ codes "flush"
 Says line (Lose n) = IsLoss line n

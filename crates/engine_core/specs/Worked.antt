@@ -1,10 +1,10 @@
 use Rattle.std.specs.Prelude.{[], ◌∷◌, Some, None, codes}
 use Rattle.command_core.specs.declared.command.Op.TheVariants as ops
 use Rattle.broker_core.specs.States.{empty_state}
-use Rattle.engine_core.specs.Desks.{DeskValue}
+use Rattle.engine_core.specs.Queues.{QueueValue}
 
 -- connection 0 has asked for a session
-abbrev pub waiting_open : DeskValue
+abbrev pub waiting_open : QueueValue
 waiting_open = record {
   waiting = record { connection = 0; command = record { session = 0; op = ops.Open None; receipt = None } } ∷ [];
   openers = (0, 0) ∷ [];
@@ -12,16 +12,16 @@ waiting_open = record {
 }
 
 -- and has it
-abbrev pub opened_desk : DeskValue
-opened_desk = record {
+abbrev pub opened_queue : QueueValue
+opened_queue = record {
   waiting = [];
   openers = (0, 0) ∷ [];
   state = record { count = 1; next_delivery = 0; sessions = (0, None) ∷ []; durables = []; shared = record { names = []; queues = [] }; subscriptions = [] };
 }
 
 -- and has sent `hi` to `/queue/a`, and asked for a receipt
-abbrev pub waiting_send : DeskValue
-waiting_send = record opened_desk {
+abbrev pub waiting_send : QueueValue
+waiting_send = record opened_queue {
   waiting = record {
     connection = 0;
     command = record {

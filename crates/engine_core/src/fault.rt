@@ -8,9 +8,9 @@ use std::alloc::{AllocError, AllocFailed};
 use std::{error, fmt};
 use thiserror::Error;
 
-/// Why the desk can't take or flush a command.
+/// Why the queue can't take or flush a command.
 #[derive(Debug, Drop, Error)]
-pub enum DeskFault {
+pub enum QueueFault {
     /// Memory was refused.
     #[error("no memory")]
     Memory(AllocError),
@@ -19,50 +19,50 @@ pub enum DeskFault {
     CountTooLarge,
 }
 
-impl From<AllocError> for DeskFault {
+impl From<AllocError> for QueueFault {
     ghost use Rattle.std.specs.Prelude.{◌≡◌};
-    ghost use Rattle.engine_core.specs.declared.fault.DeskFault.TheVariants as faults;
+    ghost use Rattle.engine_core.specs.declared.fault.QueueFault.TheVariants as faults;
 
     ghost from_gives = { λ refused r. r ≡ faults.Memory refused };
 
-    fn from(refused: AllocError) -> DeskFault {
-        DeskFault::Memory(refused)
+    fn from(refused: AllocError) -> QueueFault {
+        QueueFault::Memory(refused)
     }
 }
 
-impl<Lost: Drop> From<AllocFailed<Lost>> for DeskFault {
+impl<Lost: Drop> From<AllocFailed<Lost>> for QueueFault {
     ghost use Rattle.std.specs.Prelude.{◌≢◌};
-    ghost use Rattle.engine_core.specs.declared.fault.DeskFault.TheVariants as faults;
+    ghost use Rattle.engine_core.specs.declared.fault.QueueFault.TheVariants as faults;
 
     ghost from_gives = { λ _ r. r ≢ faults.CountTooLarge };
 
-    fn from(failed: AllocFailed<Lost>) -> DeskFault {
-        DeskFault::Memory(AllocError::from(failed))
+    fn from(failed: AllocFailed<Lost>) -> QueueFault {
+        QueueFault::Memory(AllocError::from(failed))
     }
 }
 
-impl From<BrokerFault> for DeskFault {
+impl From<BrokerFault> for QueueFault {
     ghost use Rattle.std.specs.Prelude.{◌≢◌};
-    ghost use Rattle.engine_core.specs.declared.fault.DeskFault.TheVariants as faults;
+    ghost use Rattle.engine_core.specs.declared.fault.QueueFault.TheVariants as faults;
 
     ghost from_gives = { λ _ r. r ≢ faults.CountTooLarge };
 
-    fn from(fault: BrokerFault) -> DeskFault {
+    fn from(fault: BrokerFault) -> QueueFault {
         match fault {
-            BrokerFault::Memory(refused) => DeskFault::Memory(refused),
-            BrokerFault::Broken => DeskFault::Memory(AllocError),
+            BrokerFault::Memory(refused) => QueueFault::Memory(refused),
+            BrokerFault::Broken => QueueFault::Memory(AllocError),
         }
     }
 }
 
-impl From<SessionFault> for DeskFault {
+impl From<SessionFault> for QueueFault {
     ghost use Rattle.std.specs.Prelude.{◌≢◌};
-    ghost use Rattle.engine_core.specs.declared.fault.DeskFault.TheVariants as faults;
+    ghost use Rattle.engine_core.specs.declared.fault.QueueFault.TheVariants as faults;
 
     ghost from_gives = { λ _ r. r ≢ faults.CountTooLarge };
 
-    fn from(_: SessionFault) -> DeskFault {
-        DeskFault::Memory(AllocError)
+    fn from(_: SessionFault) -> QueueFault {
+        QueueFault::Memory(AllocError)
     }
 }
 
@@ -101,16 +101,16 @@ impl fmt::Display for ScriptFault {
 
 impl error::Error for ScriptFault {}
 
-impl From<DeskFault> for ScriptFault {
-    ghost use Rattle.engine_core.specs.OfDesk.{of_desk};
+impl From<QueueFault> for ScriptFault {
+    ghost use Rattle.engine_core.specs.OfQueue.{of_queue};
     ghost use Rattle.std.specs.Prelude.{◌≡◌};
 
-    ghost from_gives = { λ fault r. r ≡ of_desk fault };
+    ghost from_gives = { λ fault r. r ≡ of_queue fault };
 
-    fn from(fault: DeskFault) -> ScriptFault {
+    fn from(fault: QueueFault) -> ScriptFault {
         match fault {
-            DeskFault::Memory(refused) => ScriptFault::Memory(refused),
-            DeskFault::CountTooLarge => ScriptFault::CountTooLarge,
+            QueueFault::Memory(refused) => ScriptFault::Memory(refused),
+            QueueFault::CountTooLarge => ScriptFault::CountTooLarge,
         }
     }
 }

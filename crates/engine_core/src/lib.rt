@@ -2,13 +2,13 @@
 
 #![tactic(auto)]
 
-mod desk;
+mod command_queue;
 mod fault;
-mod line;
+mod script_line;
 mod printing;
 mod run;
 mod script;
-mod shown;
+mod percent;
 mod worked;
 
 pub use fault::ScriptFault;

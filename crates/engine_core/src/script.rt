@@ -1,4 +1,4 @@
-//! A script as far as it has run: its connections and the desk.
+//! A script as far as it has run: its connections and the queue.
 
 ghost use Rattle.std.specs.Prelude.{◌≡◌, ◌++◌, ◌<◌, [], IfOk, IfErr, OnOk, MatchOption, string_bytes};
 ghost use Rattle.std.specs.List.{AllByRecursion, fold};
@@ -8,13 +8,13 @@ ghost use Rattle.std.specs.BTreeMap.{is_at};
 ghost use Rattle.std.specs.Map.{lookup, remove_entry};
 ghost use Rattle.std.specs.Ordering.{nat_cmp};
 ghost use Rattle.engine_core.specs.Connections.{new_connection};
-ghost use Rattle.engine_core.specs.Desks.{Progress, acted, IsTooFar, GoTooFar};
+ghost use Rattle.engine_core.specs.Queues.{Progress, acted, IsTooFar, GoTooFar};
 
-use crate::desk::Desk;
-use crate::fault::DeskFault;
-use crate::line::{Line, read_line};
+use crate::command_queue::CommandQueue;
+use crate::fault::QueueFault;
+use crate::script_line::{ScriptLine, read_line};
 use crate::printing::print_frame;
-use crate::shown::unshow;
+use crate::percent::decode_text;
 use session_core::{Act, Session};
 use std::alloc::Global;
 use std::collections::BTreeMap;
@@ -27,11 +27,11 @@ pub struct Connection {
     pub number: u64,
 }
 
-/// A script as far as it has run. Contracts see its connections by rising number, and the desk.
+/// A script as far as it has run. Contracts see its connections by rising number, and the queue.
 #[derive(Drop)]
 pub struct Script {
     connections: BTreeMap<u8, Connection>,
-    desk: Desk,
+    queue: CommandQueue,
 }
 
 impl Model for Script {
@@ -39,7 +39,7 @@ impl Model for Script {
 
     ghost Value = { ScriptValue };
 
-    ghost view = { λ a. record { connections = a.connections.entries; desk = a.desk } };
+    ghost view = { λ a. record { connections = a.connections.entries; queue = a.queue } };
 }
 
 impl Script {
@@ -52,36 +52,36 @@ impl Script {
     {
         Script {
             connections: BTreeMap::new(alloc),
-            desk: Desk::new(alloc),
+            queue: CommandQueue::new(alloc),
         }
     }
 
     /// Does what a line says, and answers what it prints; `None` where the line says nothing that a script can say.
-    pub fn perform(&mut self, alloc: Global, line: &[u8]) -> Result<Option<String>, DeskFault>
+    pub fn perform(&mut self, alloc: Global, line: &[u8]) -> Result<Option<String>, QueueFault>
         ensures ok { IfOk result (λ printed. MatchOption printed (IsOfNoForm line.now)
             (λ text. Prints self.old line.now (string_bytes text) self.new)) }
-        ensures err { IfErr result (λ fault. fault ≡ DeskFault.CountTooLarge → RunsTooFar self.old line.now) }
+        ensures err { IfErr result (λ fault. fault ≡ QueueFault.CountTooLarge → RunsTooFar self.old line.now) }
     {
         match read_line(line) {
             None => Ok(None),
-            Some(Line::Blank) => Ok(Some(String::new(alloc))),
-            Some(Line::Flush) => {
+            Some(ScriptLine::Blank) => Ok(Some(String::new(alloc))),
+            Some(ScriptLine::Flush) => {
                 let mut text = String::new(alloc);
-                self.desk.flush(alloc, &mut text)?;
+                self.queue.flush(alloc, &mut text)?;
                 Ok(Some(text))
             }
-            Some(Line::Lose { connection }) => Ok(Some(self.lose(alloc, connection)?)),
-            Some(Line::Receive { connection, text }) => {
-                let bytes = unshow(alloc, text)?;
+            Some(ScriptLine::Lose { connection }) => Ok(Some(self.lose(alloc, connection)?)),
+            Some(ScriptLine::Receive { connection, text }) => {
+                let bytes = decode_text(alloc, text)?;
                 Ok(Some(self.receive(alloc, connection, bytes.as_slice())?))
             }
         }
     }
 
     /// A connection receives bytes; answers what is printed.
-    fn receive(&mut self, alloc: Global, n: u8, bytes: &[u8]) -> Result<String, DeskFault>
+    fn receive(&mut self, alloc: Global, n: u8, bytes: &[u8]) -> Result<String, QueueFault>
         ensures ok { IfOk result (λ text. Receives self.old n bytes.now (string_bytes text) self.new) }
-        ensures err { IfErr result (λ fault. fault ≡ DeskFault.CountTooLarge → ReceivesTooFar self.old n bytes.now) }
+        ensures err { IfErr result (λ fault. fault ≡ QueueFault.CountTooLarge → ReceivesTooFar self.old n bytes.now) }
     {
         let Connection {
             mut session,
@@ -89,15 +89,15 @@ impl Script {
         } = take_connection(alloc, &mut self.connections, n);
         let acts = session.feed(alloc, bytes)?;
         let mut text = String::new(alloc);
-        let number = do_acts(alloc, &mut self.desk, n, number, acts, &mut text)?;
+        let number = do_acts(alloc, &mut self.queue, n, number, acts, &mut text)?;
         self.connections.insert(n, Connection { session, number })?;
         Ok(text)
     }
 
     /// A connection is gone; answers what is printed.
-    fn lose(&mut self, alloc: Global, n: u8) -> Result<String, DeskFault>
+    fn lose(&mut self, alloc: Global, n: u8) -> Result<String, QueueFault>
         ensures ok { IfOk result (λ text. Loses self.old n (string_bytes text) self.new) }
-        ensures err { IfErr result (λ fault. fault ≡ DeskFault.CountTooLarge → LosesTooFar self.old n) }
+        ensures err { IfErr result (λ fault. fault ≡ QueueFault.CountTooLarge → LosesTooFar self.old n) }
     {
         let Connection {
             mut session,
@@ -107,7 +107,7 @@ impl Script {
         let Some(act) = session.lost() else {
             return Ok(text);
         };
-        do_act(alloc, &mut self.desk, n, number, act, &mut text)?;
+        do_act(alloc, &mut self.queue, n, number, act, &mut text)?;
         Ok(text)
     }
 }
@@ -129,40 +129,40 @@ fn take_connection(alloc: Global, connections: &mut BTreeMap<u8, Connection>, n:
 /// Does what a connection's acts ask for, one after another; answers the number of its session then.
 fn do_acts(
     alloc: Global,
-    desk: &mut Desk,
+    queue: &mut CommandQueue,
     connection: u8,
     number: u64,
     acts: Vec<Act>,
     text: &mut String,
-) -> Result<u64, DeskFault>
+) -> Result<u64, QueueFault>
     requires { AllByRecursion HasForm acts.items }
-    ensures ok { IfOk result (λ n. record { number = n; desk = desk.new; text = string_bytes text.new }
-        ≡ fold (acted connection) (record { number = number; desk = desk.old; text = string_bytes text.old }) acts.items) }
-    ensures err { IfErr result (λ fault. fault ≡ DeskFault.CountTooLarge
-        → GoTooFar connection (record { number = number; desk = desk.old; text = string_bytes text.old }) acts.items) }
+    ensures ok { IfOk result (λ n. record { number = n; queue = queue.new; text = string_bytes text.new }
+        ≡ fold (acted connection) (record { number = number; queue = queue.old; text = string_bytes text.old }) acts.items) }
+    ensures err { IfErr result (λ fault. fault ≡ QueueFault.CountTooLarge
+        → GoTooFar connection (record { number = number; queue = queue.old; text = string_bytes text.old }) acts.items) }
 {
     let mut number = number;
     for act in acts {
-        number = do_act(alloc, desk, connection, number, act, text)?;
+        number = do_act(alloc, queue, connection, number, act, text)?;
     }
     Ok(number)
 }
 
 fn do_act(
     alloc: Global,
-    desk: &mut Desk,
+    queue: &mut CommandQueue,
     connection: u8,
     number: u64,
     act: Act,
     text: &mut String,
-) -> Result<u64, DeskFault>
+) -> Result<u64, QueueFault>
     requires { HasForm act }
-    ensures ok { IfOk result (λ n. record { number = n; desk = desk.new; text = string_bytes text.new }
-        ≡ acted connection (record { number = number; desk = desk.old; text = string_bytes text.old }) act) }
-    ensures err { IfErr result (λ fault. fault ≡ DeskFault.CountTooLarge → IsTooFar connection desk.old act) }
+    ensures ok { IfOk result (λ n. record { number = n; queue = queue.new; text = string_bytes text.new }
+        ≡ acted connection (record { number = number; queue = queue.old; text = string_bytes text.old }) act) }
+    ensures err { IfErr result (λ fault. fault ≡ QueueFault.CountTooLarge → IsTooFar connection queue.old act) }
 {
     match act {
-        Act::Do(op, receipt) => desk.submit(alloc, connection, number, op, receipt, text),
+        Act::Do(op, receipt) => queue.submit(alloc, connection, number, op, receipt, text),
         Act::Direct(notice) => {
             print_frame(alloc, text, connection, notice.frame())?;
             Ok(number)

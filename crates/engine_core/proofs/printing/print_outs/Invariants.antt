@@ -1,6 +1,6 @@
 use Rattle.std.proofs.Common.{◌≡◌, ◌++◌, string_bytes, take}
 use Rattle.std.specs.List.{flat_map}
-use Rattle.engine_core.specs.Desks.{line_of_out}
+use Rattle.engine_core.specs.Queues.{line_of_out}
 use Rattle.engine_core.proofs.printing.print_outs.Given as goal
 
 abbrev pub invariant-loop-out : goal.invariant-loop-out

@@ -3,8 +3,8 @@ use Rattle.engine_core.specs.Scripts.{IsLine, Prints, RunsTooFar}
 use Rattle.std.specs.Io.KnownBytes.{Appends}
 use Rattle.engine_core.specs.ScriptLines.{IsOfNoForm}
 use Rattle.std.proofs.lemmas.Result.{err_from_is_err_and}
-use Rattle.engine_core.specs.declared.fault.DeskFault.TheVariants.{CountTooLarge}
-use Rattle.engine_core.proofs.Running.{stops_too_long, stops_at_desk, stops_at_no_form, stops_at_writer, goes_on_line}
+use Rattle.engine_core.specs.declared.fault.QueueFault.TheVariants.{CountTooLarge}
+use Rattle.engine_core.proofs.Running.{stops_too_long, stops_at_queue, stops_at_no_form, stops_at_writer, goes_on_line}
 use Rattle.engine_core.proofs.run.end_line.Goals as goal
 
 pub returns-in_err-begin_line-clause-err : goal.returns-in_err-begin_line-clause-err
@@ -17,7 +17,7 @@ returns-in_err-perform-clause-err g c =
     let p = err_from_is_err_and c.from_residual-in_err-perform.result c.from_residual-in_err-perform.ensures.1 in
     let begun = c.in_ok-begin_line.ensures in
     let far = subst (λ s. c.in_err-perform.field-0.0 ≡ CountTooLarge → RunsTooFar s c.as_slice.result.now) begun.same.0 c.in_err-perform.ensures.err in
-    rw (p.1) (stops_at_desk c.in_err-perform.field-0.0 p.0 c.args.run.now c.args.bytes.now c.as_slice.result.now _ (c.as_slice.ensures.value ∙ begun.ok.0) (subst IsLine (sym c.as_slice.ensures.value) begun.ok.1) far p.2)
+    rw (p.1) (stops_at_queue c.in_err-perform.field-0.0 p.0 c.args.run.now c.args.bytes.now c.as_slice.result.now _ (c.as_slice.ensures.value ∙ begun.ok.0) (subst IsLine (sym c.as_slice.ensures.value) begun.ok.1) far p.2)
 
 option_none : {A : Type 0} (P : Type 0) (Q : A → Type 0) (o : Option A) → o ≡ None → MatchOption o P Q → P
 option_none P Q None e h = h

@@ -1,13 +1,13 @@
 use Rattle.std.proofs.Common.{◌≡◌, ◌++◌, string_bytes}
 use Rattle.std.specs.List.{fold, AllByRecursion}
 use Rattle.session_core.specs.Sessions.{HasForm}
-use Rattle.engine_core.specs.Desks.{acted}
+use Rattle.engine_core.specs.Queues.{acted}
 use Rattle.engine_core.proofs.script.do_acts.Given as goal
 
 abbrev pub invariant-loop-act : goal.invariant-loop-act
 invariant-loop-act l = record {
-  done : record { number = l.number; desk = l.desk; text = string_bytes l.text }
-      ≡ fold (acted l.connection) (record { number = l.fn.number; desk = l.fn.desk; text = string_bytes l.fn.text }) l.yielded;
+  done : record { number = l.number; queue = l.queue; text = string_bytes l.text }
+      ≡ fold (acted l.connection) (record { number = l.fn.number; queue = l.fn.queue; text = string_bytes l.fn.text }) l.yielded;
   whole : l.fn.acts.items ≡ l.yielded ++ l.act-iterator.rest.items;
   rest : AllByRecursion HasForm l.act-iterator.rest.items;
 }

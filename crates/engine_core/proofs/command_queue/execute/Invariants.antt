@@ -1,8 +1,8 @@
 use Rattle.std.proofs.Common.{◌≡◌, ◌+◌, ◌≤◌, ◌^◌, ◌++◌, string_bytes}
 use Rattle.std.specs.List.{flat_map}
 use Rattle.broker_core.specs.Steps.{state_after, outs_of}
-use Rattle.engine_core.specs.Desks.{line_of_out, commands_of}
-use Rattle.engine_core.proofs.printing.carry_out.Given as goal
+use Rattle.engine_core.specs.Queues.{line_of_out, commands_of}
+use Rattle.engine_core.proofs.command_queue.execute.Given as goal
 
 abbrev pub invariant-loop-command : goal.invariant-loop-command
 invariant-loop-command l = record {

@@ -5,7 +5,7 @@ ghost use Rattle.engine_core.specs.ScriptLines.{Says, IsOfNoForm, IsLoss, IsNoLo
 
 /// What a line of a script says.
 #[derive(Clone, Copy, Debug)]
-pub enum Line<'a> {
+pub enum ScriptLine<'a> {
     /// Nothing: the line is empty.
     Blank,
     /// All waiting commands are applied, and their outputs printed.
@@ -17,26 +17,26 @@ pub enum Line<'a> {
 }
 
 /// Reads a line, which is given without its LF; `None` where it says nothing that a script can say.
-pub fn read_line(line: &[u8]) -> Option<Line<'_>>
+pub fn read_line(line: &[u8]) -> Option<ScriptLine<'_>>
     ensures { MatchOption result (IsOfNoForm line.now) (Says line.now) }
 {
     if line.is_empty() {
-        return Some(Line::Blank);
+        return Some(ScriptLine::Blank);
     }
     if line == b"flush".as_slice() {
-        return Some(Line::Flush);
+        return Some(ScriptLine::Flush);
     }
     if let Some(connection) = lost(line) {
-        return Some(Line::Lose { connection });
+        return Some(ScriptLine::Lose { connection });
     }
     if let Some(connection) = one_digit(line) {
-        return Some(Line::Receive {
+        return Some(ScriptLine::Receive {
             connection,
             text: &line[2..],
         });
     }
     match two_digits(line) {
-        Some(connection) => Some(Line::Receive {
+        Some(connection) => Some(ScriptLine::Receive {
             connection,
             text: &line[3..],
         }),

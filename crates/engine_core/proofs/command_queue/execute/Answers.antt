@@ -1,8 +1,8 @@
 use Rattle.std.proofs.Common.{◌≡◌, ◌+◌, ◌++◌, arith, ap, ◌∙◌, string_bytes}
 use Rattle.std.specs.List.{flat_map}
-use Rattle.engine_core.specs.Desks.{line_of_out}
+use Rattle.engine_core.specs.Queues.{line_of_out}
 use Rattle.engine_core.proofs.Carrying.{more_state, more_text}
-use Rattle.engine_core.proofs.printing.carry_out.Goals as goal
+use Rattle.engine_core.proofs.command_queue.execute.Goals as goal
 
 pub loop-command-preserved : goal.loop-command-preserved
 loop-command-preserved c =

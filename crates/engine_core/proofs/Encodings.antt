@@ -1,4 +1,4 @@
--- Octets as `percent_encode` writes them are octets as the script shows them.
+-- Bytes as `percent_encode` writes them are bytes as the script shows them.
 use Rattle.std.proofs.Common.{◌≡◌, ℕ, ◌≤◌, true, false, ◌||◌, ◌==◌, nat_lt, List, [], ◌∷◌, refl, arith, inl, inr}
 use Rattle.std.specs.List.{flat_map}
 use Rattle.std.proofs.lemmas.Bool.{cases_lt, agree_below, agree_below_at}
@@ -6,27 +6,27 @@ use Rattle.std.proofs.Math.Bool.{or-true}
 use Rattle.std.proofs.lemmas.Bool.Decides.{nat_tests}
 use Rattle.percent_encoding.specs.Percent.{percent_encode, encode_byte}
 use Rattle.percent_encoding.specs.AsciiSet.{should_percent_encode}
-use Rattle.engine_core.specs.declared.shown.TheConstants.{ESCAPED}
-use Rattle.engine_core.specs.Shown.{is_shown_by_number, shown}
+use Rattle.engine_core.specs.declared.percent.TheConstants.{ESCAPED}
+use Rattle.engine_core.specs.PercentTexts.{is_encoded, encoded}
 
-all_agree : agree_below (should_percent_encode ESCAPED) is_shown_by_number 128 ≡ true
+all_agree : agree_below (should_percent_encode ESCAPED) is_encoded 128 ≡ true
 unfolding should_percent_encode
 all_agree = refl
 
-outside : (b : ℕ) → 128 ≤ b → should_percent_encode ESCAPED b ≡ is_shown_by_number b
+outside : (b : ℕ) → 128 ≤ b → should_percent_encode ESCAPED b ≡ is_encoded b
 unfolding should_percent_encode
 outside b h =
     let p : nat_lt b 128 ≡ false = grind (arith, nat_tests) in
     let q : nat_lt 126 b ≡ true = grind (arith, nat_tests) in
     rw (p, q, or-true (nat_lt b 32 || b == 37)) refl
 
-agrees : (b : ℕ) → should_percent_encode ESCAPED b ≡ is_shown_by_number b
-agrees b = elim (cases_lt b 128) [ inl low ↦ agree_below_at (should_percent_encode ESCAPED) is_shown_by_number 128 b all_agree low | inr high ↦ outside b high ]
+agrees : (b : ℕ) → should_percent_encode ESCAPED b ≡ is_encoded b
+agrees b = elim (cases_lt b 128) [ inl low ↦ agree_below_at (should_percent_encode ESCAPED) is_encoded 128 b all_agree low | inr high ↦ outside b high ]
 
-each : (bytes : List ℕ) → flat_map (encode_byte ESCAPED) bytes ≡ shown bytes
+each : (bytes : List ℕ) → flat_map (encode_byte ESCAPED) bytes ≡ encoded bytes
 each [] = refl
 each (b ∷ bytes) = rw (agrees b, each bytes) refl
 
-pub encodes : (bytes : List ℕ) → percent_encode ESCAPED bytes ≡ shown bytes
+pub encodes : (bytes : List ℕ) → percent_encode ESCAPED bytes ≡ encoded bytes
 unfolding percent_encode
 encodes bytes = each bytes
