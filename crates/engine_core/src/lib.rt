@@ -4,11 +4,11 @@
 
 mod command_queue;
 mod fault;
-mod script_line;
+mod percent;
 mod printing;
 mod run;
 mod script;
-mod percent;
+mod script_line;
 mod worked;
 
 pub use fault::ScriptFault;

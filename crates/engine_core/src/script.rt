@@ -12,9 +12,9 @@ ghost use Rattle.engine_core.specs.Queues.{Progress, acted, IsTooFar, GoTooFar};
 
 use crate::command_queue::CommandQueue;
 use crate::fault::QueueFault;
-use crate::script_line::{ScriptLine, read_line};
-use crate::printing::print_frame;
 use crate::percent::decode_text;
+use crate::printing::print_frame;
+use crate::script_line::{ScriptLine, read_line};
 use session_core::{Act, Session};
 use std::alloc::Global;
 use std::collections::BTreeMap;
