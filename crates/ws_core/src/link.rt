@@ -1,0 +1,48 @@
+//! What the broker asks of a connection.
+
+ghost use Rattle.std.specs.Prelude.{◌≡◌, ℕ, List, Option, None, OnOk, OnErr, IfErr};
+ghost use Rattle.frame_core.specs.Writable.{Writable};
+ghost use Rattle.frame_core.specs.Written.{written};
+ghost use Rattle.ws_core.specs.Sending.{with_message};
+
+use crate::closing::CloseReason;
+use crate::fault::LinkFault;
+use frame_core::{Frame, Verb};
+use std::alloc::Global;
+
+/// What one read of a link gave.
+#[derive(Debug, Drop)]
+pub enum Received {
+    /// The next bytes of the peer's STOMP stream. A frame may be cut over several of these.
+    Bytes(Vec<u8>),
+    /// Nothing that the STOMP stream has to do with, or nothing yet.
+    Nothing,
+    /// The peer has closed, or the link has failed, for want of memory too. Nothing more comes.
+    Closed,
+}
+
+/// A connection to one client, which carries one STOMP stream each way. Each frame goes out as one message.
+///
+/// A link may tell what was sent: then contracts see a list of the messages, to which only a send that answers Ok adds
+/// one. How a frame goes out that waits for the broker's journal is still to come.
+pub trait Link {
+    /// The messages that were sent, where the link tells them.
+    ghost sent: { Self → Option (List (List ℕ)) } = { λ _. None };
+
+    /// Reads once.
+    fn receive(&mut self, alloc: Global) -> Received
+        ensures { sent self.new ≡ sent self.old };
+
+    /// Sends an ERROR that doesn't wait for the broker, as one message.
+    fn send_direct(&mut self, alloc: Global, frame: &Frame) -> Result<(), LinkFault>
+        requires error { frame.now.verb ≡ Verb.Error }
+        requires writable { Writable frame.now }
+        ensures told { OnOk result (sent self.new ≡ with_message (written frame.now) (sent self.old)) }
+        ensures untold { OnErr result (sent self.new ≡ sent self.old) }
+        ensures memory { IfErr result (λ fault. fault ≡ LinkFault.Memory → self.new ≡ self.old) };
+
+    /// Says why the connection ends, and hears the peer out. Nothing is sent or received afterwards.
+    fn end(&mut self, reason: CloseReason) -> Result<(), LinkFault>
+        ensures told { sent self.new ≡ sent self.old }
+        ensures memory { IfErr result (λ fault. fault ≡ LinkFault.Memory → self.new ≡ self.old) };
+}
