@@ -15,6 +15,7 @@ use crate::link::Received;
 use std::alloc::Global;
 use std::io::{ErrorKind, Read, Write};
 use tungstenite::{Bytes, CloseCode, CloseFrame, Error, Message, NoMask, Utf8Bytes, WebSocket};
+use websocket::error::ProtocolError;
 
 // How many messages and waits are heard before the peer's close is waited for no longer.
 const CLOSING_READS: u32 = 64;
@@ -78,6 +79,7 @@ fn is_wait(error: &Error) -> bool
 // What the peer did wrong (RFC 6455, section 7.4.1), where it did.
 fn failure_code(error: &Error) -> Option<CloseCode> {
     match error {
+        Error::Protocol(ProtocolError::ResetWithoutClosingHandshake) => None,
         Error::Protocol(_) => Some(CloseCode::Protocol),
         Error::Utf8 => Some(CloseCode::Invalid),
         Error::Capacity(_) => Some(CloseCode::Size),

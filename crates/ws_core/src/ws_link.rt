@@ -49,7 +49,8 @@ fn limits() -> WebSocketConfig
 }
 
 impl<S: Read + Write + Drop> WsLink<S> {
-    ghost use Rattle.std.specs.Prelude.{◌≡◌, IfOk, OnOk, IfErr};
+    ghost use Rattle.std.specs.Prelude.{◌≡◌, ◌≢◌, IfOk, OnOk, IfErr, true};
+    ghost use Rattle.tungstenite.specs.declared.error.Error.TheVariants.{OutOfMemory};
     ghost use Rattle.ws_core.specs.Links.{IsReady};
     ghost use Rattle.ws_core.specs.Sending.{Sends, Refuses};
     ghost use Rattle.frame_core.specs.Writable.{Writable};
@@ -82,14 +83,23 @@ impl<S: Read + Write + Drop> WsLink<S> {
             return Err(LinkFault::Gone);
         }
         let bytes = write_frame(alloc, frame).map_err(|_| LinkFault::Memory)?;
-        match self.socket.send(message_of(bytes)?) {
-            Ok(()) => Ok(()),
-            Err(Error::OutOfMemory) => Err(LinkFault::Memory),
-            Err(_) => {
-                self.over = true;
-                Err(LinkFault::Gone)
-            }
+        let message = message_of(bytes)?;
+        if let Err(error) = self.socket.send(message) {
+            return Err(self.refuse(&error));
         }
+        Ok(())
+    }
+
+    // What a failed write leaves: a link that is over, but for want of memory.
+    fn refuse(&mut self, error: &Error) -> LinkFault
+        ensures memory { error.now ≡ OutOfMemory → (result ≡ LinkFault.Memory) × (self.new ≡ self.old) }
+        ensures gone { error.now ≢ OutOfMemory → (result ≡ LinkFault.Gone) × (self.new.over ≡ true) }
+    {
+        if matches!(error, Error::OutOfMemory) {
+            return LinkFault::Memory;
+        }
+        self.over = true;
+        LinkFault::Gone
     }
 }
 
@@ -128,17 +138,11 @@ impl<S: Read + Write + Drop> Link for WsLink<S> {
         if self.over {
             return Err(LinkFault::Gone);
         }
-        match say_close(&mut self.socket, reason) {
-            Ok(()) => {
-                self.over = true;
-                hear_close(&mut self.socket);
-                Ok(())
-            }
-            Err(Error::OutOfMemory) => Err(LinkFault::Memory),
-            Err(_) => {
-                self.over = true;
-                Err(LinkFault::Gone)
-            }
+        if let Err(error) = say_close(&mut self.socket, reason) {
+            return Err(self.refuse(&error));
         }
+        self.over = true;
+        hear_close(&mut self.socket);
+        Ok(())
     }
 }
