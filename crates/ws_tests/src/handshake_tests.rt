@@ -82,7 +82,7 @@ fn what_is_no_handshake_is_refused(rt: HostRuntime) -> Result<(), Fail> {
 fn a_head_that_does_not_end_is_given_up(rt: HostRuntime) -> Result<(), Fail> {
     let alloc = rt.alloc();
     let endless = vec![in alloc; b'a'; 1_000_000]?;
-    for (step, most) in [(usize::MAX, 131_072), (1, 65)] {
+    for (step, most) in [(usize::MAX, 65_536 + 4_096), (1, 65)] {
         let wire = Wire::new(alloc, b"", endless.as_slice(), step)?;
         let Err(fault) = WsLink::accept(alloc, &wire) else {
             return Err(Fail::from("accepted"));
