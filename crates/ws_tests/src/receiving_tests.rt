@@ -1,128 +1,127 @@
-use crate::frames::{frames, put_frame, put_head};
-use crate::handshake_tests::REQUEST;
-use crate::wire::Wire;
+use crate::driver::{Do, Row, first_wrong, shown};
+use crate::frames::{frames, put_head};
 use command_core::Op;
 use session_core::{Act, Session};
 use std::alloc::Global;
 use std::test::Fail;
-use ws_core::{Link, Received, WsLink};
 
-// Reads so often, and shows what came: bytes between < and >, a point for nothing, a mark for a closed link.
-fn shown(alloc: Global, link: &mut WsLink<&Wire>, reads: usize) -> Result<Vec<u8>, Fail> {
-    let mut shown = Vec::new(alloc);
-    for _ in 0..reads {
-        match link.receive(alloc) {
-            Received::Bytes(bytes) => {
-                shown.push(b'<')?;
-                shown.extend_from_slice(bytes.as_slice())?;
-                shown.push(b'>')?;
-            }
-            Received::Nothing => shown.push(b'.')?,
-            Received::Closed => shown.push(b'!')?,
-        }
-    }
-    Ok(shown)
-}
+const ONCE: &[Do] = &[Do::Hear];
 
-// What so many reads show of these frames, and what was written, where a read of the stream gives so many bytes.
-fn heard(
-    alloc: Global,
-    input: &[u8],
-    step: usize,
-    reads: usize,
-) -> Result<(Vec<u8>, Vec<u8>), Fail> {
-    let wire = Wire::new(alloc, REQUEST.as_bytes(), input, step)?;
-    let mut link = WsLink::accept(alloc, &wire)?;
-    let _ = wire.take_output(alloc)?;
-    let shown = shown(alloc, &mut link, reads)?;
-    Ok((shown, wire.take_output(alloc)?))
-}
+const TWICE: &[Do] = &[Do::Hear, Do::Hear];
 
-// Whether that comes of it, with whole reads and with one byte a read.
-fn is_heard(
-    alloc: Global,
-    input: &[u8],
-    reads: usize,
-    want: &[u8],
-    output: &[u8],
-) -> Result<bool, Fail> {
-    for step in [usize::MAX, 1] {
-        let (shown, written) = heard(alloc, input, step, reads)?;
-        if shown.as_slice() != want || written.as_slice() != output {
-            return Ok(false);
-        }
-    }
-    Ok(true)
-}
+const MESSAGES: &[Row] = &[
+    (&[(0x81, b"Hello")], TWICE, b"<Hello>!"),
+    (&[(0x81, b"")], ONCE, b"<>"),
+    (&[(0x01, b"Hel"), (0x80, b"lo")], ONCE, b"<Hello>"),
+    (
+        &[(0x02, b"\xff"), (0x00, b""), (0x80, b"\x00")],
+        ONCE,
+        b"<\xff\x00>",
+    ),
+    (&[(0x01, b"\xc3"), (0x80, b"\xa9")], ONCE, b"<\xc3\xa9>"),
+    (
+        &[(0x01, b"Hel"), (0x89, b"Hello"), (0x80, b"lo")],
+        TWICE,
+        b".<Hello>\x8a\x05Hello",
+    ),
+    (&[(0x8a, b"Hello"), (0x82, b"a")], TWICE, b".<a>"),
+    (
+        &[(0x88, b"\x03\xe8"), (0x82, b"a")],
+        TWICE,
+        b"!\x88\x02\x03\xe8!",
+    ),
+    (&[(0x88, b"")], TWICE, b"!\x88\x00!"),
+];
 
-// The frames of RFC 6455, section 5.7, "a single-frame masked text message" and the same unmasked.
-const MASKED_HELLO: &[u8] = b"\x81\x85\x37\xfa\x21\x3d\x7f\x9f\x4d\x51\x58";
+const LONG_PING: &[u8] = &[0; 126];
 
-const UNMASKED_HELLO: &[u8] = b"\x81\x05Hello";
-
-// Close frames of section 5.5.1 with the codes of section 7.4.1.
-const PROTOCOL_ERROR: &[u8] = b"\x88\x02\x03\xea";
-
-const NO_TEXT: &[u8] = b"\x88\x02\x03\xef";
-
-const TOO_BIG: &[u8] = b"\x88\x02\x03\xf1";
+// Each closes the link, with the code 1002 (RFC 6455, section 7.4.1), or the last with 1007.
+const BREACHES: &[Row] = &[
+    (
+        &[(0xc1, b"Hello"), (0x82, b"a")],
+        TWICE,
+        b"!\x88\x02\x03\xea!",
+    ),
+    (
+        &[(0xa1, b"Hello"), (0x82, b"a")],
+        TWICE,
+        b"!\x88\x02\x03\xea!",
+    ),
+    (
+        &[(0x91, b"Hello"), (0x82, b"a")],
+        TWICE,
+        b"!\x88\x02\x03\xea!",
+    ),
+    (
+        &[(0x83, b"Hello"), (0x82, b"a")],
+        TWICE,
+        b"!\x88\x02\x03\xea!",
+    ),
+    (&[(0x80, b"lo"), (0x82, b"a")], TWICE, b"!\x88\x02\x03\xea!"),
+    (
+        &[(0x01, b"Hel"), (0x81, b"lo")],
+        TWICE,
+        b"!\x88\x02\x03\xea!",
+    ),
+    (&[(0x09, b""), (0x82, b"a")], TWICE, b"!\x88\x02\x03\xea!"),
+    (
+        &[(0x89, LONG_PING), (0x82, b"a")],
+        TWICE,
+        b"!\x88\x02\x03\xea!",
+    ),
+    (
+        &[(0x81, b"\xff"), (0x82, b"a")],
+        TWICE,
+        b"!\x88\x02\x03\xef!",
+    ),
+];
 
 #[test]
 fn bytes_come_out_of_messages_however_they_are_cut(rt: HostRuntime) -> Result<(), Fail> {
-    let alloc = rt.alloc();
-    assert!(rt; is_heard(alloc, MASKED_HELLO, 2, b"<Hello>!", b"")?);
-    let cases: [(&[(u8, &[u8])], usize, &[u8], &[u8]); 8] = [
-        (&[(0x81, b"")], 1, b"<>", b""),
-        (&[(0x01, b"Hel"), (0x80, b"lo")], 1, b"<Hello>", b""),
-        (
-            &[(0x02, b"\xff"), (0x00, b""), (0x80, b"\x00")],
-            1,
-            b"<\xff\x00>",
-            b"",
-        ),
-        (&[(0x01, b"\xc3"), (0x80, b"\xa9")], 1, b"<\xc3\xa9>", b""),
-        (
-            &[(0x01, b"Hel"), (0x89, b"Hello"), (0x80, b"lo")],
-            2,
-            b".<Hello>",
-            b"\x8a\x05Hello",
-        ),
-        (&[(0x8a, b"Hello"), (0x82, b"a")], 2, b".<a>", b""),
-        (&[(0x88, b"\x03\xe8")], 2, b"!!", b"\x88\x02\x03\xe8"),
-        (&[(0x88, b""), (0x82, b"a")], 2, b"!!", b"\x88\x00"),
-    ];
-    for (i, (sent, reads, want, output)) in cases.iter().enumerate() {
-        let input = frames(alloc, sent)?;
-        assert!(rt; is_heard(alloc, input.as_slice(), *reads, want, output)?, "case {i}");
-    }
+    assert_eq!(rt; first_wrong(rt.alloc(), MESSAGES)?, None);
     Ok(())
 }
 
 #[test]
 fn what_breaks_the_protocol_closes_the_link(rt: HostRuntime) -> Result<(), Fail> {
+    assert_eq!(rt; first_wrong(rt.alloc(), BREACHES)?, None);
+    Ok(())
+}
+
+// "A single-frame masked text message" of RFC 6455, section 5.7, and the same unmasked.
+const MASKED_HELLO: &[u8] = b"\x81\x85\x37\xfa\x21\x3d\x7f\x9f\x4d\x51\x58";
+
+const UNMASKED_HELLO: &[u8] = b"\x81\x05Hello";
+
+const IN_TWO: &[Do] = &[
+    Do::Open(0),
+    Do::Hear,
+    Do::Open(5),
+    Do::Hear,
+    Do::Open(10),
+    Do::Hear,
+    Do::Open(11),
+    Do::Hear,
+];
+
+#[test]
+fn a_text_comes_masked_and_whole_or_nothing_comes_yet(rt: HostRuntime) -> Result<(), Fail> {
     let alloc = rt.alloc();
-    let long = [0; 126];
-    let cases: [(&[(u8, &[u8])], &[u8]); 9] = [
-        (&[(0xc1, b"Hello")], PROTOCOL_ERROR),
-        (&[(0xa1, b"Hello")], PROTOCOL_ERROR),
-        (&[(0x91, b"Hello")], PROTOCOL_ERROR),
-        (&[(0x83, b"Hello")], PROTOCOL_ERROR),
-        (&[(0x80, b"lo")], PROTOCOL_ERROR),
-        (&[(0x01, b"Hel"), (0x81, b"lo")], PROTOCOL_ERROR),
-        (&[(0x09, b"")], PROTOCOL_ERROR),
-        (&[(0x89, &long)], PROTOCOL_ERROR),
-        (&[(0x81, b"\xff")], NO_TEXT),
+    let rows: [(&[u8], &[Do], &[u8]); 4] = [
+        (MASKED_HELLO, ONCE, b"<Hello>"),
+        (UNMASKED_HELLO, TWICE, b"!\x88\x02\x03\xea!"),
+        (&MASKED_HELLO[..8], TWICE, b"!!"),
+        (MASKED_HELLO, IN_TWO, b"...<Hello>"),
     ];
-    for (i, (sent, output)) in cases.iter().enumerate() {
-        let mut input = frames(alloc, sent)?;
-        put_frame(&mut input, 0x82, b"more")?;
-        assert!(rt; is_heard(alloc, input.as_slice(), 2, b"!!", output)?, "case {i}");
-    }
-    assert!(rt; is_heard(alloc, UNMASKED_HELLO, 2, b"!!", PROTOCOL_ERROR)?);
-    for end in 0..MASKED_HELLO.len() {
-        assert!(rt; is_heard(alloc, &MASKED_HELLO[..end], 2, b"!!", b"")?, "cut at {end}");
+    for (input, acts, want) in rows {
+        assert_eq!(rt; shown(alloc, input, usize::MAX, acts)?.as_slice(), want);
     }
     Ok(())
+}
+
+// Whether the link is closed with the code 1009.
+fn is_too_big(alloc: Global, input: &[u8]) -> Result<bool, Fail> {
+    Ok(shown(alloc, input, usize::MAX, ONCE)?.as_slice() == b"!\x88\x02\x03\xf1".as_slice())
 }
 
 #[test]
@@ -130,53 +129,46 @@ fn a_message_may_have_131072_bytes_and_no_more(rt: HostRuntime) -> Result<(), Fa
     let alloc = rt.alloc();
     let most = vec![in alloc; b'a'; 131_072]?;
     let input = frames(alloc, &[(0x82, most.as_slice())])?;
-    let (shown, _) = heard(alloc, input.as_slice(), usize::MAX, 1)?;
-    assert_eq!(rt; shown.len(), 131_074);
-    let halves = frames(alloc, &[(0x02, most.as_slice()), (0x80, b"a")])?;
-    assert!(rt; is_heard(alloc, halves.as_slice(), 1, b"!", TOO_BIG)?);
+    let length = shown(alloc, input.as_slice(), usize::MAX, ONCE)?.len();
+    assert_eq!(rt; length, 131_074);
+    let in_fragments = frames(alloc, &[(0x02, most.as_slice()), (0x80, b"a")])?;
+    assert!(rt; is_too_big(alloc, in_fragments.as_slice())?);
     for length in [131_073, 1 << 62] {
         let mut head = Vec::new(alloc);
         put_head(&mut head, 0x82, length)?;
-        assert!(rt; is_heard(alloc, head.as_slice(), 1, b"!", TOO_BIG)?, "{length}");
+        assert!(rt; is_too_big(alloc, head.as_slice())?, "{length}");
     }
     Ok(())
 }
 
-#[test]
-fn a_read_with_nothing_there_yet_loses_nothing(rt: HostRuntime) -> Result<(), Fail> {
-    let alloc = rt.alloc();
-    let head = REQUEST.len();
-    let wire = Wire::new(alloc, REQUEST.as_bytes(), MASKED_HELLO, usize::MAX)?;
-    wire.open_to(head);
-    let mut link = WsLink::accept(alloc, &wire)?;
-    for end in 0..MASKED_HELLO.len() {
-        wire.open_to(head.saturating_add(end));
-        assert_eq!(rt; shown(alloc, &mut link, 2)?.as_slice(), b"..".as_slice(), "{end}");
-    }
-    wire.open_to(usize::MAX);
-    assert_eq!(rt; shown(alloc, &mut link, 1)?.as_slice(), b"<Hello>".as_slice());
-    Ok(())
+fn acts_of(alloc: Global, session: &mut Session, bytes: &[u8]) -> Result<&'static str, Fail> {
+    let acts = session.feed(alloc, bytes)?;
+    Ok(match acts.as_slice() {
+        [] => "nothing",
+        [Act::Do(Op::Open { .. }, None)] => "open",
+        _ => "other",
+    })
 }
+
+const CUT_CONNECT: &[(u8, &[u8])] = &[(0x82, b"CONNECT\naccept-vers"), (0x82, b"ion:1.2\n\n\0")];
 
 #[test]
 fn a_frame_of_stomp_may_be_cut_over_two_messages(rt: HostRuntime) -> Result<(), Fail> {
     let alloc = rt.alloc();
-    let parts: [&[u8]; 2] = [b"CONNECT\naccept-vers", b"ion:1.2\n\n\0"];
-    let input = frames(alloc, &[(0x82, parts[0]), (0x82, parts[1])])?;
-    let wire = Wire::new(alloc, REQUEST.as_bytes(), input.as_slice(), usize::MAX)?;
-    let mut link = WsLink::accept(alloc, &wire)?;
+    let input = frames(alloc, CUT_CONNECT)?;
+    let bytes = shown(alloc, input.as_slice(), usize::MAX, TWICE)?;
+    assert_eq!(rt;
+        bytes.as_slice(),
+        b"<CONNECT\naccept-vers><ion:1.2\n\n\0>".as_slice()
+    );
     let mut session = Session::new(alloc);
-    for (i, part) in parts.iter().enumerate() {
-        let Received::Bytes(bytes) = link.receive(alloc) else {
-            return Err(Fail::from("no bytes"));
-        };
-        assert_eq!(rt; bytes.as_slice(), *part);
-        let acts = session.feed(alloc, bytes.as_slice())?;
-        match (i, acts.as_slice()) {
-            (0, []) => {}
-            (1, [Act::Do(Op::Open { .. }, None)]) => {}
-            _ => return Err(Fail::from("other acts")),
-        }
-    }
+    assert_eq!(rt;
+        acts_of(alloc, &mut session, &bytes.as_slice()[1..20])?,
+        "nothing"
+    );
+    assert_eq!(rt;
+        acts_of(alloc, &mut session, &bytes.as_slice()[22..32])?,
+        "open"
+    );
     Ok(())
 }

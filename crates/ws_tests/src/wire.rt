@@ -1,10 +1,9 @@
 //! A stream in memory, which many may hold, as they may a socket.
 
-use std::alloc::Global;
+use std::alloc::{AllocError, Global};
 use std::cell::{Cell, RefCell};
 use std::io;
 use std::io::{ErrorKind, Read, Write};
-use std::test::Fail;
 
 /// Gives what is open of its input, and keeps what is written.
 #[derive(Drop)]
@@ -22,7 +21,7 @@ pub struct Wire {
 }
 
 impl Wire {
-    pub fn new(alloc: Global, head: &[u8], input: &[u8], step: usize) -> Result<Wire, Fail> {
+    pub fn new(alloc: Global, head: &[u8], input: &[u8], step: usize) -> Result<Wire, AllocError> {
         let mut all = Vec::from_slice(alloc, head)?;
         all.extend_from_slice(input)?;
         let open = Cell::new(all.len());
@@ -47,9 +46,13 @@ impl Wire {
         self.at.get()
     }
 
-    /// What was written since the last call.
-    pub fn take_output(&self, alloc: Global) -> Result<Vec<u8>, Fail> {
-        Ok(self.output.try_replace(Vec::new(alloc))?)
+    /// Moves what was written behind these bytes.
+    pub fn move_output(&self, bytes: &mut Vec<u8>) -> Result<(), AllocError> {
+        if let Ok(mut output) = self.output.try_borrow_mut() {
+            bytes.extend_from_slice(output.as_slice())?;
+            output.clear();
+        }
+        Ok(())
     }
 
     pub fn cut(&self) {
