@@ -1,5 +1,5 @@
 -- The answer to offers, as a loop over them comes to it.
-use Rattle.std.proofs.Common.{◌≡◌, List, ◌∷◌, ℕ, Bool, true, false, ◌||◌, if◌then◌else◌, refl}
+use Rattle.std.proofs.Common.{◌≡◌, List, ◌∷◌, ℕ, Bool, true, false, if◌then◌else◌, refl}
 use Rattle.std.specs.List.{list_any}
 use Rattle.ws_core.specs.declared.offers.Choice.{Choice}
 use Rattle.ws_core.specs.declared.offers.Choice.TheVariants.{Stomp, Refuse}

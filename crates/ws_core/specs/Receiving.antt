@@ -1,7 +1,7 @@
 -- What one read of a link gives.
 use Rattle.std.specs.Prelude.{◌≡◌, ◌⊎◌, ◌++◌, ℕ, List, [], Option, Bool, true, false, ⊤}
 use Rattle.std.specs.Io.KnownBytes.{Consumes}
-use Rattle.tungstenite.specs.Content.{Content, text, binary, ping, pong}
+use Rattle.tungstenite.specs.Content.{text, binary, ping, pong}
 use Rattle.tungstenite.specs.Socket.{Socket, Run, Runs, EndsWith, Quiet}
 use Rattle.ws_core.specs.declared.link.Received.{Received}
 use Rattle.ws_core.specs.declared.link.Received.TheVariants.{Bytes, Nothing, Closed}

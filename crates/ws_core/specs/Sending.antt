@@ -1,5 +1,5 @@
 -- What a send of a link does.
-use Rattle.std.specs.Prelude.{◌≡◌, ◌++◌, ◌∷◌, [], ℕ, List, Option, option_map, Bool, true, false, ⊤}
+use Rattle.std.specs.Prelude.{◌≡◌, ◌++◌, ◌∷◌, [], ℕ, List, Option, option_map, true, false}
 use Rattle.std.specs.Str.{IsUtf8}
 use Rattle.tungstenite.specs.Content.{Content, text, binary, ping, pong, close}
 use Rattle.tungstenite.specs.Connection.{write_step}
