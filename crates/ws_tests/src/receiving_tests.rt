@@ -12,6 +12,11 @@ const TWICE: &[Do] = &[Do::Hear, Do::Hear];
 const MESSAGES: &[Row] = &[
     (&[(0x81, b"Hello")], TWICE, b"<Hello>!"),
     (&[(0x81, b"")], ONCE, b"<>"),
+    (
+        &[(0x82, b"CONNECT\naccept-vers"), (0x82, b"ion:1.2\n\n\0")],
+        TWICE,
+        b"<CONNECT\naccept-vers><ion:1.2\n\n\0>",
+    ),
     (&[(0x01, b"Hel"), (0x80, b"lo")], ONCE, b"<Hello>"),
     (
         &[(0x02, b"\xff"), (0x00, b""), (0x80, b"\x00")],
@@ -119,56 +124,54 @@ fn a_text_comes_masked_and_whole_or_nothing_comes_yet(rt: HostRuntime) -> Result
     Ok(())
 }
 
-// Whether the link is closed with the code 1009.
-fn is_too_big(alloc: Global, input: &[u8]) -> Result<bool, Fail> {
-    Ok(shown(alloc, input, usize::MAX, ONCE)?.as_slice() == b"!\x88\x02\x03\xf1".as_slice())
+// What is shown of a frame with so many bytes, and one that ends its message where it doesn't.
+fn shown_of(alloc: Global, first: u8, length: usize) -> Result<Vec<u8>, Fail> {
+    let payload = vec![in alloc; b'a'; length]?;
+    let input = frames(alloc, &[(first, payload.as_slice()), (0x80, b"a")])?;
+    shown(alloc, input.as_slice(), usize::MAX, ONCE)
 }
+
+// The same of the head of a frame alone.
+fn shown_of_head(alloc: Global, length: u64) -> Result<Vec<u8>, Fail> {
+    let mut head = Vec::new(alloc);
+    put_head(&mut head, 0x82, length)?;
+    shown(alloc, head.as_slice(), usize::MAX, ONCE)
+}
+
+// The code 1009.
+const TOO_BIG: &[u8] = b"!\x88\x02\x03\xf1";
 
 #[test]
 fn a_message_may_have_131072_bytes_and_no_more(rt: HostRuntime) -> Result<(), Fail> {
-    let alloc = rt.alloc();
-    let most = vec![in alloc; b'a'; 131_072]?;
-    let input = frames(alloc, &[(0x82, most.as_slice())])?;
-    let length = shown(alloc, input.as_slice(), usize::MAX, ONCE)?.len();
-    assert_eq!(rt; length, 131_074);
-    let in_fragments = frames(alloc, &[(0x02, most.as_slice()), (0x80, b"a")])?;
-    assert!(rt; is_too_big(alloc, in_fragments.as_slice())?);
+    assert_eq!(rt; shown_of(rt.alloc(), 0x82, 131_072)?.len(), 131_074);
+    assert_eq!(rt; shown_of(rt.alloc(), 0x02, 131_072)?.as_slice(), TOO_BIG);
     for length in [131_073, 1 << 62] {
-        let mut head = Vec::new(alloc);
-        put_head(&mut head, 0x82, length)?;
-        assert!(rt; is_too_big(alloc, head.as_slice())?, "{length}");
+        assert_eq!(rt; shown_of_head(rt.alloc(), length)?.as_slice(), TOO_BIG);
     }
     Ok(())
 }
 
-fn acts_of(alloc: Global, session: &mut Session, bytes: &[u8]) -> Result<&'static str, Fail> {
-    let acts = session.feed(alloc, bytes)?;
-    Ok(match acts.as_slice() {
-        [] => "nothing",
-        [Act::Do(Op::Open { .. }, None)] => "open",
-        _ => "other",
-    })
-}
+// A CONNECT in two parts, of which the first has 19 bytes. That they come out of two messages is a row above.
+const CONNECT: [&[u8]; 2] = [b"CONNECT\naccept-vers", b"ion:1.2\n\n\0"];
 
-const CUT_CONNECT: &[(u8, &[u8])] = &[(0x82, b"CONNECT\naccept-vers"), (0x82, b"ion:1.2\n\n\0")];
+// What a session does for each of these bytes: nothing, a command that opens it, or something else.
+fn heard_by_session(alloc: Global, parts: &[&[u8]]) -> Result<Vec<u8>, Fail> {
+    let mut session = Session::new(alloc);
+    let mut heard = Vec::new(alloc);
+    for part in parts {
+        let acts = session.feed(alloc, part)?;
+        heard.push(match acts.as_slice() {
+            [] => b'.',
+            [Act::Do(Op::Open { .. }, None)] => b'o',
+            _ => b'?',
+        })?;
+    }
+    Ok(heard)
+}
 
 #[test]
 fn a_frame_of_stomp_may_be_cut_over_two_messages(rt: HostRuntime) -> Result<(), Fail> {
-    let alloc = rt.alloc();
-    let input = frames(alloc, CUT_CONNECT)?;
-    let bytes = shown(alloc, input.as_slice(), usize::MAX, TWICE)?;
-    assert_eq!(rt;
-        bytes.as_slice(),
-        b"<CONNECT\naccept-vers><ion:1.2\n\n\0>".as_slice()
-    );
-    let mut session = Session::new(alloc);
-    assert_eq!(rt;
-        acts_of(alloc, &mut session, &bytes.as_slice()[1..20])?,
-        "nothing"
-    );
-    assert_eq!(rt;
-        acts_of(alloc, &mut session, &bytes.as_slice()[22..32])?,
-        "open"
-    );
+    let heard = heard_by_session(rt.alloc(), &CONNECT)?;
+    assert_eq!(rt; heard.as_slice(), b".o".as_slice());
     Ok(())
 }
