@@ -1,0 +1,6 @@
+pub mod Closing
+pub mod Limits
+pub mod Links
+pub mod Offers
+pub mod Receiving
+pub mod Sending

@@ -1,0 +1,37 @@
+-- Which subprotocol a handshake answers.
+use Rattle.std.specs.Prelude.{List, [], ◌∷◌, ℕ, Bool, ◌==◌, ◌&&◌, ◌||◌, if◌then◌else◌, codes, drop, nat_eq}
+use Rattle.std.specs.List.{list_any, list_all, starts_with}
+use Rattle.ws_core.specs.declared.offers.Choice.{Choice}
+use Rattle.ws_core.specs.declared.offers.Choice.TheVariants.{Stomp, Nothing, Refuse}
+
+-- a byte at the front of the first item
+abbrev pub on_first : ℕ → List (List ℕ) → List (List ℕ)
+on_first b [] = (b ∷ []) ∷ []
+on_first b (item ∷ items) = (b ∷ item) ∷ items
+
+-- the items between commas
+abbrev pub items_of : List ℕ → List (List ℕ)
+items_of [] = [] ∷ []
+items_of (b ∷ text) = if b == 44 then [] ∷ items_of text else on_first b (items_of text)
+
+-- a blank or a tab
+abbrev pub is_blank : ℕ → Bool
+is_blank b = b == 32 || b == 9
+
+-- without the blanks at the front
+abbrev pub without_blanks : List ℕ → List ℕ
+without_blanks [] = []
+without_blanks (b ∷ text) = if is_blank b then without_blanks text else b ∷ text
+
+-- blanks, `v12.stomp` and blanks
+abbrev pub is_stomp : List ℕ → Bool
+is_stomp item = starts_with nat_eq (without_blanks item) (codes "v12.stomp") && list_all is_blank (drop 9 (without_blanks item))
+
+-- an offer with `v12.stomp` among its items (RFC 6455, sections 4.1 and 11.3.4)
+abbrev pub has_stomp : List ℕ → Bool
+has_stomp offer = list_any is_stomp (items_of offer)
+
+-- the answer to all offers of a request: `v12.stomp` where one has it, nothing where there is none
+abbrev pub choice_of : List (List ℕ) → Choice
+choice_of [] = Nothing
+choice_of (offer ∷ offers) = if list_any has_stomp (offer ∷ offers) then Stomp else Refuse

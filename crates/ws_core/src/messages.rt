@@ -1,0 +1,125 @@
+//! The messages that carry a STOMP stream, and the frames that close it.
+
+ghost use Rattle.std.specs.Prelude.{◌≡◌, IfOk, IfErr, OnOk, IsTrue};
+ghost use Rattle.tungstenite.specs.Failure.{IsIo};
+ghost use Rattle.tungstenite.specs.declared.error.Error.TheVariants.{OutOfMemory};
+ghost use Rattle.tungstenite.specs.Socket.{content_of, Writes};
+ghost use Rattle.tungstenite.specs.Connection.{close_step};
+ghost use Rattle.ws_core.specs.Closing.{close_of};
+ghost use Rattle.ws_core.specs.Receiving.{Hears, Holds};
+ghost use Rattle.ws_core.specs.Sending.{IsMessageOf};
+
+use crate::closing::CloseReason;
+use crate::fault::LinkFault;
+use crate::link::Received;
+use std::alloc::Global;
+use std::io::{ErrorKind, Read, Write};
+use tungstenite::{Bytes, CloseCode, CloseFrame, Error, Message, NoMask, Utf8Bytes, WebSocket};
+use websocket::error::ProtocolError;
+
+// How many messages and waits are heard before the peer's close is waited for no longer.
+const CLOSING_READS: u32 = 64;
+
+// Reads once, and says what came for the STOMP stream. Where the connection fails, the peer is told why (RFC 6455,
+// section 7.1.7), if it still listens.
+pub fn hear<S: Read + Write + Drop>(alloc: Global, socket: &mut WebSocket<S, NoMask>) -> Received
+    ensures { Hears S.remaining socket.old socket.new result }
+{
+    match socket.read() {
+        Ok(Message::Text(text)) => bytes_of(alloc, text.as_str().as_bytes()),
+        Ok(Message::Binary(bytes)) => bytes_of(alloc, bytes.as_slice()),
+        Ok(Message::Ping(_)) | Ok(Message::Pong(_)) => Received::Nothing,
+        Ok(Message::Close(_)) => {
+            // The answer to it waits in the socket.
+            let _ = socket.flush();
+            Received::Closed
+        }
+        Err(error) => {
+            if is_wait(&error) {
+                return Received::Nothing;
+            }
+            tell_failure(socket, &error);
+            Received::Closed
+        }
+    }
+}
+
+// Tells the peer what it did wrong.
+fn tell_failure<S: Read + Write + Drop>(socket: &mut WebSocket<S, NoMask>, error: &Error) {
+    if let Some(code) = failure_code(error) {
+        let _ = socket.close(Some(CloseFrame {
+            code,
+            reason: Utf8Bytes::new(),
+        }));
+    }
+}
+
+fn bytes_of(alloc: Global, bytes: &[u8]) -> Received
+    ensures { Holds result bytes.now }
+{
+    match bytes.to_vec(alloc) {
+        Ok(bytes) => Received::Bytes(bytes),
+        Err(_) => Received::Closed,
+    }
+}
+
+// Whether the stream only has nothing to give yet.
+fn is_wait(error: &Error) -> bool
+    ensures { IsTrue result → IsIo error.now }
+{
+    match error {
+        Error::Io(error) => matches!(
+            error.kind(),
+            ErrorKind::WouldBlock | ErrorKind::TimedOut | ErrorKind::Interrupted
+        ),
+        _ => false,
+    }
+}
+
+// What the peer did wrong (RFC 6455, section 7.4.1), where it did.
+fn failure_code(error: &Error) -> Option<CloseCode> {
+    match error {
+        Error::Protocol(ProtocolError::ResetWithoutClosingHandshake) => None,
+        Error::Protocol(_) => Some(CloseCode::Protocol),
+        Error::Utf8 => Some(CloseCode::Invalid),
+        Error::Capacity(_) => Some(CloseCode::Size),
+        _ => None,
+    }
+}
+
+// A text where the bytes are UTF-8, or else binary.
+pub fn message_of(bytes: Vec<u8>) -> Result<Message, LinkFault>
+    ensures ok { IfOk result (λ message. IsMessageOf bytes.items (content_of message)) }
+    ensures err { IfErr result (λ fault. fault ≡ LinkFault.Memory) }
+{
+    let bytes = Bytes::from_vec(bytes).map_err(|_| LinkFault::Memory)?;
+    match Utf8Bytes::from_utf8(bytes) {
+        Ok(text) => Ok(Message::Text(text)),
+        Err(error) => Ok(Message::Binary(error.bytes)),
+    }
+}
+
+// Sends the close frame.
+pub fn say_close<S: Read + Write + Drop>(
+    socket: &mut WebSocket<S, NoMask>,
+    reason: CloseReason,
+) -> Result<(), Error>
+    ensures wrote { OnOk result (Writes S.contents socket.old socket.new (close_step socket.old.conn (close_of reason))) }
+    ensures memory { IfErr result (λ error. error ≡ OutOfMemory → socket.new ≡ socket.old) }
+{
+    socket.close(Some(reason.frame()))
+}
+
+// Reads on to the peer's close, so that the stream isn't cut while it still sends.
+pub fn hear_close<S: Read + Write + Drop>(socket: &mut WebSocket<S, NoMask>) {
+    for _ in 0..CLOSING_READS {
+        match socket.read() {
+            Ok(_) => {}
+            Err(error) => {
+                if !is_wait(&error) {
+                    return;
+                }
+            }
+        }
+    }
+}

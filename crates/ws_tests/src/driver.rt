@@ -1,0 +1,120 @@
+//! Does what a row says with a link, and shows what comes of it.
+
+use crate::frames::frames;
+use crate::wire::Wire;
+use frame_core::{Bytes, Frame, Headers, Verb, writable};
+use std::alloc::{AllocError, Global};
+use std::test::Fail;
+use ws_core::{CloseReason, Link, LinkFault, Received, WsLink};
+
+/// The request of RFC 6455, section 1.2, with no subprotocol.
+pub const REQUEST: &str =
+    "GET /chat HTTP/1.1\r\nHost: server.example.com\r\nUpgrade: websocket\r\nConnection: Upgrade\r\nSec-WebSocket-Key: dGhlIHNhbXBsZSBub25jZQ==\r\nOrigin: http://example.com\r\nSec-WebSocket-Version: 13\r\n\r\n";
+
+/// What is done with a link.
+#[derive(Clone, Copy)]
+pub enum Do {
+    /// One read.
+    Hear,
+    /// An ERROR with no headers and this body is sent.
+    Send(&'static [u8]),
+    End(CloseReason),
+    /// So many bytes behind the request are open.
+    Open(usize),
+    /// The stream takes nothing more.
+    Cut,
+}
+
+fn put_received(shown: &mut Vec<u8>, received: &Received) -> Result<(), AllocError> {
+    match received {
+        Received::Bytes(bytes) => {
+            shown.push(b'<')?;
+            shown.extend_from_slice(bytes.as_slice())?;
+            shown.push(b'>')?;
+        }
+        Received::Nothing => shown.push(b'.')?,
+        Received::Closed => shown.push(b'!')?,
+    }
+    Ok(())
+}
+
+fn put_done(shown: &mut Vec<u8>, done: &Result<(), LinkFault>) -> Result<(), AllocError> {
+    shown.push(match done {
+        Ok(()) => b'k',
+        Err(LinkFault::Memory) => b'm',
+        Err(LinkFault::Gone) => b'g',
+    })?;
+    Ok(())
+}
+
+fn error(alloc: Global, body: &[u8]) -> Result<Frame, AllocError> {
+    Ok(Frame {
+        verb: Verb::Error,
+        headers: Headers::new(Vec::new(alloc)),
+        body: Bytes::new(Vec::from_slice(alloc, body)?),
+    })
+}
+
+fn send(
+    alloc: Global,
+    link: &mut WsLink<&Wire>,
+    body: &[u8],
+) -> Result<Result<(), LinkFault>, Fail> {
+    let frame = error(alloc, body)?;
+    if frame.verb != Verb::Error || !writable(&frame) {
+        return Err(Fail::from("no frame to send"));
+    }
+    Ok(link.send_direct(alloc, &frame))
+}
+
+fn act(
+    alloc: Global,
+    wire: &Wire,
+    link: &mut WsLink<&Wire>,
+    one: Do,
+    shown: &mut Vec<u8>,
+) -> Result<(), Fail> {
+    match one {
+        Do::Hear => put_received(shown, &link.receive(alloc))?,
+        Do::Send(body) => put_done(shown, &send(alloc, link, body)?)?,
+        Do::End(reason) => put_done(shown, &link.end(reason))?,
+        Do::Open(count) => wire.open_to(REQUEST.len().saturating_add(count)),
+        Do::Cut => wire.cut(),
+    }
+    Ok(wire.move_output(shown)?)
+}
+
+/// What these acts show of a link whose handshake is done. A read shows bytes between < and >, a point for nothing and ! for a
+/// closed link; a send and an end show k, or m and g for their faults. Behind it stands what was written.
+pub fn run(alloc: Global, wire: &Wire, acts: &[Do]) -> Result<Vec<u8>, Fail> {
+    let mut shown = Vec::new(alloc);
+    let mut link = WsLink::accept(alloc, wire)?;
+    wire.move_output(&mut shown)?;
+    shown.clear();
+    for one in acts {
+        act(alloc, wire, &mut link, *one, &mut shown)?;
+    }
+    Ok(shown)
+}
+
+/// The same, over a stream that gives the request with one read, and then these bytes, at most so many with each read.
+pub fn shown(alloc: Global, input: &[u8], step: usize, acts: &[Do]) -> Result<Vec<u8>, Fail> {
+    let wire = Wire::new(alloc, REQUEST.as_bytes(), input, step)?;
+    run(alloc, &wire, acts)
+}
+
+/// A row: the frames that come, each of a first byte and a payload, what is done, and what it shows.
+pub type Row = (&'static [(u8, &'static [u8])], &'static [Do], &'static [u8]);
+
+/// The first row that shows something else, with whole reads and with one byte a read.
+pub fn first_wrong(alloc: Global, rows: &[Row]) -> Result<Option<usize>, Fail> {
+    for (i, (sent, acts, want)) in rows.iter().enumerate() {
+        let input = frames(alloc, sent)?;
+        let whole = shown(alloc, input.as_slice(), usize::MAX, acts)?;
+        let byte_by_byte = shown(alloc, input.as_slice(), 1, acts)?;
+        if whole.as_slice() != *want || byte_by_byte.as_slice() != *want {
+            return Ok(Some(i));
+        }
+    }
+    Ok(None)
+}

@@ -1,0 +1,177 @@
+use crate::driver::{Do, Row, first_wrong, shown};
+use crate::frames::{frames, put_head};
+use command_core::Op;
+use session_core::{Act, Session};
+use std::alloc::Global;
+use std::test::Fail;
+
+const ONCE: &[Do] = &[Do::Hear];
+
+const TWICE: &[Do] = &[Do::Hear, Do::Hear];
+
+const MESSAGES: &[Row] = &[
+    (&[(0x81, b"Hello")], TWICE, b"<Hello>!"),
+    (&[(0x81, b"")], ONCE, b"<>"),
+    (
+        &[(0x82, b"CONNECT\naccept-vers"), (0x82, b"ion:1.2\n\n\0")],
+        TWICE,
+        b"<CONNECT\naccept-vers><ion:1.2\n\n\0>",
+    ),
+    (&[(0x01, b"Hel"), (0x80, b"lo")], ONCE, b"<Hello>"),
+    (
+        &[(0x02, b"\xff"), (0x00, b""), (0x80, b"\x00")],
+        ONCE,
+        b"<\xff\x00>",
+    ),
+    (&[(0x01, b"\xc3"), (0x80, b"\xa9")], ONCE, b"<\xc3\xa9>"),
+    (
+        &[(0x01, b"Hel"), (0x89, b"Hello"), (0x80, b"lo")],
+        TWICE,
+        b".<Hello>\x8a\x05Hello",
+    ),
+    (&[(0x8a, b"Hello"), (0x82, b"a")], TWICE, b".<a>"),
+    (
+        &[(0x88, b"\x03\xe8"), (0x82, b"a")],
+        TWICE,
+        b"!\x88\x02\x03\xe8!",
+    ),
+    (&[(0x88, b"")], TWICE, b"!\x88\x00!"),
+];
+
+const LONG_PING: &[u8] = &[0; 126];
+
+// Each closes the link, with the code 1002 (RFC 6455, section 7.4.1), or the last with 1007.
+const BREACHES: &[Row] = &[
+    (
+        &[(0xc1, b"Hello"), (0x82, b"a")],
+        TWICE,
+        b"!\x88\x02\x03\xea!",
+    ),
+    (
+        &[(0xa1, b"Hello"), (0x82, b"a")],
+        TWICE,
+        b"!\x88\x02\x03\xea!",
+    ),
+    (
+        &[(0x91, b"Hello"), (0x82, b"a")],
+        TWICE,
+        b"!\x88\x02\x03\xea!",
+    ),
+    (
+        &[(0x83, b"Hello"), (0x82, b"a")],
+        TWICE,
+        b"!\x88\x02\x03\xea!",
+    ),
+    (&[(0x80, b"lo"), (0x82, b"a")], TWICE, b"!\x88\x02\x03\xea!"),
+    (
+        &[(0x01, b"Hel"), (0x81, b"lo")],
+        TWICE,
+        b"!\x88\x02\x03\xea!",
+    ),
+    (&[(0x09, b""), (0x82, b"a")], TWICE, b"!\x88\x02\x03\xea!"),
+    (
+        &[(0x89, LONG_PING), (0x82, b"a")],
+        TWICE,
+        b"!\x88\x02\x03\xea!",
+    ),
+    (
+        &[(0x81, b"\xff"), (0x82, b"a")],
+        TWICE,
+        b"!\x88\x02\x03\xef!",
+    ),
+];
+
+#[test]
+fn bytes_come_out_of_messages_however_they_are_cut(rt: HostRuntime) -> Result<(), Fail> {
+    assert_eq!(rt; first_wrong(rt.alloc(), MESSAGES)?, None);
+    Ok(())
+}
+
+#[test]
+fn what_breaks_the_protocol_closes_the_link(rt: HostRuntime) -> Result<(), Fail> {
+    assert_eq!(rt; first_wrong(rt.alloc(), BREACHES)?, None);
+    Ok(())
+}
+
+// "A single-frame masked text message" of RFC 6455, section 5.7, and the same unmasked.
+const MASKED_HELLO: &[u8] = b"\x81\x85\x37\xfa\x21\x3d\x7f\x9f\x4d\x51\x58";
+
+const UNMASKED_HELLO: &[u8] = b"\x81\x05Hello";
+
+const IN_TWO: &[Do] = &[
+    Do::Open(0),
+    Do::Hear,
+    Do::Open(5),
+    Do::Hear,
+    Do::Open(10),
+    Do::Hear,
+    Do::Open(11),
+    Do::Hear,
+];
+
+#[test]
+fn a_text_comes_masked_and_whole_or_nothing_comes_yet(rt: HostRuntime) -> Result<(), Fail> {
+    let alloc = rt.alloc();
+    let rows: [(&[u8], &[Do], &[u8]); 4] = [
+        (MASKED_HELLO, ONCE, b"<Hello>"),
+        (UNMASKED_HELLO, TWICE, b"!\x88\x02\x03\xea!"),
+        (&MASKED_HELLO[..8], TWICE, b"!!"),
+        (MASKED_HELLO, IN_TWO, b"...<Hello>"),
+    ];
+    for (input, acts, want) in rows {
+        assert_eq!(rt; shown(alloc, input, usize::MAX, acts)?.as_slice(), want);
+    }
+    Ok(())
+}
+
+// What is shown of a frame with so many bytes, and one that ends its message where it doesn't.
+fn shown_of(alloc: Global, first: u8, length: usize) -> Result<Vec<u8>, Fail> {
+    let payload = vec![in alloc; b'a'; length]?;
+    let input = frames(alloc, &[(first, payload.as_slice()), (0x80, b"a")])?;
+    shown(alloc, input.as_slice(), usize::MAX, ONCE)
+}
+
+// The same of the head of a frame alone.
+fn shown_of_head(alloc: Global, length: u64) -> Result<Vec<u8>, Fail> {
+    let mut head = Vec::new(alloc);
+    put_head(&mut head, 0x82, length)?;
+    shown(alloc, head.as_slice(), usize::MAX, ONCE)
+}
+
+// The code 1009.
+const TOO_BIG: &[u8] = b"!\x88\x02\x03\xf1";
+
+#[test]
+fn a_message_may_have_131072_bytes_and_no_more(rt: HostRuntime) -> Result<(), Fail> {
+    assert_eq!(rt; shown_of(rt.alloc(), 0x82, 131_072)?.len(), 131_074);
+    assert_eq!(rt; shown_of(rt.alloc(), 0x02, 131_072)?.as_slice(), TOO_BIG);
+    for length in [131_073, 1 << 62] {
+        assert_eq!(rt; shown_of_head(rt.alloc(), length)?.as_slice(), TOO_BIG);
+    }
+    Ok(())
+}
+
+// A CONNECT in two parts, of which the first has 19 bytes. That they come out of two messages is a row above.
+const CONNECT: [&[u8]; 2] = [b"CONNECT\naccept-vers", b"ion:1.2\n\n\0"];
+
+// What a session does for each of these bytes: nothing, a command that opens it, or something else.
+fn heard_by_session(alloc: Global, parts: &[&[u8]]) -> Result<Vec<u8>, Fail> {
+    let mut session = Session::new(alloc);
+    let mut heard = Vec::new(alloc);
+    for part in parts {
+        let acts = session.feed(alloc, part)?;
+        heard.push(match acts.as_slice() {
+            [] => b'.',
+            [Act::Do(Op::Open { .. }, None)] => b'o',
+            _ => b'?',
+        })?;
+    }
+    Ok(heard)
+}
+
+#[test]
+fn a_frame_of_stomp_may_be_cut_over_two_messages(rt: HostRuntime) -> Result<(), Fail> {
+    let heard = heard_by_session(rt.alloc(), &CONNECT)?;
+    assert_eq!(rt; heard.as_slice(), b".o".as_slice());
+    Ok(())
+}

@@ -1,0 +1,102 @@
+//! A stream in memory, which many may hold, as they may a socket.
+
+use std::alloc::{AllocError, Global};
+use std::cell::{Cell, RefCell};
+use std::io;
+use std::io::{ErrorKind, Read, Write};
+
+/// Gives what is open of its input, and keeps what is written.
+#[derive(Drop)]
+pub struct Wire {
+    input: Vec<u8>,
+    // So many bytes come with one read, and behind them at most `step` with each.
+    head: usize,
+    step: usize,
+    // How far the input is open. Behind that it would block; behind all of it the stream has ended.
+    open: Cell<usize>,
+    at: Cell<usize>,
+    output: RefCell<Vec<u8>>,
+    // Writes fail from now on.
+    cut: Cell<bool>,
+}
+
+impl Wire {
+    pub fn new(alloc: Global, head: &[u8], input: &[u8], step: usize) -> Result<Wire, AllocError> {
+        let mut all = Vec::from_slice(alloc, head)?;
+        all.extend_from_slice(input)?;
+        let open = Cell::new(all.len());
+        Ok(Wire {
+            input: all,
+            head: head.len(),
+            step,
+            open,
+            at: Cell::new(0),
+            output: RefCell::new(Vec::new(alloc)),
+            cut: Cell::new(false),
+        })
+    }
+
+    /// Opens the input so far and no further.
+    pub fn open_to(&self, end: usize) {
+        self.open.set(end);
+    }
+
+    /// How many bytes have been read.
+    pub fn read_so_far(&self) -> usize {
+        self.at.get()
+    }
+
+    /// Moves what was written behind these bytes.
+    pub fn move_output(&self, bytes: &mut Vec<u8>) -> Result<(), AllocError> {
+        if let Ok(mut output) = self.output.try_borrow_mut() {
+            bytes.extend_from_slice(output.as_slice())?;
+            output.clear();
+        }
+        Ok(())
+    }
+
+    pub fn cut(&self) {
+        self.cut.set(true);
+    }
+}
+
+impl Read for &Wire {
+    fn read(&mut self, buf: &mut [u8]) -> io::Result<usize> {
+        let at = self.at.get();
+        let end = self.open.get().min(self.input.len());
+        let rest = self.input.get(at..end).unwrap_or(&[]);
+        if rest.is_empty() && end < self.input.len() {
+            return Err(io::Error::from(ErrorKind::WouldBlock));
+        }
+        let most = if at < self.head {
+            self.head - at
+        } else {
+            self.step
+        };
+        let n = buf.len().min(rest.len()).min(most);
+        buf[..n].copy_from_slice(&rest[..n]);
+        self.at.set(at.saturating_add(n));
+        Ok(n)
+    }
+}
+
+impl Write for &Wire {
+    fn write(&mut self, buf: &[u8]) -> io::Result<usize> {
+        if self.cut.get() {
+            return Err(io::Error::from(ErrorKind::ConnectionReset));
+        }
+        match self.output.try_borrow_mut() {
+            Ok(mut output) => {
+                if output.extend_from_slice(buf).is_err() {
+                    return Err(io::Error::from(ErrorKind::OutOfMemory));
+                }
+                Ok(buf.len())
+            }
+            Err(_) => Err(io::Error::from(ErrorKind::Other)),
+        }
+    }
+
+    fn flush(&mut self) -> io::Result<()> {
+        Ok(())
+    }
+}
