@@ -11,8 +11,6 @@ mod lines;
 mod partial;
 mod reader;
 mod search;
-#[cfg(test)]
-mod tests;
 mod text;
 mod write;
 

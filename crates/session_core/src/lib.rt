@@ -11,8 +11,6 @@ mod notice;
 mod numbers;
 mod phase;
 mod session;
-#[cfg(test)]
-mod tests;
 mod versions;
 mod worked;
 
