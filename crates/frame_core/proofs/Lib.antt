@@ -1,4 +1,5 @@
 pub mod BodySteps
+pub mod Decided
 pub mod HeadSteps
 pub mod HeadFaults
 pub mod HeaderLines

@@ -1,7 +1,7 @@
 //! Laws of the definitions that the contracts of this crate cite. Each is proved as the contract of a function that does
 //! nothing.
 
-ghost use Rattle.std.specs.Prelude.{◌≡◌, ◌++◌, List, ℕ};
+ghost use Rattle.std.specs.Prelude.{◌≡◌, ◌⊎◌, ◌++◌, List, ℕ};
 ghost use Rattle.frame_core.specs.declared.frame.Frame.{Frame};
 ghost use Rattle.frame_core.specs.declared.fault.FrameFault.{FrameFault};
 ghost use Rattle.frame_core.specs.Spelling.{Spells};
@@ -13,8 +13,10 @@ pub fn one_spelling()
         → (a ≡ b) × (f ≡ g) }
 {}
 
-/// A stream has at most one answer: one list of frames with one rest or with one fault.
+/// Each stream has an answer, frames with a rest or with a fault, and at most one.
 pub fn one_answer()
+    ensures some { (stream : List ℕ) → ((frames : List Frame) × (rest : List ℕ) × Reads stream frames rest)
+        ⊎ ((frames : List Frame) × (fault : FrameFault) × Fails stream frames fault) }
     ensures reads { (stream : List ℕ) (a b : List Frame) (q r : List ℕ) → Reads stream a q → Reads stream b r
         → (a ≡ b) × (q ≡ r) }
     ensures fails { (stream : List ℕ) (a b : List Frame) (f g : FrameFault) → Fails stream a f → Fails stream b g
