@@ -14,8 +14,8 @@ fn message(alloc: Global, command: u64, place: u32) -> Result<Message, Fail> {
     })
 }
 
-// Numbers as they are put into a line, and whether they come back.
-const PUT: [(u64, u32, bool); 6] = [(3, 0, false), (3, 1, false), (7, 0, false), (3, 2, true), (5, 0, false), (1, 0, true)];
+// Numbers as they are put into a line.
+const PUT: [(u64, u32); 6] = [(3, 0), (3, 1), (7, 0), (3, 2), (5, 0), (1, 0)];
 
 // Numbers as they are taken out.
 const TAKEN: [(u64, u32); 6] = [(1, 0), (3, 0), (3, 1), (3, 2), (5, 0), (7, 0)];
@@ -31,13 +31,8 @@ fn is_next(line: &mut Line, command: u64, place: u32) -> bool {
 #[test]
 fn messages_wait_in_the_order_of_their_numbers(rt: HostRuntime) -> Result<(), Fail> {
     let mut line = Line::new(rt.alloc());
-    for (command, place, comes_back) in &PUT {
-        let message = message(rt.alloc(), *command, *place)?;
-        if *comes_back {
-            line.put_back(message)?;
-        } else {
-            line.put(message)?;
-        }
+    for (command, place) in &PUT {
+        line.put(message(rt.alloc(), *command, *place)?)?;
     }
     assert!(rt; line.len() == 6 && !line.is_empty() && line.get(6).is_none());
     assert!(rt; matches!(line.get(4), Some(message) if message.number.command == 5));
