@@ -51,8 +51,8 @@ pub fn escape(alloc: Global, text: &[u8]) -> Result<Vec<u8>, AllocError>
     Ok(written)
 }
 
-/// Whether the written bytes mean a text: each backslash begins one of the four escapes.
-fn is_defined(bytes: &[u8]) -> bool
+/// Whether the written bytes mean a text: each backslash begins one of the four escapes. No memory is taken.
+pub fn is_defined(bytes: &[u8]) -> bool
     ensures { result ≡ is_some (unescaped bytes.now) }
 {
     let mut in_escape = false;

@@ -32,7 +32,7 @@ use Rattle.frame_core.proofs.Kept.{unfinished}
 use Rattle.frame_core.proofs.Machine.{is_number}
 use Rattle.frame_core.proofs.MachineBodies.{number_passes, number_read}
 use Rattle.frame_core.proofs.OneHead.{verb_named, named}
-use Rattle.frame_core.proofs.OpenLines.{octet_kept, no_body, octet_reads}
+use Rattle.frame_core.proofs.OpenLines.{byte_kept, no_body, byte_reads}
 
 -- an unfinished frame, by its parts
 pub record Open : Type 0 where
@@ -204,7 +204,7 @@ utf8_or_not text = elim (cases_Bool (is_utf8 text)) [
 command_ended : (head : List ℕ) (line : ℕ) (cr : Bool) (headers : List (List ℕ × List ℕ)) (body : List ℕ) → IsAt Command head line cr headers body → length head < 8192
     → After ((head ++ body) ++ 10 ∷ [])
 command_ended head line cr headers body h room =
-    let reads = octet_reads head body 10 h.2 in
+    let reads = byte_reads head body 10 h.2 in
     elim (cases_eq (length head - cond cr 1 0) 0) [
       | inl none ↦ goes_on _ Command [] line false headers body (gap_reads head line cr headers body h none) (gap_kept head line cr headers body h)
       | inr some ↦ elim (utf8_or_not h.0.part) [
@@ -223,7 +223,7 @@ head_ended verb head line cr headers body h empty room = planned (announced head
   where
     with_plan : (plan : Option ℕ) → Plans verb headers plan → After ((head ++ body) ++ 10 ∷ [])
     with_plan plan plans =
-        goes_on _ (Body verb plan) (head ++ 10 ∷ []) (length head + 1) false headers body (octet_reads head body 10 h.4) (body_begins verb plan head line cr headers body h empty room plans)
+        goes_on _ (Body verb plan) (head ++ 10 ∷ []) (length head + 1) false headers body (byte_reads head body 10 h.4) (body_begins verb plan head line cr headers body h empty room plans)
 
     with_number : (text : List ℕ) → announced headers ≡ Some text → IsNumeral 10 text × (length text ≤ 10) → After ((head ++ body) ++ 10 ∷ [])
     with_number text is numeral =
@@ -294,7 +294,7 @@ header_ended verb head line cr headers body h some room = elim (cut h.1.part) [
             elim (cases_eq (length headers) 64) [
               | inl full ↦ refused _ TooLarge (too_many_headers verb head line cr headers body h (n, v) text full room)
               | inr more ↦
-                  goes_on _ (HeaderLines verb) (head ++ 10 ∷ []) (length head + 1) false (headers ++ (n, v) ∷ []) body (octet_reads head body 10 h.4)
+                  goes_on _ (HeaderLines verb) (head ++ 10 ∷ []) (length head + 1) false (headers ++ (n, v) ∷ []) body (byte_reads head body 10 h.4)
                   (header_ends verb head line cr headers body h (n, v) text (omega (arith, more, h.3)) room)
             ]
       ]
@@ -331,8 +331,8 @@ in_head stage head line cr headers body b i h = elim (cases_eq (length head) 819
           | inr no_cr ↦ elim (cases_eq b 0) [
             | inl nul ↦ refused _ Malformed (stray stage head line cr headers body b i h room (λ _. nul) (λ with_cr. absurd (both_ways cr no_cr with_cr)))
             | inr no_nul ↦
-                goes_on _ stage (head ++ b ∷ []) line (eqb b 13) headers body (octet_reads head body b (no_body stage head line cr headers body i h))
-                (octet_kept stage head line cr headers body b i h no_cr no_lf no_nul room)
+                goes_on _ stage (head ++ b ∷ []) line (eqb b 13) headers body (byte_reads head body b (no_body stage head line cr headers body i h))
+                (byte_kept stage head line cr headers body b i h no_cr no_lf no_nul room)
           ]
         ]
       ]

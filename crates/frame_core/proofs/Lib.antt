@@ -15,6 +15,7 @@ pub mod Machine
 pub mod MachineBodies
 pub mod MachineFaults
 pub mod MachineHeads
+pub mod Meanings
 pub mod NextLines
 pub mod Numbers
 pub mod Pieces

@@ -7,7 +7,7 @@ ghost use Rattle.frame_core.specs.declared.fault.FrameFault.{FrameFault};
 ghost use Rattle.frame_core.specs.Spelling.{Spells};
 ghost use Rattle.frame_core.specs.Streams.{Reads, Fails};
 
-/// No spelling of a frame begins another, and octets spell one frame.
+/// No spelling of a frame begins another, and bytes spell one frame.
 pub fn one_spelling()
     ensures { (a b x y : List ℕ) (f g : Frame) → Spells a f → Spells b g → a ++ x ≡ b ++ y
         → (a ≡ b) × (f ≡ g) }

@@ -5,9 +5,9 @@
 mod bytes;
 mod fault;
 mod frame;
+mod head_lines;
 mod headers;
 mod laws;
-mod lines;
 mod partial;
 mod reader;
 mod search;

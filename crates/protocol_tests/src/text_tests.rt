@@ -1,7 +1,7 @@
 //! The escapes of header texts, and the texts of the faults.
 
 use command_core::{DecodeFault, Fault, fault_text};
-use escape_core::{EscapeFault, escape, unescape};
+use escape_core::{EscapeFault, escape, is_defined, unescape};
 use frame_core::{FeedFault, FrameFault};
 use session_core::SessionFault;
 use std::alloc::Global;
@@ -23,7 +23,7 @@ fn means(alloc: Global, written: &[u8], text: &[u8]) -> Result<bool, EscapeFault
 fn texts_are_written_with_their_escapes_and_read_again(rt: HostRuntime) -> Result<(), Fail> {
     for (text, written) in &ESCAPED {
         assert!(rt; escape(rt.alloc(), text)?.as_slice() == *written);
-        assert!(rt; means(rt.alloc(), written, text)?);
+        assert!(rt; is_defined(written) && means(rt.alloc(), written, text)?);
     }
     Ok(())
 }
@@ -31,6 +31,7 @@ fn texts_are_written_with_their_escapes_and_read_again(rt: HostRuntime) -> Resul
 #[test]
 fn other_escapes_are_undefined(rt: HostRuntime) {
     for written in [b"\\".as_slice(), b"a\\t", b"\\C", b"a\\\\\\"].as_slice() {
+        assert!(rt; !is_defined(*written));
         assert!(rt; means(rt.alloc(), *written, b"") == Err(EscapeFault::Undefined));
     }
 }

@@ -1,9 +1,8 @@
 //! Transactions by themselves.
 
-use crate::frame_tests::filled;
 use crate::telling::members as tell_members;
 use command_core::{
-    Dest, Fault, HeaderText, Member, Sending, fault_text, is_header_text, member_size,
+    Dest, DestFault, Fault, HeaderText, Member, Sending, fault_text, is_header_text, member_size,
 };
 use frame_core::{Bytes, Headers, Text};
 use std::alloc::Global;
@@ -95,9 +94,12 @@ fn transactions_are_kept_by_their_names(rt: HostRuntime) {
 
 // A SEND that takes 19 bytes and those of its body: the kind 1, the destination 4 and 8, the count of headers 2, and the
 // length of the body 4 and its bytes.
-fn sending(alloc: Global, body: usize) -> Result<Member, Fail> {
+fn sending(alloc: Global, length: usize) -> Result<Member, DestFault> {
     let destination = Dest::read(alloc, "/queue/a")?;
-    let body = filled(alloc, b"", b"b", body.min(65_536), b"")?;
+    let mut body = Vec::new(alloc);
+    if length <= 65_536 {
+        body.resize(length, b'b')?;
+    }
     Ok(Member::Send(Sending::new(
         destination,
         Headers::new(Vec::new(alloc)),

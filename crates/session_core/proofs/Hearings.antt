@@ -11,8 +11,8 @@ use Rattle.command_core.specs.declared.fault.Fault.{Fault}
 use Rattle.command_core.specs.declared.member.Member.{Member}
 use Rattle.command_core.specs.Faults.{fault_of}
 use Rattle.std.specs.Prelude.{None, Some}
-use Rattle.session_core.specs.declared.asking.Request.{Request}
-use Rattle.session_core.specs.declared.asking.Request.TheVariants.{Ask, Join, Begin, Commit, Abort, Disconnect}
+use Rattle.session_core.specs.declared.requests.Request.{Request}
+use Rattle.session_core.specs.declared.requests.Request.TheVariants.{Ask, Join, Begin, Commit, Abort, Disconnect}
 use Rattle.session_core.specs.declared.phase.Phase.{Phase}
 use Rattle.session_core.specs.declared.phase.Phase.TheVariants.{New, Open, Ended, Failed}
 use Rattle.session_core.specs.ReadFrames.{receipt_of}

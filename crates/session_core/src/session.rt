@@ -3,7 +3,7 @@
 ghost use Rattle.std.specs.Prelude.{◌≡◌};
 
 use crate::act::Act;
-use crate::answering::{answer_all, refuse};
+use crate::transition::{answer_all, refuse};
 use crate::phase::Phase;
 use command_core::{End, Fault, Op};
 use frame_core::FrameReader;

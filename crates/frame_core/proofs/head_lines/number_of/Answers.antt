@@ -2,7 +2,7 @@ use Rattle.std.proofs.Common.{◌≡◌, ◌≤◌, ◌∙◌, length, ap, sym, 
 use Rattle.std.specs.List.{slice_get}
 use Rattle.std.specs.Option.{option_eq}
 use Rattle.frame_core.proofs.Numbers.{no_number}
-use Rattle.frame_core.proofs.lines.number_of.Goals as goal
+use Rattle.frame_core.proofs.head_lines.number_of.Goals as goal
 
 pub returns-in-Err : goal.returns-in-Err
 returns-in-Err c =

@@ -1,6 +1,6 @@
 use Rattle.std.proofs.Common.{◌≡◌, ◌++◌}
 use Rattle.session_core.specs.Sessions.{acts_of, phase_of}
-use Rattle.session_core.proofs.answering.answer_all.Given as goal
+use Rattle.session_core.proofs.transition.answer_all.Given as goal
 
 abbrev pub invariant-loop-frame : goal.invariant-loop-frame
 invariant-loop-frame l = record {

@@ -6,10 +6,10 @@ ghost use Rattle.tx_core.specs.TxFaults.{fault_of};
 ghost use Rattle.session_core.specs.ReadFrames.{IsRead};
 ghost use Rattle.session_core.specs.Sessions.{acts_of, carried, ends_by, first_answered, heard, next, note, phase_of, refused, told, unless, does};
 ghost use Rattle.session_core.specs.declared.phase.Phase.TheVariants as phases;
-ghost use Rattle.session_core.specs.declared.asking.Request.TheVariants as requests;
+ghost use Rattle.session_core.specs.declared.requests.Request.TheVariants as requests;
 
 use crate::act::{Act, CloseCode};
-use crate::asking::{Request, ask, ask_first};
+use crate::requests::{Request, ask, ask_first};
 use crate::headers::receipt;
 use crate::notice::Notice;
 use crate::phase::Phase;

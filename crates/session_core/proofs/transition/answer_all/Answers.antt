@@ -1,5 +1,5 @@
 use Rattle.session_core.proofs.Acting.{more_done, more_stands}
-use Rattle.session_core.proofs.answering.answer_all.Goals as goal
+use Rattle.session_core.proofs.transition.answer_all.Goals as goal
 
 pub loop-frame-preserved : goal.loop-frame-preserved
 loop-frame-preserved c =

@@ -1,6 +1,6 @@
 use Rattle.std.proofs.lemmas.Result.{err_from_is_err_and}
 use Rattle.frame_core.proofs.HeaderLines.{header_form, bad_name, bad_value, broken_name, broken_value, header_read}
-use Rattle.frame_core.proofs.lines.header_of.Goals as goal
+use Rattle.frame_core.proofs.head_lines.header_of.Goals as goal
 
 pub returns-in_err-name-clause-fault : goal.returns-in_err-name-clause-fault
 returns-in_err-name-clause-fault c =

@@ -1,6 +1,6 @@
 //! What the lines of a head say.
 
-ghost use Rattle.std.specs.Prelude.{◌≡◌, ◌≢◌, ◌<◌, ◌≤◌, ◌⊎◌, ◌++◌, ◌∷◌, List, ℕ, IfOk, IfErr, MatchResult, MatchOption, Some, None, length};
+ghost use Rattle.std.specs.Prelude.{◌≡◌, ◌≢◌, ◌<◌, ◌≤◌, ◌⊎◌, ◌++◌, ◌∷◌, List, ℕ, IfOk, IfErr, MatchResult, MatchOption, Some, None, is_some, length};
 ghost use Rattle.std.specs.List.{AllByRecursion};
 ghost use Rattle.std.specs.Str.{IsUtf8};
 ghost use Rattle.std.specs.Str.Parse.{IsNumeral};
@@ -14,9 +14,9 @@ ghost use Rattle.frame_core.specs.Stops.{IfFault, IsCommandFault, IsHeaderText, 
 use crate::fault::FrameFault;
 use crate::frame::{Verb, value_of};
 use crate::partial::{MAX_BODY, Stop};
-use crate::search::{has_octet, place_of};
+use crate::search::{has_byte, place_of};
 use crate::text::Text;
-use escape_core::{EscapeFault, unescape};
+use escape_core::{EscapeFault, is_defined, unescape};
 use std::alloc::Global;
 
 /// The digits that a `content-length` may have.
@@ -35,37 +35,37 @@ pub(crate) fn verb_of(line: &[u8]) -> Result<Verb, FrameFault>
     }
 }
 
-/// The octets that a name or value means under a command.
-fn meaning_of(alloc: Global, verb: Verb, octets: &[u8]) -> Result<Vec<u8>, Stop>
-    ensures ok { IfOk result (λ text. meaning verb octets.now ≡ Some text.items) }
-    ensures fault { IfErr result (λ stop. IfFault stop (λ fault. (fault ≡ UndefinedEscape) × (meaning verb octets.now ≡ None))) }
+/// The bytes that a name or value means under a command.
+fn meaning_of(alloc: Global, verb: Verb, bytes: &[u8]) -> Result<Vec<u8>, Stop>
+    ensures ok { IfOk result (λ text. meaning verb bytes.now ≡ Some text.items) }
+    ensures fault { IfErr result (λ stop. IfFault stop (λ fault. (fault ≡ UndefinedEscape) × (meaning verb bytes.now ≡ None))) }
 {
     if verb.is_raw() {
-        return Ok(Vec::from_slice(alloc, octets)?);
+        return Ok(Vec::from_slice(alloc, bytes)?);
     }
     // Most names and values have no escape, and are copied at once.
-    if !has_octet(b'\\', octets) {
-        return Ok(Vec::from_slice(alloc, octets)?);
+    if !has_byte(b'\\', bytes) {
+        return Ok(Vec::from_slice(alloc, bytes)?);
     }
-    match unescape(alloc, octets) {
+    match unescape(alloc, bytes) {
         Ok(text) => Ok(text),
         Err(EscapeFault::Undefined) => Err(Stop::Fault(FrameFault::UndefinedEscape)),
         Err(EscapeFault::Memory) => Err(Stop::Memory),
     }
 }
 
-/// The octets as a text.
-fn text_of(octets: Vec<u8>) -> Result<Text, Stop>
-    ensures ok { IfOk result (λ text. (text ≡ octets.items) × IsUtf8 octets.items) }
-    ensures fault { IfErr result (λ stop. IfFault stop (λ fault. (fault ≡ BadHeaderValue) × (IsUtf8 octets.items → ⊥))) }
+/// The bytes as a text.
+fn text_of(bytes: Vec<u8>) -> Result<Text, Stop>
+    ensures ok { IfOk result (λ text. (text ≡ bytes.items) × IsUtf8 bytes.items) }
+    ensures fault { IfErr result (λ stop. IfFault stop (λ fault. (fault ≡ BadHeaderValue) × (IsUtf8 bytes.items → ⊥))) }
 {
-    match String::from_utf8(octets) {
+    match String::from_utf8(bytes) {
         Ok(text) => Ok(Text::new(text)),
         Err(_) => Err(Stop::Fault(FrameFault::BadHeaderValue)),
     }
 }
 
-/// The octets before the first colon of a header line and those behind it, where there are some before it.
+/// The bytes before the first colon of a header line and those behind it, where there are some before it.
 fn cut_at_colon(line: &[u8]) -> Option<(&[u8], &[u8])>
     ensures { MatchOption result
         (AllByRecursion (λ b. b ≢ 58) line.now ⊎ ((value : List ℕ) × (line.now ≡ 58 ∷ value)))
@@ -94,6 +94,39 @@ pub(crate) fn header_of(alloc: Global, verb: Verb, line: &[u8]) -> Result<(Text,
     Ok((name, value))
 }
 
+/// Whether the bytes of a name or value mean something under a command. No memory is taken.
+fn has_meaning(verb: Verb, bytes: &[u8]) -> bool
+    ensures { result ≡ is_some (meaning verb bytes.now) }
+{
+    verb.is_raw() || is_defined(bytes)
+}
+
+/// Why a header line, which stands there without its EOL, is refused, if it is. No memory is taken.
+pub(crate) fn refusal_of(verb: Verb, line: &[u8]) -> Option<FrameFault>
+    requires { AllByRecursion IsInLine line.now }
+    ensures { MatchOption result
+        ((header : List ℕ × List ℕ) × IsHeaderText verb line.now header)
+        (IsHeaderFault verb line.now) }
+{
+    let Some((name, value)) = cut_at_colon(line) else {
+        return Some(FrameFault::Malformed);
+    };
+    if !has_meaning(verb, name) {
+        return Some(FrameFault::UndefinedEscape);
+    }
+    if !has_meaning(verb, value) {
+        return Some(FrameFault::UndefinedEscape);
+    }
+    // The escapes are ASCII on both sides, so the bytes are looked at as they stand.
+    let Ok(_) = str::from_utf8(name) else {
+        return Some(FrameFault::BadHeaderValue);
+    };
+    let Ok(_) = str::from_utf8(value) else {
+        return Some(FrameFault::BadHeaderValue);
+    };
+    None
+}
+
 /// The number of one to ten decimal digits.
 fn number_of(text: &str) -> Option<u64>
     ensures { MatchOption result
@@ -109,7 +142,7 @@ fn number_of(text: &str) -> Option<u64>
     }
 }
 
-/// How the body ends under these headers: behind so many octets where they announce them, or else at its first NUL.
+/// How the body ends under these headers: behind so many bytes where they announce them, or else at its first NUL.
 pub(crate) fn body_plan(verb: Verb, headers: &[(Text, Text)]) -> Result<Option<usize>, FrameFault>
     ensures { MatchResult result (Plans verb headers.now) (IsPlanFault verb headers.now) }
 {

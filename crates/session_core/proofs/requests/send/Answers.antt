@@ -2,7 +2,7 @@ use Rattle.std.proofs.Common.{◌≤◌, length, arith, subst, sym, List, ℕ}
 use Rattle.std.specs.List.{AllByRecursion}
 use Rattle.command_core.specs.Sendings.{IsKept}
 use Rattle.session_core.proofs.ReadFrames.{all_kept, few_kept}
-use Rattle.session_core.proofs.asking.send.Goals as goal
+use Rattle.session_core.proofs.requests.send.Goals as goal
 
 pub new-sending-requires : goal.new-sending-requires
 new-sending-requires c =
