@@ -128,63 +128,63 @@ named_back text verb e0 =
     elim (some_named (bytes_eq text (codes "CONNECT")) Connect verb _ e0) [
       | inl h ↦ same_name text Connect verb h
       | inr e1 ↦
-      elim (some_named (bytes_eq text (codes "STOMP")) Stomp verb _ e1) [
-        | inl h ↦ same_name text Stomp verb h
-        | inr e2 ↦
-        elim (some_named (bytes_eq text (codes "SEND")) Send verb _ e2) [
-          | inl h ↦ same_name text Send verb h
-          | inr e3 ↦
-          elim (some_named (bytes_eq text (codes "SUBSCRIBE")) Subscribe verb _ e3) [
-            | inl h ↦ same_name text Subscribe verb h
-            | inr e4 ↦
-            elim (some_named (bytes_eq text (codes "UNSUBSCRIBE")) Unsubscribe verb _ e4) [
-              | inl h ↦ same_name text Unsubscribe verb h
-              | inr e5 ↦
-              elim (some_named (bytes_eq text (codes "ACK")) Ack verb _ e5) [
-                | inl h ↦ same_name text Ack verb h
-                | inr e6 ↦
-                elim (some_named (bytes_eq text (codes "NACK")) Nack verb _ e6) [
-                  | inl h ↦ same_name text Nack verb h
-                  | inr e7 ↦
-                  elim (some_named (bytes_eq text (codes "BEGIN")) Begin verb _ e7) [
-                    | inl h ↦ same_name text Begin verb h
-                    | inr e8 ↦
-                    elim (some_named (bytes_eq text (codes "COMMIT")) Commit verb _ e8) [
-                      | inl h ↦ same_name text Commit verb h
-                      | inr e9 ↦
-                      elim (some_named (bytes_eq text (codes "ABORT")) Abort verb _ e9) [
-                        | inl h ↦ same_name text Abort verb h
-                        | inr e10 ↦
-                        elim (some_named (bytes_eq text (codes "DISCONNECT")) Disconnect verb _ e10) [
-                          | inl h ↦ same_name text Disconnect verb h
-                          | inr e11 ↦
-                          elim (some_named (bytes_eq text (codes "CONNECTED")) Connected verb _ e11) [
-                            | inl h ↦ same_name text Connected verb h
-                            | inr e12 ↦
-                            elim (some_named (bytes_eq text (codes "MESSAGE")) Message verb _ e12) [
-                              | inl h ↦ same_name text Message verb h
-                              | inr e13 ↦
-                              elim (some_named (bytes_eq text (codes "RECEIPT")) Receipt verb _ e13) [
-                                | inl h ↦ same_name text Receipt verb h
-                                | inr e14 ↦
-                                elim (some_named (bytes_eq text (codes "ERROR")) Error verb _ e14) [
-                                  | inl h ↦ same_name text Error verb h
-                                  | inr e15 ↦
-                                  absurd (no_verb verb e15)
-                                ]
-                              ]
+          elim (some_named (bytes_eq text (codes "STOMP")) Stomp verb _ e1) [
+            | inl h ↦ same_name text Stomp verb h
+            | inr e2 ↦
+                elim (some_named (bytes_eq text (codes "SEND")) Send verb _ e2) [
+                  | inl h ↦ same_name text Send verb h
+                  | inr e3 ↦
+                      elim (some_named (bytes_eq text (codes "SUBSCRIBE")) Subscribe verb _ e3) [
+                        | inl h ↦ same_name text Subscribe verb h
+                        | inr e4 ↦
+                            elim (some_named (bytes_eq text (codes "UNSUBSCRIBE")) Unsubscribe verb _ e4) [
+                              | inl h ↦ same_name text Unsubscribe verb h
+                              | inr e5 ↦
+                                  elim (some_named (bytes_eq text (codes "ACK")) Ack verb _ e5) [
+                                    | inl h ↦ same_name text Ack verb h
+                                    | inr e6 ↦
+                                        elim (some_named (bytes_eq text (codes "NACK")) Nack verb _ e6) [
+                                          | inl h ↦ same_name text Nack verb h
+                                          | inr e7 ↦
+                                              elim (some_named (bytes_eq text (codes "BEGIN")) Begin verb _ e7) [
+                                                | inl h ↦ same_name text Begin verb h
+                                                | inr e8 ↦
+                                                    elim (some_named (bytes_eq text (codes "COMMIT")) Commit verb _ e8) [
+                                                      | inl h ↦ same_name text Commit verb h
+                                                      | inr e9 ↦
+                                                          elim (some_named (bytes_eq text (codes "ABORT")) Abort verb _ e9) [
+                                                            | inl h ↦ same_name text Abort verb h
+                                                            | inr e10 ↦
+                                                                elim (some_named (bytes_eq text (codes "DISCONNECT")) Disconnect verb _ e10) [
+                                                                  | inl h ↦ same_name text Disconnect verb h
+                                                                  | inr e11 ↦
+                                                                      elim (some_named (bytes_eq text (codes "CONNECTED")) Connected verb _ e11) [
+                                                                        | inl h ↦ same_name text Connected verb h
+                                                                        | inr e12 ↦
+                                                                            elim (some_named (bytes_eq text (codes "MESSAGE")) Message verb _ e12) [
+                                                                              | inl h ↦ same_name text Message verb h
+                                                                              | inr e13 ↦
+                                                                                  elim (some_named (bytes_eq text (codes "RECEIPT")) Receipt verb _ e13) [
+                                                                                    | inl h ↦ same_name text Receipt verb h
+                                                                                    | inr e14 ↦
+                                                                                        elim (some_named (bytes_eq text (codes "ERROR")) Error verb _ e14) [
+                                                                                          | inl h ↦ same_name text Error verb h
+                                                                                          | inr e15 ↦
+                                                                                              absurd (no_verb verb e15)
+                                                                                        ]
+                                                                                  ]
+                                                                            ]
+                                                                      ]
+                                                                ]
+                                                          ]
+                                                    ]
+                                              ]
+                                        ]
+                                  ]
                             ]
-                          ]
-                        ]
                       ]
-                    ]
-                  ]
                 ]
-              ]
-            ]
           ]
-        ]
-      ]
     ]
 
 command_line : (text : List ℕ) → ((verb : Verb) × (text ≡ name_of verb)) ⊎ ((verb : Verb) → name_of verb ≢ text)

@@ -3,8 +3,8 @@
 use crate::bytes::Bytes;
 use crate::fault::FrameFault;
 use crate::frame::{Frame, Verb};
-use crate::headers::Headers;
 use crate::head_lines::{body_plan, header_of, refusal_of, verb_of};
+use crate::headers::Headers;
 use crate::search::{run_before_nul, run_in_line};
 use crate::text::Text;
 use std::alloc::{AllocError, AllocFailed, Global};
@@ -18,7 +18,7 @@ const MAX_HEADERS: usize = 64;
 pub(crate) const MAX_BODY: usize = 65_536;
 
 /// Why reading stops.
-#[derive(Clone, Copy, Debug)]
+#[derive(Clone, Copy)]
 pub(crate) enum Stop {
     Memory,
     Fault(FrameFault),
@@ -58,7 +58,7 @@ impl From<FrameFault> for Stop {
 }
 
 /// How far an unfinished frame has come.
-#[derive(Clone, Copy, Debug)]
+#[derive(Clone, Copy)]
 pub(crate) enum Stage {
     /// The command line isn't whole. Between two frames nothing of it is there, or the CR that may begin an EOL.
     Command,

@@ -1,11 +1,9 @@
 //! Destinations, texts, commands and the frames that answer.
 
-use crate::frame_tests::filled;
-use crate::telling::{frame as tell_frame, members as tell_members, operation as tell_operation};
+use crate::telling::frame as tell_frame;
 use command_core::{
-    Command, Dest, DestFault, Fault, HeaderText, Member, Members, Op, Out, Sending,
-    connected_reply, error_reply, is_header_text, is_kept_name, member_size, message_reply,
-    op_size, receipt_reply,
+    Dest, DestFault, Fault, HeaderText, Op, Sending, connected_reply, error_reply, is_header_text,
+    is_kept_name, message_reply, op_size, receipt_reply,
 };
 use frame_core::{Bytes, Frame, Headers, Text};
 use std::alloc::{AllocError, Global};
@@ -38,30 +36,54 @@ fn destinations_are_of_topics_and_queues(rt: HostRuntime) -> Result<(), Fail> {
     for (destination, expected) in &DESTINATIONS {
         assert!(rt; is_queue(rt.alloc(), destination)? == *expected);
     }
-    for (count, expected) in [(200, Some(true)), (201, None)] {
-        let name = String::from_utf8(filled(rt.alloc(), b"/queue/", b"q", count, b"")?)?;
-        assert!(rt; is_queue(rt.alloc(), name.as_str())? == expected);
+    Ok(())
+}
+
+// So many letters behind `/queue/`.
+fn name_of(alloc: Global, count: u32) -> Result<String, AllocError> {
+    let mut name = String::from_str(alloc, "/queue/")?;
+    for _ in 0..count {
+        name.push('q')?;
+    }
+    Ok(name)
+}
+
+#[test]
+fn names_have_their_limits(rt: HostRuntime) -> Result<(), Fail> {
+    assert!(rt; is_header_text("") && is_header_text("a:b") && !is_header_text("a\0b"));
+    for (count, is_destination, is_text) in [
+        (200, true, true),
+        (201, false, true),
+        (8185, false, true),
+        (8186, false, false),
+    ] {
+        let name = name_of(rt.alloc(), count)?;
+        assert!(rt; is_queue(rt.alloc(), name.as_str())?.is_some() == is_destination);
+        assert!(rt; is_header_text(name.as_str()) == is_text);
     }
     Ok(())
 }
 
 #[test]
-fn texts_of_headers_have_no_nul_and_at_most_8192_bytes(rt: HostRuntime) -> Result<(), Fail> {
-    assert!(rt; is_header_text("") && is_header_text("a:b") && !is_header_text("a\0b"));
-    for (count, expected) in [(8192, true), (8193, false)] {
-        let name = String::from_utf8(filled(rt.alloc(), b"", b"q", count, b"")?)?;
-        assert!(rt; is_header_text(name.as_str()) == expected);
-    }
+fn a_message_keeps_no_header_of_the_brokers_own(rt: HostRuntime) {
     assert!(rt; is_kept_name("priority") && is_kept_name(""));
-    for name in ["destination", "receipt", "transaction", "content-length", "subscription", "message-id", "ack"] {
+    for name in [
+        "destination",
+        "receipt",
+        "transaction",
+        "content-length",
+        "subscription",
+        "message-id",
+        "ack",
+    ] {
         assert!(rt; !is_kept_name(name));
     }
-    Ok(())
 }
 
 // `r1` as the text of a header.
-fn r1(alloc: Global) -> Result<HeaderText, AllocError> {
-    Ok(HeaderText::new(Text::new(String::from_str(alloc, "r1")?)))
+pub fn r1(alloc: Global) -> Result<HeaderText, AllocError> {
+    let text = String::from_str(alloc, "r1")?;
+    Ok(HeaderText::new(Text::new(text)))
 }
 
 // `hi` to `/queue/a`.
@@ -77,57 +99,53 @@ fn is_told(alloc: Global, frame: &Frame, expected: &str) -> Result<bool, AllocEr
     Ok(told.as_str() == expected)
 }
 
+fn connected_is_told(alloc: Global) -> Result<bool, AllocError> {
+    let frame = connected_reply(alloc, 7)?;
+    is_told(
+        alloc,
+        &frame,
+        "CONNECTED version=1.2 session=7 heart-beat=0,0 '' ",
+    )
+}
+
+fn receipt_is_told(alloc: Global) -> Result<bool, AllocError> {
+    let id = r1(alloc)?;
+    let frame = receipt_reply(alloc, id)?;
+    is_told(alloc, &frame, "RECEIPT receipt-id=r1 '' ")
+}
+
+fn error_is_told(alloc: Global) -> Result<bool, AllocError> {
+    let id = r1(alloc)?;
+    let frame = error_reply(alloc, Fault::UndefinedEscape, Some(id))?;
+    is_told(
+        alloc,
+        &frame,
+        "ERROR message=E3 undefined escape receipt-id=r1 '' ",
+    )
+}
+
+fn message_is_told(alloc: Global) -> Result<bool, DestFault> {
+    let sending = greeting(alloc)?;
+    let id = r1(alloc)?;
+    let frame = message_reply(alloc, &id, 12, 3, Some(40), sending)?;
+    let expected =
+        "MESSAGE subscription=r1 message-id=12.3 destination=/queue/a ack=40 content-length=2 'hi' ";
+    Ok(is_told(alloc, &frame, expected)?)
+}
+
 #[test]
 fn answers_have_their_headers(rt: HostRuntime) -> Result<(), Fail> {
-    let alloc = rt.alloc();
-    let out = Out::new(7, 8, connected_reply(alloc, 7)?);
-    assert!(rt; out.number() == 7 && out.session() == 8);
-    assert!(rt; is_told(alloc, out.frame(), "CONNECTED version=1.2 session=7 heart-beat=0,0 '' ")?);
-    assert!(rt; is_told(alloc, &out.into_frame(), "CONNECTED version=1.2 session=7 heart-beat=0,0 '' ")?);
-    let receipt = receipt_reply(alloc, r1(alloc)?)?;
-    assert!(rt; is_told(alloc, &receipt, "RECEIPT receipt-id=r1 '' ")?);
-    let error = error_reply(alloc, Fault::UndefinedEscape, Some(r1(alloc)?))?;
-    assert!(rt; is_told(alloc, &error, "ERROR message=E3 undefined escape receipt-id=r1 '' ")?);
-    let message = message_reply(alloc, &r1(alloc)?, 12, 3, Some(40), greeting(alloc)?)?;
-    assert!(rt;
-        is_told(
-            alloc,
-            &message,
-            "MESSAGE subscription=r1 message-id=12.3 destination=/queue/a ack=40 content-length=2 'hi' "
-        )?
-    );
+    assert!(rt; connected_is_told(rt.alloc())?);
+    assert!(rt; receipt_is_told(rt.alloc())?);
+    assert!(rt; error_is_told(rt.alloc())?);
+    assert!(rt; message_is_told(rt.alloc())?);
     Ok(())
 }
 
 // The kind 1, the destination 4 and 8, the count of headers 2, the body 4 and 2.
-const GREETING_SIZE: u64 = 21;
-
 #[test]
-fn commands_are_what_they_were_made_of(rt: HostRuntime) -> Result<(), Fail> {
-    let alloc = rt.alloc();
-    let (destination, headers, body) = greeting(alloc)?.into_parts();
-    let member = Member::Send(Sending::new(destination, headers, body));
-    assert!(rt; member_size(&member) == GREETING_SIZE);
-    let command = Command::new(3, Op::from(member), Some(r1(alloc)?));
-    assert!(rt; command.session() == 3 && op_size(command.op()) == GREETING_SIZE);
-    assert!(rt; matches!(command.receipt(), Some(id) if id.as_str() == "r1"));
-    let (_, op, receipt) = command.into_parts();
-    let mut told = String::new(alloc);
-    tell_operation(&mut told, &op)?;
-    assert!(rt; told.as_str() == "send /queue/a 'hi' ");
-    if let Some(id) = receipt {
-        assert!(rt; id.into_text().as_str() == "r1");
-    }
-    Ok(())
-}
-
-#[test]
-fn members_are_those_of_the_list(rt: HostRuntime) -> Result<(), Fail> {
-    let alloc = rt.alloc();
-    let members = Members::new(vec![in alloc; Member::Ack(3), Member::Nack(5)]?);
-    let mut told = String::new(alloc);
-    tell_members(&mut told, members.as_slice())?;
-    tell_members(&mut told, members.into_vec().as_slice())?;
-    assert!(rt; told.as_str() == "ack 3 nack 5 ack 3 nack 5 ");
+fn an_operation_has_the_size_of_its_record(rt: HostRuntime) -> Result<(), Fail> {
+    let op = Op::Send(greeting(rt.alloc())?);
+    assert!(rt; op_size(&op) == 21);
     Ok(())
 }

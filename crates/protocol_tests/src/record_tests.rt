@@ -1,9 +1,8 @@
 //! Records of commands.
 
-use crate::command_tests::greeting;
+use crate::command_tests::{greeting, r1};
 use crate::frame_tests::filled;
-use command_core::{Command, DecodeFault, HeaderText, Op, decode, encode};
-use frame_core::Text;
+use command_core::{Command, DecodeFault, Op, decode, encode};
 use std::alloc::{AllocError, Global};
 use std::test::Fail;
 
@@ -188,8 +187,20 @@ fn nothing_else_is_read(rt: HostRuntime) -> Result<(), Fail> {
 
 // So many pieces between a front and a back, and whether they are a record.
 const LIMITS: [(&[u8], &[u8], usize, &[u8], bool); 8] = [
-    (b"\0\0\0\0\0\0\0\x05\0\x07\0\x40", b"\x05\0\0\0\0\0\0\0\x03", 64, b"", true),
-    (b"\0\0\0\0\0\0\0\x05\0\x07\0\x41", b"\x05\0\0\0\0\0\0\0\x03", 65, b"", false),
+    (
+        b"\0\0\0\0\0\0\0\x05\0\x07\0\x40",
+        b"\x05\0\0\0\0\0\0\0\x03",
+        64,
+        b"",
+        true,
+    ),
+    (
+        b"\0\0\0\0\0\0\0\x05\0\x07\0\x41",
+        b"\x05\0\0\0\0\0\0\0\x03",
+        65,
+        b"",
+        false,
+    ),
     (
         b"\0\0\0\0\0\0\0\x05\0\x02\0\0\0\x08/queue/q\0\x40",
         b"\0\0\0\x01k\0\0\0\x01v",
@@ -204,10 +215,34 @@ const LIMITS: [(&[u8], &[u8], usize, &[u8], bool); 8] = [
         b"\0\0\0\0",
         false,
     ),
-    (b"\0\0\0\0\0\0\0\x05\0\x02\0\0\0\x08/queue/q\0\0\0\x01\0\0", b"\0", 65_536, b"", true),
-    (b"\0\0\0\0\0\0\0\x05\0\x02\0\0\0\x08/queue/q\0\0\0\x01\0\x01", b"\0", 65_537, b"", false),
-    (b"\0\0\0\0\0\0\0\x05\x01\0\0\x20\0", b"r", 8192, b"\x08", true),
-    (b"\0\0\0\0\0\0\0\x05\x01\0\0\x20\x01", b"r", 8193, b"\x08", false),
+    (
+        b"\0\0\0\0\0\0\0\x05\0\x02\0\0\0\x08/queue/q\0\0\0\x01\0\0",
+        b"\0",
+        65_536,
+        b"",
+        true,
+    ),
+    (
+        b"\0\0\0\0\0\0\0\x05\0\x02\0\0\0\x08/queue/q\0\0\0\x01\0\x01",
+        b"\0",
+        65_537,
+        b"",
+        false,
+    ),
+    (
+        b"\0\0\0\0\0\0\0\x05\x01\0\0\x20\0",
+        b"r",
+        8192,
+        b"\x08",
+        true,
+    ),
+    (
+        b"\0\0\0\0\0\0\0\x05\x01\0\0\x20\x01",
+        b"r",
+        8193,
+        b"\x08",
+        false,
+    ),
 ];
 
 #[test]
@@ -221,8 +256,9 @@ fn records_have_their_limits(rt: HostRuntime) -> Result<(), Fail> {
 
 #[test]
 fn a_command_is_written_as_its_record(rt: HostRuntime) -> Result<(), Fail> {
-    let receipt = HeaderText::new(Text::new(String::from_str(rt.alloc(), "r1")?));
-    let command = Command::new(0, Op::Send(greeting(rt.alloc())?), Some(receipt));
+    let op = Op::Send(greeting(rt.alloc())?);
+    let receipt = r1(rt.alloc())?;
+    let command = Command::new(0, op, Some(receipt));
     assert!(rt; is_written(rt.alloc(), &command, GREETING)?);
     Ok(())
 }

@@ -100,9 +100,16 @@ fn faults_of_the_stream_have_the_same_texts(rt: HostRuntime) -> Result<(), Fail>
 
 #[test]
 fn other_refusals_have_their_texts(rt: HostRuntime) -> Result<(), Fail> {
-    let shown = format!(in rt.alloc(); "{}, {}, {}, {}, {}, {}, {}",
-        EscapeFault::Undefined, EscapeFault::Memory, FeedFault::Failed, FeedFault::Memory,
-        SessionFault::Failed, SessionFault::Memory, DecodeFault::NoSpelling)?;
+    let shown = format!(in rt.alloc();
+        "{}, {}, {}, {}, {}, {}, {}",
+        EscapeFault::Undefined,
+        EscapeFault::Memory,
+        FeedFault::Failed,
+        FeedFault::Memory,
+        SessionFault::Failed,
+        SessionFault::Memory,
+        DecodeFault::NoSpelling
+    )?;
     let texts =
         "undefined escape, no memory, failed before, no memory, session failed, no memory, bytes that spell nothing";
     assert!(rt; shown.as_str() == texts);

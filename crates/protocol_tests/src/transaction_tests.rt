@@ -1,11 +1,9 @@
 //! Transactions by themselves.
 
 use crate::telling::members as tell_members;
-use command_core::{
-    Dest, DestFault, Fault, HeaderText, Member, Sending, fault_text, is_header_text, member_size,
-};
+use command_core::{Dest, HeaderText, Member, Sending, fault_text, is_header_text};
 use frame_core::{Bytes, Headers, Text};
-use std::alloc::Global;
+use std::alloc::{AllocError, Global};
 use std::test::Fail;
 use tx_core::{OpenTx, TxFault};
 
@@ -40,7 +38,11 @@ const STEPS: [(&str, Step, &str); 20] = [
     ("b", Step::Begin, DONE),
     ("c", Step::Begin, DONE),
     ("b", Step::Begin, "E15 transaction already begun"),
-    ("d", Step::Begin, "E18 too many subscriptions or transactions"),
+    (
+        "d",
+        Step::Begin,
+        "E18 too many subscriptions or transactions",
+    ),
     ("b", Step::Abort, DONE),
     ("b", Step::Ack(1), NOT_BEGUN),
     ("d", Step::Begin, DONE),
@@ -94,38 +96,47 @@ fn transactions_are_kept_by_their_names(rt: HostRuntime) {
 
 // A SEND that takes 19 bytes and those of its body: the kind 1, the destination 4 and 8, the count of headers 2, and the
 // length of the body 4 and its bytes.
-fn sending(alloc: Global, length: usize) -> Result<Member, DestFault> {
-    let destination = Dest::read(alloc, "/queue/a")?;
+fn sending(alloc: Global, length: usize) -> Result<Member, AllocError> {
     let mut body = Vec::new(alloc);
     if length <= 65_536 {
         body.resize(length, b'b')?;
     }
-    Ok(Member::Send(Sending::new(
-        destination,
-        Headers::new(Vec::new(alloc)),
-        Bytes::new(body),
-    )))
+    match Dest::read(alloc, "/queue/a") {
+        Ok(destination) => {
+            let sending = Sending::new(
+                destination,
+                Headers::new(Vec::new(alloc)),
+                Bytes::new(body),
+            );
+            Ok(Member::Send(sending))
+        }
+        Err(_) => Err(AllocError),
+    }
+}
+
+// How many SENDs of so many bytes of body a new transaction takes, of ten.
+fn taken(alloc: Global, length: usize) -> Result<u32, TxFault> {
+    let mut open = OpenTx::new(alloc);
+    begin(alloc, &mut open, "a")?;
+    for count in 0..10 {
+        let member = sending(alloc, length)?;
+        if let Err(TxFault::TooLarge) = open.add("a", member) {
+            return Ok(count);
+        }
+    }
+    Ok(10)
 }
 
 // Four of 65,536 bytes each are 262,144, which is the limit of bytes; 64 is that of members.
 #[test]
 fn transactions_have_their_limits(rt: HostRuntime) -> Result<(), Fail> {
-    let alloc = rt.alloc();
-    let mut open = OpenTx::new(alloc);
-    begin(alloc, &mut open, "a")?;
-    for _ in 0..3 {
-        open.add("a", sending(alloc, 65_536 - 19)?)?;
-    }
-    let larger = open.add("a", sending(alloc, 65_536 - 18)?);
-    assert!(rt; matches!(larger, Err(TxFault::TooLarge)));
-    open.add("a", sending(alloc, 65_536 - 19)?)?;
-    let larger = open.add("a", Member::Ack(1));
-    assert!(rt; matches!(larger, Err(TxFault::TooLarge)));
-    begin(alloc, &mut open, "b")?;
+    assert!(rt; taken(rt.alloc(), 65_536 - 19)? == 4);
+    assert!(rt; taken(rt.alloc(), 65_536 - 18)? == 3);
+    let mut open = OpenTx::new(rt.alloc());
+    begin(rt.alloc(), &mut open, "b")?;
     for delivery in 0..64 {
         open.add("b", Member::Ack(delivery))?;
     }
     assert!(rt; matches!(open.add("b", Member::Ack(64)), Err(TxFault::TooLarge)));
-    assert!(rt; TxFault::TooLarge.fault() == Some(Fault::TransactionTooLarge));
     Ok(())
 }

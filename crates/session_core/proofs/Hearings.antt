@@ -126,29 +126,41 @@ more_after_end : (s t : Hearing) (a b : List ℕ) (acts : List Act) → (IsOver 
 more_after_end s t a b acts listens ended h (inl answer) =
     let frames = h.frames ++ answer.0 in
     let was : phase_of s.phase h.frames ≡ Ended = sym h.phase ∙ ended in
-    let v : Hearing = record { rest = answer.1; phase = t.phase } in
-    (v, inr (inl (listens, record {
-      frames = frames;
-      reads = (subst (λ stream. Frames stream frames answer.1) (append_assoc s.rest a b) (joined (s.rest ++ a) b h.frames answer.0 t.rest answer.1 h.reads.0 answer.2.0), answer.2.1);
-      same_acts = h.same_acts ∙ sym (acts_append s.phase h.frames answer.0 ∙ ap (λ p. acts_of s.phase h.frames ++ acts_of p answer.0) was ∙ ap (λ x. acts_of s.phase h.frames ++ x) (ended_acts answer.0) ∙ append-nil (acts_of s.phase h.frames));
-      phase = ended ∙ sym (phase_append s.phase h.frames answer.0 ∙ ap (λ p. phase_of p answer.0) was ∙ ended_stays answer.0);
-    })), refl)
+    let v : Hearing = record { rest = answer.1; phase = t.phase } in (
+      v,
+      inr (inl (
+        listens,
+        record {
+          frames = frames;
+          reads = (subst (λ stream. Frames stream frames answer.1) (append_assoc s.rest a b) (joined (s.rest ++ a) b h.frames answer.0 t.rest answer.1 h.reads.0 answer.2.0), answer.2.1);
+          same_acts = h.same_acts ∙ sym (acts_append s.phase h.frames answer.0 ∙ ap (λ p. acts_of s.phase h.frames ++ acts_of p answer.0) was ∙ ap (λ x. acts_of s.phase h.frames ++ x) (ended_acts answer.0) ∙ append-nil (acts_of s.phase h.frames));
+          phase = ended ∙ sym (phase_append s.phase h.frames answer.0 ∙ ap (λ p. phase_of p answer.0) was ∙ ended_stays answer.0);
+        },
+      )),
+      refl,
+    )
 more_after_end s t a b acts listens ended h (inr answer) =
     let frames = h.frames ++ answer.0 in
     let was : phase_of s.phase h.frames ≡ Ended = sym h.phase ∙ ended in
     let is : phase_of s.phase frames ≡ Ended = phase_append s.phase h.frames answer.0 ∙ ap (λ p. phase_of p answer.0) was ∙ ended_stays answer.0 in
     let same : acts_of s.phase frames ≡ acts_of s.phase h.frames =
-        acts_append s.phase h.frames answer.0 ∙ ap (λ p. acts_of s.phase h.frames ++ acts_of p answer.0) was ∙ ap (λ x. acts_of s.phase h.frames ++ x) (ended_acts answer.0) ∙ append-nil (acts_of s.phase h.frames) in
+    acts_append s.phase h.frames answer.0 ∙ ap (λ p. acts_of s.phase h.frames ++ acts_of p answer.0) was ∙ ap (λ x. acts_of s.phase h.frames ++ x) (ended_acts answer.0) ∙ append-nil (acts_of s.phase h.frames) in
     let none : acts_of s.phase frames ++ refused (phase_of s.phase frames) (fault_of answer.1) None ≡ acts_of s.phase frames =
-        ap (λ p. acts_of s.phase frames ++ refused p (fault_of answer.1) None) is ∙ append-nil (acts_of s.phase frames) in
-    let v : Hearing = record { rest = []; phase = Ended } in
-    (v, inr (inr (listens, record {
-      frames = frames;
-      fault = answer.1;
-      fails = subst (λ stream. Fails stream frames answer.1) (append_assoc s.rest a b) (joined_fault (s.rest ++ a) b h.frames answer.0 t.rest answer.1 h.reads.0 answer.2);
-      same_acts = h.same_acts ∙ sym (none ∙ same);
-      phase = refl;
-    })), sym ended)
+    ap (λ p. acts_of s.phase frames ++ refused p (fault_of answer.1) None) is ∙ append-nil (acts_of s.phase frames) in
+    let v : Hearing = record { rest = []; phase = Ended } in (
+      v,
+      inr (inr (
+        listens,
+        record {
+          frames = frames;
+          fault = answer.1;
+          fails = subst (λ stream. Fails stream frames answer.1) (append_assoc s.rest a b) (joined_fault (s.rest ++ a) b h.frames answer.0 t.rest answer.1 h.reads.0 answer.2);
+          same_acts = h.same_acts ∙ sym (none ∙ same);
+          phase = refl;
+        },
+      )),
+      sym ended,
+    )
 
 fault_stays_heard : (s t : Hearing) (a b : List ℕ) (acts : List Act) → HearsFault s a acts t → HearsFault s (a ++ b) acts t
 fault_stays_heard s t a b acts h = record {

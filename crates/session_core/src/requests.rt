@@ -13,7 +13,7 @@ use frame_core::{Frame, Verb, first};
 use std::alloc::{AllocError, Global};
 
 /// What a frame of an open session asks for.
-#[derive(Debug, Drop)]
+#[derive(Drop)]
 pub enum Request {
     /// An operation of the broker.
     Ask(Op),

@@ -9,10 +9,10 @@ ghost use Rattle.session_core.specs.declared.phase.Phase.TheVariants as phases;
 ghost use Rattle.session_core.specs.declared.requests.Request.TheVariants as requests;
 
 use crate::act::{Act, CloseCode};
-use crate::requests::{Request, ask, ask_first};
 use crate::headers::receipt;
 use crate::notice::Notice;
 use crate::phase::Phase;
+use crate::requests::{Request, ask, ask_first};
 use command_core::{End, Fault, HeaderText, Member, Op, error_reply};
 use frame_core::Frame;
 use std::alloc::{AllocError, Global};

@@ -46,6 +46,8 @@ returns c =
     let n = has_meant c.args.verb name (sym c.has_meaning.ensures ∙ c.if-not-has_meaning.false) in
     let v = has_meant c.args.verb value (sym c.has_meaning-2.ensures ∙ c.if-not-has_meaning-2.false) in
     let n_utf8 : IsUtf8 name = search rules in
-    let v_utf8 : IsUtf8 value = search rules in
-    ((n.0, v.0), header_read c.args.verb c.args.line.now name value n.0 v.0 n.0 v.0 form n.1 v.1
-    (refl, meant_utf8 c.args.verb name n.0 n.1 n_utf8) (refl, meant_utf8 c.args.verb value v.0 v.1 v_utf8))
+    let v_utf8 : IsUtf8 value = search rules in (
+      (n.0, v.0),
+      header_read c.args.verb c.args.line.now name value n.0 v.0 n.0 v.0 form n.1 v.1
+          (refl, meant_utf8 c.args.verb name n.0 n.1 n_utf8) (refl, meant_utf8 c.args.verb value v.0 v.1 v_utf8),
+    )

@@ -19,7 +19,7 @@ returns-clause-place c =
       | else-count-gt0-via-then-count-gt0+else-lt w ↦
           let last = w.index.result.now in
           let not_under : is_lt (by_number number last.number) ≡ false =
-              sym (ap (is_some_and is_lt) (Some-then (nat_cmp number.command last.number.command) (nat_cmp number.place last.number.place))) ∙ sym w.lt.ensures ∙ w.if-lt.false in
+          sym (ap (is_some_and is_lt) (Some-then (nat_cmp number.command last.number.command) (nat_cmp number.place last.number.place))) ∙ sym w.lt.ensures ∙ w.if-lt.false in
           let is = ap (λ (x : Message). is_lt (by_number number x.number)) (sym w.index.ensures) ∙ not_under in
           rw (← c.self.view_is) (stands_behind number last line count (omega arith) c.self.invariant none_behind (omega arith) is)
       | else-count-gt0-via-else-count-gt0 w ↦ rw (← c.self.view_is) (stands_first number line count none_behind (omega arith))
