@@ -1,7 +1,7 @@
-use Rattle.std.proofs.Common.{◌≡◌, ◌≢◌, ℕ, List, [], ◌∷◌, ◌++◌, Option, Some, None, Bool, true, false, cond, inl, inr, length, get_or, drop, ◌<◌, ◌+◌, refl, sym, not, arith, is_some, eqb, ap, ◌∙◌, subst, append_assoc, append-nil}
+use Rattle.std.proofs.Common.{◌≡◌, ◌≢◌, ℕ, List, [], ◌∷◌, ◌++◌, Option, Some, None, Bool, true, false, cond, inl, inr, length, get_or, drop, ◌<◌, ◌+◌, refl, sym, is_some, eqb, ap, ◌∙◌, subst, append_assoc, append-nil}
 use Rattle.std.specs.List.{AllByRecursion}
 use Rattle.std.proofs.lemmas.Bool.{cases_eq, ne_eqb, false≢true}
-use Rattle.std.proofs.lemmas.List.{drop_more, drop_all}
+use Rattle.std.proofs.lemmas.List.{drop_more}
 use Rattle.escape_core.specs.Escapes.{code_of, escaped, escape_of, behind, unescaped}
 
 -- this text, and then what the rest means, if anything
@@ -71,13 +71,6 @@ read_escape bytes text next in_escape then_in_escape i meant lt was is e n h =
     let moved = after-behind text meant (unescaped (drop (i + 1) bytes)) in
     h ∙ ap (after text) (whole ∙ ap (λ o. behind o (unescaped (drop (i + 1) bytes))) (sym e)) ∙ moved ∙ rw (n, rest) refl
 
-pub read_backslash : (bytes text next : List ℕ) (in_escape then_in_escape : Bool) (i : ℕ) → i < length bytes → in_escape ≡ false → then_in_escape ≡ true
-    → get_or bytes i 0 ≡ 92 → next ≡ text → IsReadTo bytes text in_escape i → IsReadTo bytes next then_in_escape (i + 1)
-read_backslash bytes text next in_escape then_in_escape i lt was is e n h =
-    let d = drop_more bytes i 0 lt in
-    let whole : left in_escape i bytes ≡ left then_in_escape (i + 1) bytes = rw (was, is, d, e) refl in
-    h ∙ rw (whole, n) refl
-
 pub read_plain : (bytes text next : List ℕ) (in_escape then_in_escape : Bool) (i : ℕ) → i < length bytes → in_escape ≡ false → then_in_escape ≡ false
     → get_or bytes i 0 ≢ 92 → next ≡ text ++ get_or bytes i 0 ∷ [] → IsReadTo bytes text in_escape i → IsReadTo bytes next then_in_escape (i + 1)
 read_plain bytes text next in_escape then_in_escape i lt was is ne n h =
@@ -126,11 +119,6 @@ defined_next bytes was is i lt old new h =
       | inl e ↦ rw (new, e) refl
       | inr ne ↦ rw (new, ne_eqb b 92 ne) (ap is_some (unescaped_plain b more ne) ∙ is_some-behind b (unescaped more))
     ])
-
--- all bytes were looked at
-pub defined_end : (bytes : List ℕ) (in_escape : Bool) (i : ℕ) → i ≡ length bytes → IsDefinedTo bytes in_escape i → is_some (unescaped bytes) ≡ not in_escape
-defined_end bytes true i e h = h ∙ rw (drop_all i bytes (omega arith)) refl
-defined_end bytes false i e h = h ∙ rw (drop_all i bytes (omega arith)) refl
 
 -- bytes of which it is not so that they mean a text mean none
 pub none_from_undefined : (text : Option (List ℕ)) → is_some text ≡ false → text ≡ None

@@ -1,10 +1,10 @@
 -- Each stream has an answer: what a byte more does to an unfinished frame is decided.
-use Rattle.std.proofs.Common.{◌≡◌, ◌≢◌, ◌<◌, ◌≤◌, ◌+◌, ◌-◌, ℕ, List, [], ◌∷◌, ◌++◌, Bool, true, false, not, ◌&&◌, cond, eqb, nat_lt, nat_le, Option, Some, None, ◌⊎◌, inl, inr, length, refl, sym, ap, ◌∙◌, subst, arith, append_assoc, length-append}
+use Rattle.std.proofs.Common.{◌≡◌, ◌≢◌, ◌<◌, ◌≤◌, ◌+◌, ◌-◌, ℕ, List, [], ◌∷◌, ◌++◌, Bool, true, false, cond, eqb, nat_le, Option, Some, None, ◌⊎◌, inl, inr, length, refl, sym, ap, ◌∙◌, subst, arith, append_assoc, length-append}
 use Rattle.std.specs.List.{AllByRecursion}
 use Rattle.std.specs.Str.{IsUtf8, is_utf8, bytes_eq}
 use Rattle.std.specs.Str.Parse.{IsNumeral, digits_value}
 use Rattle.std.specs.Prelude.{codes}
-use Rattle.std.proofs.lemmas.Bool.{cases_eq, cases_Bool, both_ways, false≢true, and_parts, leb-true, ltb-true, le-leb}
+use Rattle.std.proofs.lemmas.Bool.{cases_eq, cases_Bool, both_ways, leb-true, le-leb}
 use Rattle.std.proofs.lemmas.List.{append-nil}
 use Rattle.std.proofs.lemmas.Slice.Eq.{bytes_eq-Decides}
 use Rattle.std.proofs.lemmas.Str.{IsUtf8-from_is_utf8, is_utf8-from_IsUtf8}
@@ -16,21 +16,20 @@ use Rattle.frame_core.specs.declared.fault.FrameFault.TheVariants.{Malformed, To
 use Rattle.frame_core.specs.declared.partial.Stage.{Stage}
 use Rattle.frame_core.specs.declared.partial.Stage.TheVariants.{Command, HeaderLines, Body}
 use Rattle.frame_core.specs.Verbs.{name_of, has_body}
-use Rattle.frame_core.specs.Heads.{meaning, IsInLine}
+use Rattle.frame_core.specs.Heads.{meaning}
 use Rattle.frame_core.specs.Spelling.{announced, IsNumber}
 use Rattle.frame_core.specs.Parts.{Plans}
 use Rattle.frame_core.specs.Faults.{Faulty}
 use Rattle.frame_core.specs.Stops.{IsNameAndValue, IsHeaderFault}
 use Rattle.frame_core.specs.Streams.{Frames, Reads, Fails}
-use Rattle.frame_core.specs.Partials.{IsAt, IsInHead, IsLine}
-use Rattle.frame_core.proofs.BodySteps.{framed, IsWholeBody, body_reads, frame_ends, no_end, wrong_body, run_kept, long_body}
+use Rattle.frame_core.specs.Partials.{IsAt, IsInHead}
+use Rattle.frame_core.proofs.BodySteps.{framed, body_reads, frame_ends, no_end, wrong_body, run_kept, long_body}
 use Rattle.frame_core.proofs.HeadFaults.{stray, long_head, command_refused, header_refused, too_many_headers, plan_refused}
 use Rattle.frame_core.proofs.HeadSteps.{gap_reads, gap_kept, command_ends, header_ends, body_begins}
 use Rattle.frame_core.proofs.HeaderLines.{header_form, header_read}
 use Rattle.frame_core.proofs.Joins.{joined, joined_fault}
 use Rattle.frame_core.proofs.Kept.{unfinished}
-use Rattle.frame_core.proofs.Machine.{is_number}
-use Rattle.frame_core.proofs.MachineBodies.{number_passes, number_read}
+use Rattle.frame_core.proofs.MachineBodies.{number_read}
 use Rattle.frame_core.proofs.OneHead.{verb_named, named}
 use Rattle.frame_core.proofs.OpenLines.{byte_kept, no_body, byte_reads}
 

@@ -1,10 +1,10 @@
 -- A name or value is UTF-8 as it stands just where it is UTF-8 as it is meant: the escapes are ASCII on both sides.
-use Rattle.std.proofs.Common.{◌≡◌, ◌≢◌, ◌<◌, ◌≤◌, ◌+◌, ℕ, List, [], ◌∷◌, ◌++◌, zero, suc, Bool, true, false, ◌&&◌, cond, nat_lt, Option, Some, None, ◌⊎◌, inl, inr, length, get_or, is_some, refl, sym, ap, ◌∙◌, subst, arith, length-append}
+use Rattle.std.proofs.Common.{◌≡◌, ◌≢◌, ◌<◌, ◌≤◌, ℕ, List, [], ◌∷◌, ◌++◌, zero, suc, Bool, true, false, ◌&&◌, cond, nat_lt, Option, Some, None, ◌⊎◌, inl, inr, length, get_or, is_some, refl, sym, ap, ◌∙◌, subst, arith}
 use Rattle.std.specs.List.{AllByRecursion}
 use Rattle.std.specs.Str.{IsUtf8}
 use Rattle.std.proofs.lemmas.Bool.{cases_eq, cases_Bool, both_ways, ne_eqb, and_from, and_parts, lt-ltb, ltb-true, false≢true}
 use Rattle.std.proofs.lemmas.List.{append-nil}
-use Rattle.std.proofs.lemmas.Str.{IsUtf8-nil, IsUtf8-append, IsUtf8-from_ascii, encode_ascii, length-encode, len_utf8_bounds, inside_one, cons_from_encodes}
+use Rattle.std.proofs.lemmas.Str.{IsUtf8-nil, IsUtf8-append, encode_ascii, inside_one, cons_from_encodes}
 use lib.Utf8.{scalar, scalars, encode, encodes}
 use Rattle.escape_core.specs.Escapes.{escape_of, behind, unescaped}
 use Rattle.escape_core.proofs.Reading.{unescaped_plain}

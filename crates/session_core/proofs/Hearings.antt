@@ -2,7 +2,7 @@
 use Rattle.std.proofs.Common.{◌≡◌, List, [], ◌∷◌, ◌++◌, ℕ, ◌⊎◌, Option, Result, Ok, Err, refl, ap, sym, ◌∙◌, append_assoc, append-nil, subst, inl, inr}
 use Rattle.frame_core.specs.declared.frame.Frame.{Frame}
 use Rattle.frame_core.specs.declared.fault.FrameFault.{FrameFault}
-use Rattle.frame_core.specs.Streams.{Frames, Reads, Fails}
+use Rattle.frame_core.specs.Streams.{Frames, Fails}
 use Rattle.frame_core.proofs.Decided.{Answer, an_answer}
 use Rattle.frame_core.proofs.Joins.{joined, joined_fault, fault_stays}
 use Rattle.frame_core.proofs.OneAnswer.{one_reading, one_fault, fault_or_none}
@@ -20,7 +20,7 @@ use Rattle.session_core.specs.Requests.{asked, asked_first}
 use Rattle.tx_core.specs.Refusals.{refusal_of_add, refusal_of_begin, refusal_of_end}
 use Rattle.tx_core.specs.Transactions.{added, begun, members_of, without}
 use Rattle.session_core.specs.declared.act.Act.{Act}
-use Rattle.session_core.specs.Sessions.{Hearing, Hears, HearsFrames, HearsFault, IsOver, Heard, acts_of, phase_of, told, next, refused, heard, answered, carried, committed, unless, first_answered}
+use Rattle.session_core.specs.Sessions.{Hearing, Hears, HearsFrames, HearsFault, IsOver, acts_of, phase_of, told, next, refused, answered, carried, committed, unless, first_answered}
 
 acts_append : (phase : Phase) (f g : List Frame) → acts_of phase (f ++ g) ≡ acts_of phase f ++ acts_of (phase_of phase f) g
 acts_append phase [] g = refl

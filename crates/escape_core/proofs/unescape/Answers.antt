@@ -1,7 +1,7 @@
 use Rattle.std.proofs.Common.{arith, ◌≡◌, ◌∙◌, List, ℕ, [], sym, refl}
 use Rattle.std.proofs.lemmas.Grind.{common_steps}
 use Rattle.escape_core.specs.Escapes.{unescaped}
-use Rattle.escape_core.proofs.Reading.{read_escape, read_backslash, read_plain, none_from_undefined, after-nil}
+use Rattle.escape_core.proofs.Reading.{read_escape, read_plain, none_from_undefined, after-nil}
 use Rattle.escape_core.proofs.unescape.Goals as goal
 use Rattle.escape_core.proofs.unescape.Goals.{then-in_escape, else-in_escape+else-b-eq92}
 

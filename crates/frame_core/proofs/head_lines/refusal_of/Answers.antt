@@ -1,4 +1,4 @@
-use Rattle.std.proofs.Common.{rules, ◌≡◌, ◌∙◌, inl, inr, refl, sym}
+use Rattle.std.proofs.Common.{rules, ◌∙◌, inl, inr, refl, sym}
 use Rattle.std.specs.Str.{IsUtf8}
 use Rattle.frame_core.proofs.HeaderLines.{header_form, header_read}
 use Rattle.frame_core.proofs.Meanings.{has_meant, has_none, meant_utf8, stands_utf8}
