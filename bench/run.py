@@ -368,6 +368,34 @@ def fan_out(turns, subscribers):
     return talk
 
 
+OUT = 16 * 16
+
+
+def session_ends(turns, waiting):
+    """Sessions that end with 256 deliveries out, 16 of each of 16 subscriptions of a queue, where so many messages more
+    wait: in each round one connects, subscribes and is gone, and its messages go back to the front of the line."""
+    talk, delivery = Talk(), 0
+    first = talk.number
+    for _ in range(OUT + waiting):
+        talk.send(0, "/queue/q")
+    for _ in range(turns):
+        talk.hear(1, f"CONNECTED%0Aversion:1.2%0Asession:{talk.number}%0Aheart-beat:0,0%0A%0A%00")
+        talk.say(1, "CONNECT%0Aaccept-version:1.2%0A%0A%00")
+        for place in range(OUT):
+            subscription, nth = divmod(place, 16)
+            if nth == 0:
+                talk.say(1, f"SUBSCRIBE%0Aid:s{subscription}%0Adestination:/queue/q%0Aack:client%0A%0A%00")
+            talk.hear(
+                1,
+                f"MESSAGE%0Asubscription:s{subscription}%0Amessage-id:{first + place}.0%0Adestination:/queue/q"
+                f"%0Aack:{delivery}%0Acontent-length:1%0A%0Ax%00",
+            )
+            delivery += 1
+        talk.lines.append("lost 1\n")
+        talk.number += 1
+    return talk
+
+
 def seconds_of(bench, folder, talk):
     """The least time that the program takes for a talk."""
     script, times = folder / "talk.script", Times()
@@ -382,9 +410,9 @@ def seconds_of(bench, folder, talk):
 ROUNDS = 20_000
 
 
-def cost(bench, folder, make, *words):
+def cost(bench, folder, make, *words, turns=ROUNDS):
     """What a round costs: the time for so many, less that for none, by their number."""
-    return (seconds_of(bench, folder, make(ROUNDS, *words)) - seconds_of(bench, folder, make(0, *words))) / ROUNDS
+    return (seconds_of(bench, folder, make(turns, *words)) - seconds_of(bench, folder, make(0, *words))) / turns
 
 
 def broker(bench, folder):
@@ -399,6 +427,9 @@ def broker(bench, folder):
     for text, make in (("SEND and its delivery", deliveries), ("SEND, ACK and the next delivery", acknowledgements)):
         few, many = (cost(bench, folder, make, held) for held in (40, 4_000))
         print(f"  {text:<42} {few * 1e6:8.2f} us with 40 held {many * 1e6:8.2f} with 4,000   ratio {many / few:.2f}")
+    # With 256 out, 3,744 more are 4,000 held: a session's end puts 256 back, whatever waits behind them.
+    few, many = (cost(bench, folder, session_ends, waiting, turns=ROUNDS // 100) for waiting in (40, 4_000 - OUT))
+    print(f"  {'a session with 256 deliveries out, and its end':<42} {few * 1e6:8.2f} us with 40 waiting {many * 1e6:8.2f} with 3,744   ratio {many / few:.2f}")
     for subscribers in (1, 4, 16):
         each = cost(bench, folder, fan_out, subscribers) / subscribers
         print(f"  {f'a MESSAGE of a topic to {subscribers}':<42} {each * 1e6:8.2f} us")

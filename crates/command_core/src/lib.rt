@@ -38,8 +38,3 @@ pub use replies::{connected_reply, error_reply, message_reply, receipt_reply};
 pub use sending::{Sending, is_kept_name};
 pub use sizes::{member_size, op_size};
 pub use writing::{mode_byte, put_destination, put_optional, put_sending, put_text};
-
-#[cfg(test)]
-mod codec_tests;
-#[cfg(test)]
-mod tests;

@@ -1,6 +1,6 @@
-use Rattle.std.proofs.Common.{◌≡◌, ◌≢◌, ℕ, List, [], ◌∷◌, ◌++◌, Option, Some, None, Bool, true, false, cond, inl, inr, length, get_or, drop, ◌<◌, ◌+◌, refl, sym, ap, ◌∙◌, subst, append_assoc, append-nil}
+use Rattle.std.proofs.Common.{◌≡◌, ◌≢◌, ℕ, List, [], ◌∷◌, ◌++◌, Option, Some, None, Bool, true, false, cond, inl, inr, length, get_or, drop, ◌<◌, ◌+◌, refl, sym, is_some, eqb, ap, ◌∙◌, subst, append_assoc, append-nil}
 use Rattle.std.specs.List.{AllByRecursion}
-use Rattle.std.proofs.lemmas.Bool.{cases_eq, ne_eqb}
+use Rattle.std.proofs.lemmas.Bool.{cases_eq, ne_eqb, false≢true}
 use Rattle.std.proofs.lemmas.List.{drop_more}
 use Rattle.escape_core.specs.Escapes.{code_of, escaped, escape_of, behind, unescaped}
 
@@ -9,12 +9,12 @@ abbrev pub after : List ℕ → Option (List ℕ) → Option (List ℕ)
 after text None = None
 after text (Some more) = Some (text ++ more)
 
--- an octet that is no backslash is itself, whatever follows
+-- an byte that is no backslash is itself, whatever follows
 pub unescaped_plain : (b : ℕ) (more : List ℕ) → b ≢ 92 → unescaped (b ∷ more) ≡ behind (Some b) (unescaped more)
 unescaped_plain b [] ne = rw (ne_eqb b 92 ne) refl
 unescaped_plain b (c ∷ more) ne = rw (ne_eqb b 92 ne) refl
 
--- one octet more is read
+-- one byte more is read
 pub after-behind : (text : List ℕ) (b : ℕ) (more : Option (List ℕ)) → after text (behind (Some b) more) ≡ after (text ++ b ∷ []) more
 after-behind text b None = refl
 after-behind text b (Some more) = ap Some (sym (append_assoc text (b ∷ []) more))
@@ -26,7 +26,7 @@ after-nil (Some more) = refl
 pub after_end : (text : List ℕ) → after text (Some []) ≡ Some text
 after_end text = ap Some (append-nil text)
 
--- the code of an octet means that octet
+-- the code of an byte means that byte
 pub unescaped-code_of : (b : ℕ) (more : List ℕ) → unescaped (code_of b ++ more) ≡ behind (Some b) (unescaped more)
 unescaped-code_of b more =
     elim (cases_eq b 13) [
@@ -54,11 +54,11 @@ escaped-same text other e =
     let same : unescaped (escaped text) ≡ unescaped (escaped other) = ap unescaped e in
     cc
 
--- what is left to read, where the octet before it may be a backslash
+-- what is left to read, where the byte before it may be a backslash
 abbrev pub left : Bool → ℕ → List ℕ → List ℕ
 left in_escape i bytes = cond in_escape (92 ∷ drop i bytes) (drop i bytes)
 
--- the octets mean this text and then what the rest means
+-- the bytes mean this text and then what the rest means
 abbrev pub IsReadTo : List ℕ → List ℕ → Bool → ℕ → Type 0
 IsReadTo bytes text in_escape i = unescaped bytes ≡ after text (unescaped (left in_escape i bytes))
 
@@ -71,13 +71,6 @@ read_escape bytes text next in_escape then_in_escape i meant lt was is e n h =
     let moved = after-behind text meant (unescaped (drop (i + 1) bytes)) in
     h ∙ ap (after text) (whole ∙ ap (λ o. behind o (unescaped (drop (i + 1) bytes))) (sym e)) ∙ moved ∙ rw (n, rest) refl
 
-pub read_backslash : (bytes text next : List ℕ) (in_escape then_in_escape : Bool) (i : ℕ) → i < length bytes → in_escape ≡ false → then_in_escape ≡ true
-    → get_or bytes i 0 ≡ 92 → next ≡ text → IsReadTo bytes text in_escape i → IsReadTo bytes next then_in_escape (i + 1)
-read_backslash bytes text next in_escape then_in_escape i lt was is e n h =
-    let d = drop_more bytes i 0 lt in
-    let whole : left in_escape i bytes ≡ left then_in_escape (i + 1) bytes = rw (was, is, d, e) refl in
-    h ∙ rw (whole, n) refl
-
 pub read_plain : (bytes text next : List ℕ) (in_escape then_in_escape : Bool) (i : ℕ) → i < length bytes → in_escape ≡ false → then_in_escape ≡ false
     → get_or bytes i 0 ≢ 92 → next ≡ text ++ get_or bytes i 0 ∷ [] → IsReadTo bytes text in_escape i → IsReadTo bytes next then_in_escape (i + 1)
 read_plain bytes text next in_escape then_in_escape i lt was is ne n h =
@@ -88,7 +81,46 @@ read_plain bytes text next in_escape then_in_escape i lt was is ne n h =
     let moved = after-behind text (get_or bytes i 0) (unescaped (drop (i + 1) bytes)) in
     h ∙ ap (after text) (ap unescaped whole ∙ plain) ∙ moved ∙ rw (n, rest) refl
 
--- octets with no backslash mean themselves
+-- bytes with no backslash mean themselves
 pub unescaped_whole : (text : List ℕ) → AllByRecursion (λ b. b ≢ 92) text → unescaped text ≡ Some text
 unescaped_whole [] h = refl
 unescaped_whole (b ∷ text) h = unescaped_plain b text h.0 ∙ ap (behind (Some b)) (unescaped_whole text h.1)
+
+-- whether the bytes mean a text is whether the rest does
+abbrev pub IsDefinedTo : List ℕ → Bool → ℕ → Type 0
+IsDefinedTo bytes in_escape i = is_some (unescaped bytes) ≡ is_some (unescaped (left in_escape i bytes))
+
+is_some-behind : (b : ℕ) (text : Option (List ℕ)) → is_some (behind (Some b) text) ≡ is_some text
+is_some-behind b None = refl
+is_some-behind b (Some text) = refl
+
+is_some-behind_known : (b : Option ℕ) (text : Option (List ℕ)) → is_some b ≡ true → is_some (behind b text) ≡ is_some text
+is_some-behind_known None text h = absurd (false≢true h)
+is_some-behind_known (Some b) text h = is_some-behind b text
+
+is_some-behind_unknown : (b : Option ℕ) (text : Option (List ℕ)) → is_some b ≡ false → is_some (behind b text) ≡ false
+is_some-behind_unknown None text h = refl
+is_some-behind_unknown (Some b) text h = absurd (false≢true (sym h))
+
+-- the byte behind a backslash, which has a meaning with it
+pub defined_escape : (bytes : List ℕ) (was is : Bool) (i : ℕ) → i < length bytes → was ≡ true → is ≡ false → is_some (escape_of (get_or bytes i 0)) ≡ true
+    → IsDefinedTo bytes was i → IsDefinedTo bytes is (i + 1)
+defined_escape bytes was is i lt old new known h =
+    let more = drop (i + 1) bytes in
+    h ∙ rw (old, new, drop_more bytes i 0 lt) (is_some-behind_known (escape_of (get_or bytes i 0)) (unescaped more) known)
+
+-- another byte, which may be a backslash
+pub defined_next : (bytes : List ℕ) (was is : Bool) (i : ℕ) → i < length bytes → was ≡ false → is ≡ eqb (get_or bytes i 0) 92
+    → IsDefinedTo bytes was i → IsDefinedTo bytes is (i + 1)
+defined_next bytes was is i lt old new h =
+    let b = get_or bytes i 0 in
+    let more = drop (i + 1) bytes in
+    h ∙ rw (old, drop_more bytes i 0 lt) (elim (cases_eq b 92) [
+      | inl e ↦ rw (new, e) refl
+      | inr ne ↦ rw (new, ne_eqb b 92 ne) (ap is_some (unescaped_plain b more ne) ∙ is_some-behind b (unescaped more))
+    ])
+
+-- bytes of which it is not so that they mean a text mean none
+pub none_from_undefined : (text : Option (List ℕ)) → is_some text ≡ false → text ≡ None
+none_from_undefined None h = refl
+none_from_undefined (Some text) h = absurd (false≢true (sym h))

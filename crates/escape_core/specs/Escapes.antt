@@ -1,6 +1,6 @@
 use Rattle.std.specs.Prelude.{List, [], ◌∷◌, ℕ, Option, Some, None, ◌==◌, if◌then◌else◌, flat_map}
 
--- how an octet of a name or value is written: CR, LF, colon and backslash have an escape (STOMP 1.2, "Value Encoding")
+-- how an byte of a name or value is written: CR, LF, colon and backslash have an escape (STOMP 1.2, "Value Encoding")
 abbrev pub code_of : ℕ → List ℕ
 code_of b =
     if b == 13 then 92 ∷ 114 ∷ []
@@ -13,7 +13,7 @@ code_of b =
 abbrev pub escaped : List ℕ → List ℕ
 escaped text = flat_map code_of text
 
--- what a backslash and this octet mean, if anything
+-- what a backslash and this byte mean, if anything
 abbrev pub escape_of : ℕ → Option ℕ
 escape_of c =
     if c == 114 then Some 13
@@ -22,13 +22,13 @@ escape_of c =
     else if c == 92 then Some 92
     else None
 
--- this octet, and then the text, where both are there
+-- this byte, and then the text, where both are there
 abbrev pub behind : Option ℕ → Option (List ℕ) → Option (List ℕ)
 behind None text = None
 behind (Some b) None = None
 behind (Some b) (Some text) = Some (b ∷ text)
 
--- What written octets mean, if anything: a backslash and the octet behind it are an escape, every other octet is itself.
+-- What written bytes mean, if anything: a backslash and the byte behind it are an escape, every other byte is itself.
 abbrev pub unescaped : List ℕ → Option (List ℕ)
 unescaped [] = Some []
 unescaped (b ∷ []) = if b == 92 then None else Some (b ∷ [])

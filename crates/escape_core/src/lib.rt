@@ -2,16 +2,13 @@
 
 #![tactic(auto)]
 
-ghost use Rattle.std.specs.Prelude.{◌≡◌, Some, None, IfOk, IfErr, List, ℕ};
+ghost use Rattle.std.specs.Prelude.{◌≡◌, ◌↔◌, Some, None, IfOk, List, ℕ, is_some};
 ghost use Rattle.escape_core.specs.Escapes.{escaped, unescaped, escape_of};
 
 use std::alloc::{AllocError, Global};
 use thiserror::Error;
 
-#[cfg(test)]
-mod tests;
-
-/// Why written octets could not be read as a text.
+/// Why written bytes could not be read as a text.
 #[derive(Clone, Copy, Debug, PartialEq, Eq, Error)]
 pub enum EscapeFault {
     /// A backslash that begins none of the four escapes, or one at the end.
@@ -22,7 +19,7 @@ pub enum EscapeFault {
     Memory,
 }
 
-/// What a backslash and this octet stand for.
+/// What a backslash and this byte stand for.
 fn meaning_of(c: u8) -> Option<u8>
     ensures { result ≡ escape_of c }
 {
@@ -35,8 +32,8 @@ fn meaning_of(c: u8) -> Option<u8>
     }
 }
 
-/// The text as it is written in a header: CR, LF, colon and backslash as their escapes, every other octet as itself
-/// (STOMP 1.2, "Value Encoding"). Room for the longest result, two octets for each of the text's, is taken at once;
+/// The text as it is written in a header: CR, LF, colon and backslash as their escapes, every other byte as itself
+/// (STOMP 1.2, "Value Encoding"). Room for the longest result, two bytes for each of the text's, is taken at once;
 /// where it is refused, that is the error.
 pub fn escape(alloc: Global, text: &[u8]) -> Result<Vec<u8>, AllocError>
     ensures { IfOk result (λ written. written.items ≡ escaped text.now) }
@@ -54,35 +51,51 @@ pub fn escape(alloc: Global, text: &[u8]) -> Result<Vec<u8>, AllocError>
     Ok(written)
 }
 
-/// The text that written octets mean: each escape is the octet that it stands for, and every other octet is itself.
-/// Room for the longest result, one octet for each that is written, is taken at once.
-///
-/// It is `Undefined` where a backslash begins none of the four escapes or ends the octets, and `Memory` where the room
-/// was refused.
-pub fn unescape(alloc: Global, bytes: &[u8]) -> Result<Vec<u8>, EscapeFault>
-    ensures ok { IfOk result (λ text. unescaped bytes.now ≡ Some text.items) }
-    ensures undefined { result ≡ Err EscapeFault.Undefined → unescaped bytes.now ≡ None }
+/// Whether the written bytes mean a text: each backslash begins one of the four escapes. No memory is taken.
+pub fn is_defined(bytes: &[u8]) -> bool
+    ensures { result ≡ is_some (unescaped bytes.now) }
 {
-    let mut text = Vec::with_capacity(alloc, bytes.len()).map_err(|_| EscapeFault::Memory)?;
     let mut in_escape = false;
     for b in bytes {
         if in_escape {
-            let Some(meant) = meaning_of(*b) else {
-                return Err(EscapeFault::Undefined);
-            };
-            text.push(meant).map_err(|_| EscapeFault::Memory)?;
+            if meaning_of(*b).is_none() {
+                return false;
+            }
             in_escape = false;
-        } else if *b == b'\\' {
-            in_escape = true;
         } else {
-            text.push(*b).map_err(|_| EscapeFault::Memory)?;
+            in_escape = *b == b'\\';
         }
     }
-    if !in_escape {
-        Ok(text)
-    } else {
-        Err(EscapeFault::Undefined)
+    !in_escape
+}
+
+/// The text that written bytes mean: each escape is the byte that it stands for, and every other byte is itself. Room
+/// for the longest result, one byte for each that is written, is taken at once.
+///
+/// It is `Undefined` just where a backslash begins none of the four escapes or ends the bytes, which is looked at before
+/// any room is taken; `Memory`, where the room was refused, is answered for bytes with a meaning alone.
+pub fn unescape(alloc: Global, bytes: &[u8]) -> Result<Vec<u8>, EscapeFault>
+    ensures ok { IfOk result (λ text. unescaped bytes.now ≡ Some text.items) }
+    ensures undefined { (result ≡ Err EscapeFault.Undefined) ↔ (unescaped bytes.now ≡ None) }
+{
+    if !is_defined(bytes) {
+        return Err(EscapeFault::Undefined);
     }
+    let mut text = Vec::with_capacity(alloc, bytes.len()).map_err(|_| EscapeFault::Memory)?;
+    let mut in_escape = false;
+    for b in bytes {
+        let meant = if in_escape {
+            meaning_of(*b).unwrap()
+        } else if *b == b'\\' {
+            in_escape = true;
+            continue;
+        } else {
+            *b
+        };
+        text.push(meant).map_err(|_| EscapeFault::Memory)?;
+        in_escape = false;
+    }
+    Ok(text)
 }
 
 /// What is escaped means the text again.

@@ -11,13 +11,13 @@ use Rattle.frame_core.specs.Verbs.{has_body}
 use Rattle.frame_core.specs.Writable.{HasNoNul}
 use Rattle.frame_core.specs.Spelling.{IsNumber, announced, HasBody, Spells, IsWithinLimits}
 use Rattle.frame_core.specs.Parts.{IsBoundedHead, Plans, IsPartOfBody}
-use Rattle.frame_core.specs.Faults.{Faulty, IsNextOctet}
+use Rattle.frame_core.specs.Faults.{Faulty, IsNextByte}
 use Rattle.frame_core.specs.Partials.{IsAt}
 use Rattle.frame_core.specs.Streams.{Frames}
 use Rattle.frame_core.proofs.Lists.{all_append, all_left}
 use Rattle.frame_core.proofs.Joins.{one_frame}
 
--- octets of a body are octets more of the unfinished frame
+-- bytes of a body are bytes more of the unfinished frame
 pub body_reads : (head body more : List ℕ) → Frames ((head ++ body) ++ more) [] (head ++ (body ++ more))
 body_reads head body more = ([], append_assoc head body more)
 
@@ -54,39 +54,39 @@ frame_ends verb plan head headers body bounded plans part whole =
     } in
     one_frame ((head ++ body) ++ 0 ∷ []) (framed verb headers body) spells within
 
-next_octet : (verb : Verb) (plan : Option ℕ) (head : List ℕ) (headers : List (List ℕ × List ℕ)) (body : List ℕ) (b : ℕ) → IsBoundedHead verb headers head → Plans verb headers plan
-    → IsPartOfBody verb plan body → IsNextOctet verb plan body b ((head ++ body) ++ b ∷ [])
-next_octet verb plan head headers body b bounded plans part =
+next_byte : (verb : Verb) (plan : Option ℕ) (head : List ℕ) (headers : List (List ℕ × List ℕ)) (body : List ℕ) (b : ℕ) → IsBoundedHead verb headers head → Plans verb headers plan
+    → IsPartOfBody verb plan body → IsNextByte verb plan body b ((head ++ body) ++ b ∷ [])
+next_byte verb plan head headers body b bounded plans part =
     record { headers = headers; head = head; whole = append_assoc head body (b ∷ []); is_head = bounded; plans = plans; is_part = part }
 
--- another octet than NUL behind a counted body
+-- another byte than NUL behind a counted body
 pub no_end : (verb : Verb) (n : ℕ) (head : List ℕ) (line : ℕ) (cr : Bool) (headers : List (List ℕ × List ℕ)) (body : List ℕ) (b : ℕ) → IsAt (Body verb (Some n)) head line cr headers body
     → length body ≡ n → b ≢ 0 → Faulty Malformed ((head ++ body) ++ b ∷ [])
 no_end verb n head line cr headers body b h e ne =
-    let P : ℕ → Type 0 = λ m. IsNextOctet verb (Some m) body b ((head ++ body) ++ b ∷ []) in
-    inr (inr (verb, body, b, subst P (sym e) (next_octet verb (Some n) head headers body b h.0 h.1 h.2), ne))
+    let P : ℕ → Type 0 = λ m. IsNextByte verb (Some m) body b ((head ++ body) ++ b ∷ []) in
+    inr (inr (verb, body, b, subst P (sym e) (next_byte verb (Some n) head headers body b h.0 h.1 h.2), ne))
 
 -- a body where none may stand
 pub wrong_body : (verb : Verb) (head : List ℕ) (line : ℕ) (cr : Bool) (headers : List (List ℕ × List ℕ)) (body : List ℕ) (b : ℕ) → IsAt (Body verb None) head line cr headers body
     → has_body verb ≡ false → b ≢ 0 → Faulty BodyNotAllowed ((head ++ body) ++ b ∷ [])
 wrong_body verb head line cr headers body b h bare ne =
-    let P : List ℕ → Type 0 = λ x. IsNextOctet verb None x b ((head ++ body) ++ b ∷ []) in
-    inr (verb, b, subst P (h.2.2 bare) (next_octet verb None head headers body b h.0 h.1 h.2), ne, bare)
+    let P : List ℕ → Type 0 = λ x. IsNextByte verb None x b ((head ++ body) ++ b ∷ []) in
+    inr (verb, b, subst P (h.2.2 bare) (next_byte verb None head headers body b h.0 h.1 h.2), ne, bare)
 
--- more octets of a body without length
+-- more bytes of a body without length
 pub run_kept : (verb : Verb) (body run : List ℕ) → IsPartOfBody verb None body → HasNoNul run → length (body ++ run) ≤ 65536 → has_body verb ≡ true → IsPartOfBody verb None (body ++ run)
 run_kept verb body run part none le allowed =
     (all_append (λ b. b ≢ 0) body run part.0 none, le, λ bare. absurd (both_ways (has_body verb) bare allowed))
 
--- the 65,537th octet of a body
+-- the 65,537th byte of a body
 pub long_body : (verb : Verb) (head : List ℕ) (line : ℕ) (cr : Bool) (headers : List (List ℕ × List ℕ)) (body run : List ℕ) (b : ℕ) → IsAt (Body verb None) head line cr headers body
     → HasNoNul run → length (body ++ run) ≡ 65536 → has_body verb ≡ true → b ≢ 0 → Faulty TooLarge (((head ++ body) ++ run) ++ b ∷ [])
 long_body verb head line cr headers body run b h none full allowed ne =
     let part = run_kept verb body run h.2 none (omega arith) allowed in
-    let P : List ℕ → Type 0 = λ x. IsNextOctet verb None (body ++ run) b (x ++ b ∷ []) in
-    inr (inr (inr (verb, body ++ run, b, subst P (sym (append_assoc head body run)) (next_octet verb None head headers (body ++ run) b h.0 h.1 part), ne, allowed, full)))
+    let P : List ℕ → Type 0 = λ x. IsNextByte verb None (body ++ run) b (x ++ b ∷ []) in
+    inr (inr (inr (verb, body ++ run, b, subst P (sym (append_assoc head body run)) (next_byte verb None head headers (body ++ run) b h.0 h.1 part), ne, allowed, full)))
 
--- a run's octets and its beginnings
+-- a run's bytes and its beginnings
 pub at_run : (P : ℕ → Type 0) (piece : List ℕ) (count n : ℕ) → count ≤ length piece → n < count → AllByRecursion P (take count piece) → P (get_or piece n 0)
 at_run P piece count n le lt h =
     subst P (get_or-take count piece n 0 lt) (All-from_recursion P (take count piece) h n 0 (omega (arith, length-take-le count piece le)))

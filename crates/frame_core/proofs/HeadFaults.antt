@@ -1,4 +1,4 @@
-use Rattle.std.proofs.Common.{◌≡◌, ◌≢◌, ◌<◌, ◌+◌, ◌-◌, ℕ, List, [], ◌∷◌, ◌++◌, Bool, true, false, cond, inl, inr, length, sym, ap, ◌∙◌, subst, arith, length-append}
+use Rattle.std.proofs.Common.{◌≡◌, ◌≢◌, ◌<◌, ◌+◌, ◌-◌, ℕ, List, [], ◌∷◌, ◌++◌, Bool, true, false, cond, Option, Some, None, MatchOption, unwrap_or, inl, inr, length, sym, ap, ◌∙◌, subst, arith, length-append}
 use Rattle.std.specs.List.{AllByRecursion}
 use Rattle.std.proofs.lemmas.List.{append-nil}
 use Rattle.frame_core.specs.declared.frame.Verb.{Verb}
@@ -41,7 +41,7 @@ long_head stage head line cr headers body b i h full =
     let p = part_of_head stage head line cr headers body i h in
     inl (record { front = head; last = b; whole = only_head head body (b ∷ []) (no_body stage head line cr headers body i h); part = p.0; full = full })
 
--- the limit within octets of a line
+-- the limit within bytes of a line
 pub long_run : (stage : Stage) (head : List ℕ) (line : ℕ) (cr : Bool) (headers : List (List ℕ × List ℕ)) (body run : List ℕ) (b : ℕ) → IsInHead stage → IsAt stage head line cr headers body
     → cr ≡ false → AllByRecursion IsInLine run → length head + length run ≡ 8192 → Faulty TooLarge (((head ++ body) ++ run) ++ b ∷ [])
 long_run stage head line cr headers body run b i h no_cr in_line full =
@@ -63,13 +63,13 @@ command_fault BadHeaderValue text bytes first h = inl (text, first, h)
 
 pub command_refused : (head : List ℕ) (line : ℕ) (cr : Bool) (headers : List (List ℕ × List ℕ)) (body : List ℕ) (h : IsAt Command head line cr headers body) (fault : FrameFault)
     → 0 < length head - cond cr 1 0 → length head < 8192 → IsCommandFault h.0.part fault → Faulty fault ((head ++ body) ++ 10 ∷ [])
-command_refused head line cr headers body h fault some_octet room why =
+command_refused head line cr headers body h fault some_byte room why =
     let whole = only_head head body (10 ∷ []) h.2 in
     let start : 0 ≡ line = h.0.start in
     command_fault fault h.0.part ((head ++ body) ++ 10 ∷ []) (record {
       with_cr = cr;
       whole = whole ∙ with_lf head line cr [] h.0;
-      some_octet = omega (arith, length-head head line cr [] h.0);
+      some_byte = omega (arith, length-head head line cr [] h.0);
       each = h.0.each;
       size = omega (arith, ap length whole, length-append head (10 ∷ []));
     }) why
@@ -100,7 +100,7 @@ next_header verb head line cr headers body h name value room form =
 
 pub header_refused : (verb : Verb) (head : List ℕ) (line : ℕ) (cr : Bool) (headers : List (List ℕ × List ℕ)) (body : List ℕ) (h : IsAt (HeaderLines verb) head line cr headers body) (fault : FrameFault)
     → (length head - cond cr 1 0 ≡ line → ⊥) → length head < 8192 → IsHeaderFault verb h.1.part fault → Faulty fault ((head ++ body) ++ 10 ∷ [])
-header_refused verb head line cr headers body h fault some_octet room why =
+header_refused verb head line cr headers body h fault some_byte room why =
     let whole = only_head head body (10 ∷ []) h.4 in
     let length_is = length-head head line cr h.0 h.1 in
     header_fault fault verb headers h.1.part ((head ++ body) ++ 10 ∷ []) cr (record {
@@ -110,7 +110,7 @@ header_refused verb head line cr headers body h fault some_octet room why =
       begins = h.2;
       count = h.3;
       each = h.1.each;
-      some_octet = omega (arith, length_is, some_octet);
+      some_byte = omega (arith, length_is, some_byte);
       size = omega (arith, ap length whole, length-append head (10 ∷ []));
     }) (λ name value form. next_header verb head line cr headers body h name value room form) why
 
@@ -129,6 +129,13 @@ plan_fault UndefinedEscape verb headers bytes bounded h = absurd h
 plan_fault UnknownCommand verb headers bytes bounded h = absurd h
 plan_fault BodyNotAllowed verb headers bytes bounded h = inl (verb, h.1, (headers, h.0, bounded, h.2, h.3, h.4), h.5, h.6, h.7)
 plan_fault BadHeaderValue verb headers bytes bounded h = inr (inr (verb, headers, h.0, bounded, h.1, h.2))
+
+-- one header too many, which may be refused for what it is
+pub one_too_many : (verb : Verb) (head : List ℕ) (line : ℕ) (cr : Bool) (headers : List (List ℕ × List ℕ)) (body : List ℕ) (h : IsAt (HeaderLines verb) head line cr headers body) (refusal : Option FrameFault)
+    → MatchOption refusal ((header : List ℕ × List ℕ) × IsHeaderText verb h.1.part header) (IsHeaderFault verb h.1.part)
+    → (length head - cond cr 1 0 ≡ line → ⊥) → length headers ≡ 64 → length head < 8192 → Faulty (unwrap_or refusal TooLarge) ((head ++ body) ++ 10 ∷ [])
+one_too_many verb head line cr headers body h None header some_byte full room = too_many_headers verb head line cr headers body h header.0 header.1 full room
+one_too_many verb head line cr headers body h (Some fault) why some_byte full room = header_refused verb head line cr headers body h fault some_byte room why
 
 pub plan_refused : (verb : Verb) (head : List ℕ) (line : ℕ) (cr : Bool) (headers : List (List ℕ × List ℕ)) (body : List ℕ) (h : IsAt (HeaderLines verb) head line cr headers body) (fault : FrameFault)
     → length head - cond cr 1 0 ≡ line → length head < 8192 → IsPlanFault verb headers fault → Faulty fault ((head ++ body) ++ 10 ∷ [])

@@ -57,14 +57,14 @@ pub take_first : (piece : List ℕ) → 0 < length piece → take 1 piece ≡ ge
 take_first piece lt = take_more piece 0 0 lt
 
 -- a fault at a place of the piece
-pub fails_at : (octets piece : List ℕ) (n : ℕ) (fault : FrameFault) → n < length piece → Faulty fault ((octets ++ take n piece) ++ get_or piece n 0 ∷ []) → Fails (octets ++ piece) [] fault
-fails_at octets piece n fault lt h =
-    let whole : octets ++ piece ≡ ((octets ++ take n piece) ++ get_or piece n 0 ∷ []) ++ drop (n + 1) piece =
-    ap (λ x. octets ++ x) (cut_at piece n lt) ∙ simp append_assoc in
-    ((octets ++ take n piece) ++ get_or piece n 0 ∷ [], drop (n + 1) piece, ([], whole), h)
+pub fails_at : (bytes piece : List ℕ) (n : ℕ) (fault : FrameFault) → n < length piece → Faulty fault ((bytes ++ take n piece) ++ get_or piece n 0 ∷ []) → Fails (bytes ++ piece) [] fault
+fails_at bytes piece n fault lt h =
+    let whole : bytes ++ piece ≡ ((bytes ++ take n piece) ++ get_or piece n 0 ∷ []) ++ drop (n + 1) piece =
+    ap (λ x. bytes ++ x) (cut_at piece n lt) ∙ simp append_assoc in
+    ((bytes ++ take n piece) ++ get_or piece n 0 ∷ [], drop (n + 1) piece, ([], whole), h)
 
--- a fault at its first octet
-pub fails_first : (octets piece : List ℕ) (fault : FrameFault) → 0 < length piece → Faulty fault (octets ++ get_or piece 0 0 ∷ []) → Fails (octets ++ piece) [] fault
-fails_first octets piece fault lt h =
+-- a fault at its first byte
+pub fails_first : (bytes piece : List ℕ) (fault : FrameFault) → 0 < length piece → Faulty fault (bytes ++ get_or piece 0 0 ∷ []) → Fails (bytes ++ piece) [] fault
+fails_first bytes piece fault lt h =
     let P : List ℕ → Type 0 = λ x. Faulty fault (x ++ get_or piece 0 0 ∷ []) in
-    fails_at octets piece 0 fault lt (subst P (sym (append-nil octets)) h)
+    fails_at bytes piece 0 fault lt (subst P (sym (append-nil bytes)) h)

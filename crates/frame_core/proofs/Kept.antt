@@ -26,21 +26,21 @@ take_add n m xs =
     sym (take-append-drop n (take (n + m) xs)) ∙ ap (λ ys. ys ++ drop n (take (n + m) xs)) (take-take n (n + m) xs (omega arith))
     ∙ ap (λ ys. take n xs ++ ys) (drop-take n m xs)
 
--- some octets of the piece more are read
-pub piece_advances : (octets piece rest last : List ℕ) (at count : ℕ) (a done : List Frame) → Frames (octets ++ take at piece) a rest → Frames (rest ++ take count (drop at piece)) done last
-    → Frames (octets ++ take (at + count) piece) (a ++ done) last
-piece_advances octets piece rest last at count a done h k =
-    let whole : octets ++ take (at + count) piece ≡ (octets ++ take at piece) ++ take count (drop at piece) =
-    ap (λ x. octets ++ x) (take_add at count piece) ∙ sym (append_assoc octets (take at piece) (take count (drop at piece))) in
+-- some bytes of the piece more are read
+pub piece_advances : (bytes piece rest last : List ℕ) (at count : ℕ) (a done : List Frame) → Frames (bytes ++ take at piece) a rest → Frames (rest ++ take count (drop at piece)) done last
+    → Frames (bytes ++ take (at + count) piece) (a ++ done) last
+piece_advances bytes piece rest last at count a done h k =
+    let whole : bytes ++ take (at + count) piece ≡ (bytes ++ take at piece) ++ take count (drop at piece) =
+    ap (λ x. bytes ++ x) (take_add at count piece) ∙ sym (append_assoc bytes (take at piece) (take count (drop at piece))) in
     let P : List ℕ → Type 0 = λ x. Frames x (a ++ done) last in
-    subst P (sym whole) (joined (octets ++ take at piece) (take count (drop at piece)) a done rest last h k)
+    subst P (sym whole) (joined (bytes ++ take at piece) (take count (drop at piece)) a done rest last h k)
 
 -- a fault in the rest of the piece is one of the whole
-pub piece_fails : (octets piece rest : List ℕ) (at : ℕ) (a : List Frame) (fault : FrameFault) → Frames (octets ++ take at piece) a rest → Fails (rest ++ drop at piece) [] fault
-    → Fails (octets ++ piece) a fault
-piece_fails octets piece rest at a fault h k =
-    let whole : (octets ++ take at piece) ++ drop at piece ≡ octets ++ piece =
-    append_assoc octets (take at piece) (drop at piece) ∙ ap (λ x. octets ++ x) (take-append-drop at piece) in
+pub piece_fails : (bytes piece rest : List ℕ) (at : ℕ) (a : List Frame) (fault : FrameFault) → Frames (bytes ++ take at piece) a rest → Fails (rest ++ drop at piece) [] fault
+    → Fails (bytes ++ piece) a fault
+piece_fails bytes piece rest at a fault h k =
+    let whole : (bytes ++ take at piece) ++ drop at piece ≡ bytes ++ piece =
+    append_assoc bytes (take at piece) (drop at piece) ∙ ap (λ x. bytes ++ x) (take-append-drop at piece) in
     let P : List ℕ → Type 0 = λ x. Fails x (a ++ []) fault in
-    let Q : List Frame → Type 0 = λ x. Fails (octets ++ piece) x fault in
-    subst Q (append-nil a) (subst P whole (joined_fault (octets ++ take at piece) (drop at piece) a [] rest fault h k))
+    let Q : List Frame → Type 0 = λ x. Fails (bytes ++ piece) x fault in
+    subst Q (append-nil a) (subst P whole (joined_fault (bytes ++ take at piece) (drop at piece) a [] rest fault h k))

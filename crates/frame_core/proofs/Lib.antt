@@ -1,4 +1,5 @@
 pub mod BodySteps
+pub mod Decided
 pub mod HeadSteps
 pub mod HeadFaults
 pub mod HeaderLines
@@ -14,6 +15,7 @@ pub mod Machine
 pub mod MachineBodies
 pub mod MachineFaults
 pub mod MachineHeads
+pub mod Meanings
 pub mod NextLines
 pub mod Numbers
 pub mod Pieces

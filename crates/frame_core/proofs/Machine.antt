@@ -1,4 +1,4 @@
--- A stream's beginning, decided octet by octet. It shows that the relations of specs/ are exclusive: each of them says
+-- A stream's beginning, decided byte by byte. It shows that the relations of specs/ are exclusive: each of them says
 -- what this function gives.
 use Rattle.std.proofs.Common.{ℕ, ◌+◌, List, [], ◌∷◌, ◌++◌, Bool, true, false, cond, eqb, not, ◌&&◌, nat_lt, nat_le, Option, Some, None, length, option_map}
 use Rattle.std.specs.Char.{digit_value}
@@ -18,7 +18,7 @@ abbrev pub Known : Type 0
 Known = Option (Verb × List (List ℕ × List ℕ))
 
 pub data At : Type 0 where
-  -- a line's text so far, whether its CR stands there, and how many octets the head has
+  -- a line's text so far, whether its CR stands there, and how many bytes the head has
   in_line : Known → List ℕ → Bool → ℕ → At
   in_body : Verb → List (List ℕ × List ℕ) → Option ℕ → List ℕ → At
 

@@ -1,7 +1,7 @@
-use Rattle.std.proofs.Common.{◌≡◌, ◌<◌, ◌≤◌, ◌+◌, ℕ, List, [], ◌∷◌, ◌++◌, true, false, not, ◌&&◌, nat_lt, nat_le, Option, Some, None, MatchOption, IfSome, ◌⊎◌, inl, inr, length, refl, sym, ap, ◌∙◌, arith, append_assoc, length-append}
+use Rattle.std.proofs.Common.{◌≡◌, ◌<◌, ◌≤◌, ◌+◌, ℕ, List, [], ◌∷◌, ◌++◌, Bool, true, false, not, ◌&&◌, nat_lt, nat_le, Option, Some, None, MatchOption, IfSome, ◌⊎◌, inl, inr, length, refl, sym, ap, ◌∙◌, arith, append_assoc, length-append}
 use Rattle.std.specs.Char.{digit_value}
 use Rattle.std.specs.Str.Parse.{IsNumeral, AllDigits, digits_value}
-use Rattle.std.proofs.lemmas.Bool.{ne_eqb, eq-eqb, lt-ltb, le-ltb, le-leb, leb-true, ltb-true, and_from, and_parts, and_left, and_right, cases_Bool, false_from_ne_true}
+use Rattle.std.proofs.lemmas.Bool.{ne_eqb, eq-eqb, lt-ltb, le-ltb, le-leb, leb-true, ltb-true, and_from, and_parts, and_left, and_right, cases_Bool, both_ways, false_from_ne_true}
 use Rattle.std.proofs.lemmas.List.{append-nil}
 use Rattle.frame_core.specs.declared.frame.Frame.{Frame}
 use Rattle.frame_core.specs.declared.frame.Verb.{Verb}
@@ -32,6 +32,23 @@ number_fails text h = false_from_ne_true (is_number text) (λ e.
     let q = and_parts (all_digits text) (nat_le (length text) 10) p.1 in
     let short : length text ≤ 10 = leb-true (length text) 10 q.1 in
     elim h [ inl none ↦ none (ltb-true 0 (length text) p.0, passes_digits text q.0) | inr long ↦ absurd (omega arith) ])
+
+-- whether a text is a number of one to ten digits is decided
+pub number_read : (text : List ℕ) → (IsNumeral 10 text × (length text ≤ 10)) ⊎ ((IsNumeral 10 text → ⊥) ⊎ (10 < length text))
+number_read text =
+    elim (cases_Bool (is_number text)) [
+      | inl e ↦
+          let p = and_parts (nat_lt 0 (length text)) (all_digits text && nat_le (length text) 10) e in
+          let q = and_parts (all_digits text) (nat_le (length text) 10) p.1 in
+          inl ((ltb-true 0 (length text) p.0, passes_digits text q.0), leb-true (length text) 10 q.1)
+      | inr e ↦ elim (cases_Bool (nat_le (length text) 10)) [
+        | inl short ↦ inr (inl (λ numeral. false_from e (number_passes text numeral (leb-true (length text) 10 short))))
+        | inr long ↦ inr (inr (omega (arith, λ (le : length text ≤ 10). false_from long (le-leb (length text) 10 le))))
+      ]
+    ]
+  where
+    false_from : {b : Bool} → b ≡ false → b ≡ true → ⊥
+    false_from {b} refuted shown = both_ways b refuted shown
 
 -- a body may stand there, or is empty
 bare_test : (verb : Verb) (n : ℕ) → (has_body verb ≡ false → n ≡ 0) → (nat_lt 0 n && not (has_body verb)) ≡ false

@@ -11,7 +11,7 @@ use Rattle.frame_core.specs.declared.fault.FrameFault.TheVariants.{Malformed, To
 use Rattle.frame_core.specs.Verbs.{name_of}
 use Rattle.frame_core.specs.Heads.{eol, HeaderLine, line_of, meaning}
 use Rattle.frame_core.specs.Parts.{IsPartOfHead, IsUnfinished}
-use Rattle.frame_core.specs.Faults.{Faulty, HasStrayOctet, HasLongHead, IsFirstLine, IsNextLine, IsNextHeader, Announces, IsNextOctet}
+use Rattle.frame_core.specs.Faults.{Faulty, HasStrayByte, HasLongHead, IsFirstLine, IsNextLine, IsNextHeader, Announces, IsNextByte}
 use Rattle.frame_core.proofs.OneHead.{verb_named}
 use Rattle.frame_core.proofs.Machine.{Known, in_line, in_body, fails, waits, failed, next, plan_next, meant, ended_line, step, run, start}
 use Rattle.frame_core.proofs.MachineHeads.{line_run, begins_run, header_line_run, head_run, part_run, cut_colon-none, form_next}
@@ -27,14 +27,14 @@ stray_step : (k : Known) (part : List ℕ) (cr : Bool) (used b : ℕ) → used <
 stray_step k part true used b lt plain behind_cr = rw (ne_eqb used 8192 (λ e. omega arith), ne_eqb b 10 (behind_cr refl)) refl
 stray_step k part false used b lt plain behind_cr = rw (ne_eqb used 8192 (λ e. omega arith), plain refl) refl
 
--- the octet behind a part of a head
+-- the byte behind a part of a head
 behind_part : (bytes front x : List ℕ) (b : ℕ) (p : IsPartOfHead front) (fault : FrameFault) → bytes ≡ front ++ b ∷ [] → ((k : Known) → step (in_line k p.part p.with_cr (length front)) b ≡ fails fault)
     → run (bytes ++ x) start ≡ failed fault x
 behind_part bytes front x b p fault whole last =
     let r = part_run front (b ∷ x) p in
     ap (λ z. run (z ++ x) start) whole ∙ ap (λ z. run z start) (append_assoc front (b ∷ []) x) ∙ r.1 ∙ ap (λ n. next n (run x) x) (last r.0)
 
-stray_run : (bytes x : List ℕ) → HasStrayOctet bytes → run (bytes ++ x) start ≡ failed Malformed x
+stray_run : (bytes x : List ℕ) → HasStrayByte bytes → run (bytes ++ x) start ≡ failed Malformed x
 stray_run bytes x h =
     let n : length bytes ≡ length h.front + 1 = ap length h.whole ∙ length-append h.front (h.last ∷ []) in
     behind_part bytes h.front x h.last h.part Malformed h.whole
@@ -98,43 +98,43 @@ announced_run : (verb : Verb) (n : ℕ) (bytes x : List ℕ) (h : Announces verb
 announced_run verb n bytes x h fault last =
     head_run verb h.0 bytes x h.2 ∙ ap (λ m. next m (run x) x) (ap (plan_next verb h.0) h.3 ∙ last)
 
-octet_run : (verb : Verb) (plan : Option ℕ) (body : List ℕ) (b : ℕ) (bytes x : List ℕ) (h : IsNextOctet verb plan body b bytes) (fault : FrameFault)
+byte_run : (verb : Verb) (plan : Option ℕ) (body : List ℕ) (b : ℕ) (bytes x : List ℕ) (h : IsNextByte verb plan body b bytes) (fault : FrameFault)
     → step (in_body verb h.headers plan body) b ≡ fails fault → run (bytes ++ x) start ≡ failed fault x
-octet_run verb plan body b bytes x h fault last =
+byte_run verb plan body b bytes x h fault last =
     ap (λ z. run (z ++ x) start) h.whole ∙ ap (λ z. run z start) (append_assoc h.head (body ++ b ∷ []) x ∙ ap (λ z. h.head ++ z) (append_assoc body (b ∷ []) x))
     ∙ head_body_run verb h.headers plan h.head body (b ∷ x) h.is_head h.plans h.is_part ∙ ap (λ m. next m (run x) x) last
 
--- octets that end where they decide a fault give it
+-- bytes that end where they decide a fault give it
 pub faulty_run : (fault : FrameFault) (bytes x : List ℕ) → Faulty fault bytes → run (bytes ++ x) start ≡ failed fault x
 faulty_run Malformed bytes x (inl h) = stray_run bytes x h
 faulty_run Malformed bytes x (inr (inl (verb, headers, text, line, why))) =
     next_run verb headers text bytes x line Malformed (λ used. elim why [
-      | inl none ↦ rw (some_text text line.some_octet, cut_colon-none text none) refl
+      | inl none ↦ rw (some_text text line.some_byte, cut_colon-none text none) refl
       | inr nameless ↦
           let P : List ℕ → Type 0 = λ t. ended_line (Some (verb, headers)) t used ≡ fails Malformed in
           subst P (sym nameless.1) (rw (some_text (58 ∷ nameless.0) (omega arith)) refl)
     ])
-faulty_run Malformed bytes x (inr (inr (verb, body, b, octet, ne))) =
-    octet_run verb (Some (length body)) body b bytes x octet Malformed (rw (eq-eqb (length body) (length body) refl, ne_eqb b 0 ne) refl)
+faulty_run Malformed bytes x (inr (inr (verb, body, b, byte, ne))) =
+    byte_run verb (Some (length body)) body b bytes x byte Malformed (rw (eq-eqb (length body) (length body) refl, ne_eqb b 0 ne) refl)
 faulty_run TooLarge bytes x (inl h) = long_head_run bytes x h
 faulty_run TooLarge bytes x (inr (inl (verb, headers, line, header, is_next, of, full))) =
     header_run verb headers line bytes x is_next TooLarge (λ used.
     rw (of.name, of.value, is_utf8-from_IsUtf8 header.0 of.name_utf8, is_utf8-from_IsUtf8 header.1 of.value_utf8, le-ltb (length headers) 64 (omega (arith, full))) refl)
 faulty_run TooLarge bytes x (inr (inr (inl (verb, n, announces, large)))) =
     announced_run verb n bytes x announces TooLarge (rw (number_passes announces.1 announces.4.0 announces.5, announces.4.1, lt-ltb 65536 n large) refl)
-faulty_run TooLarge bytes x (inr (inr (inr (verb, body, b, octet, ne, allowed, full)))) =
-    octet_run verb None body b bytes x octet TooLarge (rw (ne_eqb b 0 ne, allowed, eq-eqb (length body) 65536 full) refl)
+faulty_run TooLarge bytes x (inr (inr (inr (verb, body, b, byte, ne, allowed, full)))) =
+    byte_run verb None body b bytes x byte TooLarge (rw (ne_eqb b 0 ne, allowed, eq-eqb (length body) 65536 full) refl)
 faulty_run UndefinedEscape bytes x (verb, headers, line, is_next, why) =
     header_run verb headers line bytes x is_next UndefinedEscape (λ used. bad_escape verb headers used (meaning verb line.name) (meaning verb line.value) why)
 faulty_run UnknownCommand bytes x (text, line, utf8, none) =
-    first_run text bytes x line UnknownCommand (rw (some_text text line.some_octet, is_utf8-from_IsUtf8 text utf8, no_verb text none) refl)
+    first_run text bytes x line UnknownCommand (rw (some_text text line.some_byte, is_utf8-from_IsUtf8 text utf8, no_verb text none) refl)
 faulty_run BodyNotAllowed bytes x (inl (verb, n, announces, some, small, bare)) =
     announced_run verb n bytes x announces BodyNotAllowed
     (rw (number_passes announces.1 announces.4.0 announces.5, announces.4.1, le-ltb 65536 n small, lt-ltb 0 n some, bare) refl)
-faulty_run BodyNotAllowed bytes x (inr (verb, b, octet, ne, bare)) =
-    octet_run verb None [] b bytes x octet BodyNotAllowed (rw (ne_eqb b 0 ne, bare) refl)
+faulty_run BodyNotAllowed bytes x (inr (verb, b, byte, ne, bare)) =
+    byte_run verb None [] b bytes x byte BodyNotAllowed (rw (ne_eqb b 0 ne, bare) refl)
 faulty_run BadHeaderValue bytes x (inl (text, line, broken)) =
-    first_run text bytes x line BadHeaderValue (rw (some_text text line.some_octet, broken_text text broken) refl)
+    first_run text bytes x line BadHeaderValue (rw (some_text text line.some_byte, broken_text text broken) refl)
 faulty_run BadHeaderValue bytes x (inr (inl (verb, headers, line, header, is_next, name, value, broken))) =
     header_run verb headers line bytes x is_next BadHeaderValue (λ used. rw (name, value, broken_header header.0 header.1 broken) refl)
 faulty_run BadHeaderValue bytes x (inr (inr (verb, headers, text, bounded, is, why))) =

@@ -40,7 +40,7 @@ no_gap bytes cr x h e = subst NoSkip (ap (λ z. run z start) e ∙ gap_run cr x)
 spelled_no_skip : (bytes more : List ℕ) (frame : Frame) → Spells bytes frame → IsWithinLimits bytes frame → NoSkip (run (bytes ++ more) start)
 spelled_no_skip bytes more frame h within = subst NoSkip (sym (spelled_run bytes more frame h within)) tt
 
--- EOLs before octets that no EOL begins begin with those before others
+-- EOLs before bytes that no EOL begins begin with those before others
 same_gaps : (g h : List Bool) (x y : List ℕ) → NoSkip (run y start) → flat_map eol g ++ x ≡ flat_map eol h ++ y → (i : List Bool) × (x ≡ flat_map eol i ++ y)
 same_gaps [] h x y s e = (h, e)
 same_gaps (cr ∷ g) [] x y s e = absurd (no_gap y cr (flat_map eol g ++ x) s (sym e ∙ append_assoc (eol cr) (flat_map eol g) x))
@@ -49,7 +49,7 @@ same_gaps (cr ∷ g) (other ∷ h) x y s e =
     sym (append_assoc (eol cr) (flat_map eol g) x) ∙ e ∙ append_assoc (eol other) (flat_map eol h) y in
     same_gaps g h x y s (one_line [] [] cr other (flat_map eol g ++ x) (flat_map eol h ++ y) tt tt cut).2
 
--- octets that begin with no EOL have none before others
+-- bytes that begin with no EOL have none before others
 no_gaps : (i : List Bool) (x y : List ℕ) → NoSkip (run x start) → x ≡ flat_map eol i ++ y → x ≡ y
 no_gaps [] x y s e = e
 no_gaps (cr ∷ i) x y s e = absurd (no_gap x cr (flat_map eol i ++ y) s (e ∙ append_assoc (eol cr) (flat_map eol i) y))

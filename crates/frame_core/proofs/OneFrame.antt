@@ -24,7 +24,7 @@ one_body verb other headers seconds body second x y same h k e =
     let P : List (List ℕ × List ℕ) → Type 0 = λ hs. MatchOption (announced hs) (HasNoNul second) (λ text. IsNumber text (length second)) in
     ends_at_one (announced headers) body second x y h.ends (subst P (sym same) k.ends) e
 
--- Octets that begin with a frame's spelling begin with no other frame's, and with it once.
+-- Bytes that begin with a frame's spelling begin with no other frame's, and with it once.
 pub one_frame : (a b : List ℕ) (f g : Frame) (x y : List ℕ) → Spells a f → Spells b g → a ++ x ≡ b ++ y → (a ≡ b) × (f ≡ g) × (x ≡ y)
 one_frame a b f g x y h k e =
     let cut : h.head ++ (f.body ++ (0 ∷ x)) ≡ k.head ++ (g.body ++ (0 ∷ y)) = sym (spread a f x h) ∙ e ∙ spread b g y k in

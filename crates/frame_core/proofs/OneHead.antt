@@ -7,7 +7,7 @@ use Rattle.frame_core.specs.declared.frame.Verb.TheVariants.{Connect, Stomp, Sen
 use Rattle.frame_core.specs.Verbs.{name_of}
 use Rattle.frame_core.specs.Heads.{IsInLine, eol, HeaderLine, line_of, IsHeaderLine, meaning, IsHeaderOf, HeaderLines, IsHead}
 
--- Where a text ends at the first octet that can't stand in it, it ends at one place.
+-- Where a text ends at the first byte that can't stand in it, it ends at one place.
 pub one_end : (P : ℕ → Type 0) (text other : List ℕ) (b c : ℕ) (x y : List ℕ) → AllByRecursion P text → AllByRecursion P other → (P b → ⊥) → (P c → ⊥)
     → text ++ (b ∷ x) ≡ other ++ (c ∷ y) → (text ≡ other) × (b ≡ c) × (x ≡ y)
 one_end P [] [] b c x y h k no_b no_c e = (refl, (cc), (cc))
@@ -19,7 +19,7 @@ one_end P (t ∷ text) (o ∷ other) b c x y h k no_b no_c e =
     let r = one_end P text other b c x y h.1 k.1 no_b no_c rest in
     (λ i. same i ∷ r.0 i, r.1, r.2)
 
--- an EOL is one octet, or two
+-- an EOL is one byte, or two
 eol_front : Bool → ℕ
 eol_front cr = cond cr 13 10
 
@@ -108,7 +108,7 @@ one_list verb lines others (header ∷ headers) (second ∷ seconds) cr other_cr
     let s = one_list verb h.1 k.1 headers seconds cr other_cr x y h.4 k.4 r.3 in
     (λ i. first i ∷ s.0 i, s.1)
 
--- whether an octet may stand within a line
+-- whether an byte may stand within a line
 in_line : ℕ → Bool
 in_line b = not (eqb b 0) && (not (eqb b 10) && not (eqb b 13))
 

@@ -29,7 +29,7 @@ length-head head line cr lines l =
     ap length l.whole ∙ length-append lines (l.part ++ tail cr) ∙ ap (λ n. length lines + n) (length-append l.part (tail cr)) in
     omega (arith, e, l.start, length-tail cr)
 
--- the octets from the line's beginning to its text's end are the text
+-- the bytes from the line's beginning to its text's end are the text
 pub text_is : (head : List ℕ) (line : ℕ) (cr : Bool) (lines : List ℕ) (l : IsLine head line cr lines) (end : ℕ) → end ≡ length head - cond cr 1 0 → take (end - line) (drop line head) ≡ l.part
 text_is head line cr lines l end e =
     let d : drop line head ≡ l.part ++ tail cr = ap (drop line) l.whole ∙ drop_at lines (l.part ++ tail cr) line l.start in
@@ -60,9 +60,9 @@ cr_line head line lines l room = record {
   size = omega (arith, length-append head (13 ∷ []));
 }
 
-octet_line : (head : List ℕ) (line : ℕ) (cr : Bool) (lines : List ℕ) (b : ℕ) → IsLine head line cr lines → cr ≡ false → b ≢ 10 → b ≢ 0 → length head < 8192
+byte_line : (head : List ℕ) (line : ℕ) (cr : Bool) (lines : List ℕ) (b : ℕ) → IsLine head line cr lines → cr ≡ false → b ≢ 10 → b ≢ 0 → length head < 8192
     → IsLine (head ++ b ∷ []) line (eqb b 13) lines
-octet_line head line cr lines b l no_cr no_lf no_nul room =
+byte_line head line cr lines b l no_cr no_lf no_nul room =
     let P : Bool → Type 0 = λ x. IsLine head line x lines in
     let open_line : IsLine head line false lines = subst P no_cr l in
     elim (cases_eq b 13) [
@@ -70,12 +70,12 @@ octet_line head line cr lines b l no_cr no_lf no_nul room =
       | inr ne ↦ let Q : Bool → Type 0 = λ x. IsLine (head ++ b ∷ []) line x lines in subst Q (sym (ne_eqb b 13 ne)) (more_line head line lines b open_line (no_nul, no_lf, ne) room)
     ]
 
--- an octet of a line is kept
-pub octet_kept : (stage : Stage) (head : List ℕ) (line : ℕ) (cr : Bool) (headers : List (List ℕ × List ℕ)) (body : List ℕ) (b : ℕ) → IsInHead stage → IsAt stage head line cr headers body
+-- an byte of a line is kept
+pub byte_kept : (stage : Stage) (head : List ℕ) (line : ℕ) (cr : Bool) (headers : List (List ℕ × List ℕ)) (body : List ℕ) (b : ℕ) → IsInHead stage → IsAt stage head line cr headers body
     → cr ≡ false → b ≢ 10 → b ≢ 0 → length head < 8192 → IsAt stage (head ++ b ∷ []) line (eqb b 13) headers body
-octet_kept Command head line cr headers body b i h no_cr no_lf no_nul room = (octet_line head line cr [] b h.0 no_cr no_lf no_nul room, h.1, h.2)
-octet_kept (HeaderLines verb) head line cr headers body b i h no_cr no_lf no_nul room = (h.0, octet_line head line cr h.0 b h.1 no_cr no_lf no_nul room, h.2, h.3, h.4)
-octet_kept (Body verb plan) head line cr headers body b i h no_cr no_lf no_nul room = absurd i
+byte_kept Command head line cr headers body b i h no_cr no_lf no_nul room = (byte_line head line cr [] b h.0 no_cr no_lf no_nul room, h.1, h.2)
+byte_kept (HeaderLines verb) head line cr headers body b i h no_cr no_lf no_nul room = (h.0, byte_line head line cr h.0 b h.1 no_cr no_lf no_nul room, h.2, h.3, h.4)
+byte_kept (Body verb plan) head line cr headers body b i h no_cr no_lf no_nul room = absurd i
 
 -- a head that isn't whole has no body
 pub no_body : (stage : Stage) (head : List ℕ) (line : ℕ) (cr : Bool) (headers : List (List ℕ × List ℕ)) (body : List ℕ) → IsInHead stage → IsAt stage head line cr headers body → body ≡ []
@@ -95,13 +95,13 @@ part_of_head stage head line cr headers body i h =
     let o = open_line stage head line cr headers body i h in
     (record { lines = o.0; part = o.1.part; with_cr = cr; whole = o.1.whole; begun = o.2; each = o.1.each; size = o.1.size }, refl)
 
--- an octet more of a head is an octet more of the unfinished frame
-pub octet_reads : (head body : List ℕ) (b : ℕ) → body ≡ [] → Frames ((head ++ body) ++ b ∷ []) [] ((head ++ b ∷ []) ++ body)
-octet_reads head body b e =
+-- an byte more of a head is an byte more of the unfinished frame
+pub byte_reads : (head body : List ℕ) (b : ℕ) → body ≡ [] → Frames ((head ++ body) ++ b ∷ []) [] ((head ++ b ∷ []) ++ body)
+byte_reads head body b e =
     let P : List ℕ → Type 0 = λ x. Frames ((head ++ x) ++ b ∷ []) [] ((head ++ b ∷ []) ++ x) in
     subst P (sym e) ([], ap (λ x. x ++ b ∷ []) (append-nil head) ∙ sym (append-nil (head ++ b ∷ [])))
 
--- octets of a line more
+-- bytes of a line more
 more_run : (head : List ℕ) (line : ℕ) (lines run : List ℕ) → IsLine head line false lines → AllByRecursion IsInLine run → length head + length run ≤ 8192 → IsLine (head ++ run) line false lines
 more_run head line lines run l in_line room = record {
   part = l.part ++ run;

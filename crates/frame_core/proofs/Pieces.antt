@@ -7,26 +7,26 @@ use Rattle.frame_core.specs.Streams.{Frames, Fails}
 use Rattle.frame_core.proofs.Joins.{joined, joined_fault, fault_stays}
 
 -- one piece more
-pieces_more : {X : Type 0} (octets : X → List ℕ) (pieces : List X) (i : ℕ) (p : X) (piece : List ℕ) → i < length pieces → p ≡ get_or pieces i p → piece ≡ octets p
-    → flat_map octets (take (i + 1) pieces) ≡ flat_map octets (take i pieces) ++ piece
-pieces_more octets pieces i p piece lt is e =
-    ap (flat_map octets) (take_more pieces i p lt) ∙ flat_map-append octets (take i pieces) (get_or pieces i p ∷ [])
-    ∙ ap (λ x. flat_map octets (take i pieces) ++ x) (append-nil (octets (get_or pieces i p)) ∙ ap octets (sym is) ∙ sym e)
+pieces_more : {X : Type 0} (bytes : X → List ℕ) (pieces : List X) (i : ℕ) (p : X) (piece : List ℕ) → i < length pieces → p ≡ get_or pieces i p → piece ≡ bytes p
+    → flat_map bytes (take (i + 1) pieces) ≡ flat_map bytes (take i pieces) ++ piece
+pieces_more bytes pieces i p piece lt is e =
+    ap (flat_map bytes) (take_more pieces i p lt) ∙ flat_map-append bytes (take i pieces) (get_or pieces i p ∷ [])
+    ∙ ap (λ x. flat_map bytes (take i pieces) ++ x) (append-nil (bytes (get_or pieces i p)) ∙ ap bytes (sym is) ∙ sym e)
 
-pub pieces_read : {X : Type 0} (octets : X → List ℕ) (pieces : List X) (i : ℕ) (p : X) (piece rest last : List ℕ) (a b frames : List Frame) → i < length pieces → p ≡ get_or pieces i p → piece ≡ octets p
-    → Frames (flat_map octets (take i pieces)) a rest → Frames (rest ++ piece) b last → frames ≡ a ++ b → Frames (flat_map octets (take (i + 1) pieces)) frames last
-pieces_read octets pieces i p piece rest last a b frames lt is e h k f =
+pub pieces_read : {X : Type 0} (bytes : X → List ℕ) (pieces : List X) (i : ℕ) (p : X) (piece rest last : List ℕ) (a b frames : List Frame) → i < length pieces → p ≡ get_or pieces i p → piece ≡ bytes p
+    → Frames (flat_map bytes (take i pieces)) a rest → Frames (rest ++ piece) b last → frames ≡ a ++ b → Frames (flat_map bytes (take (i + 1) pieces)) frames last
+pieces_read bytes pieces i p piece rest last a b frames lt is e h k f =
     let P : List ℕ → Type 0 = λ x. Frames x (a ++ b) last in
-    let Q : List Frame → Type 0 = λ x. Frames (flat_map octets (take (i + 1) pieces)) x last in
-    subst Q (sym f) (subst P (sym (pieces_more octets pieces i p piece lt is e)) (joined (flat_map octets (take i pieces)) piece a b rest last h k))
+    let Q : List Frame → Type 0 = λ x. Frames (flat_map bytes (take (i + 1) pieces)) x last in
+    subst Q (sym f) (subst P (sym (pieces_more bytes pieces i p piece lt is e)) (joined (flat_map bytes (take i pieces)) piece a b rest last h k))
 
-pub pieces_fail : {X : Type 0} (octets : X → List ℕ) (pieces : List X) (i : ℕ) (p : X) (piece rest : List ℕ) (a b frames : List Frame) (fault : FrameFault) → i < length pieces → p ≡ get_or pieces i p
-    → piece ≡ octets p → Frames (flat_map octets (take i pieces)) a rest → Fails (rest ++ piece) b fault → frames ≡ a ++ b → Fails (flat_map octets pieces) frames fault
-pieces_fail octets pieces i p piece rest a b frames fault lt is e h k f =
+pub pieces_fail : {X : Type 0} (bytes : X → List ℕ) (pieces : List X) (i : ℕ) (p : X) (piece rest : List ℕ) (a b frames : List Frame) (fault : FrameFault) → i < length pieces → p ≡ get_or pieces i p
+    → piece ≡ bytes p → Frames (flat_map bytes (take i pieces)) a rest → Fails (rest ++ piece) b fault → frames ≡ a ++ b → Fails (flat_map bytes pieces) frames fault
+pieces_fail bytes pieces i p piece rest a b frames fault lt is e h k f =
     let P : List ℕ → Type 0 = λ x. Fails x (a ++ b) fault in
-    let Q : List Frame → Type 0 = λ x. Fails (flat_map octets pieces) x fault in
-    let first = subst P (sym (pieces_more octets pieces i p piece lt is e)) (joined_fault (flat_map octets (take i pieces)) piece a b rest fault h k) in
-    let all = fault_stays (flat_map octets (take (i + 1) pieces)) (flat_map octets (drop (i + 1) pieces)) (a ++ b) fault first in
-    let whole : flat_map octets (take (i + 1) pieces) ++ flat_map octets (drop (i + 1) pieces) ≡ flat_map octets pieces =
-    sym (flat_map-append octets (take (i + 1) pieces) (drop (i + 1) pieces)) ∙ ap (flat_map octets) (take-append-drop (i + 1) pieces) in
+    let Q : List Frame → Type 0 = λ x. Fails (flat_map bytes pieces) x fault in
+    let first = subst P (sym (pieces_more bytes pieces i p piece lt is e)) (joined_fault (flat_map bytes (take i pieces)) piece a b rest fault h k) in
+    let all = fault_stays (flat_map bytes (take (i + 1) pieces)) (flat_map bytes (drop (i + 1) pieces)) (a ++ b) fault first in
+    let whole : flat_map bytes (take (i + 1) pieces) ++ flat_map bytes (drop (i + 1) pieces) ≡ flat_map bytes pieces =
+    sym (flat_map-append bytes (take (i + 1) pieces) (drop (i + 1) pieces)) ∙ ap (flat_map bytes) (take-append-drop (i + 1) pieces) in
     subst Q (sym f) (subst P whole all)

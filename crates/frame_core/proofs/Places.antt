@@ -5,7 +5,7 @@ use Rattle.std.proofs.lemmas.List.{get_or-take, length-take-le, take_all, take-a
 use Rattle.std.proofs.lemmas.List.Elements.{All-from_get_or, recursion_from_All}
 use Rattle.memchr.specs.Find.{Nowhere, Passes, IsFirstByte, is_byte}
 
--- where a test passes nowhere in the first n octets, what a failing test says holds of them
+-- where a test passes nowhere in the first n bytes, what a failing test says holds of them
 pub all_before : (test : ℕ → Bool) (P : ℕ → Type 0) (xs : List ℕ) (n : ℕ) → n ≤ length xs → ((b : ℕ) → (test b ≡ true → ⊥) → P b)
     → Nowhere (Passes test xs) 0 n → AllByRecursion P (take n xs)
 all_before test P xs n le says none =
@@ -14,13 +14,13 @@ all_before test P xs n le says none =
     let below : i < n = omega (arith, len) in
     subst P (sym (get_or-take n xs i 0 below)) (says (get_or xs i 0) (none i (omega arith) below))))
 
-pub place_found : (octet : ℕ) (xs : List ℕ) (r : Option ℕ) → IsFirstByte (is_byte octet) xs r
-    → MatchOption r (AllByRecursion (λ b. b ≢ octet) xs) (λ at. (at < length xs) × AllByRecursion (λ b. b ≢ octet) (take at xs) × (get_or xs at 0 ≡ octet))
-place_found octet xs None h =
-    let P : List ℕ → Type 0 = λ ys. AllByRecursion (λ b. b ≢ octet) ys in
-    subst P (take_all (length xs) xs (omega arith)) (all_before (is_byte octet) (λ b. b ≢ octet) xs (length xs) (omega arith) (λ b no e. no (eq-eqb b octet e)) h)
-place_found octet xs (Some at) h =
-    (h.0.high, all_before (is_byte octet) (λ b. b ≢ octet) xs at (omega (arith, h.0.high)) (λ b no e. no (eq-eqb b octet e)) h.0.before, eqb-true _ _ h.1)
+pub place_found : (byte : ℕ) (xs : List ℕ) (r : Option ℕ) → IsFirstByte (is_byte byte) xs r
+    → MatchOption r (AllByRecursion (λ b. b ≢ byte) xs) (λ at. (at < length xs) × AllByRecursion (λ b. b ≢ byte) (take at xs) × (get_or xs at 0 ≡ byte))
+place_found byte xs None h =
+    let P : List ℕ → Type 0 = λ ys. AllByRecursion (λ b. b ≢ byte) ys in
+    subst P (take_all (length xs) xs (omega arith)) (all_before (is_byte byte) (λ b. b ≢ byte) xs (length xs) (omega arith) (λ b no e. no (eq-eqb b byte e)) h)
+place_found byte xs (Some at) h =
+    (h.0.high, all_before (is_byte byte) (λ b. b ≢ byte) xs at (omega (arith, h.0.high)) (λ b no e. no (eq-eqb b byte e)) h.0.before, eqb-true _ _ h.1)
 
 -- a list is what stands before a place, what stands there, and what stands behind
 pub cut_at : (xs : List ℕ) (at : ℕ) → at < length xs → xs ≡ take at xs ++ (get_or xs at 0 ∷ drop (at + 1) xs)

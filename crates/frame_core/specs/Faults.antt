@@ -10,10 +10,10 @@ use Rattle.frame_core.specs.Heads.{IsInLine, eol, HeaderLine, line_of, IsHeaderL
 use Rattle.frame_core.specs.Spelling.{IsNumber, announced}
 use Rattle.frame_core.specs.Parts.{IsPartOfHead, IsBoundedHead, IsPartOfBody, Plans}
 
--- Each fact below says of octets that they end at the very octet that decides a fault.
+-- Each fact below says of bytes that they end at the very byte that decides a fault.
 
--- a NUL in a line, or another octet than LF behind a CR
-pub record HasStrayOctet (bytes : List ℕ) : Type 0 where
+-- a NUL in a line, or another byte than LF behind a CR
+pub record HasStrayByte (bytes : List ℕ) : Type 0 where
   pub front : List ℕ
   pub last : ℕ
   pub whole : bytes ≡ front ++ last ∷ []
@@ -22,7 +22,7 @@ pub record HasStrayOctet (bytes : List ℕ) : Type 0 where
   pub behind_cr : part.with_cr ≡ true → last ≢ 10
   pub size : length bytes ≤ 8192
 
--- the 8,193rd octet of a head
+-- the 8,193rd byte of a head
 pub record HasLongHead (bytes : List ℕ) : Type 0 where
   pub front : List ℕ
   pub last : ℕ
@@ -34,7 +34,7 @@ pub record HasLongHead (bytes : List ℕ) : Type 0 where
 pub record IsFirstLine (text bytes : List ℕ) : Type 0 where
   pub with_cr : Bool
   pub whole : bytes ≡ text ++ eol with_cr
-  pub some_octet : 0 < length text
+  pub some_byte : 0 < length text
   pub each : AllByRecursion IsInLine text
   pub size : length bytes ≤ 8192
 
@@ -54,7 +54,7 @@ pub record IsNextLine (verb : Verb) (headers : List (List ℕ × List ℕ)) (tex
   pub begins : Begins verb headers lines
   pub count : length headers ≤ 64
   pub each : AllByRecursion IsInLine text
-  pub some_octet : 0 < length text
+  pub some_byte : 0 < length text
   pub size : length bytes ≤ 8192
 
 -- a line of headers with no colon, or with no name before it
@@ -97,7 +97,7 @@ abbrev pub Announces : Verb → ℕ → List ℕ → Type 0
 Announces verb n bytes = (headers : List (List ℕ × List ℕ)) × (text : List ℕ) × IsBoundedHead verb headers bytes
     × (announced headers ≡ Some text) × IsNumber text n × (length text ≤ 10)
 
--- a head that announces more octets than a body may have
+-- a head that announces more bytes than a body may have
 abbrev pub HasLongLength : List ℕ → Type 0
 HasLongLength bytes = (verb : Verb) × (n : ℕ) × Announces verb n bytes × (65536 < n)
 
@@ -105,8 +105,8 @@ HasLongLength bytes = (verb : Verb) × (n : ℕ) × Announces verb n bytes × (6
 abbrev pub HasWrongLength : List ℕ → Type 0
 HasWrongLength bytes = (verb : Verb) × (n : ℕ) × Announces verb n bytes × (0 < n) × (n ≤ 65536) × (has_body verb ≡ false)
 
--- a whole head, a body so far, and one more octet
-pub record IsNextOctet (verb : Verb) (plan : Option ℕ) (body : List ℕ) (last : ℕ) (bytes : List ℕ) : Type 0 where
+-- a whole head, a body so far, and one more byte
+pub record IsNextByte (verb : Verb) (plan : Option ℕ) (body : List ℕ) (last : ℕ) (bytes : List ℕ) : Type 0 where
   pub headers : List (List ℕ × List ℕ)
   pub head : List ℕ
   pub whole : bytes ≡ head ++ (body ++ last ∷ [])
@@ -114,22 +114,22 @@ pub record IsNextOctet (verb : Verb) (plan : Option ℕ) (body : List ℕ) (last
   pub plans : Plans verb headers plan
   pub is_part : IsPartOfBody verb plan body
 
--- another octet than NUL behind a body of the announced length
+-- another byte than NUL behind a body of the announced length
 abbrev pub HasNoEnd : List ℕ → Type 0
-HasNoEnd bytes = (verb : Verb) × (body : List ℕ) × (last : ℕ) × IsNextOctet verb (Some (length body)) body last bytes × (last ≢ 0)
+HasNoEnd bytes = (verb : Verb) × (body : List ℕ) × (last : ℕ) × IsNextByte verb (Some (length body)) body last bytes × (last ≢ 0)
 
--- the 65,537th octet of a body whose length is not announced
+-- the 65,537th byte of a body whose length is not announced
 abbrev pub HasLongBody : List ℕ → Type 0
-HasLongBody bytes = (verb : Verb) × (body : List ℕ) × (last : ℕ) × IsNextOctet verb None body last bytes × (last ≢ 0)
+HasLongBody bytes = (verb : Verb) × (body : List ℕ) × (last : ℕ) × IsNextByte verb None body last bytes × (last ≢ 0)
     × (has_body verb ≡ true) × (length body ≡ 65536)
 
--- an octet where no body may stand
+-- an byte where no body may stand
 abbrev pub HasWrongBody : List ℕ → Type 0
-HasWrongBody bytes = (verb : Verb) × (last : ℕ) × IsNextOctet verb None [] last bytes × (last ≢ 0) × (has_body verb ≡ false)
+HasWrongBody bytes = (verb : Verb) × (last : ℕ) × IsNextByte verb None [] last bytes × (last ≢ 0) × (has_body verb ≡ false)
 
--- The octets end where they decide this fault.
+-- The bytes end where they decide this fault.
 abbrev pub Faulty : FrameFault → List ℕ → Type 0
-Faulty Malformed bytes = HasStrayOctet bytes ⊎ (HasNamelessLine bytes ⊎ HasNoEnd bytes)
+Faulty Malformed bytes = HasStrayByte bytes ⊎ (HasNamelessLine bytes ⊎ HasNoEnd bytes)
 Faulty TooLarge bytes = HasLongHead bytes ⊎ (HasTooManyHeaders bytes ⊎ (HasLongLength bytes ⊎ HasLongBody bytes))
 Faulty UndefinedEscape bytes = HasBadEscape bytes
 Faulty UnknownCommand bytes = HasNoCommand bytes

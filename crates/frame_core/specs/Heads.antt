@@ -5,7 +5,7 @@ use Rattle.escape_core.specs.Escapes.{unescaped}
 use Rattle.frame_core.specs.declared.frame.Verb.{Verb}
 use Rattle.frame_core.specs.Verbs.{name_of, is_raw}
 
--- an octet that may stand within a line: no NUL, LF or CR
+-- an byte that may stand within a line: no NUL, LF or CR
 abbrev pub IsInLine : ℕ → Type 0
 IsInLine b = (b ≢ 0) × (b ≢ 10) × (b ≢ 13)
 
@@ -19,11 +19,11 @@ pub record HeaderLine : Type 0 where
   pub value : List ℕ
   pub with_cr : Bool
 
--- its octets, with its end of line
+-- its bytes, with its end of line
 abbrev pub line_of : HeaderLine → List ℕ
 line_of line = line.name ++ 58 ∷ (line.value ++ eol line.with_cr)
 
--- the form of a header line: a name, no octet that can't stand there, and no colon in the name
+-- the form of a header line: a name, no byte that can't stand there, and no colon in the name
 pub record IsHeaderLine (line : HeaderLine) : Type 0 where
   pub named : 0 < length line.name
   pub name : AllByRecursion (λ b. IsInLine b × (b ≢ 58)) line.name
@@ -41,19 +41,19 @@ pub record IsHeaderOf (verb : Verb) (line : HeaderLine) (header : List ℕ × Li
   pub name_utf8 : IsUtf8 header.0
   pub value_utf8 : IsUtf8 header.1
 
--- the octets are header lines of these headers, in order
+-- the bytes are header lines of these headers, in order
 abbrev pub HeaderLines : Verb → List ℕ → List (List ℕ × List ℕ) → Type 0
 HeaderLines verb bytes [] = bytes ≡ []
 HeaderLines verb bytes (header ∷ headers) = (line : HeaderLine) × (rest : List ℕ) × IsHeaderOf verb line header × (bytes ≡ line_of line ++ rest) × HeaderLines verb rest headers
 
--- the octets are a command line and header lines
+-- the bytes are a command line and header lines
 pub record Begins (verb : Verb) (headers : List (List ℕ × List ℕ)) (bytes : List ℕ) : Type 0 where
   pub with_cr : Bool
   pub lines : List ℕ
   pub whole : bytes ≡ name_of verb ++ eol with_cr ++ lines
   pub each : HeaderLines verb lines headers
 
--- the octets are a whole head: a command line, header lines and an empty line
+-- the bytes are a whole head: a command line, header lines and an empty line
 pub record IsHead (verb : Verb) (headers : List (List ℕ × List ℕ)) (bytes : List ℕ) : Type 0 where
   pub with_cr : Bool
   pub lines : List ℕ

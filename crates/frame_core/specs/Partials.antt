@@ -23,38 +23,38 @@ IsAt Command head line with_cr headers body = IsLine head line with_cr [] × (he
 IsAt (HeaderLines verb) head line with_cr headers body = (lines : List ℕ) × IsLine head line with_cr lines × Begins verb headers lines × (length headers ≤ 64) × (body ≡ [])
 IsAt (Body verb plan) head line with_cr headers body = IsBoundedHead verb headers head × Plans verb headers plan × IsPartOfBody verb plan body
 
--- the fields of an unfinished frame say what its octets are, at a stage
+-- the fields of an unfinished frame say what its bytes are, at a stage
 abbrev pub IsKeptAt : Stage → Partial → Type 0
 IsKeptAt stage p = IsAt stage p.head.items p.line p.with_cr p.headers.items p.body.items
 
--- the fields of an unfinished frame say what its octets are, at its stage
+-- the fields of an unfinished frame say what its bytes are, at its stage
 abbrev pub IsKept : Partial → Type 0
 IsKept p = IsKeptAt p.stage p
 
--- its octets
-abbrev pub octets_of : Partial → List ℕ
-octets_of p = p.head.items ++ p.body.items
+-- its bytes
+abbrev pub bytes_of : Partial → List ℕ
+bytes_of p = p.head.items ++ p.body.items
 
 -- its head isn't whole
 abbrev pub IsInHead : Stage → Type 0
 IsInHead (Body verb plan) = ⊥
 IsInHead stage = ⊤
 
--- With so many octets of the piece the frames grow by those that they end, and the new unfinished frame is what is
+-- With so many bytes of the piece the frames grow by those that they end, and the new unfinished frame is what is
 -- left of them.
 pub record Advances (old new : Partial) (had have : List Frame) (piece : List ℕ) (count : ℕ) : Type 0 where
   pub done : List Frame
-  pub some_octet : 0 < count
+  pub some_byte : 0 < count
   pub within : count ≤ length piece
   pub frames : have ≡ had ++ done
-  pub reads : Frames (octets_of old ++ take count piece) done (octets_of new)
+  pub reads : Frames (bytes_of old ++ take count piece) done (bytes_of new)
   pub kept : IsKept new
 
--- With so many octets of the piece no frame ends, and the new unfinished frame has them too.
+-- With so many bytes of the piece no frame ends, and the new unfinished frame has them too.
 pub record AdvancesHead (old new : Partial) (piece : List ℕ) (count : ℕ) : Type 0 where
-  pub some_octet : 0 < count
+  pub some_byte : 0 < count
   pub within : count ≤ length piece
-  pub reads : Frames (octets_of old ++ take count piece) [] (octets_of new)
+  pub reads : Frames (bytes_of old ++ take count piece) [] (bytes_of new)
   pub kept : IsKept new
 
 -- the line is ended with its LF, and the next begins

@@ -11,7 +11,7 @@ abbrev pub IsBegun : List ℕ → Type 0
 IsBegun bytes = (bytes ≡ []) ⊎ ((verb : Verb) × (headers : List (List ℕ × List ℕ)) × Begins verb headers bytes × (length headers ≤ 64))
 
 -- A part of a head that decides nothing yet: whole lines and a part of the next one, perhaps with the CR of its end,
--- in at most 8,192 octets. Between two frames it is nothing, or a CR.
+-- in at most 8,192 bytes. Between two frames it is nothing, or a CR.
 pub record IsPartOfHead (bytes : List ℕ) : Type 0 where
   pub lines : List ℕ
   pub part : List ℕ
@@ -36,7 +36,7 @@ pub record IsAnnounced (verb : Verb) (headers : List (List ℕ × List ℕ)) (n 
   pub size : n ≤ 65536
   pub allowed : has_body verb ≡ false → n ≡ 0
 
--- how a body ends: behind so many octets where they are announced, or else at its first NUL
+-- how a body ends: behind so many bytes where they are announced, or else at its first NUL
 abbrev pub Plans : Verb → List (List ℕ × List ℕ) → Option ℕ → Type 0
 Plans verb headers None = announced headers ≡ None
 Plans verb headers (Some n) = IsAnnounced verb headers n

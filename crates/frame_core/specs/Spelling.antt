@@ -19,14 +19,14 @@ pub record HasBody (verb : Verb) (headers : List (List ℕ × List ℕ)) (body :
   pub ends : MatchOption (announced headers) (HasNoNul body) (λ text. IsNumber text (length body))
   pub allowed : has_body verb ≡ false → body ≡ []
 
--- The octets spell the frame: a head, a body and a NUL. (STOMP 1.2, "Augmented BNF")
+-- The bytes spell the frame: a head, a body and a NUL. (STOMP 1.2, "Augmented BNF")
 pub record Spells (bytes : List ℕ) (frame : Frame) : Type 0 where
   pub head : List ℕ
   pub whole : bytes ≡ head ++ (frame.body ++ 0 ∷ [])
   pub is_head : IsHead frame.verb frame.headers head
   pub has_body : HasBody frame.verb frame.headers frame.body
 
--- The limits of this broker: 8,192 octets up to the empty line's end, 64 headers, 65,536 octets of body, and ten
+-- The limits of this broker: 8,192 bytes up to the empty line's end, 64 headers, 65,536 bytes of body, and ten
 -- digits of its announced length.
 pub record IsWithinLimits (bytes : List ℕ) (frame : Frame) : Type 0 where
   pub head : length bytes ≤ 8192 + length frame.body + 1

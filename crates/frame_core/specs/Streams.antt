@@ -17,11 +17,11 @@ Frames stream (frame ∷ frames) rest = (gaps : List Bool) × (bytes : List ℕ)
 abbrev pub Reads : List ℕ → List Frame → List ℕ → Type 0
 Reads stream frames rest = Frames stream frames rest × IsUnfinished rest
 
--- behind these frames the stream has that fault, decided at the last octet of `bad`
+-- behind these frames the stream has that fault, decided at the last byte of `bad`
 abbrev pub Fails : List ℕ → List Frame → FrameFault → Type 0
 Fails stream frames fault = (bad : List ℕ) × (after : List ℕ) × Frames stream frames (bad ++ after) × Faulty fault bad
 
--- The octets are read as the frame, and whatever follows them, what is read of both begins with the frame.
+-- The bytes are read as the frame, and whatever follows them, what is read of both begins with the frame.
 pub record IsReadFirst (bytes : List ℕ) (frame : Frame) : Type 0 where
   pub alone : Reads bytes (frame ∷ []) []
   pub reads : (more : List ℕ) (frames : List Frame) (rest : List ℕ) → Reads (bytes ++ more) frames rest

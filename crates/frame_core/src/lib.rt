@@ -5,14 +5,12 @@
 mod bytes;
 mod fault;
 mod frame;
+mod head_lines;
 mod headers;
 mod laws;
-mod lines;
 mod partial;
 mod reader;
 mod search;
-#[cfg(test)]
-mod tests;
 mod text;
 mod write;
 

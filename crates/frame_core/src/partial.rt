@@ -1,24 +1,24 @@
-//! The frame that isn't whole yet: lines of its head and octets of its body, taken in slices.
+//! The frame that isn't whole yet: lines of its head and bytes of its body, taken in slices.
 
 use crate::bytes::Bytes;
 use crate::fault::FrameFault;
 use crate::frame::{Frame, Verb};
+use crate::head_lines::{body_plan, header_of, refusal_of, verb_of};
 use crate::headers::Headers;
-use crate::lines::{body_plan, header_of, verb_of};
 use crate::search::{run_before_nul, run_in_line};
 use crate::text::Text;
 use std::alloc::{AllocError, AllocFailed, Global};
 use std::mem;
 
-/// The octets of a head: its command line, its header lines and its empty line.
+/// The bytes of a head: its command line, its header lines and its empty line.
 const MAX_HEAD: usize = 8192;
 /// The headers of a frame.
 const MAX_HEADERS: usize = 64;
-/// The octets of a body.
+/// The bytes of a body.
 pub(crate) const MAX_BODY: usize = 65_536;
 
 /// Why reading stops.
-#[derive(Clone, Copy, Debug)]
+#[derive(Clone, Copy)]
 pub(crate) enum Stop {
     Memory,
     Fault(FrameFault),
@@ -58,28 +58,28 @@ impl From<FrameFault> for Stop {
 }
 
 /// How far an unfinished frame has come.
-#[derive(Clone, Copy, Debug)]
+#[derive(Clone, Copy)]
 pub(crate) enum Stage {
     /// The command line isn't whole. Between two frames nothing of it is there, or the CR that may begin an EOL.
     Command,
     /// The command line is whole, and header lines or the empty line follow.
     HeaderLines(Verb),
-    /// The head is whole, and the body follows: of so many octets, or up to the first NUL.
+    /// The head is whole, and the body follows: of so many bytes, or up to the first NUL.
     Body(Verb, Option<usize>),
 }
 
-/// An unfinished frame. Its octets are kept as they came, and each line of its head is read once, at its LF.
+/// An unfinished frame. Its bytes are kept as they came, and each line of its head is read once, at its LF.
 #[derive(Drop)]
 pub(crate) struct Partial {
     pub(crate) stage: Stage,
-    /// The octets of the head so far.
+    /// The bytes of the head so far.
     pub(crate) head: Vec<u8>,
     /// Where in the head the line begins that isn't whole.
     pub(crate) line: usize,
-    /// Whether the last octet is a CR, which only an LF may follow.
+    /// Whether the last byte is a CR, which only an LF may follow.
     pub(crate) with_cr: bool,
     pub(crate) headers: Vec<(Text, Text)>,
-    /// The octets behind the head.
+    /// The bytes behind the head.
     pub(crate) body: Vec<u8>,
 }
 
@@ -91,12 +91,12 @@ impl Partial {
     ghost use Rattle.frame_core.specs.Streams.{Frames, Fails};
     ghost use Rattle.frame_core.specs.Faults.{Faulty};
     ghost use Rattle.frame_core.specs.Stops.{IfFault};
-    ghost use Rattle.frame_core.specs.Partials.{IsKept, IsKeptAt, IsInHead, octets_of, Advances, AdvancesHead, IsNextLineOf, frame_of};
+    ghost use Rattle.frame_core.specs.Partials.{IsKept, IsKeptAt, IsInHead, bytes_of, Advances, AdvancesHead, IsNextLineOf, frame_of};
 
     /// Nothing yet. It takes no memory.
     pub(crate) fn new(alloc: Global) -> Partial
         ensures kept { IsKept result }
-        ensures empty { octets_of result ≡ [] }
+        ensures empty { bytes_of result ≡ [] }
     {
         Partial {
             stage: Stage::Command,
@@ -108,18 +108,18 @@ impl Partial {
         }
     }
 
-    /// Takes some octets of the piece, which has some, and says how many.
+    /// Takes some bytes of the piece, which has some, and says how many.
     pub(crate) fn advance(
         &mut self,
         alloc: Global,
         frames: &mut Vec<Frame>,
         piece: &[u8],
     ) -> Result<usize, Stop>
-        requires some_octet { 0 < length piece.now }
+        requires some_byte { 0 < length piece.now }
         requires kept { IsKept self.old }
         ensures ok { IfOk result (λ count. Advances self.old self.new frames.old.items frames.new.items piece.now count) }
         ensures fault { IfErr result (λ stop. IfFault stop (λ fault.
-            (frames.new.items ≡ frames.old.items) × Fails (octets_of self.old ++ piece.now) [] fault)) }
+            (frames.new.items ≡ frames.old.items) × Fails (bytes_of self.old ++ piece.now) [] fault)) }
     {
         match self.stage {
             Stage::Body(verb, Some(n)) => self.take_counted(alloc, verb, n, frames, piece),
@@ -128,17 +128,17 @@ impl Partial {
         }
     }
 
-    /// Takes octets of a line up to its end, or an octet of its end.
+    /// Takes bytes of a line up to its end, or an byte of its end.
     fn take_head(&mut self, alloc: Global, piece: &[u8]) -> Result<usize, Stop>
-        requires some_octet { 0 < length piece.now }
+        requires some_byte { 0 < length piece.now }
         requires in_head { IsInHead self.old.stage }
         requires kept { IsKept self.old }
         ensures ok { IfOk result (λ count. AdvancesHead self.old self.new piece.now count) }
-        ensures fault { IfErr result (λ stop. IfFault stop (λ fault. Fails (octets_of self.old ++ piece.now) [] fault)) }
+        ensures fault { IfErr result (λ stop. IfFault stop (λ fault. Fails (bytes_of self.old ++ piece.now) [] fault)) }
     {
         let count = run_in_line(piece);
         if count == 0 || self.with_cr {
-            self.take_octet(alloc, piece[0])?;
+            self.take_byte(alloc, piece[0])?;
             return Ok(1);
         }
         if count > MAX_HEAD - self.head.len() {
@@ -148,24 +148,24 @@ impl Partial {
         Ok(count)
     }
 
-    /// Takes one octet of the head.
-    fn take_octet(&mut self, alloc: Global, octet: u8) -> Result<(), Stop>
+    /// Takes one byte of the head.
+    fn take_byte(&mut self, alloc: Global, byte: u8) -> Result<(), Stop>
         requires in_head { IsInHead self.old.stage }
         requires kept { IsKept self.old }
-        ensures ok { OnOk result (Frames (octets_of self.old ++ octet ∷ []) [] (octets_of self.new) × IsKept self.new) }
-        ensures fault { IfErr result (λ stop. IfFault stop (λ fault. Faulty fault (octets_of self.old ++ octet ∷ []))) }
+        ensures ok { OnOk result (Frames (bytes_of self.old ++ byte ∷ []) [] (bytes_of self.new) × IsKept self.new) }
+        ensures fault { IfErr result (λ stop. IfFault stop (λ fault. Faulty fault (bytes_of self.old ++ byte ∷ []))) }
     {
         if self.head.len() == MAX_HEAD {
             return Err(Stop::Fault(FrameFault::TooLarge));
         }
-        if octet == b'\n' {
+        if byte == b'\n' {
             return self.end_line(alloc);
         }
-        if octet == 0 || self.with_cr {
+        if byte == 0 || self.with_cr {
             return Err(Stop::Fault(FrameFault::Malformed));
         }
-        self.head.push(octet)?;
-        self.with_cr = octet == b'\r';
+        self.head.push(byte)?;
+        self.with_cr = byte == b'\r';
         Ok(())
     }
 
@@ -174,8 +174,8 @@ impl Partial {
         requires in_head { IsInHead self.old.stage }
         requires kept { IsKept self.old }
         requires room { length self.old.head.items < 8192 }
-        ensures ok { OnOk result (Frames (octets_of self.old ++ 10 ∷ []) [] (octets_of self.new) × IsKept self.new) }
-        ensures fault { IfErr result (λ stop. IfFault stop (λ fault. Faulty fault (octets_of self.old ++ 10 ∷ []))) }
+        ensures ok { OnOk result (Frames (bytes_of self.old ++ 10 ∷ []) [] (bytes_of self.new) × IsKept self.new) }
+        ensures fault { IfErr result (λ stop. IfFault stop (λ fault. Faulty fault (bytes_of self.old ++ 10 ∷ []))) }
     {
         match self.stage {
             Stage::Command => self.end_command_line(),
@@ -196,8 +196,8 @@ impl Partial {
         requires kept { IsKeptAt Command self.old }
         requires stage { self.old.stage ≡ Command }
         requires room { length self.old.head.items < 8192 }
-        ensures ok { OnOk result (Frames (octets_of self.old ++ 10 ∷ []) [] (octets_of self.new) × IsKept self.new) }
-        ensures fault { IfErr result (λ stop. IfFault stop (λ fault. Faulty fault (octets_of self.old ++ 10 ∷ []))) }
+        ensures ok { OnOk result (Frames (bytes_of self.old ++ 10 ∷ []) [] (bytes_of self.new) × IsKept self.new) }
+        ensures fault { IfErr result (λ stop. IfFault stop (λ fault. Faulty fault (bytes_of self.old ++ 10 ∷ []))) }
     {
         let end = self.text_end();
         if end == 0 {
@@ -213,18 +213,20 @@ impl Partial {
     fn end_header_line(&mut self, alloc: Global, verb: Verb) -> Result<(), Stop>
         requires kept { IsKeptAt (HeaderLines verb) self.old }
         requires room { length self.old.head.items < 8192 }
-        ensures ok { OnOk result (Frames (octets_of self.old ++ 10 ∷ []) [] (octets_of self.new) × IsKept self.new) }
-        ensures fault { IfErr result (λ stop. IfFault stop (λ fault. Faulty fault (octets_of self.old ++ 10 ∷ []))) }
+        ensures ok { OnOk result (Frames (bytes_of self.old ++ 10 ∷ []) [] (bytes_of self.new) × IsKept self.new) }
+        ensures fault { IfErr result (λ stop. IfFault stop (λ fault. Faulty fault (bytes_of self.old ++ 10 ∷ []))) }
     {
         let end = self.text_end();
         if end == self.line {
             let plan = body_plan(verb, self.headers.as_slice())?;
             return self.next_line(Stage::Body(verb, plan));
         }
-        let header = header_of(alloc, verb, &self.head[self.line..end])?;
         if self.headers.len() == MAX_HEADERS {
-            return Err(Stop::Fault(FrameFault::TooLarge));
+            // One header too many is refused, in this way or for what is wrong with it, before memory is taken for it.
+            let refusal = refusal_of(verb, &self.head[self.line..end]);
+            return Err(Stop::Fault(refusal.unwrap_or(FrameFault::TooLarge)));
         }
+        let header = header_of(alloc, verb, &self.head[self.line..end])?;
         self.headers.push(header)?;
         self.next_line(Stage::HeaderLines(verb))
     }
@@ -242,7 +244,7 @@ impl Partial {
         Ok(())
     }
 
-    /// Takes octets of a body of announced length, or the NUL behind it.
+    /// Takes bytes of a body of announced length, or the NUL behind it.
     fn take_counted(
         &mut self,
         alloc: Global,
@@ -251,12 +253,12 @@ impl Partial {
         frames: &mut Vec<Frame>,
         piece: &[u8],
     ) -> Result<usize, Stop>
-        requires some_octet { 0 < length piece.now }
+        requires some_byte { 0 < length piece.now }
         requires stage { self.old.stage ≡ Body verb (Some announced) }
         requires kept { IsKeptAt (Body verb (Some announced)) self.old }
         ensures ok { IfOk result (λ count. Advances self.old self.new frames.old.items frames.new.items piece.now count) }
         ensures fault { IfErr result (λ stop. IfFault stop (λ fault.
-            (frames.new.items ≡ frames.old.items) × Fails (octets_of self.old ++ piece.now) [] fault)) }
+            (frames.new.items ≡ frames.old.items) × Fails (bytes_of self.old ++ piece.now) [] fault)) }
     {
         let left = announced - self.body.len();
         if left == 0 {
@@ -271,7 +273,7 @@ impl Partial {
         Ok(count)
     }
 
-    /// Takes octets of a body up to its NUL, or the NUL.
+    /// Takes bytes of a body up to its NUL, or the NUL.
     fn take_to_nul(
         &mut self,
         alloc: Global,
@@ -279,12 +281,12 @@ impl Partial {
         frames: &mut Vec<Frame>,
         piece: &[u8],
     ) -> Result<usize, Stop>
-        requires some_octet { 0 < length piece.now }
+        requires some_byte { 0 < length piece.now }
         requires stage { self.old.stage ≡ Body verb None }
         requires kept { IsKeptAt (Body verb None) self.old }
         ensures ok { IfOk result (λ count. Advances self.old self.new frames.old.items frames.new.items piece.now count) }
         ensures fault { IfErr result (λ stop. IfFault stop (λ fault.
-            (frames.new.items ≡ frames.old.items) × Fails (octets_of self.old ++ piece.now) [] fault)) }
+            (frames.new.items ≡ frames.old.items) × Fails (bytes_of self.old ++ piece.now) [] fault)) }
     {
         let count = run_before_nul(piece);
         if count == 0 {
@@ -305,7 +307,7 @@ impl Partial {
     fn finish(&mut self, alloc: Global, verb: Verb, frames: &mut Vec<Frame>) -> Result<(), Stop>
         ensures frames { OnOk result (frames.new.items ≡ frames.old.items ++ frame_of verb self.old ∷ []) }
         ensures kept { OnOk result (IsKept self.new) }
-        ensures empty { OnOk result (octets_of self.new ≡ []) }
+        ensures empty { OnOk result (bytes_of self.new ≡ []) }
         ensures fault { IfErr result (λ stop. stop ≡ Memory) }
     {
         let headers = Headers::new(mem::replace(&mut self.headers, Vec::new(alloc)));

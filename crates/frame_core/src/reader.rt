@@ -4,7 +4,7 @@ ghost use Rattle.std.specs.Prelude.{◌≡◌, ◌≢◌, ◌++◌, [], List, �
 ghost use Rattle.frame_core.specs.Parts.{IsUnfinished};
 ghost use Rattle.frame_core.specs.Streams.{Frames, Reads, Fails};
 ghost use Rattle.frame_core.specs.Stops.{IfFault};
-ghost use Rattle.frame_core.specs.Partials.{IsKept, octets_of};
+ghost use Rattle.frame_core.specs.Partials.{IsKept, bytes_of};
 
 use crate::fault::FrameFault;
 use crate::frame::Frame;
@@ -24,7 +24,7 @@ pub enum FeedFault {
     Failed,
 }
 
-/// What a piece gave: the frames that it ended, and the fault behind them, if it has the octet that decides one.
+/// What a piece gave: the frames that it ended, and the fault behind them, if it has the byte that decides one.
 #[derive(Debug, Drop)]
 pub struct Fed {
     pub frames: Vec<Frame>,
@@ -44,9 +44,9 @@ impl Model for FrameReader {
 
     ghost Value = { Reading };
 
-    ghost use Rattle.frame_core.specs.Partials.{IsKept, octets_of};
+    ghost use Rattle.frame_core.specs.Partials.{IsKept, bytes_of};
 
-    ghost view = { λ a. record { rest = octets_of a.partial; failed = a.failed } };
+    ghost view = { λ a. record { rest = bytes_of a.partial; failed = a.failed } };
 
     ghost invariant = { λ a. a.failed ≡ false → IsKept a.partial };
 }
@@ -63,10 +63,10 @@ impl FrameReader {
         }
     }
 
-    /// Reads a piece of the stream, behind the octets that earlier pieces left of an unfinished frame. It gives the
-    /// frames that are whole now, each as its octets spell it, and the fault behind them where the piece has the octet
-    /// that decides one (STOMP 1.2, "Augmented BNF", within the limits of 8,192 octets of head, 64 headers and 65,536
-    /// octets of body). So the frames and the fault of a stream do not depend on how it is cut.
+    /// Reads a piece of the stream, behind the bytes that earlier pieces left of an unfinished frame. It gives the
+    /// frames that are whole now, each as its bytes spell it, and the fault behind them where the piece has the byte
+    /// that decides one (STOMP 1.2, "Augmented BNF", within the limits of 8,192 bytes of head, 64 headers and 65,536
+    /// bytes of body). So the frames and the fault of a stream do not depend on how it is cut.
     ///
     /// After a fault, and after memory was refused, every call is `Failed`.
     pub fn feed(&mut self, alloc: Global, piece: &[u8]) -> Result<Fed, FeedFault>
@@ -100,7 +100,7 @@ impl FrameReader {
     }
 }
 
-/// Reads the piece behind the octets of the unfinished frame.
+/// Reads the piece behind the bytes of the unfinished frame.
 fn read_piece(
     alloc: Global,
     partial: &mut Partial,
@@ -109,8 +109,8 @@ fn read_piece(
 ) -> Result<(), Stop>
     requires none_yet { frames.old.items ≡ [] }
     requires kept { IsKept partial.old }
-    ensures ok { OnOk result (Frames (octets_of partial.old ++ piece.now) frames.new.items (octets_of partial.new) × IsKept partial.new) }
-    ensures fault { IfErr result (λ stop. IfFault stop (λ fault. Fails (octets_of partial.old ++ piece.now) frames.new.items fault)) }
+    ensures ok { OnOk result (Frames (bytes_of partial.old ++ piece.now) frames.new.items (bytes_of partial.new) × IsKept partial.new) }
+    ensures fault { IfErr result (λ stop. IfFault stop (λ fault. Fails (bytes_of partial.old ++ piece.now) frames.new.items fault)) }
 {
     let mut at = 0;
     while at < piece.len() {

@@ -1,4 +1,4 @@
-//! Where an octet stands first.
+//! Where an byte stands first.
 
 ghost use Rattle.std.specs.Prelude.{◌≡◌, ◌≢◌, ◌<◌, ◌≤◌, false, MatchOption, length, take, slice_index};
 ghost use Rattle.std.specs.List.{AllByRecursion};
@@ -6,43 +6,43 @@ ghost use Rattle.frame_core.specs.Heads.{IsInLine};
 
 use memchr::{memchr, memchr3};
 
-/// The first place of the octet.
-pub(crate) fn place_of(octet: u8, octets: &[u8]) -> Option<usize>
+/// The first place of the byte.
+pub(crate) fn place_of(byte: u8, bytes: &[u8]) -> Option<usize>
     ensures { MatchOption result
-        (AllByRecursion (λ b. b ≢ octet) octets.now)
-        (λ at. (at < length octets.now) × AllByRecursion (λ b. b ≢ octet) (take at octets.now) × (slice_index octets.now at ≡ octet)) }
+        (AllByRecursion (λ b. b ≢ byte) bytes.now)
+        (λ at. (at < length bytes.now) × AllByRecursion (λ b. b ≢ byte) (take at bytes.now) × (slice_index bytes.now at ≡ byte)) }
 {
-    memchr(octet, octets)
+    memchr(byte, bytes)
 }
 
-/// How many octets stand before the first NUL.
-pub(crate) fn run_before_nul(octets: &[u8]) -> usize
-    ensures within { result ≤ length octets.now }
-    ensures run { AllByRecursion (λ b. b ≢ 0) (take result octets.now) }
-    ensures nul { result < length octets.now → slice_index octets.now result ≡ 0 }
+/// How many bytes stand before the first NUL.
+pub(crate) fn run_before_nul(bytes: &[u8]) -> usize
+    ensures within { result ≤ length bytes.now }
+    ensures run { AllByRecursion (λ b. b ≢ 0) (take result bytes.now) }
+    ensures nul { result < length bytes.now → slice_index bytes.now result ≡ 0 }
 {
-    match place_of(0, octets) {
+    match place_of(0, bytes) {
         Some(at) => at,
-        None => octets.len(),
+        None => bytes.len(),
     }
 }
 
-/// How many octets stand before the first NUL, LF or CR.
-pub(crate) fn run_in_line(octets: &[u8]) -> usize
-    ensures within { result ≤ length octets.now }
-    ensures run { AllByRecursion IsInLine (take result octets.now) }
+/// How many bytes stand before the first NUL, LF or CR.
+pub(crate) fn run_in_line(bytes: &[u8]) -> usize
+    ensures within { result ≤ length bytes.now }
+    ensures run { AllByRecursion IsInLine (take result bytes.now) }
 {
-    match memchr3(0, b'\n', b'\r', octets) {
+    match memchr3(0, b'\n', b'\r', bytes) {
         Some(at) => at,
-        None => octets.len(),
+        None => bytes.len(),
     }
 }
 
-/// Whether the octet stands there.
-pub(crate) fn has_octet(octet: u8, octets: &[u8]) -> bool
-    ensures { result ≡ false → AllByRecursion (λ b. b ≢ octet) octets.now }
+/// Whether the byte stands there.
+pub(crate) fn has_byte(byte: u8, bytes: &[u8]) -> bool
+    ensures { result ≡ false → AllByRecursion (λ b. b ≢ byte) bytes.now }
 {
-    match place_of(octet, octets) {
+    match place_of(byte, bytes) {
         Some(_) => true,
         None => false,
     }

@@ -98,7 +98,7 @@ pub fn writable(frame: &Frame) -> bool
         && has_end(frame)
 }
 
-/// At least as many octets as the frame has when it is written.
+/// At least as many bytes as the frame has when it is written.
 fn room(frame: &Frame) -> usize {
     let mut room = frame.body.as_slice().len().saturating_add(16);
     for (name, value) in frame.headers.as_slice() {
@@ -149,7 +149,7 @@ fn write_headers(
     Ok(())
 }
 
-/// The octets of a frame that can be written (STOMP 1.2, "Augmented BNF"): lines end with LF, a CR, LF, colon or
+/// The bytes of a frame that can be written (STOMP 1.2, "Augmented BNF"): lines end with LF, a CR, LF, colon or
 /// backslash of a name or value is escaped unless the command is CONNECT, STOMP or CONNECTED, and no EOL stands behind
 /// the NUL. Within the reader's limits they are read again as the frame, whatever follows them. Where memory is
 /// refused, that is the error.

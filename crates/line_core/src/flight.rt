@@ -92,7 +92,8 @@ impl<T: Drop> Flight<T> {
         deliveries
     }
 
-    /// Adds a delivery behind the others, whose numbers are all smaller.
+    /// Adds a delivery behind the others, whose numbers are all smaller. Where memory is refused they are as they were, and
+    /// the item is dropped.
     pub fn add(&mut self, delivery: u64, item: T) -> Result<(), AllocError>
         requires { IsOver delivery self.old }
         ensures ok { OnOk result (self.new ≡ self.old ++ (delivery, item) ∷ []) }
@@ -111,7 +112,8 @@ impl<T: Drop> Flight<T> {
     }
 
     /// Settles a delivery: alone, or with all earlier ones where the mode is `client` (STOMP 1.2, "SUBSCRIBE", header
-    /// `ack`, and "ACK"). Gives those that are settled, in their order, and the others stay.
+    /// `ack`, and "ACK"). Gives those that are settled, in their order, and the others stay. A refusal, and want of memory,
+    /// changes nothing.
     pub fn settle(&mut self, mode: AckMode, delivery: u64) -> Result<Vec<(u64, T)>, SettleFault>
         ensures ok { OnOk result (has_delivery delivery self.old ≡ true) }
         ensures settled { IfOk result (λ out. out.items ≡ settled mode delivery self.old) }

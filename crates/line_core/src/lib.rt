@@ -18,6 +18,3 @@ pub use line_laws::{
     order_of_return_does_not_matter, what_was_taken_goes_back,
 };
 pub use message::{Message, MessageNumber, size};
-
-#[cfg(test)]
-mod tests;

@@ -90,18 +90,6 @@ impl Line {
         self.messages.pop_front()
     }
 
-    /// Where a message of that number goes, looked for from the back.
-    fn place_from_back(&self, number: &MessageNumber) -> usize
-        ensures bound { result ≤ length self.now }
-        ensures place { (m : Message) → m.number ≡ number.now → insert self.now result m ≡ inserted m self.now }
-    {
-        let mut place = self.messages.len();
-        while place > 0 && *number < self.messages[place - 1].number {
-            place -= 1;
-        }
-        place
-    }
-
     /// Where a message of that number goes, looked for from the front.
     fn place_from_front(&self, number: &MessageNumber) -> usize
         ensures bound { result ≤ length self.now }
@@ -116,23 +104,27 @@ impl Line {
         count
     }
 
-    /// Puts a message to its place, behind those of smaller numbers and of its own. The place is looked for from the
-    /// back: a new message goes last at once.
+    /// Where a message of that number goes: last, where no message of a greater number waits, which is seen at once.
+    /// Else it is looked for from the front, where messages were taken out.
+    fn place_of(&self, number: &MessageNumber) -> usize
+        ensures bound { result ≤ length self.now }
+        ensures place { (m : Message) → m.number ≡ number.now → insert self.now result m ≡ inserted m self.now }
+    {
+        let count = self.messages.len();
+        if count > 0 && *number < self.messages[count - 1].number {
+            return self.place_from_front(number);
+        }
+        count
+    }
+
+    /// Puts a message to its place, behind those of smaller numbers and of its own. A new message, whose number is
+    /// greater than the others', goes last at once; one that comes back is looked for from the front, so its place costs
+    /// as much as messages before it wait. Where memory is refused the line is as it was, and the message is dropped.
     pub fn put(&mut self, message: Message) -> Result<(), AllocError>
         ensures ok { OnOk result (self.new ≡ inserted message self.old) }
         ensures same { OnErr result (self.new ≡ self.old) }
     {
-        let place = self.place_from_back(&message.number);
-        self.messages.insert(place, message)?;
-        Ok(())
-    }
-
-    /// Puts a message back to its place. The place is looked for from the front, where messages were taken out.
-    pub fn put_back(&mut self, message: Message) -> Result<(), AllocError>
-        ensures ok { OnOk result (self.new ≡ inserted message self.old) }
-        ensures same { OnErr result (self.new ≡ self.old) }
-    {
-        let place = self.place_from_front(&message.number);
+        let place = self.place_of(&message.number);
         self.messages.insert(place, message)?;
         Ok(())
     }

@@ -17,8 +17,8 @@ use Rattle.command_core.specs.Operations.{IsGiven, IsOp}
 use Rattle.tx_core.specs.Refusals.{refusal_of_add, refusal_of_begin, refusal_of_end}
 use Rattle.tx_core.specs.Transactions.{added, begun, members_of, without}
 use Rattle.session_core.specs.declared.act.Act.{Act}
-use Rattle.session_core.specs.declared.asking.Request.{Request}
-use Rattle.session_core.specs.declared.asking.Request.TheVariants.{Ask, Join, Begin, Commit, Abort, Disconnect}
+use Rattle.session_core.specs.declared.requests.Request.{Request}
+use Rattle.session_core.specs.declared.requests.Request.TheVariants.{Ask, Join, Begin, Commit, Abort, Disconnect}
 use Rattle.session_core.specs.declared.phase.Phase.{Phase}
 use Rattle.session_core.specs.declared.phase.Phase.TheVariants.{New, Open, Ended, Failed}
 use Rattle.session_core.specs.ReadFrames.{delivery_of, durable_of, is_connect, mode_of, receipt_of, some_text}

@@ -1,4 +1,4 @@
--- The items of an `accept-version`, as a loop over its octets meets them.
+-- The items of an `accept-version`, as a loop over its bytes meets them.
 use Rattle.std.proofs.Common.{◌≡◌, ℕ, ◌+◌, ◌-◌, ◌<◌, ◌≤◌, Bool, true, false, ◌==◌, ◌||◌, List, [], ◌∷◌, ◌++◌, length, take, drop, get_or, refl, ap, sym, ◌∙◌, arith, drop-cons, add-one, append-nil, length-drop, ◌≢◌, suc}
 use Rattle.std.proofs.Math.Seq.{take-suc, drop-length}
 use Rattle.std.proofs.Math.Nat.{sub_self}
@@ -7,7 +7,7 @@ use Rattle.std.proofs.lemmas.Bool.{ne_eqb}
 use Rattle.std.specs.List.{list_any}
 use Rattle.session_core.specs.Versions.{on_first, items_of, is_version, offers}
 
--- octets at the front of the first item
+-- bytes at the front of the first item
 abbrev pub on_front : List ℕ → List (List ℕ) → List (List ℕ)
 on_front [] items = items
 on_front (b ∷ front) items = on_first b (on_front front items)
@@ -32,11 +32,11 @@ either_false : (a : Bool) → (a || false) ≡ a
 either_false true = refl
 either_false false = refl
 
--- the octets from start on, before at
+-- the bytes from start on, before at
 abbrev pub between : ℕ → ℕ → List ℕ → List ℕ
 between start at text = take (at - start) (drop start text)
 
--- what has been said of a text when its octets before `at` are read, and its last item begins at `start`
+-- what has been said of a text when its bytes before `at` are read, and its last item begins at `start`
 abbrev pub SoFar : List ℕ → ℕ → ℕ → Type 0
 SoFar text start at = list_any is_version (on_front (between start at text) (items_of (drop at text))) ≡ offers text
 
@@ -50,8 +50,8 @@ between_more text start at l h =
 drop_at : (text : List ℕ) (at : ℕ) → at < length text → drop at text ≡ get_or text at 0 ∷ drop (at + 1) text
 drop_at text at h = rw add-one (drop-cons text at 0 h)
 
-pub other_octet : (text : List ℕ) (start at : ℕ) → start ≤ at → at < length text → get_or text at 0 ≢ 44 → SoFar text start at → SoFar text start (at + 1)
-other_octet text start at l h plain so =
+pub other_byte : (text : List ℕ) (start at : ℕ) → start ≤ at → at < length text → get_or text at 0 ≢ 44 → SoFar text start at → SoFar text start (at + 1)
+other_byte text start at l h plain so =
     let no : (get_or text at 0 == 44) ≡ false = ne_eqb (get_or text at 0) 44 plain in
     let items : items_of (drop at text) ≡ on_first (get_or text at 0) (items_of (drop (at + 1) text)) = rw (drop_at text at h, no) refl in
     let more : on_front (between start (at + 1) text) (items_of (drop (at + 1) text)) ≡ on_front (between start at text) (items_of (drop at text)) =

@@ -40,11 +40,11 @@ pub few_kept : (headers : List (List ℕ × List ℕ)) → length (kept_headers 
 few_kept [] = omega arith
 few_kept (h ∷ headers) = let l = one_fewer (is_kept h.0) h (kept_headers headers) (length headers) (few_kept headers) in omega arith
 
--- what was written means no more octets than it has, none of them a NUL
+-- what was written means no more bytes than it has, none of them a NUL
 record Means (written text : List ℕ) : Type 0 where
   no_nul : HasNoNul text
   short : length text ≤ length written
-  some_octet : 0 < length written → 0 < length text
+  some_byte : 0 < length written → 0 < length text
 
 record Parts (o : Option ℕ) (r : Option (List ℕ)) (text : List ℕ) : Type 0 where
   b : ℕ
@@ -70,7 +70,7 @@ consed : (b : ℕ) (more text written : List ℕ) (n : ℕ) → text ≡ b ∷ m
 consed b more text written n e some h l = record {
   no_nul = subst HasNoNul (sym e) (some, h);
   short = subst (λ t. length t ≤ length written) (sym e) (omega arith);
-  some_octet = λ p. subst (λ t. 0 < length t) (sym e) (omega arith);
+  some_byte = λ p. subst (λ t. 0 < length t) (sym e) (omega arith);
 }
 
 single : (test : Bool) (b : ℕ) (text : List ℕ) → b ≢ 0 → (if test then None else Some (b ∷ [])) ≡ Some text → Means (b ∷ []) text
@@ -91,12 +91,12 @@ double false b c more text some one two e =
     consed p.b p.more text (b ∷ c ∷ more) 0 p.whole (subst (λ x. x ≢ 0) same some) m.no_nul (omega (arith, m.short))
 
 means_unescaped : (written text : List ℕ) → HasNoNul written → unescaped written ≡ Some text → Means written text
-means_unescaped [] text h e = let same : text ≡ [] = cc in record { no_nul = subst HasNoNul (sym same) tt; short = subst (λ t. length t ≤ 0) (sym same) (omega arith); some_octet = λ p. absurd (omega arith) }
+means_unescaped [] text h e = let same : text ≡ [] = cc in record { no_nul = subst HasNoNul (sym same) tt; short = subst (λ t. length t ≤ 0) (sym same) (omega arith); some_byte = λ p. absurd (omega arith) }
 means_unescaped (b ∷ []) text h e = single (b == 92) b text h.0 e
 means_unescaped (b ∷ c ∷ more) text h e = double (b == 92) b c more text h.0 (λ u. means_unescaped more u h.1.1) (λ u. means_unescaped (c ∷ more) u h.1) e
 
 means_either : (raw : Bool) (written text : List ℕ) → HasNoNul written → cond raw (Some written) (unescaped written) ≡ Some text → Means written text
-means_either true written text h e = let same : written ≡ text = cc in record { no_nul = subst HasNoNul same h; short = subst (λ t. length t ≤ length written) same (omega arith); some_octet = λ p. subst (λ t. 0 < length t) same p }
+means_either true written text h e = let same : written ≡ text = cc in record { no_nul = subst HasNoNul same h; short = subst (λ t. length t ≤ length written) same (omega arith); some_byte = λ p. subst (λ t. 0 < length t) same p }
 means_either false written text h e = means_unescaped written text h e
 
 no_nul_in_line : (text : List ℕ) → AllByRecursion IsInLine text → HasNoNul text
@@ -114,7 +114,7 @@ read_header verb line h is small =
     let name = means_either (is_raw verb) line.name h.0 (no_nul_in_name line.name is.form.name) is.name in
     let value = means_either (is_raw verb) line.value h.1 (no_nul_in_line line.value is.form.value) is.value in
     record {
-      named = name.some_octet is.form.named;
+      named = name.some_byte is.form.named;
       name = record { no_nul = name.no_nul; short = omega (arith, a, b, name.short) };
       value = record { no_nul = value.no_nul; short = omega (arith, a, b, value.short) };
     }

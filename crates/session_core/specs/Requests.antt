@@ -12,8 +12,8 @@ use Rattle.command_core.specs.declared.member.Member.{Member}
 use Rattle.command_core.specs.declared.member.Member.TheVariants as members
 use Rattle.command_core.specs.Destinations.{is_destination}
 use Rattle.command_core.specs.Sendings.{kept_headers}
-use Rattle.session_core.specs.declared.asking.Request.{Request}
-use Rattle.session_core.specs.declared.asking.Request.TheVariants.{Ask, Join, Begin, Commit, Abort, Disconnect}
+use Rattle.session_core.specs.declared.requests.Request.{Request}
+use Rattle.session_core.specs.declared.requests.Request.TheVariants.{Ask, Join, Begin, Commit, Abort, Disconnect}
 use Rattle.session_core.specs.ReadFrames.{delivery_of, durable_at, durable_of, mode_of, some_text}
 use Rattle.session_core.specs.Versions.{offers}
 

@@ -17,8 +17,8 @@ use Rattle.tx_core.specs.Transactions.{added, begun, members_of, without}
 use Rattle.session_core.specs.declared.act.Act.{Act}
 use Rattle.session_core.specs.declared.act.Act.TheVariants.{Do, Direct, Close}
 use Rattle.session_core.specs.declared.act.CloseCode.TheVariants.{NormalClosure, ProtocolError}
-use Rattle.session_core.specs.declared.asking.Request.{Request}
-use Rattle.session_core.specs.declared.asking.Request.TheVariants.{Ask, Join, Begin, Commit, Abort, Disconnect}
+use Rattle.session_core.specs.declared.requests.Request.{Request}
+use Rattle.session_core.specs.declared.requests.Request.TheVariants.{Ask, Join, Begin, Commit, Abort, Disconnect}
 use Rattle.session_core.specs.declared.phase.Phase.{Phase}
 use Rattle.session_core.specs.declared.phase.Phase.TheVariants.{New, Open, Ended, Failed}
 use Rattle.session_core.specs.ReadFrames.{receipt_of}
@@ -105,7 +105,7 @@ IsOver New = ⊥
 IsOver (Open transactions) = ⊥
 IsOver _ = Unit {0}
 
--- what a session keeps: the octets of the frame that isn't finished, and where it stands
+-- what a session keeps: the bytes of the frame that isn't finished, and where it stands
 pub record Hearing : Type 0 where
   pub rest : List ℕ
   pub phase : Phase
@@ -114,14 +114,14 @@ pub record Hearing : Type 0 where
 abbrev pub fresh : Hearing
 fresh = record { rest = []; phase = New }
 
--- the octets are whole frames and a part of one
+-- the bytes are whole frames and a part of one
 pub record HearsFrames (old : Hearing) (bytes : List ℕ) (acts : List Act) (new : Hearing) : Type 0 where
   pub frames : List Frame
   pub reads : Reads (old.rest ++ bytes) frames new.rest
   pub same_acts : acts ≡ acts_of old.phase frames
   pub phase : new.phase ≡ phase_of old.phase frames
 
--- the octets have a fault behind whole frames
+-- the bytes have a fault behind whole frames
 pub record HearsFault (old : Hearing) (bytes : List ℕ) (acts : List Act) (new : Hearing) : Type 0 where
   pub frames : List Frame
   pub fault : FrameFault
@@ -129,7 +129,7 @@ pub record HearsFault (old : Hearing) (bytes : List ℕ) (acts : List Act) (new 
   pub same_acts : acts ≡ acts_of old.phase frames ++ refused (phase_of old.phase frames) (fault_of fault) None
   pub phase : new.phase ≡ Ended
 
--- What a session does for octets that it hears behind those that it keeps: what their frames ask for, and at a fault of
+-- What a session does for bytes that it hears behind those that it keeps: what their frames ask for, and at a fault of
 -- the stream what that brings. A session that is over ignores them.
 abbrev pub Hears : Hearing → List ℕ → List Act → Hearing → Type 0
 Hears old bytes acts new =

@@ -1,7 +1,7 @@
 use Rattle.std.specs.Prelude.{List, [], ◌∷◌, ℕ, Bool, ◌==◌, ◌&&◌, if◌then◌else◌, codes, drop, nat_eq}
 use Rattle.std.specs.List.{list_any, list_all, starts_with}
 
--- an octet at the front of the first item
+-- an byte at the front of the first item
 abbrev pub on_first : ℕ → List (List ℕ) → List (List ℕ)
 on_first b [] = (b ∷ []) ∷ []
 on_first b (item ∷ items) = (b ∷ item) ∷ items

@@ -6,9 +6,15 @@ ghost use Rattle.session_core.specs.Numbers.{decimal_value};
 ghost use Rattle.session_core.specs.Sessions.{Hearing, Hears, IsOver};
 ghost use Rattle.session_core.specs.declared.act.Act.{Act};
 
-/// What a session hears in pieces it hears as one, as long as it is not over; what it hears afterwards gives nothing.
+/// What a session hears in pieces it hears as one, and in one way: the acts of any pieces are those of the bytes joined,
+/// and so is where it stands, also where it ends before the last piece. While it goes on, it keeps the same bytes too; what
+/// it hears once it is over gives nothing.
 pub fn pieces_are_heard_as_one()
     ensures joined { (s t u : Hearing) (a b : List ℕ) (acts more : List Act)
+        → Hears s a acts t → Hears t b more u → (v : Hearing) × Hears s (a ++ b) (acts ++ more) v × (v.phase ≡ u.phase) }
+    ensures one { (s t u : Hearing) (a : List ℕ) (acts more : List Act)
+        → Hears s a acts t → Hears s a more u → (acts ≡ more) × (t.phase ≡ u.phase) }
+    ensures kept { (s t u : Hearing) (a b : List ℕ) (acts more : List Act)
         → (IsOver t.phase → ⊥) → Hears s a acts t → Hears t b more u → Hears s (a ++ b) (acts ++ more) u }
     ensures over { (s t : Hearing) (a : List ℕ) (acts : List Act)
         → IsOver s.phase → Hears s a acts t → (acts ≡ []) × (t ≡ s) }

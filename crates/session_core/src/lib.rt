@@ -3,16 +3,14 @@
 #![tactic(auto)]
 
 mod act;
-mod answering;
-mod asking;
 mod headers;
 mod laws;
 mod notice;
 mod numbers;
 mod phase;
+mod requests;
 mod session;
-#[cfg(test)]
-mod tests;
+mod transition;
 mod versions;
 mod worked;
 

@@ -5,8 +5,6 @@
 mod fault;
 mod laws;
 mod open_tx;
-#[cfg(test)]
-mod tests;
 mod transaction;
 
 pub use fault::TxFault;

@@ -79,7 +79,8 @@ impl OpenTx {
     }
 
     /// Puts the member at the end of the transaction of that name. It is refused where there is none, and where the
-    /// transaction would have a 65th member or more than 262,144 bytes; a refusal, and want of memory, changes nothing.
+    /// transaction would have a 65th member or more than 262,144 bytes; a refusal, and want of memory, changes nothing,
+    /// and the member is dropped.
     pub fn add(&mut self, name: &str, member: Member) -> Result<(), TxFault>
         ensures ok { OnOk result (self.new ≡ added name.now member self.old) }
         ensures allowed { OnOk result (refusal_of_add name.now member self.old ≡ None) }

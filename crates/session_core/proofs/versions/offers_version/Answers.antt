@@ -1,5 +1,5 @@
 use Rattle.std.proofs.Common.{◌+◌, arith, sym, ◌∙◌, subst}
-use Rattle.session_core.proofs.Items.{SoFar, found, next_item, other_octet, last_item}
+use Rattle.session_core.proofs.Items.{SoFar, found, next_item, other_byte, last_item}
 use Rattle.session_core.proofs.versions.offers_version.Goals.{then-text-at-eq44+else-is_version_item, else-text-at-eq44}
 use Rattle.session_core.proofs.versions.offers_version.Goals as goal
 
@@ -14,7 +14,7 @@ loop-at-preserved c = elim c.if-text-at-eq44.branch [
   )
   | else-text-at-eq44 w ↦ (
     omega arith,
-    subst (λ n. SoFar c.args.text.now n (c.loop-at.at + 1)) (sym w.start-is) (other_octet c.args.text.now c.loop-at.start c.loop-at.at c.loop-at.invariant.0 c.loop-at-test.true w.if-text-at-eq44.false c.loop-at.invariant.1),
+    subst (λ n. SoFar c.args.text.now n (c.loop-at.at + 1)) (sym w.start-is) (other_byte c.args.text.now c.loop-at.start c.loop-at.at c.loop-at.invariant.0 c.loop-at-test.true w.if-text-at-eq44.false c.loop-at.invariant.1),
   )
 ]
 

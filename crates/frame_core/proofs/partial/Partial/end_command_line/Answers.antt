@@ -26,8 +26,8 @@ returns-in_err-verb-clause-fault c =
     ∙ text_is p.head.items p.line p.with_cr _ h.0 c.text_end-end.result c.text_end-end.ensures in
     let q = err_from_is_err_and c.from_residual.result c.from_residual.ensures.1 in
     let why : IsCommandFault h.0.part c.in_err-verb.field-0.0 = subst (λ x. IsCommandFault x c.in_err-verb.field-0.0) text c.in_err-verb.ensures in
-    let some_octet : 0 < length p.head.items - cond p.with_cr 1 0 = subst (λ x. 0 < x) c.text_end-end.ensures (omega arith) in
-    rw (q.1, q.2) (command_refused p.head.items p.line p.with_cr p.headers.items p.body.items h c.in_err-verb.field-0.0 some_octet c.requires.room why)
+    let some_byte : 0 < length p.head.items - cond p.with_cr 1 0 = subst (λ x. 0 < x) c.text_end-end.ensures (omega arith) in
+    rw (q.1, q.2) (command_refused p.head.items p.line p.with_cr p.headers.items p.body.items h c.in_err-verb.field-0.0 some_byte c.requires.room why)
 
 pub returns-clause-ok : goal.returns-clause-ok
 returns-clause-ok c =

@@ -1,4 +1,4 @@
-use Rattle.std.proofs.Common.{◌∷◌, [], ◌++◌, ◌+◌, false, ◌<◌, ◌-◌, take, drop, length, subst, sym, ap, ◌∙◌, arith}
+use Rattle.std.proofs.Common.{List, ℕ, MatchOption, ◌∷◌, [], ◌++◌, ◌+◌, false, ◌<◌, ◌-◌, take, drop, length, subst, sym, ap, ◌∙◌, arith}
 use Rattle.std.proofs.lemmas.Result.{err_from_is_err_and, on_ok_weaker}
 use Rattle.frame_core.specs.declared.partial.Stage.TheVariants.{HeaderLines, Body}
 use Rattle.frame_core.specs.declared.partial.Partial.{Partial}
@@ -7,7 +7,7 @@ use Rattle.frame_core.specs.Parts.{Plans}
 use Rattle.frame_core.specs.Stops.{IfFault, IsPlanFault, IsHeaderFault, IsHeaderText}
 use Rattle.frame_core.proofs.OpenLines.{text_is}
 use Rattle.frame_core.proofs.HeadSteps.{header_ends, body_begins}
-use Rattle.frame_core.proofs.HeadFaults.{header_refused, too_many_headers, plan_refused, if_fault}
+use Rattle.frame_core.proofs.HeadFaults.{header_refused, one_too_many, plan_refused, if_fault}
 use Rattle.frame_core.proofs.NextLines.{line_ends}
 use Rattle.frame_core.proofs.partial.Partial.end_header_line.Goals as goal
 
@@ -33,7 +33,7 @@ pub returns-in_err-header-clause-fault : goal.returns-in_err-header-clause-fault
 returns-in_err-header-clause-fault c =
     let p = c.args.self.now in
     let h = c.requires.kept in
-    let text = ap (λ x. take (c.text_end-end.result - p.line) (drop p.line x)) c.deref.ensures.value
+    let text = ap (λ x. take (c.text_end-end.result - p.line) (drop p.line x)) c.deref-2.ensures.value
     ∙ text_is p.head.items p.line p.with_cr h.0 h.1 c.text_end-end.result c.text_end-end.ensures in
     let q = err_from_is_err_and c.from_residual-in_err-header.result c.from_residual-in_err-header.ensures.1 in
     let stop = c.in_err-header.field-0.0 in
@@ -47,15 +47,15 @@ returns-then-len-eq-MAX_HEADERS-clause-fault c =
     let h = c.requires.kept in
     let text = ap (λ x. take (c.text_end-end.result - p.line) (drop p.line x)) c.deref.ensures.value
     ∙ text_is p.head.items p.line p.with_cr h.0 h.1 c.text_end-end.result c.text_end-end.ensures in
-    let header = c.in_ok-header.header in
-    let line : IsHeaderText c.args.verb h.1.part header = subst (λ x. IsHeaderText c.args.verb x header) text c.in_ok-header.ensures.ok in
-    too_many_headers c.args.verb p.head.items p.line p.with_cr p.headers.items p.body.items h header line (omega arith) c.requires.room
+    let refusal = c.refusal_of-refusal.result in
+    let why = subst (λ x. MatchOption refusal ((header : List ℕ × List ℕ) × IsHeaderText c.args.verb x header) (IsHeaderFault c.args.verb x)) text c.refusal_of-refusal.ensures in
+    rw c.unwrap_or.ensures (one_too_many c.args.verb p.head.items p.line p.with_cr p.headers.items p.body.items h refusal why (λ e. c.if-end-self.false (c.text_end-end.ensures ∙ e)) (omega arith) c.requires.room)
 
 pub returns-clause-ok : goal.returns-clause-ok
 returns-clause-ok c =
     let p = c.args.self.now in
     let h = c.requires.kept in
-    let text = ap (λ x. take (c.text_end-end.result - p.line) (drop p.line x)) c.deref.ensures.value
+    let text = ap (λ x. take (c.text_end-end.result - p.line) (drop p.line x)) c.deref-2.ensures.value
     ∙ text_is p.head.items p.line p.with_cr h.0 h.1 c.text_end-end.result c.text_end-end.ensures in
     let header = c.in_ok-header.header in
     let line : IsHeaderText c.args.verb h.1.part header = subst (λ x. IsHeaderText c.args.verb x header) text c.in_ok-header.ensures.ok in

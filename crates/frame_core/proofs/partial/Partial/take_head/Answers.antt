@@ -4,18 +4,18 @@ use Rattle.std.proofs.lemmas.List.{length-take-le}
 use Rattle.std.proofs.lemmas.Result.{err_from_is_err_and}
 use Rattle.frame_core.specs.declared.fault.FrameFault.TheVariants.{TooLarge}
 use Rattle.frame_core.specs.Heads.{IsInLine}
-use Rattle.frame_core.specs.Partials.{IsAt, octets_of}
+use Rattle.frame_core.specs.Partials.{IsAt, bytes_of}
 use Rattle.frame_core.proofs.BodySteps.{shorter_run}
 use Rattle.frame_core.proofs.HeadFaults.{long_run, if_fault}
 use Rattle.frame_core.proofs.Joins.{fails_first, fails_at}
 use Rattle.frame_core.proofs.OpenLines.{run_kept, run_reads, no_body, part_of_head}
 use Rattle.frame_core.proofs.partial.Partial.take_head.Goals as goal
 
-pub returns-in_err-take_octet-clause-fault : goal.returns-in_err-take_octet-clause-fault
-returns-in_err-take_octet-clause-fault c =
+pub returns-in_err-take_byte-clause-fault : goal.returns-in_err-take_byte-clause-fault
+returns-in_err-take_byte-clause-fault c =
     let q = err_from_is_err_and c.from_residual.result c.from_residual.ensures.1 in
-    rw (q.1, q.2) (if_fault c.in_err-take_octet.field-0.0 _ _ (λ fault h.
-    fails_first (octets_of c.args.self.now) c.args.piece.now fault c.requires.some_octet h) c.in_err-take_octet.ensures.fault)
+    rw (q.1, q.2) (if_fault c.in_err-take_byte.field-0.0 _ _ (λ fault h.
+    fails_first (bytes_of c.args.self.now) c.args.piece.now fault c.requires.some_byte h) c.in_err-take_byte.ensures.fault)
 
 pub returns-then-count-len-clause-fault : goal.returns-then-count-len-clause-fault
 returns-then-count-len-clause-fault c =
@@ -27,7 +27,7 @@ returns-then-count-len-clause-fault c =
     let part = part_of_head p.stage p.head.items p.line p.with_cr p.headers.items p.body.items c.requires.in_head c.requires.kept in
     let run : AllByRecursion IsInLine (take n piece) = shorter_run IsInLine piece count n (omega arith) c.run_in_line-count.ensures.run in
     let full : length p.head.items + length (take n piece) ≡ 8192 = omega (arith, length-take-le n piece (omega arith), part.0.size) in
-    fails_at (octets_of p) piece n TooLarge (omega arith)
+    fails_at (bytes_of p) piece n TooLarge (omega arith)
     (long_run p.stage p.head.items p.line p.with_cr p.headers.items p.body.items (take n piece) (get_or piece n 0) c.requires.in_head c.requires.kept c.if-self.false run full)
 
 pub returns-clause-ok : goal.returns-clause-ok
@@ -41,7 +41,7 @@ returns-clause-ok c =
     let P : Bool → Type 0 = λ cr. IsAt p.stage (p.head.items ++ take count piece) p.line cr p.headers.items p.body.items in
     let fits : length p.head.items + length (take count piece) ≤ 8192 = omega (arith, length-take-le count piece within) in
     record {
-      some_octet = omega arith;
+      some_byte = omega arith;
       within = within;
       reads = rw c.in_ok-extend_from_slice.ensures.items (run_reads p.head.items p.body.items (take count piece) none);
       kept = rw c.in_ok-extend_from_slice.ensures.items (subst P (sym c.if-self.false)

@@ -1,9 +1,0 @@
-use Rattle.std.proofs.Common.{◌≡◌, false, Some, sym, ap, ◌∙◌}
-use Rattle.escape_core.proofs.Reading.{unescaped_whole}
-use Rattle.frame_core.specs.Verbs.{is_raw}
-use Rattle.frame_core.proofs.lines.meaning_of.Goals as goal
-
-pub returns-then-not-has_octet-clause-ok : goal.returns-then-not-has_octet-clause-ok
-returns-then-not-has_octet-clause-ok c =
-    let escaped : is_raw c.args.verb ≡ false = sym c.is_raw.ensures ∙ c.if-is_raw.false in
-    rw escaped (unescaped_whole c.args.octets.now (c.has_octet.ensures c.if-not-has_octet.true) ∙ ap Some (sym c.in_ok-from_slice-2.ensures.items))

@@ -1,0 +1,264 @@
+//! Records of commands.
+
+use crate::command_tests::{greeting, r1};
+use crate::frame_tests::filled;
+use command_core::{Command, DecodeFault, Op, decode, encode};
+use std::alloc::{AllocError, Global};
+use std::test::Fail;
+
+// Session 0, receipt `r1`, a Send to `/queue/a` with no headers and the body `hi`.
+const GREETING: &[u8] = b"\0\0\0\0\0\0\0\0\x01\0\0\0\x02r1\x02\0\0\0\x08/queue/a\0\0\0\0\0\x02hi";
+
+// A record of each kind of operation, and of each of its forms. Beside each byte stands what comes of it where it is one
+// greater: `.` another record (which may be shorter), and `x` none.
+const RECORDS: [(&[u8], &str); 22] = [
+    // Open, of nobody and of `me`.
+    (b"\0\0\0\0\0\0\0\0\0\x01\0", "xxxxxxxxxxx"),
+    (
+        b"\0\0\0\0\0\0\0\0\0\x01\x01\0\0\0\x02me",
+        "xxxxxxxxxxxxxxx..",
+    ),
+    // Send, with the header `k` of value `v` and no body.
+    (GREETING, "........xxxxx..xxxxxxxxxxxx.xxxxxx.."),
+    (
+        b"\0\0\0\0\0\0\0\x05\0\x02\0\0\0\x08/topic/t\0\x01\0\0\0\x01k\0\0\0\x01v\0\0\0\0",
+        "........xxxxxxxxxxxxx.xxxxxx.xxxx.xxxx",
+    ),
+    // Subscribe under `s`, with each mode and the durable name `d`.
+    (
+        b"\0\0\0\0\0\0\0\x05\0\x03\0\0\0\x01s\0\0\0\x08/topic/t\x02\x01\0\0\0\x01d",
+        "........xxxxxx.xxxxxxxxxxx.xxxxxx.",
+    ),
+    (
+        b"\0\0\0\0\0\0\0\x05\0\x03\0\0\0\x01s\0\0\0\x08/queue/q\x01\0",
+        "........xxxxxx.xxxxxxxxxxx..x",
+    ),
+    (
+        b"\0\0\0\0\0\0\0\x05\0\x03\0\0\0\0\0\0\0\x08/queue/q\0\0",
+        "........xxxxxxxxxxxxxxxxx..x",
+    ),
+    // Unsubscribe by an id, by an empty one, by a name and by both.
+    (
+        b"\0\0\0\0\0\0\0\x05\0\x04\x01\0\0\0\x01s\0",
+        "........xxxxxxx.x",
+    ),
+    (
+        b"\0\0\0\0\0\0\0\x05\0\x04\x01\0\0\0\0\0",
+        "........xxxxxxxx",
+    ),
+    (
+        b"\0\0\0\0\0\0\0\x05\0\x04\0\x01\0\0\0\x01d",
+        "........xxxxxxxx.",
+    ),
+    (
+        b"\0\0\0\0\0\0\0\x05\0\x04\x01\0\0\0\x01s\x01\0\0\0\x01d",
+        "........x.xxxx..xxxxx.",
+    ),
+    // Ack of 258 and Nack of 2^64 - 1.
+    (
+        b"\0\0\0\0\0\0\0\x05\0\x05\0\0\0\0\0\0\x01\x02",
+        "........x.........",
+    ),
+    (
+        b"\0\0\0\0\0\0\0\x05\0\x06\xff\xff\xff\xff\xff\xff\xff\xff",
+        "........xx........",
+    ),
+    // Commit of nothing, of an Ack and a Nack, and of a Send.
+    (b"\0\0\0\0\0\0\0\x05\0\x07\0\0", "........x.xx"),
+    (
+        b"\0\0\0\0\0\0\0\x05\0\x07\0\x02\x05\0\0\0\0\0\0\0\x03\x06\0\0\0\0\0\0\0\x04",
+        "........x.xx.........x........",
+    ),
+    (
+        b"\0\0\0\0\0\0\0\x05\0\x07\0\x01\x02\0\0\0\x08/queue/a\0\0\0\0\0\x02hi",
+        "........x.xxxxxxxxxxxxxx.xxxxxx..",
+    ),
+    // Note, without and with a receipt.
+    (b"\0\0\0\0\0\0\0\x05\0\x08", "........xx"),
+    (b"\0\0\0\0\0\0\0\x05\x01\0\0\0\0\x08", "........xxxxxx"),
+    // End: Bye, Lost, and Bad with the first and the last fault.
+    (b"\0\0\0\0\0\0\0\x05\0\x09\0", "........xx."),
+    (b"\0\0\0\0\0\0\0\x05\0\x09\x01", "........xxx"),
+    (b"\0\0\0\0\0\0\0\x05\0\x09\x02\x01", "........xxx."),
+    (
+        b"\0\0\0\0\0\0\0\x05\x01\0\0\0\x01r\x09\x02\x14",
+        "........xxxxx.xxx",
+    ),
+];
+
+const REFUSED: [&[u8]; 28] = [
+    // Kinds that no operation has.
+    b"\0\0\0\0\0\0\0\0\0\0",
+    b"\0\0\0\0\0\0\0\0\0\x0a",
+    // A receipt that is neither there nor absent, with a NUL, and not in UTF-8.
+    b"\0\0\0\0\0\0\0\x05\x02\0\0\0\x01r\x08",
+    b"\0\0\0\0\0\0\0\x05\x01\0\0\0\x01\0\x08",
+    b"\0\0\0\0\0\0\0\x05\x01\0\0\0\x01\xff\x08",
+    // An Open of a session, with a receipt, and of an empty name.
+    b"\0\0\0\0\0\0\0\x05\0\x01\0",
+    b"\0\0\0\0\0\0\0\0\x01\0\0\0\x01r\x01\0",
+    b"\0\0\0\0\0\0\0\0\0\x01\x01\0\0\0\0",
+    // A Send to no destination, with a header that isn't kept, and with one of no name.
+    b"\0\0\0\0\0\0\0\x05\0\x02\0\0\0\x07/queue/\0\0\0\0\0\0",
+    b"\0\0\0\0\0\0\0\x05\0\x02\0\0\0\x08/queue/q\0\x01\0\0\0\x07receipt\0\0\0\x01v\0\0\0\0",
+    b"\0\0\0\0\0\0\0\x05\0\x02\0\0\0\x08/queue/q\0\x01\0\0\0\0\0\0\0\x01v\0\0\0\0",
+    // A Subscribe with no mode, to no destination, with an empty name, and with a name on a queue.
+    b"\0\0\0\0\0\0\0\x05\0\x03\0\0\0\x01s\0\0\0\x08/topic/t\x03\0",
+    b"\0\0\0\0\0\0\0\x05\0\x03\0\0\0\x01s\0\0\0\x08/Topic/t\0\0",
+    b"\0\0\0\0\0\0\0\x05\0\x03\0\0\0\x01s\0\0\0\x08/topic/t\0\x01\0\0\0\0",
+    b"\0\0\0\0\0\0\0\x05\0\x03\0\0\0\x01s\0\0\0\x08/queue/q\0\x01\0\0\0\x01d",
+    // An Unsubscribe by nothing, and by an empty name.
+    b"\0\0\0\0\0\0\0\x05\0\x04\0\0",
+    b"\0\0\0\0\0\0\0\x05\0\x04\0\x01\0\0\0\0",
+    // A Commit of a Note.
+    b"\0\0\0\0\0\0\0\x05\0\x07\0\x01\x08",
+    // An End of no kind, of no fault and of one too many, and a receipt of a lost connection.
+    b"\0\0\0\0\0\0\0\x05\0\x09\x03",
+    b"\0\0\0\0\0\0\0\x05\0\x09\x02\0",
+    b"\0\0\0\0\0\0\0\x05\0\x09\x02\x15",
+    b"\0\0\0\0\0\0\0\x05\x01\0\0\0\x01r\x09\x01",
+    // A receipt longer than what there is, and counts as great as they can be: of a receipt, a destination, headers, a
+    // body and members.
+    b"\0\0\0\0\0\0\0\x05\x01\0\0\0\x03r\x08",
+    b"\0\0\0\0\0\0\0\x05\x01\xff\xff\xff\xffr\x08",
+    b"\0\0\0\0\0\0\0\x05\0\x02\xff\xff\xff\xff/queue/q\0\0\0\0\0\0",
+    b"\0\0\0\0\0\0\0\x05\0\x02\0\0\0\x08/queue/q\xff\xff\0\0\0\x01k\0\0\0\x01v\0\0\0\0",
+    b"\0\0\0\0\0\0\0\x05\0\x02\0\0\0\x08/queue/q\0\0\xff\xff\xff\xffhi",
+    b"\0\0\0\0\0\0\0\x05\0\x07\xff\xff\x05\0\0\0\0\0\0\0\x03",
+];
+
+// How long the record is that begins the bytes, which is written as it stands there; none where none does.
+fn record_at(alloc: Global, bytes: &[u8]) -> Result<Option<usize>, AllocError> {
+    match decode(alloc, bytes) {
+        Ok((command, length)) if is_written(alloc, &command, &bytes[..length])? => Ok(Some(length)),
+        Ok(_) => Ok(Some(usize::MAX)),
+        Err(DecodeFault::NoSpelling) => Ok(None),
+        Err(DecodeFault::Memory(refused)) => Err(refused),
+    }
+}
+
+fn is_written(alloc: Global, command: &Command, record: &[u8]) -> Result<bool, AllocError> {
+    Ok(encode(alloc, command)?.as_slice() == record)
+}
+
+// Whether the record is read, with other bytes behind it, and no front of it is.
+fn is_read_whole(alloc: Global, record: &[u8]) -> Result<bool, AllocError> {
+    for length in 0..record.len() {
+        if record_at(alloc, &record[..length])?.is_some() {
+            return Ok(false);
+        }
+    }
+    let bytes = filled(alloc, record, b"\x01\0", 1, b"")?;
+    Ok(record_at(alloc, bytes.as_slice())? == Some(record.len()))
+}
+
+// Whether that comes of the record which the marks say, with each byte one greater.
+fn bears_its_marks(alloc: Global, record: &[u8], marks: &str) -> Result<bool, AllocError> {
+    let mut bytes = Vec::from_slice(alloc, record)?;
+    for (at, mark) in marks.as_bytes().iter().enumerate() {
+        let Some(was) = record.get(at) else {
+            return Ok(false);
+        };
+        bytes[at] = was.wrapping_add(1);
+        if record_at(alloc, bytes.as_slice())?.is_some() != (*mark == b'.') {
+            return Ok(false);
+        }
+        bytes[at] = *was;
+    }
+    Ok(marks.len() == record.len())
+}
+
+#[test]
+fn each_byte_of_a_record_is_read(rt: HostRuntime) -> Result<(), Fail> {
+    for (record, marks) in &RECORDS {
+        assert!(rt; is_read_whole(rt.alloc(), record)?);
+        assert!(rt; bears_its_marks(rt.alloc(), record, marks)?);
+    }
+    Ok(())
+}
+
+#[test]
+fn nothing_else_is_read(rt: HostRuntime) -> Result<(), Fail> {
+    for bytes in &REFUSED {
+        assert!(rt; record_at(rt.alloc(), bytes)?.is_none());
+    }
+    Ok(())
+}
+
+// So many pieces between a front and a back, and whether they are a record.
+const LIMITS: [(&[u8], &[u8], usize, &[u8], bool); 8] = [
+    (
+        b"\0\0\0\0\0\0\0\x05\0\x07\0\x40",
+        b"\x05\0\0\0\0\0\0\0\x03",
+        64,
+        b"",
+        true,
+    ),
+    (
+        b"\0\0\0\0\0\0\0\x05\0\x07\0\x41",
+        b"\x05\0\0\0\0\0\0\0\x03",
+        65,
+        b"",
+        false,
+    ),
+    (
+        b"\0\0\0\0\0\0\0\x05\0\x02\0\0\0\x08/queue/q\0\x40",
+        b"\0\0\0\x01k\0\0\0\x01v",
+        64,
+        b"\0\0\0\0",
+        true,
+    ),
+    (
+        b"\0\0\0\0\0\0\0\x05\0\x02\0\0\0\x08/queue/q\0\x41",
+        b"\0\0\0\x01k\0\0\0\x01v",
+        65,
+        b"\0\0\0\0",
+        false,
+    ),
+    (
+        b"\0\0\0\0\0\0\0\x05\0\x02\0\0\0\x08/queue/q\0\0\0\x01\0\0",
+        b"\0",
+        65_536,
+        b"",
+        true,
+    ),
+    (
+        b"\0\0\0\0\0\0\0\x05\0\x02\0\0\0\x08/queue/q\0\0\0\x01\0\x01",
+        b"\0",
+        65_537,
+        b"",
+        false,
+    ),
+    (
+        b"\0\0\0\0\0\0\0\x05\x01\0\0\x20\0",
+        b"r",
+        8192,
+        b"\x08",
+        true,
+    ),
+    (
+        b"\0\0\0\0\0\0\0\x05\x01\0\0\x20\x01",
+        b"r",
+        8193,
+        b"\x08",
+        false,
+    ),
+];
+
+#[test]
+fn records_have_their_limits(rt: HostRuntime) -> Result<(), Fail> {
+    for (front, piece, count, back, is_record) in &LIMITS {
+        let bytes = filled(rt.alloc(), front, piece, *count, back)?;
+        assert!(rt; record_at(rt.alloc(), bytes.as_slice())?.is_some() == *is_record);
+    }
+    Ok(())
+}
+
+#[test]
+fn a_command_is_written_as_its_record(rt: HostRuntime) -> Result<(), Fail> {
+    let op = Op::Send(greeting(rt.alloc())?);
+    let receipt = r1(rt.alloc())?;
+    let command = Command::new(0, op, Some(receipt));
+    assert!(rt; is_written(rt.alloc(), &command, GREETING)?);
+    Ok(())
+}

@@ -1,0 +1,142 @@
+//! Transactions by themselves.
+
+use crate::telling::members as tell_members;
+use command_core::{Dest, HeaderText, Member, Sending, fault_text, is_header_text};
+use frame_core::{Bytes, Headers, Text};
+use std::alloc::{AllocError, Global};
+use std::test::Fail;
+use tx_core::{OpenTx, TxFault};
+
+// What is asked for of the transaction of a name.
+#[derive(Clone, Copy)]
+enum Step {
+    Begin,
+    Ack(u64),
+    Nack(u64),
+    Commit,
+    Abort,
+}
+
+// What was asked for was done.
+const DONE: &str = "";
+
+const NOT_BEGUN: &str = "E16 transaction not begun";
+
+// Steps, one after another, and what comes of each: the members of a COMMIT, or why it was refused.
+const STEPS: [(&str, Step, &str); 20] = [
+    ("a", Step::Begin, DONE),
+    ("", Step::Begin, DONE),
+    ("a", Step::Ack(3), DONE),
+    ("", Step::Ack(9), DONE),
+    ("a", Step::Nack(5), DONE),
+    ("A", Step::Ack(5), NOT_BEGUN),
+    ("a", Step::Begin, "E15 transaction already begun"),
+    ("a", Step::Commit, "ack 3 nack 5 "),
+    ("a", Step::Commit, NOT_BEGUN),
+    ("a", Step::Abort, NOT_BEGUN),
+    ("a", Step::Begin, DONE),
+    ("b", Step::Begin, DONE),
+    ("c", Step::Begin, DONE),
+    ("b", Step::Begin, "E15 transaction already begun"),
+    (
+        "d",
+        Step::Begin,
+        "E18 too many subscriptions or transactions",
+    ),
+    ("b", Step::Abort, DONE),
+    ("b", Step::Ack(1), NOT_BEGUN),
+    ("d", Step::Begin, DONE),
+    ("", Step::Commit, "ack 9 "),
+    ("a", Step::Commit, DONE),
+];
+
+fn begin(alloc: Global, open: &mut OpenTx, name: &str) -> Result<(), TxFault> {
+    if !is_header_text(name) {
+        return Ok(());
+    }
+    let name = String::from_str(alloc, name)?;
+    open.begin(alloc, HeaderText::new(Text::new(name)))
+}
+
+fn take(open: &mut OpenTx, name: &str, step: Step, told: &mut String) -> Result<(), TxFault> {
+    match step {
+        Step::Begin => begin(*told.allocator(), open, name),
+        Step::Ack(delivery) => open.add(name, Member::Ack(delivery)),
+        Step::Nack(delivery) => open.add(name, Member::Nack(delivery)),
+        Step::Abort => open.abort(name),
+        Step::Commit => {
+            let members = open.commit(name)?;
+            Ok(tell_members(told, members.as_slice())?)
+        }
+    }
+}
+
+// Whether that comes of the step.
+fn comes(alloc: Global, open: &mut OpenTx, name: &str, step: Step, expected: &str) -> bool {
+    let mut told = String::new(alloc);
+    match take(open, name, step, &mut told) {
+        Ok(()) => told.as_str() == expected,
+        Err(refused) => match refused.fault() {
+            Some(fault) => fault_text(fault) == expected,
+            None => false,
+        },
+    }
+}
+
+#[test]
+fn transactions_are_kept_by_their_names(rt: HostRuntime) {
+    let mut open = OpenTx::new(rt.alloc());
+    for (name, step, expected) in &STEPS {
+        assert!(rt; comes(rt.alloc(), &mut open, name, *step, expected));
+    }
+    assert!(rt; open.len() == 2);
+    open.abort_all();
+    assert!(rt; open.len() == 0);
+}
+
+// A SEND that takes 19 bytes and those of its body: the kind 1, the destination 4 and 8, the count of headers 2, and the
+// length of the body 4 and its bytes.
+fn sending(alloc: Global, length: usize) -> Result<Member, AllocError> {
+    let mut body = Vec::new(alloc);
+    if length <= 65_536 {
+        body.resize(length, b'b')?;
+    }
+    match Dest::read(alloc, "/queue/a") {
+        Ok(destination) => {
+            let sending = Sending::new(
+                destination,
+                Headers::new(Vec::new(alloc)),
+                Bytes::new(body),
+            );
+            Ok(Member::Send(sending))
+        }
+        Err(_) => Err(AllocError),
+    }
+}
+
+// How many SENDs of so many bytes of body a new transaction takes, of ten.
+fn taken(alloc: Global, length: usize) -> Result<u32, TxFault> {
+    let mut open = OpenTx::new(alloc);
+    begin(alloc, &mut open, "a")?;
+    for count in 0..10 {
+        let member = sending(alloc, length)?;
+        if let Err(TxFault::TooLarge) = open.add("a", member) {
+            return Ok(count);
+        }
+    }
+    Ok(10)
+}
+
+// Four of 65,536 bytes each are 262,144, which is the limit of bytes; 64 is that of members.
+#[test]
+fn transactions_have_their_limits(rt: HostRuntime) -> Result<(), Fail> {
+    assert!(rt; taken(rt.alloc(), 65_536 - 19)? == 4);
+    assert!(rt; taken(rt.alloc(), 65_536 - 18)? == 3);
+    let mut open = OpenTx::new(rt.alloc());
+    begin(rt.alloc(), &mut open, "b")?;
+    for delivery in 0..64 {
+        open.add("b", Member::Ack(delivery))?;
+    }
+    assert!(rt; matches!(open.add("b", Member::Ack(64)), Err(TxFault::TooLarge)));
+    Ok(())
+}
