@@ -14,16 +14,16 @@ use Rattle.line_core.proofs.Flights.{has_delivery-mapped, length-settled, sum_by
 use Rattle.line_core.specs.declared.message.Message.{Message}
 use Rattle.line_core.specs.Flights.{IsOver, IsRising, has_delivery, mapped, settled, unsettled}
 use Rattle.line_core.specs.Lines.{inserted}
-use Rattle.broker_core.specs.declared.subscription.Subscription.{Subscription}
-use Rattle.broker_core.specs.declared.trial.TrialFlight.{TrialFlight}
-use Rattle.broker_core.specs.Lists.{changed, with_first}
-use Rattle.broker_core.specs.Operations.{awaits, copied, is_of, settled_by}
-use Rattle.broker_core.specs.Parts.{NonePass, copies_to}
-use Rattle.broker_core.specs.Names.{Name}
-use Rattle.broker_core.specs.States.{bytes, one, weight_of_subscription}
-use Rattle.broker_core.specs.Waiting.{is_own}
-use Rattle.broker_core.specs.Trials.{bytes_in, deliveries_in, flight_of, flights_of, has, left_by}
-use Rattle.broker_core.proofs.Weights.{ones, sum_by-changed}
+use Rattle.broker_state.specs.declared.subscription.Subscription.{Subscription}
+use Rattle.broker_core.specs.declared.precheck.PrecheckFlight.{PrecheckFlight}
+use Rattle.broker_state.specs.Lists.{changed, with_first}
+use Rattle.broker_state.specs.Operations.{awaits, copied, is_of, settled_by}
+use Rattle.broker_state.specs.Parts.{NonePass, copies_to}
+use Rattle.broker_state.specs.Names.{Name}
+use Rattle.broker_state.specs.States.{bytes, one, weight_of_subscription}
+use Rattle.broker_state.specs.Waiting.{is_own}
+use Rattle.broker_core.specs.Prechecks.{bytes_in, deliveries_in, flight_of, flights_of, has, left_by}
+use Rattle.broker_state.proofs.Weights.{ones, sum_by-changed}
 
 -- what a flight's deliveries before a place have is under the number there
 module _ {X Y : Type 0} (f : X → Y) where
@@ -73,10 +73,10 @@ module _ (session : ℕ) (subs : List Subscription) (at : ℕ) (sub : Subscripti
   flights_same other = more_by false other ∙ nothing (filter (is_of session) (take at subs))
 
 -- what is settled is in the flights no more
-pub settled_counts : (delivery : ℕ) (flights new : List TrialFlight) (at : ℕ) (flight : TrialFlight) (out : List (ℕ × ℕ)) → slice_get flights at ≡ Some flight → out ≡ settled flight.mode delivery flight.deliveries → new ≡ changed at (left_by delivery) flights → (length out + deliveries_in new ≡ deliveries_in flights) × (sum_by (λ item. item.1) out + bytes_in new ≡ bytes_in flights)
+pub settled_counts : (delivery : ℕ) (flights new : List PrecheckFlight) (at : ℕ) (flight : PrecheckFlight) (out : List (ℕ × ℕ)) → slice_get flights at ≡ Some flight → out ≡ settled flight.mode delivery flight.deliveries → new ≡ changed at (left_by delivery) flights → (length out + deliveries_in new ≡ deliveries_in flights) × (sum_by (λ item. item.1) out + bytes_in new ≡ bytes_in flights)
 settled_counts delivery flights new at flight out is given left =
-    let long = λ (f : TrialFlight). length f.deliveries in
-    let wide = λ (f : TrialFlight). sum_by (λ (item : ℕ × ℕ). item.1) f.deliveries in (
+    let long = λ (f : PrecheckFlight). length f.deliveries in
+    let wide = λ (f : PrecheckFlight). sum_by (λ (item : ℕ × ℕ). item.1) f.deliveries in (
       omega (arith, sum_by-changed long (left_by delivery) flights at flight is, length-settled flight.mode delivery flight.deliveries, ap length given, ap deliveries_in left),
       omega (arith, sum_by-changed wide (left_by delivery) flights at flight is, sum_by-settled (λ (item : ℕ × ℕ). item.1) flight.mode delivery flight.deliveries, ap (sum_by (λ (item : ℕ × ℕ). item.1)) given, ap bytes_in left),
     )
@@ -108,7 +108,7 @@ module _ (session delivery : ℕ) where
   after_is sub subs b h is held =
       ap (λ c. cond (c && has_delivery delivery sub.unacknowledged) (settled_by delivery sub ∷ subs) (sub ∷ after subs)) is ∙ ap (λ c. cond (b && c) (settled_by delivery sub ∷ subs) (sub ∷ after subs)) held
 
-  first_is : (sub : Subscription) (fs : List TrialFlight) (h : Bool) → has_delivery delivery sub.unacknowledged ≡ h → with_first (has delivery) (left_by delivery) (flight_of sub ∷ fs) ≡ cond h (flight_of (settled_by delivery sub) ∷ fs) (flight_of sub ∷ with_first (has delivery) (left_by delivery) fs)
+  first_is : (sub : Subscription) (fs : List PrecheckFlight) (h : Bool) → has_delivery delivery sub.unacknowledged ≡ h → with_first (has delivery) (left_by delivery) (flight_of sub ∷ fs) ≡ cond h (flight_of (settled_by delivery sub) ∷ fs) (flight_of sub ∷ with_first (has delivery) (left_by delivery) fs)
   first_is sub fs h held =
       ap (λ c. cond c (left_by delivery (flight_of sub) ∷ fs) (flight_of sub ∷ with_first (has delivery) (left_by delivery) fs)) (has_delivery-mapped bytes delivery sub.unacknowledged ∙ held)
       ∙ ap (λ f. cond h (f ∷ fs) (flight_of sub ∷ with_first (has delivery) (left_by delivery) fs)) (left_settled sub)
@@ -131,7 +131,7 @@ module _ (session delivery : ℕ) where
       first_by sub subs (is_of session sub) (has_delivery delivery sub.unacknowledged) refl refl (first_flight subs)
 
   -- what subscriptions weigh beside their flights stays
-  module _ (weight : Subscription → ℕ) (part : TrialFlight → ℕ) (each : (sub : Subscription) → weight (settled_by delivery sub) + part (flight_of sub) ≡ weight sub + part (flight_of (settled_by delivery sub))) where
+  module _ (weight : Subscription → ℕ) (part : PrecheckFlight → ℕ) (each : (sub : Subscription) → weight (settled_by delivery sub) + part (flight_of sub) ≡ weight sub + part (flight_of (settled_by delivery sub))) where
     kept_by : (sub : Subscription) (subs : List Subscription) (b h : Bool) → is_of session sub ≡ b → has_delivery delivery sub.unacknowledged ≡ h → sum_by weight (after subs) + sum_by part (flights_of session subs) ≡ sum_by weight subs + sum_by part (flights_of session (after subs)) → sum_by weight (after (sub ∷ subs)) + sum_by part (flights_of session (sub ∷ subs)) ≡ sum_by weight (sub ∷ subs) + sum_by part (flights_of session (after (sub ∷ subs)))
     kept_by sub subs true true is held rest =
         omega (arith, each sub, ap (sum_by weight) (after_is sub subs true true is held), ap (sum_by part) (heads sub subs true is), ap (sum_by part) (ap (flights_of session) (after_is sub subs true true is held) ∙ heads (settled_by delivery sub) subs true is), sum_by-cons weight sub subs, sum_by-cons weight (settled_by delivery sub) subs, sum_by-cons part (flight_of sub) (flights_of session subs), sum_by-cons part (flight_of (settled_by delivery sub)) (flights_of session subs))
@@ -155,10 +155,10 @@ pub length-mapped : (flight : List (ℕ × Message)) → length (mapped bytes fl
 length-mapped [] = refl
 length-mapped (x ∷ flight) = ap suc (length-mapped flight)
 
-abbrev pub long : TrialFlight → ℕ
+abbrev pub long : PrecheckFlight → ℕ
 long flight = length flight.deliveries
 
-abbrev pub wide : TrialFlight → ℕ
+abbrev pub wide : PrecheckFlight → ℕ
 wide flight = sum_by (λ (item : ℕ × ℕ). item.1) flight.deliveries
 
 module _ (session delivery : ℕ) (subs : List Subscription) where
@@ -170,7 +170,7 @@ module _ (session delivery : ℕ) (subs : List Subscription) where
   kept_bytes =
       kept session delivery (weight_of_subscription bytes) wide (λ sub. omega (arith, sum_by-mapped sub.unacknowledged, sum_by-mapped (unsettled sub.mode delivery sub.unacknowledged))) subs
 
-module _ (session : ℕ) (weight : Subscription → ℕ) (part : TrialFlight → ℕ) (each : (sub : Subscription) → part (flight_of sub) ≤ weight sub) where
+module _ (session : ℕ) (weight : Subscription → ℕ) (part : PrecheckFlight → ℕ) (each : (sub : Subscription) → part (flight_of sub) ≤ weight sub) where
   flights_part : (subs : List Subscription) → sum_by part (flights_of session subs) ≤ sum_by weight subs
   flights_part [] = omega arith
   flights_part (sub ∷ subs) =
@@ -192,7 +192,7 @@ few_bytes session subs =
 pub flights-copied : (session : ℕ) (m : Message) (subs : List Subscription) → flights_of session (map (copied m) subs) ≡ flights_of session subs
 flights-copied session m [] = refl
 flights-copied session m (sub ∷ subs) =
-    let rest = ap (λ (fs : List TrialFlight). cond (is_of session sub) (flight_of sub ∷ fs) fs) (flights-copied session m subs) ∙ sym (heads session 0 sub subs (is_of session sub) refl) in
+    let rest = ap (λ (fs : List PrecheckFlight). cond (is_of session sub) (flight_of sub ∷ fs) fs) (flights-copied session m subs) ∙ sym (heads session 0 sub subs (is_of session sub) refl) in
     let more = record sub { line = inserted m sub.line } in
     elim (is_own sub && bytes_eq sub.destination m.sending.destination) as (λ b. flights_of session (cond b more sub ∷ map (copied m) subs) ≡ flights_of session (sub ∷ subs)) [
       | true ↦ heads session 0 more (map (copied m) subs) (is_of session sub) refl ∙ rest

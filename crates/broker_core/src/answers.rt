@@ -2,7 +2,7 @@
 
 ghost use Rattle.std.specs.Prelude.{◌≡◌, ◌++◌, ◌∷◌, [], OnOk};
 ghost use Rattle.command_core.specs.Replies.{connected, error_frame};
-ghost use Rattle.broker_core.specs.Steps.{farewell, outs_to, receipts};
+ghost use Rattle.broker_state.specs.Steps.{farewell, outs_to, receipts};
 
 use command_core::{End, Fault, HeaderText, Out, connected_reply, error_reply, receipt_reply};
 use std::alloc::{AllocError, Global};

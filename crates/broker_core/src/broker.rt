@@ -1,19 +1,18 @@
 //! The broker, one command after another.
 
-ghost use Rattle.std.specs.Prelude.{◌≡◌, ◌+◌, ◌<◌, ◌^◌, ◌↔◌, true, false, IfOk, IfErr, IfSome, IsSome, OnOk, OnErr, Some, length, slice_get};
-ghost use Rattle.broker_core.specs.Operations.{restarted};
-ghost use Rattle.broker_core.specs.PartsOf.{state_of_parts};
-ghost use Rattle.broker_core.specs.Sound.{IsSound};
-ghost use Rattle.broker_core.specs.States.{empty_state, held_messages, held_bytes};
-ghost use Rattle.broker_core.specs.Steps.{step, outs};
+ghost use Rattle.std.specs.Prelude.{◌≡◌, ◌+◌, ◌<◌, ◌^◌, ◌↔◌, false, IfOk, IfSome, IsSome, OnOk, Some, length, slice_get};
+ghost use Rattle.broker_core.specs.Outcomes.{IsOutcome};
+ghost use Rattle.broker_state.specs.Operations.{restarted};
+ghost use Rattle.broker_state.specs.PartsOf.{state_of_parts};
+ghost use Rattle.broker_state.specs.Sound.{IsSound};
+ghost use Rattle.broker_state.specs.States.{empty_state, held_messages, held_bytes};
+ghost use Rattle.broker_state.specs.Steps.{step, outs};
 
-use crate::durable_name::DurableName;
+use crate::executing::execute;
 use crate::fault::BrokerFault;
-use crate::given_name::GivenName;
-use crate::parts::Parts;
-use crate::shared_lines::SharedLines;
-use crate::subscription::Subscription;
-use crate::tables::{Held, Tables};
+use broker_checks::{are_sound, held_of};
+use broker_operations::{SharedLines, Tables};
+use broker_state::{DurableName, GivenName, Held, Parts, Subscription};
 use command_core::{Command, Dest, Out};
 use std::alloc::{AllocError, Global};
 use std::collections::BTreeMap;
@@ -30,8 +29,8 @@ pub struct Broker {
 
 impl Model for Broker {
     ghost use Rattle.std.specs.Prelude.{◌≡◌, false};
-    ghost use Rattle.broker_core.specs.States.{BrokerValue};
-    ghost use Rattle.broker_core.specs.Tables.{IsWhole, state_of};
+    ghost use Rattle.broker_state.specs.States.{BrokerValue};
+    ghost use Rattle.broker_operations.specs.Tables.{IsWhole, state_of};
 
     ghost Value = { BrokerValue };
 
@@ -58,11 +57,12 @@ impl Broker {
         ensures sound { IfOk result (λ found. IsSome found ↔ IsSound (state_of_parts parts)) }
         ensures state { IfOk result (λ found. IfSome found (λ broker. broker ≡ record { state = state_of_parts parts; broken = false })) }
     {
-        if !parts.are_sound(alloc)? {
+        if !are_sound(alloc, &parts)? {
             return Ok(None);
         }
         let count = parts.count;
-        let tables = Tables::of(alloc, parts)?;
+        let held = held_of(&parts);
+        let tables = Tables::of(alloc, parts, held)?;
         Ok(Some(Broker {
             count,
             tables,
@@ -76,19 +76,13 @@ impl Broker {
         requires { self.old.state.count < 2 ^ 62 }
         ensures state { OnOk result (self.new.state ≡ step self.old.state command) }
         ensures outs { IfOk result (λ given. given.items ≡ outs self.old.state command) }
-        ensures whole { OnOk result ((self.old.broken ≡ false) × (self.new.broken ≡ false)) }
-        ensures broken { IfErr result (λ fault. (fault ≡ BrokerFault.Broken) ↔ (self.old.broken ≡ true)) }
-        ensures same { IfErr result (λ fault. fault ≡ BrokerFault.Broken → self.new ≡ self.old) }
-        ensures err { OnErr result (self.new.broken ≡ true) }
-        ensures count { OnErr result (self.new.state.count ≡ self.old.state.count) }
+        ensures outcome { IsOutcome self.old self.new result }
     {
         if self.broken {
             return Err(BrokerFault::Broken);
         }
         self.broken = true;
-        let given = self
-            .tables
-            .carry_out(alloc, self.count, command)
+        let given = execute(&mut self.tables, alloc, self.count, command)
             .map_err(BrokerFault::Memory)?;
         self.count += 1;
         self.broken = false;
@@ -100,11 +94,7 @@ impl Broker {
     /// then, and from then on the answer is `Broken`, which changes nothing.
     pub fn restart(&mut self, alloc: Global) -> Result<(), BrokerFault>
         ensures state { OnOk result (self.new.state ≡ restarted self.old.state) }
-        ensures whole { OnOk result ((self.old.broken ≡ false) × (self.new.broken ≡ false)) }
-        ensures broken { IfErr result (λ fault. (fault ≡ BrokerFault.Broken) ↔ (self.old.broken ≡ true)) }
-        ensures same { IfErr result (λ fault. fault ≡ BrokerFault.Broken → self.new ≡ self.old) }
-        ensures err { OnErr result (self.new.broken ≡ true) }
-        ensures count { OnErr result (self.new.state.count ≡ self.old.state.count) }
+        ensures outcome { IsOutcome self.old self.new result }
     {
         if self.broken {
             return Err(BrokerFault::Broken);

@@ -1,4 +1,4 @@
-use crate::tests::{Event, are_messages, carry_out, is_one, last_of, many};
+use crate::tests::{Event, are_messages, execute, is_one, last_of, many};
 use broker_core::Broker;
 use command_core::{AckMode, End, Out};
 use frame_core::Verb;
@@ -60,7 +60,7 @@ fn are_answered(
     events: &[(Event<'_>, u64, &str)],
 ) -> Result<bool, Fail> {
     for (event, session, text) in events {
-        let outs = carry_out(alloc, broker, event)?;
+        let outs = execute(alloc, broker, event)?;
         if !is_answer(outs.as_slice(), *session, text) {
             return Ok(false);
         }
@@ -135,6 +135,22 @@ fn a_restart_ends_sessions_and_keeps_what_names_and_queues_had(
 }
 
 #[test]
+fn what_is_kept_is_shown(rt: HostRuntime) -> Result<(), Fail> {
+    let mut broker = with_three_deliveries(rt.alloc())?;
+    assert!(rt; !broker.is_broken() && broker.next_delivery() == 3);
+    assert!(rt; broker.sessions().len() == 1 && broker.durables().len() == 1);
+    assert_eq!(rt; broker.subscription_count(), 3);
+    if broker.subscription_count() == 3 {
+        assert_eq!(rt; broker.subscription(2).id.as_str(), "q");
+    }
+    assert!(rt; broker.shared().names().is_empty() && broker.shared().queues().is_empty());
+    broker.restart(rt.alloc())?;
+    assert!(rt; broker.shared().names().len() == 1 && broker.shared().queues().len() == 1);
+    assert!(rt; broker.sessions().is_empty() && broker.subscription_count() == 0);
+    Ok(())
+}
+
+#[test]
 fn deliveries_are_numbered_on_after_a_restart(rt: HostRuntime) -> Result<(), Fail> {
     let mut broker = with_three_deliveries(rt.alloc())?;
     broker.restart(rt.alloc())?;
@@ -156,10 +172,10 @@ const LETTERS: [&str; 16] = [
 // A client of that name listens to a topic under sixteen durable names.
 fn listen_under_16(alloc: Global, broker: &mut Broker, client: &str) -> Result<(), Fail> {
     let session = broker.count();
-    let _ = carry_out(alloc, broker, &Event::ConnectAs(client))?;
+    let _ = execute(alloc, broker, &Event::ConnectAs(client))?;
     for letter in &LETTERS {
         let event = Event::SubscribeUnder(session, letter, "/topic/t", letter);
-        let _ = carry_out(alloc, broker, &event)?;
+        let _ = execute(alloc, broker, &event)?;
     }
     Ok(())
 }

@@ -1,4 +1,4 @@
-//! Tests of the broker by its public face. They are a crate of their own, since a crate that has tests is proved twice: once
+//! Tests of the broker and of the snapshots of its state, by their public faces. They are a crate of their own, since a crate that has tests is proved twice: once
 //! without them and once with them.
 
 #![tactic(auto)]
@@ -7,5 +7,7 @@
 mod durable_tests;
 #[cfg(test)]
 mod parts_tests;
+#[cfg(test)]
+mod snapshot_tests;
 #[cfg(test)]
 mod tests;

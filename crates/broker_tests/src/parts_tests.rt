@@ -1,4 +1,4 @@
-use crate::tests::{Event, are_messages, carry_out, greeting, header_text};
+use crate::tests::{Event, are_messages, execute, greeting, header_text};
 use broker_core::{Broker, DurableName, GivenName, Parts};
 use command_core::{AckMode, Dest};
 use line_core::{Line, Message, MessageNumber};
@@ -46,7 +46,7 @@ fn a_broker_goes_on_from_its_parts(rt: HostRuntime) -> Result<(), Fail> {
     assert_eq!(rt; broker.count(), 2);
     assert_eq!(rt; broker.held().messages, 1);
     let listen = Event::Subscribe(0, "s", "/queue/q", AckMode::Auto);
-    let outs = carry_out(alloc, &mut broker, &listen)?;
+    let outs = execute(alloc, &mut broker, &listen)?;
     assert!(rt; are_messages(outs.as_slice(), &[(0, "s", "1.0")]));
     Ok(())
 }

@@ -151,7 +151,7 @@ fn command_of(alloc: Global, event: &Event<'_>) -> Result<Command, Fail> {
 }
 
 /// Carries the command out, where the broker can count one more.
-pub(crate) fn carry_out(
+pub(crate) fn execute(
     alloc: Global,
     broker: &mut Broker,
     event: &Event<'_>,
@@ -171,7 +171,7 @@ pub(crate) fn last_of(
 ) -> Result<Vec<Out>, Fail> {
     let mut outs = Vec::new(alloc);
     for event in events {
-        outs = carry_out(alloc, broker, event)?;
+        outs = execute(alloc, broker, event)?;
     }
     Ok(outs)
 }
@@ -185,7 +185,7 @@ pub(crate) fn many(
 ) -> Result<usize, Fail> {
     let mut count: usize = 0;
     for _ in 0..times {
-        count = count.wrapping_add(carry_out(alloc, broker, event)?.len());
+        count = count.wrapping_add(execute(alloc, broker, event)?.len());
     }
     Ok(count)
 }
@@ -372,5 +372,72 @@ fn no_more_than_4096_messages_are_held(rt: HostRuntime) -> Result<(), Fail> {
         )
     );
     assert_eq!(rt; broker.held().messages, 4096);
+    Ok(())
+}
+
+#[test]
+fn subscribers_of_a_queue_take_turns(rt: HostRuntime) -> Result<(), Fail> {
+    let mut broker = Broker::new(rt.alloc());
+    let events = [
+        Event::Connect,
+        Event::Subscribe(0, "a", "/queue/q", AckMode::Client),
+        Event::Subscribe(0, "b", "/queue/q", AckMode::Client),
+        Event::Subscribe(0, "c", "/queue/q", AckMode::Auto),
+    ];
+    let _ = last_of(rt.alloc(), &mut broker, &events)?;
+    let turns = [
+        ("a", "4.0"),
+        ("b", "5.0"),
+        ("c", "6.0"),
+        ("a", "7.0"),
+        ("b", "8.0"),
+    ];
+    for (id, name) in &turns {
+        let outs = execute(rt.alloc(), &mut broker, &Event::Send(0, "/queue/q"))?;
+        assert!(rt; are_messages(outs.as_slice(), &[(0, *id, *name)]));
+    }
+    Ok(())
+}
+
+#[test]
+fn client_acknowledges_what_came_before_too(rt: HostRuntime) -> Result<(), Fail> {
+    let left = [(AckMode::Client, 1), (AckMode::ClientIndividual, 2)];
+    for (mode, held) in &left {
+        let mut broker = Broker::new(rt.alloc());
+        let events = [
+            Event::Connect,
+            Event::Subscribe(0, "s", "/queue/q", *mode),
+            Event::Send(0, "/queue/q"),
+            Event::Send(0, "/queue/q"),
+            Event::Send(0, "/queue/q"),
+            Event::Ack(0, 1),
+        ];
+        let _ = last_of(rt.alloc(), &mut broker, &events)?;
+        assert_eq!(rt; broker.held().messages, *held);
+    }
+    Ok(())
+}
+
+#[test]
+fn what_is_refused_ends_its_session_and_is_told_last(rt: HostRuntime) -> Result<(), Fail> {
+    let mut broker = Broker::new(rt.alloc());
+    let events = [
+        Event::Connect,
+        Event::Connect,
+        Event::Subscribe(0, "a", "/queue/q", AckMode::Client),
+        Event::Send(1, "/queue/q"),
+        Event::Subscribe(1, "b", "/queue/q", AckMode::Client),
+        Event::Ack(0, 9),
+    ];
+    let outs = last_of(rt.alloc(), &mut broker, &events)?;
+    match outs.as_slice() {
+        [message, error] => {
+            assert!(rt; is_message(message, 1, "b", "3.0"));
+            assert!(rt; error.session() == 0 && error.frame().verb == Verb::Error);
+        }
+        _ => return Err(Fail::from("no message and an error")),
+    }
+    let outs = last_of(rt.alloc(), &mut broker, &[Event::Send(0, "/queue/q")])?;
+    assert!(rt; outs.is_empty() && broker.held().messages == 1);
     Ok(())
 }

@@ -4,14 +4,14 @@ use Rattle.std.specs.Map.{values_of}
 use Rattle.std.specs.declared.cmp.Ordering.{Ordering}
 use Rattle.std.proofs.lemmas.List.Sums.{sum_by-cons}
 use Rattle.line_core.specs.declared.message.Message.{Message}
-use Rattle.broker_core.specs.declared.subscription.Subscription.{Subscription}
+use Rattle.broker_state.specs.declared.subscription.Subscription.{Subscription}
 use Rattle.broker_core.specs.Lists.{is_none}
 use Rattle.broker_core.specs.Names.{Name, name_cmp}
 use Rattle.broker_core.specs.Sound.{IsSound}
 use Rattle.broker_core.specs.States.{State, one, weight_of_subscription}
 use Rattle.broker_core.specs.Waiting.{Lines, is_own, line_at, weight_of_lines}
-use Rattle.broker_core.proofs.KeyedLines.{weight-removed}
-use Rattle.broker_core.proofs.Weights.{all_at, ones}
+use Rattle.broker_state.proofs.KeyedLines.{weight-removed}
+use Rattle.broker_state.proofs.Weights.{all_at, ones}
 
 -- What stands in a state that a broker can have, four bytes can count: no more than 4,096 messages are held.
 

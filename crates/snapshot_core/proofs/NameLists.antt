@@ -10,8 +10,8 @@ use Rattle.line_core.specs.declared.message.Message.{Message}
 use Rattle.broker_core.specs.Lists.{is_none}
 use Rattle.broker_core.specs.Names.{Name, name_cmp}
 use Rattle.broker_core.specs.Waiting.{Lines}
-use Rattle.broker_core.proofs.Alls.{all_given, each_given}
-use Rattle.broker_core.proofs.Keys.{names_total}
+use Rattle.broker_state.proofs.Alls.{all_given, each_given}
+use Rattle.broker_state.proofs.Keys.{names_total}
 use Rattle.snapshot_core.specs.Reading.{lines_of}
 use Rattle.snapshot_core.proofs.Appended.{one_more}
 use Rattle.snapshot_core.proofs.SnapshotEntries.{Entry}

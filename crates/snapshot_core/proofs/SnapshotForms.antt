@@ -11,14 +11,14 @@ use Rattle.frame_core.proofs.Lists.{all_both, all_weaker}
 use Rattle.command_core.specs.Destinations.{IsDestination}
 use Rattle.command_core.specs.Spellings.{AreBytes}
 use Rattle.line_core.specs.declared.message.Message.{Message}
-use Rattle.broker_core.specs.declared.subscription.Subscription.{Subscription}
+use Rattle.broker_state.specs.declared.subscription.Subscription.{Subscription}
 use Rattle.broker_core.specs.Lists.{is_none}
 use Rattle.broker_core.specs.Names.{Name, name_cmp, text_cmp}
 use Rattle.broker_core.specs.Operations.{client_in, topic_of}
 use Rattle.broker_core.specs.Sound.{AreTo, IsSound, OwnsName}
 use Rattle.broker_core.specs.States.{State}
 use Rattle.broker_core.specs.Waiting.{Lines, is_own, line_at}
-use Rattle.broker_core.proofs.Alls.{all_given, each_given}
+use Rattle.broker_state.proofs.Alls.{all_given, each_given}
 use Rattle.snapshot_core.specs.Reading.{lines_of, named_by, state_at}
 use Rattle.snapshot_core.specs.Snapshots.{HasForm, IsLine, IsName, IsSubscription, Spells, snapshot_of}
 use Rattle.snapshot_core.proofs.SnapshotParts.{Keyed}

@@ -12,10 +12,10 @@ use Rattle.broker_core.specs.Lists.{is_none}
 use Rattle.broker_core.specs.Names.{Name, name_cmp}
 use Rattle.broker_core.specs.Operations.{topic_of}
 use Rattle.broker_core.specs.Waiting.{Lines, line_at}
-use Rattle.broker_core.proofs.Alls.{all_given, each_given}
-use Rattle.broker_core.proofs.Keys.{name_itself, names_total, same_names}
-use Rattle.broker_core.proofs.KeyedLines.{absent_behind}
-use Rattle.broker_core.proofs.Lookups.{among_keys, is_equal, other_way}
+use Rattle.broker_state.proofs.Alls.{all_given, each_given}
+use Rattle.broker_state.proofs.Keys.{name_itself, names_total, same_names}
+use Rattle.broker_state.proofs.KeyedLines.{absent_behind}
+use Rattle.broker_state.proofs.Lookups.{among_keys, is_equal, other_way}
 use Rattle.snapshot_core.specs.Reading.{lines_of}
 use Rattle.snapshot_core.proofs.SnapshotEntries.{Entry}
 

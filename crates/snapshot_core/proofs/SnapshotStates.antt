@@ -8,7 +8,7 @@ use Rattle.std.proofs.lemmas.List.Folds.{flat_map-map}
 use Rattle.command_core.specs.Reading.{◌>>=◌, number_at}
 use Rattle.command_core.specs.Spellings.{AreBytes}
 use Rattle.command_core.proofs.Formats.{Format, Takes, Takes-then, last_takes}
-use Rattle.broker_core.specs.declared.subscription.Subscription.{Subscription}
+use Rattle.broker_state.specs.declared.subscription.Subscription.{Subscription}
 use Rattle.broker_core.specs.Names.{Name, name_cmp, text_cmp}
 use Rattle.broker_core.specs.States.{State}
 use Rattle.broker_core.specs.Waiting.{Lines, Shared}

@@ -17,7 +17,7 @@ use Rattle.command_core.proofs.RecordOperations.{mode_format}
 use Rattle.command_core.proofs.RecordTexts as texts
 use Rattle.command_core.proofs.RecordTexts.{destination_format, name_format, text_format}
 use Rattle.line_core.specs.declared.message.Message.{Message}
-use Rattle.broker_core.specs.declared.subscription.Subscription.{Subscription}
+use Rattle.broker_state.specs.declared.subscription.Subscription.{Subscription}
 use Rattle.broker_core.specs.Names.{Name}
 use Rattle.broker_core.specs.Operations.{client_in}
 use Rattle.broker_core.specs.Waiting.{is_own}

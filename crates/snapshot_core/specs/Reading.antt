@@ -10,7 +10,7 @@ use Rattle.command_core.specs.Destinations.{is_queue}
 use Rattle.command_core.specs.Reading.{◌>>=◌, Reader, destination_at, many_at, mode_at, name_at, number_at, sending_at, text_at}
 use Rattle.line_core.specs.declared.message.Message.{Message}
 use Rattle.line_core.specs.Lines.{by_number}
-use Rattle.broker_core.specs.declared.subscription.Subscription.{Subscription}
+use Rattle.broker_state.specs.declared.subscription.Subscription.{Subscription}
 use Rattle.broker_core.specs.Lists.{is_none}
 use Rattle.broker_core.specs.Names.{Name, name_cmp, text_cmp}
 use Rattle.broker_core.specs.Operations.{client_in}

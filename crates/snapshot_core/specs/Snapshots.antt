@@ -7,7 +7,7 @@ use Rattle.command_core.specs.Spellings.{IsSent, IsText, counted, mode_byte, opt
 use Rattle.line_core.specs.declared.message.Message.{Message}
 use Rattle.line_core.specs.Flights as flights
 use Rattle.line_core.specs.Lines.{IsRising}
-use Rattle.broker_core.specs.declared.subscription.Subscription.{Subscription}
+use Rattle.broker_state.specs.declared.subscription.Subscription.{Subscription}
 use Rattle.broker_core.specs.Names.{Name, name_cmp}
 use Rattle.broker_core.specs.Sound.{IsSound}
 use Rattle.broker_core.specs.States.{State}

@@ -18,6 +18,3 @@ pub use decoding::decode_state;
 pub use encoding::encode_state;
 pub use laws::snapshots_begin_no_other;
 pub use worked::states_are_spelled;
-
-#[cfg(test)]
-mod tests;

@@ -1,10 +1,10 @@
 use Rattle.std.proofs.Common.{arith, refl}
-use Rattle.broker_core.proofs.Ordered.{empty_in_order}
-use Rattle.broker_core.proofs.SubscriptionLimits.{empty_limits}
-use Rattle.broker_core.proofs.BoundNames.{empty_names}
-use Rattle.broker_core.proofs.StateNumbers.{empty_numbers}
-use Rattle.broker_core.proofs.StateLines.{empty_lines}
-use Rattle.broker_core.proofs.HeldLimits.{empty_held}
+use Rattle.broker_laws.proofs.Ordered.{empty_in_order}
+use Rattle.broker_laws.proofs.SubscriptionLimits.{empty_limits}
+use Rattle.broker_laws.proofs.BoundNames.{empty_names}
+use Rattle.broker_laws.proofs.StateNumbers.{empty_numbers}
+use Rattle.broker_laws.proofs.StateLines.{empty_lines}
+use Rattle.broker_laws.proofs.HeldLimits.{empty_held}
 use Rattle.snapshot_core.proofs.worked.states_are_spelled.Goals as goal
 
 pub returns-clause-first : goal.returns-clause-first

@@ -1,8 +1,8 @@
 use Rattle.std.proofs.Common.{◌≡◌, sym, subst, rules}
-use Rattle.broker_core.specs.Operations.{restarted}
-use Rattle.broker_core.specs.Sound.{IsSound}
-use Rattle.broker_core.specs.Tables.{IsTallied, state_of}
-use Rattle.broker_core.proofs.SoundSteps.{sound_restart}
+use Rattle.broker_state.specs.Operations.{restarted}
+use Rattle.broker_state.specs.Sound.{IsSound}
+use Rattle.broker_operations.specs.Tables.{IsTallied, state_of}
+use Rattle.broker_laws.proofs.SoundSteps.{sound_restart}
 use Rattle.broker_core.proofs.broker.Broker.restart.Goals as goal
 
 pub invariant_of-self-2 : goal.invariant_of-self-2

@@ -1,0 +1,22 @@
+use Rattle.std.proofs.Common.{◌≡◌, ◌∷◌, ap, arith, rules, subst}
+use Rattle.std.specs.List.Sorted.{IsStrictlySortedBy}
+use Rattle.std.specs.Map.{keys_of}
+use Rattle.broker_checks.specs.Seen.{count_of}
+use Rattle.broker_state.specs.Waiting.{line_at}
+use Rattle.broker_checks.proofs.SeenNumbers.{line_first, rising_rest}
+use Rattle.broker_checks.proofs.message_checks.lines_are_new.Goals as goal
+
+pub loop-key-preserved : goal.loop-key-preserved
+loop-key-preserved g c =
+    let cmp = g.K.Ord.cmp in
+    let total = g.met.K.Ord.total in
+    let key = c.in-Some.key.now in
+    let line = c.in-Some.line.now in
+    let rest = c.next.new.self in
+    let first : c.loop-key.key-iterator ≡ (key, line) ∷ rest = search rules in
+    let rising = subst (λ lines. IsStrictlySortedBy cmp (keys_of lines)) first c.loop-key.invariant.rising in
+    let seen = c.in_ok-line_is_new.ensures.seen c.if-not-branch.false in
+    record {
+      noted = λ q n. omega (arith, seen q n, c.loop-key.invariant.noted q n, ap (λ lines. count_of n (line_at cmp q lines)) first, line_first cmp total c.requires n q key line rest rising);
+      rising = rising_rest cmp total c.requires key line rest rising;
+    }

@@ -1,6 +1,0 @@
-use Rattle.std.proofs.Common.{◌≡◌, take}
-use Rattle.broker_core.specs.Trials.{flights_of}
-use Rattle.broker_core.proofs.trial.flights_of.Given as goal
-
-abbrev pub invariant-loop-at : goal.invariant-loop-at
-invariant-loop-at l = l.flights.items ≡ flights_of l.session (take l.at l.order.subscriptions)

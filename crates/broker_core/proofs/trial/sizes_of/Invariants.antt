@@ -1,7 +1,0 @@
-use Rattle.std.proofs.Common.{◌≡◌, take}
-use Rattle.line_core.specs.Flights.{mapped}
-use Rattle.broker_core.specs.States.{bytes}
-use Rattle.broker_core.proofs.trial.sizes_of.Given as goal
-
-abbrev pub invariant-loop-delivery : goal.invariant-loop-delivery
-invariant-loop-delivery l = l.sizes ≡ mapped bytes (take l.delivery-index l.flight)

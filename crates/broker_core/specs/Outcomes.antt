@@ -1,0 +1,11 @@
+use Rattle.std.specs.Prelude.{◌≡◌, true, false, Result, Ok, Err}
+use Rattle.broker_state.specs.States.{BrokerValue}
+use Rattle.broker_core.specs.declared.fault.BrokerFault.{BrokerFault}
+use Rattle.broker_core.specs.declared.fault.BrokerFault.TheVariants.{Memory, Broken}
+
+-- Whether a broker is broken before a step or a restart, and after it: what is done leaves a whole broker whole. Want of
+-- memory breaks it, and its count stays. One that is broken stays as it is.
+abbrev pub IsOutcome : {X : Type 0} → BrokerValue → BrokerValue → Result X BrokerFault → Type 0
+IsOutcome old new (Ok _) = (old.broken ≡ false) × (new.broken ≡ false)
+IsOutcome old new (Err (Memory _)) = (old.broken ≡ false) × (new.broken ≡ true) × (new.state.count ≡ old.state.count)
+IsOutcome old new (Err Broken) = (old.broken ≡ true) × (new ≡ old)

@@ -1,0 +1,54 @@
+use Rattle.std.specs.Prelude.{◌≡◌, ◌≤◌, List, ℕ, Bool, Result, Ok, Err, filter, length, map}
+use Rattle.std.specs.List.{sum_by}
+use Rattle.std.specs.List.Sorted.{IsStrictlySortedBy}
+use Rattle.std.specs.Map.{keys_of}
+use Rattle.command_core.specs.declared.fault.Fault.{Fault}
+use Rattle.line_core.specs.Flights.{has_delivery, mapped, unsettled}
+use Rattle.broker_state.specs.declared.subscription.Subscription.{Subscription}
+use Rattle.broker_core.specs.declared.precheck.Precheck.{Precheck}
+use Rattle.broker_core.specs.declared.precheck.PrecheckFlight.{PrecheckFlight}
+use Rattle.broker_state.specs.Operations.{is_of}
+use Rattle.broker_state.specs.Parts.{copies_to}
+use Rattle.broker_state.specs.States.{State, bytes, held_bytes, held_messages}
+use Rattle.broker_state.specs.Names.{Name, name_cmp, text_cmp}
+
+-- a subscription with the bytes of its deliveries in place of their messages
+abbrev pub flight_of : Subscription → PrecheckFlight
+flight_of sub = record { mode = sub.mode; deliveries = mapped bytes sub.unacknowledged }
+
+-- the subscriptions of a session so, in waiting order
+abbrev pub flights_of : ℕ → List Subscription → List PrecheckFlight
+flights_of session subs = map flight_of (filter (is_of session) subs)
+
+-- the flight has the delivery of that number
+abbrev pub has : ℕ → PrecheckFlight → Bool
+has delivery flight = has_delivery delivery flight.deliveries
+
+-- the flight once the delivery is acknowledged
+abbrev pub left_by : ℕ → PrecheckFlight → PrecheckFlight
+left_by delivery flight = record flight { deliveries = unsettled flight.mode delivery flight.deliveries }
+
+-- how many deliveries there are in flights, and how many bytes they have
+abbrev pub deliveries_in : List PrecheckFlight → ℕ
+deliveries_in flights = sum_by (λ flight. length flight.deliveries) flights
+
+abbrev pub bytes_in : List PrecheckFlight → ℕ
+bytes_in flights = sum_by (λ flight. sum_by (λ item. item.1) flight.deliveries) flights
+
+-- What a precheck stands for: the state to which the members before would have led, from a state with these subscriptions.
+pub record StandsFor (session : ℕ) (durables : List (Name × List ℕ)) (subs : List Subscription) (precheck : Precheck) (s : State) : Type 0 where
+  pub messages : precheck.held.messages ≡ held_messages s
+  pub bytes : precheck.held.bytes ≡ held_bytes s
+  pub few : precheck.held.messages ≤ 4096
+  pub small : precheck.held.bytes ≤ 16777216
+  pub flights : precheck.flights.items ≡ flights_of session s.subscriptions
+  pub names : IsStrictlySortedBy name_cmp (keys_of s.shared.names)
+  pub queues : IsStrictlySortedBy text_cmp (keys_of s.shared.queues)
+  pub copies : (to : List ℕ) → copies_to to s.durables s.subscriptions ≡ copies_to to durables subs
+
+-- A member is refused in the precheck with what it is refused with, and else the precheck stands for the state that it leaves.
+abbrev pub Leads : ℕ → List (Name × List ℕ) → List Subscription → Precheck → Result (Unit {0}) Fault → Result State Fault → Type 0
+Leads session durables subs precheck (Ok _) (Ok s) = StandsFor session durables subs precheck s
+Leads session durables subs precheck (Err fault) (Err other) = fault ≡ other
+Leads session durables subs precheck (Ok _) (Err fault) = ⊥
+Leads session durables subs precheck (Err fault) (Ok s) = ⊥

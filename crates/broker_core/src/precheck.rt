@@ -1,0 +1,201 @@
+//! A transaction is tried on what decides over its refusal.
+
+ghost use Rattle.std.specs.Prelude.{◌≡◌, ◌+◌, ◌*◌, ◌≤◌, ◌^◌, ◌<◌, IfOk, MatchOption, OnOk, Ok, Err, Some, ℕ, if◌then◌else◌, length, slice_get, true};
+ghost use Rattle.std.specs.List.{list_any, sum_by};
+ghost use Rattle.command_core.specs.declared.fault.Fault.TheVariants.{NoRoom, UnknownAcknowledgement};
+ghost use Rattle.line_core.specs.Flights.{mapped, settled};
+ghost use Rattle.broker_core.specs.declared.precheck.PrecheckFlight.{PrecheckFlight};
+ghost use Rattle.broker_state.specs.Lists.{changed, with_first};
+ghost use Rattle.broker_state.specs.Operations.{applied, committed};
+ghost use Rattle.broker_state.specs.Parts.{IsFirst, NonePass, find_room, without_state};
+ghost use Rattle.broker_state.specs.States.{State, bytes};
+ghost use Rattle.broker_operations.specs.Tables.{IsTallied, state_of};
+ghost use Rattle.broker_core.specs.Prechecks.{Leads, StandsFor, bytes_in, deliveries_in, flights_of, has, left_by};
+
+use broker_operations::{Order, Tables, copies_to, find_room};
+use broker_state::{Held, stand_in_order};
+use command_core::{AckMode, Fault, Member};
+use line_core::{Flight, Message, SettleFault, size};
+use std::alloc::{AllocError, Global};
+
+/// A subscription of the session, with the bytes of its deliveries in place of their messages.
+#[derive(Debug, Drop)]
+struct PrecheckFlight {
+    mode: AckMode,
+    deliveries: Flight<u64>,
+}
+
+/// What decides whether members are refused: how much would be held, and the subscriptions of the session.
+#[derive(Debug, Drop)]
+struct Precheck {
+    held: Held,
+    flights: Vec<PrecheckFlight>,
+}
+
+/// The deliveries with the bytes of their messages alone.
+fn sizes_of(alloc: Global, flight: &Flight<Message>) -> Result<Flight<u64>, AllocError>
+    ensures { IfOk result (λ sizes. sizes ≡ mapped bytes flight.now) }
+{
+    let mut sizes = Flight::new(alloc);
+    for (delivery, message) in flight.as_slice() {
+        sizes.add(*delivery, size(&message.sending) as u64)?;
+    }
+    Ok(sizes)
+}
+
+/// The subscriptions of the session, in waiting order.
+fn flights_of(alloc: Global, order: &Order, session: u64) -> Result<Vec<PrecheckFlight>, AllocError>
+    ensures { IfOk result (λ flights. flights.items ≡ flights_of session order.now.subscriptions) }
+{
+    let mut flights = Vec::new(alloc);
+    for at in 0..order.len() {
+        let sub = order.get(at);
+        if sub.session == session {
+            let deliveries = sizes_of(alloc, &sub.unacknowledged)?;
+            flights.push(PrecheckFlight {
+                mode: sub.mode,
+                deliveries,
+            })?;
+        }
+    }
+    Ok(flights)
+}
+
+/// Where the flight stands that has the delivery of that number.
+fn find_flight(flights: &[PrecheckFlight], delivery: u64) -> Option<usize>
+    ensures { MatchOption result (NonePass (has delivery) flights.now) (λ at. IsFirst (has delivery) flights.now at) }
+{
+    for at in 0..flights.len() {
+        if flights[at].deliveries.contains(delivery) {
+            return Some(at);
+        }
+    }
+    None
+}
+
+/// The bytes of settled deliveries, which are held.
+fn sum_of(settled: &[(u64, u64)]) -> u64
+    requires { sum_by (λ item. item.1) settled.now ≤ 16777216 }
+    ensures { result ≡ sum_by (λ item. item.1) settled.now }
+{
+    let mut bytes = 0;
+    for (_, size) in settled {
+        bytes += *size;
+    }
+    bytes
+}
+
+/// The flight in that place has a delivery acknowledged that it has; gives what is settled.
+fn settle_at(
+    flights: &mut Vec<PrecheckFlight>,
+    at: usize,
+    delivery: u64,
+) -> Result<Vec<(u64, u64)>, AllocError>
+    requires place { at < length flights.old.items }
+    requires known { (flight : PrecheckFlight) → slice_get flights.old.items at ≡ Some flight → has delivery flight ≡ true }
+    ensures settled { IfOk result (λ out. (flight : PrecheckFlight) → slice_get flights.old.items at ≡ Some flight
+        → out.items ≡ settled flight.mode delivery flight.deliveries) }
+    ensures left { OnOk result (flights.new.items ≡ changed at (left_by delivery) flights.old.items) }
+{
+    let flight = &mut flights[at];
+    match flight.deliveries.settle(flight.mode, delivery) {
+        Ok(settled) => Ok(settled),
+        Err(SettleFault::Memory(refused)) => Err(refused),
+        Err(SettleFault::Unknown) => unreachable!(),
+    }
+}
+
+/// A delivery is acknowledged in a precheck. Refused where no flight has it, and then nothing changes.
+fn precheck_acknowledge(precheck: &mut Precheck, delivery: u64) -> Result<Result<(), Fault>, AllocError>
+    requires small { precheck.old.held.bytes ≤ 16777216 }
+    requires messages { deliveries_in precheck.old.flights.items ≤ precheck.old.held.messages }
+    requires bytes { bytes_in precheck.old.flights.items ≤ precheck.old.held.bytes }
+    ensures answer { IfOk result (λ r. r ≡ (if list_any (has delivery) precheck.old.flights.items then Ok tt else Err UnknownAcknowledgement)) }
+    ensures flights { OnOk result (precheck.new.flights.items ≡ with_first (has delivery) (left_by delivery) precheck.old.flights.items) }
+    ensures messages { OnOk result (precheck.new.held.messages + deliveries_in precheck.old.flights.items
+        ≡ precheck.old.held.messages + deliveries_in precheck.new.flights.items) }
+    ensures bytes { OnOk result (precheck.new.held.bytes + bytes_in precheck.old.flights.items
+        ≡ precheck.old.held.bytes + bytes_in precheck.new.flights.items) }
+    ensures fewer { OnOk result (precheck.new.held.messages ≤ precheck.old.held.messages) }
+    ensures smaller { OnOk result (precheck.new.held.bytes ≤ precheck.old.held.bytes) }
+{
+    let Some(at) = find_flight(precheck.flights.as_slice(), delivery) else {
+        return Ok(Err(Fault::UnknownAcknowledgement));
+    };
+    let settled = settle_at(&mut precheck.flights, at, delivery)?;
+    precheck.held.messages -= settled.len() as u64;
+    precheck.held.bytes -= sum_of(settled.as_slice());
+    Ok(Ok(()))
+}
+
+/// So many copies of so many bytes are kept in a precheck. Refused where they find no room, and then nothing changes.
+fn precheck_send(precheck: &mut Precheck, copies: u64, size: u64) -> Result<(), Fault>
+    requires size { size < 2 ^ 21 }
+    requires few { precheck.old.held.messages ≤ 4096 }
+    requires small { precheck.old.held.bytes ≤ 16777216 }
+    ensures answer { result ≡ (if find_room precheck.old.held.messages precheck.old.held.bytes copies size then Ok tt else Err NoRoom) }
+    ensures messages { OnOk result (precheck.new.held.messages ≡ precheck.old.held.messages + copies) }
+    ensures bytes { OnOk result (precheck.new.held.bytes ≡ precheck.old.held.bytes + copies * size) }
+    ensures flights { precheck.new.flights.items ≡ precheck.old.flights.items }
+{
+    if !find_room(&precheck.held, copies, size) {
+        return Err(Fault::NoRoom);
+    }
+    precheck.held.messages += copies;
+    precheck.held.bytes += copies * size;
+    Ok(())
+}
+
+/// Whether a member is refused after those that were tried before.
+fn precheck_member(
+    precheck: &mut Precheck,
+    tables: &Tables,
+    member: &Member,
+) -> Result<Result<(), Fault>, AllocError>
+    requires { (session : ℕ) × (s : State) × StandsFor session tables.now.durables.entries tables.now.order.subscriptions precheck.old s }
+    ensures { IfOk result (λ r. (session place : ℕ) (s : State) → StandsFor session tables.now.durables.entries tables.now.order.subscriptions precheck.old s
+        → Leads session tables.now.durables.entries tables.now.order.subscriptions precheck.new r (applied s session place member.now)) }
+{
+    match member {
+        Member::Send(sending) => {
+            let copies = copies_to(tables, sending.destination());
+            Ok(precheck_send(precheck, copies, size(sending) as u64))
+        }
+        Member::Ack(delivery) | Member::Nack(delivery) => precheck_acknowledge(precheck, *delivery),
+    }
+}
+
+/// The precheck before the first member.
+fn begin(alloc: Global, tables: &Tables, number: u64, session: u64) -> Result<Precheck, AllocError>
+    requires { IsTallied number tables.now }
+    ensures { IfOk result (λ precheck. StandsFor session tables.now.durables.entries tables.now.order.subscriptions precheck (state_of number tables.now)) }
+{
+    stand_in_order(tables.shared.names());
+    stand_in_order(tables.shared.queues());
+    let flights = flights_of(alloc, &tables.order, session)?;
+    Ok(Precheck {
+        held: tables.held,
+        flights,
+    })
+}
+
+/// Whether the members of a transaction are refused, and with what: nothing is carried out.
+pub fn precheck_members(
+    alloc: Global,
+    tables: &Tables,
+    number: u64,
+    session: u64,
+    members: &[Member],
+) -> Result<Result<(), Fault>, AllocError>
+    requires tallied { IsTallied number tables.now }
+    requires few { length members.now ≤ 64 }
+    ensures { IfOk result (λ r. r ≡ without_state (committed (state_of number tables.now) session 0 members.now)) }
+{
+    let mut precheck = begin(alloc, tables, number, session)?;
+    for member in members {
+        if let Err(fault) = precheck_member(&mut precheck, tables, member)? {
+            return Ok(Err(fault));
+        }
+    }
+    Ok(Ok(()))
+}

@@ -1,0 +1,12 @@
+use Rattle.std.proofs.Common.{◌∙◌, ◌+◌, ◌++◌, ap}
+use Rattle.broker_state.specs.HandOut.{Settling}
+use Rattle.broker_state.specs.Steps.{answers}
+use Rattle.broker_laws.proofs.Heard.{closed_answers, closed_leads}
+use Rattle.broker_laws.proofs.laws.closed_sessions_change_nothing.Goals as goal
+
+pub returns : goal.returns
+returns c = record {
+  state = λ s d other closed. ap (λ (r : Settling). record r.state { count = s.count + 1 }) (closed_leads s d.session d.op other closed);
+  outputs = λ s d other closed.
+      ap (λ (r : Settling). r.outs ++ answers s d.session d.receipt d.op) (closed_leads s d.session d.op other closed) ∙ closed_answers s d.session d.receipt d.op other closed;
+}

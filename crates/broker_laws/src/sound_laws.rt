@@ -1,0 +1,41 @@
+//! What each state keeps that a broker reaches, after any commands and restarts. Nothing is run.
+
+ghost use Rattle.std.specs.Prelude.{◌≡◌, ◌≤◌, ℕ};
+ghost use Rattle.command_core.specs.Commands.{CommandValue};
+ghost use Rattle.broker_state.specs.Operations.{restarted};
+ghost use Rattle.broker_state.specs.Sound.{HasLimits, HasNames, HasSubscriptions, IsSound};
+ghost use Rattle.broker_state.specs.States.{IsInOrder, State, empty_state};
+ghost use Rattle.broker_state.specs.Steps.{step};
+
+/// Subscriptions are of open sessions, at most 16 of each, under ids that differ; at most 16 deliveries of each are
+/// unacknowledged, and none with `auto`. The first state has no subscription, and each command and each restart keeps
+/// this.
+pub fn subscriptions_stay_within_their_limits()
+    ensures first { HasSubscriptions empty_state }
+    ensures step { (s : State) (c : CommandValue) → IsInOrder s → HasSubscriptions s → HasSubscriptions (step s c) }
+    ensures restart { (s : State) → IsInOrder s → HasSubscriptions s → HasSubscriptions (restarted s) }
+{}
+
+/// At most 256 durable names are bound, each to a topic. The subscription that uses one is of the name's client and of
+/// its topic, and there is one at most; lines stand under bound names alone. No name is bound at first, and each command
+/// and each restart keeps this.
+pub fn durable_names_stay_bound()
+    ensures first { HasNames empty_state }
+    ensures step { (s : State) (c : CommandValue) → IsInOrder s → HasNames s → HasNames (step s c) }
+    ensures restart { (s : State) → IsInOrder s → HasNames s → HasNames (restarted s) }
+{}
+
+/// At most 4,096 messages and 16,777,216 bytes are held, and nothing that could be handed out waits. Nothing is held at
+/// first, and each command and each restart keeps this.
+pub fn limits_are_kept()
+    ensures first { HasLimits empty_state }
+    ensures step { (s : State) (c : CommandValue) → IsInOrder s → HasLimits s → HasLimits (step s c) }
+    ensures restart { (s : State) → IsInOrder s → HasLimits s → HasLimits (restarted s) }
+{}
+
+/// The first state is one that a broker can have, and each step and each restart leads from such a state to another.
+pub fn states_stay_sound()
+    ensures first { IsSound empty_state }
+    ensures step { (s : State) (c : CommandValue) → IsSound s → IsSound (step s c) }
+    ensures restart { (s : State) → IsSound s → IsSound (restarted s) }
+{}

@@ -1,0 +1,151 @@
+use Rattle.std.proofs.Common.{◌≡◌, ◌<◌, ◌+◌, ◌&&◌, List, [], ◌∷◌, ℕ, suc, zero, Bool, true, false, IfSome, Option, Some, None, Result, Ok, Err, cond, count_by, filter, fold, is_some, length, nat_le, not, refl, remove, sym, ap, ◌∙◌, subst, arith, slice_get, take}
+use Rattle.std.specs.BTreeMap.{is_at}
+use Rattle.std.specs.List.{list_any}
+use Rattle.std.specs.Map.{remove_entry}
+use Rattle.std.specs.Ordering.{nat_cmp}
+use Rattle.std.proofs.lemmas.Option.{same_Some, slice_get_within}
+use Rattle.command_core.specs.declared.ack_mode.AckMode.{AckMode}
+use Rattle.command_core.specs.declared.command.Op.TheVariants.{Unsubscribe}
+use Rattle.command_core.specs.declared.fault.Fault.{Fault}
+use Rattle.command_core.specs.declared.fault.Fault.TheVariants.{DurableSubscription, SubscriptionIdInUse, UnknownSubscription, UnknownAcknowledgement, TooManyEntries}
+use Rattle.broker_state.specs.declared.subscription.Subscription.{Subscription}
+use Rattle.broker_state.specs.Lists.{changed, with_first}
+use Rattle.broker_state.specs.Names.{Name}
+use Rattle.broker_state.specs.Operations.{acknowledged, awaits, begun_for, executed, client_of, ended, ended_one, forgotten, given_up, given_up_for, is_named, is_of, name_for, or_same, settled_by, subscribed, topic_of, unsubscribed, uses, without, without_named}
+use Rattle.broker_state.specs.Parts.{IsFirst, IsGivenAt, NonePass, but_at, without_at}
+use Rattle.broker_state.specs.States.{State}
+use Rattle.broker_state.specs.Waiting.{Shared, returned}
+use Rattle.broker_state.proofs.Ending.{same_state, filter-all_others, filter-first, filter-none, filter-others, length-removed, take-removed}
+use Rattle.broker_state.proofs.Firsts.{any_first, any_none, changed_first, picked_first, picked_none}
+
+-- an item stands in each place of a list
+pub item_at : {X : Type 0} (xs : List X) (at : ℕ) → at < length xs → (x : X) × (slice_get xs at ≡ Some x)
+item_at [] at within = absurd (omega (arith, within))
+item_at (x ∷ xs) zero within = (x, refl)
+item_at (x ∷ xs) (suc at) within = item_at xs at (omega (arith, within))
+
+-- a subscription has ended
+pub without_one : (s : State) (removed sub : Subscription) (others subs : List Subscription) (shared : Shared) → removed ≡ sub → subs ≡ others → shared ≡ returned s.shared removed → record s { shared = shared; subscriptions = subs } ≡ without s sub others
+without_one s removed sub others subs shared same left back =
+    ap (λ h. record s { shared = h; subscriptions = subs }) back
+    ∙ ap (λ l. record s { shared = returned s.shared removed; subscriptions = l }) left
+    ∙ ap (λ x. without s x others) same
+
+module _ (s : State) (session : ℕ) (id destination : List ℕ) (mode : AckMode) (durable : Option (List ℕ)) where
+  pub subscribed_twice : (at : ℕ) → IsFirst (is_named session id) s.subscriptions at → subscribed s session id destination mode durable ≡ Err SubscriptionIdInUse
+  subscribed_twice at first = rw (any_first (is_named session id) s.subscriptions at first) refl
+
+  pub subscribed_too_often : NonePass (is_named session id) s.subscriptions → nat_le 16 (count_by (is_of session) s.subscriptions) ≡ true → subscribed s session id destination mode durable ≡ Err TooManyEntries
+  subscribed_too_often none many = rw (any_none (is_named session id) s.subscriptions none, many) refl
+
+  pub subscribed_new : NonePass (is_named session id) s.subscriptions → nat_le 16 (count_by (is_of session) s.subscriptions) ≡ false → subscribed s session id destination mode durable ≡ begun_for s session id destination mode (name_for (client_of s session) destination durable)
+  subscribed_new none few = rw (any_none (is_named session id) s.subscriptions none, few) refl
+
+module _ (s : State) (session : ℕ) (id : List ℕ) where
+  pub unsubscribed_none : NonePass (is_named session id) s.subscriptions → unsubscribed s session id ≡ Err UnknownSubscription
+  unsubscribed_none none =
+      ap (ended_one s) (picked_none (is_named session id) s.subscriptions none)
+
+  pub unsubscribed_first : (t : State) (at : ℕ) → IsFirst (is_named session id) s.subscriptions at → ((sub : Subscription) → slice_get s.subscriptions at ≡ Some sub → t ≡ without s sub (remove s.subscriptions at)) → unsubscribed s session id ≡ Ok t
+  unsubscribed_first t at first ended =
+      let found = item_at s.subscriptions at first.within in
+      ap (ended_one s) (picked_first (is_named session id) s.subscriptions at found.0 first found.1) ∙ ap (λ u. Ok u) (sym (ended found.0 found.1))
+
+  -- without the subscription of an id, wherever it was found
+  named_is_at : (place : Option ℕ) → IsGivenAt session (Some id) s.subscriptions place → or_same s (unsubscribed s session id) ≡ without_at s place
+  named_is_at None none = ap (or_same s) (unsubscribed_none none)
+  named_is_at (Some at) first =
+      let found = item_at s.subscriptions at first.within in
+      ap (or_same s) (unsubscribed_first (without s found.0 (remove s.subscriptions at)) at first (λ sub is. ap (λ x. without s x (remove s.subscriptions at)) (same_Some found.0 sub (sym found.1 ∙ is))))
+      ∙ sym (ap (λ o. elim o as (λ x. State) [ None ↦ s | Some sub ↦ without s sub (remove s.subscriptions at) ]) found.1)
+
+pub without_given : (s : State) (session : ℕ) (id : Option (List ℕ)) (place : Option ℕ) → IsGivenAt session id s.subscriptions place → without_named s session id ≡ without_at s place
+without_given s session None place given = sym (ap (without_at s) given)
+without_given s session (Some id) place given = named_is_at s session id place given
+
+-- what is left without the subscription in a place
+pub left_at : (s : State) (place : Option ℕ) → IfSome place (λ at. at < length s.subscriptions) → ((without_at s place).subscriptions ≡ but_at s.subscriptions place) × ((without_at s place).durables ≡ s.durables)
+left_at s None within = (refl, refl)
+left_at s (Some at) within =
+    let found = item_at s.subscriptions at within in
+    let is = ap (λ o. elim o as (λ x. State) [ None ↦ s | Some sub ↦ without s sub (remove s.subscriptions at) ]) found.1 in
+    (ap (λ (t : State). t.subscriptions) is, ap (λ (t : State). t.durables) is)
+
+-- where a place is given, what is left is what the end of the subscription there leaves
+pub ended_at : (s t : State) (at : ℕ) → at < length s.subscriptions → ((sub : Subscription) → slice_get s.subscriptions at ≡ Some sub → t ≡ without s sub (remove s.subscriptions at)) → t ≡ without_at s (Some at)
+ended_at s t at within ended =
+    let found = item_at s.subscriptions at within in
+    ended found.0 found.1 ∙ sym (ap (λ o. elim o as (λ x. State) [ None ↦ s | Some sub ↦ without s sub (remove s.subscriptions at) ]) found.1)
+
+-- the front of the waiting order has ended
+pub ended_front : (s t : State) → 0 < length s.subscriptions → ((sub : Subscription) → slice_get s.subscriptions 0 ≡ Some sub → t ≡ without s sub (remove s.subscriptions 0)) → (fold returned t.shared t.subscriptions ≡ fold returned s.shared s.subscriptions) × (length t.subscriptions + 1 ≡ length s.subscriptions) × (t.durables ≡ s.durables) × (t.next_delivery ≡ s.next_delivery)
+ended_front s t some ended = by s.subscriptions some ended
+  where
+    by : (subs : List Subscription) → 0 < length subs → ((sub : Subscription) → slice_get subs 0 ≡ Some sub → t ≡ without s sub (remove subs 0)) → (fold returned t.shared t.subscriptions ≡ fold returned s.shared subs) × (length t.subscriptions + 1 ≡ length subs) × (t.durables ≡ s.durables) × (t.next_delivery ≡ s.next_delivery)
+    by [] some ended = absurd (omega (arith, some))
+    by (sub ∷ subs) some ended =
+        let is = ended sub refl in
+        (ap (λ (u : State). fold returned u.shared u.subscriptions) is, omega (arith, ap (λ (u : State). length u.subscriptions) is), ap (λ (u : State). u.durables) is, ap (λ (u : State). u.next_delivery) is)
+
+module _ (s : State) (name : Name) where
+  abbrev given_by : Bool → Bool → Result State Fault
+  given_by known used = cond (known && not used) (Ok (forgotten s name)) (Err DurableSubscription)
+
+  pub given_up_is : (known used : Bool) → is_some (topic_of name s.durables) ≡ known → list_any (uses name) s.subscriptions ≡ used → given_up s name ≡ given_by known used
+  given_up_is known used is in_use =
+      ap (λ b. given_by b (list_any (uses name) s.subscriptions)) is ∙ ap (given_by known) in_use
+
+-- a durable name of a client is given up once the subscription in a place has ended, by whether it is known and used
+pub given_up_left : (s : State) (place : Option ℕ) → IfSome place (λ at. at < length s.subscriptions) → (known used : Bool) (client : Option (List ℕ)) (mine name : List ℕ) → client ≡ Some mine → is_some (topic_of (mine, name) s.durables) ≡ known → list_any (uses (mine, name)) (but_at s.subscriptions place) ≡ used → given_up_for (without_at s place) client name ≡ given_by (without_at s place) (mine, name) known used
+given_up_left s place within known used client mine name is found in_use =
+    ap (λ o. given_up_for (without_at s place) o name) is
+    ∙ given_up_is (without_at s place) (mine, name) known used (ap (λ d. is_some (topic_of (mine, name) d)) (left_at s place within).1 ∙ found) (ap (list_any (uses (mine, name))) (left_at s place within).0 ∙ in_use)
+
+-- an UNSUBSCRIBE by id alone
+pub ended_nowhere : (s : State) (session : ℕ) (id : Option (List ℕ)) → IsGivenAt session id s.subscriptions None → executed s session (Unsubscribe id None) ≡ Err UnknownSubscription
+ended_nowhere s session None given = refl
+ended_nowhere s session (Some id) none = unsubscribed_none s session id none
+
+pub ended_somewhere : (s t : State) (session : ℕ) (id : Option (List ℕ)) (at : ℕ) → IsGivenAt session id s.subscriptions (Some at) → ((sub : Subscription) → slice_get s.subscriptions at ≡ Some sub → t ≡ without s sub (remove s.subscriptions at)) → executed s session (Unsubscribe id None) ≡ Ok t
+ended_somewhere s t session None at given ended = absurd cc
+ended_somewhere s t session (Some id) at first ended = unsubscribed_first s session id t at first ended
+
+-- the place that is found lies within
+pub within_given : (s : State) (session : ℕ) (id : Option (List ℕ)) (place : Option ℕ) → IsGivenAt session id s.subscriptions place → IfSome place (λ at. at < length s.subscriptions)
+within_given s session id None given = tt
+within_given s session None (Some at) given = absurd cc
+within_given s session (Some id) (Some at) first = first.within
+
+module _ (s : State) (session delivery : ℕ) where
+  pub acknowledged_none : NonePass (awaits session delivery) s.subscriptions → acknowledged s session delivery ≡ Err UnknownAcknowledgement
+  acknowledged_none none =
+      ap (λ b. cond b (Ok (record s { subscriptions = with_first (awaits session delivery) (settled_by delivery) s.subscriptions })) (Err UnknownAcknowledgement)) (any_none (awaits session delivery) s.subscriptions none)
+
+  pub acknowledged_first : (at : ℕ) (subs : List Subscription) → IsFirst (awaits session delivery) s.subscriptions at → subs ≡ changed at (settled_by delivery) s.subscriptions → acknowledged s session delivery ≡ Ok (record s { subscriptions = subs })
+  acknowledged_first at subs first left =
+      ap (λ b. cond b (Ok (record s { subscriptions = with_first (awaits session delivery) (settled_by delivery) s.subscriptions })) (Err UnknownAcknowledgement)) (any_first (awaits session delivery) s.subscriptions at first)
+      ∙ ap (λ l. Ok (record s { subscriptions = l })) (changed_first (awaits session delivery) (settled_by delivery) s.subscriptions at first ∙ sym left)
+
+module _ (session : ℕ) where
+  -- what is still to be ended, and what stays, once the first subscription of the session has ended
+  pub record IsLeft (at : ℕ) (s t : State) : Type 0 where
+    pub before : NonePass (is_of session) (take at t.subscriptions)
+    pub shared : fold returned t.shared (filter (is_of session) t.subscriptions) ≡ fold returned s.shared (filter (is_of session) s.subscriptions)
+    pub others : filter (λ sub. not (is_of session sub)) t.subscriptions ≡ filter (λ sub. not (is_of session sub)) s.subscriptions
+    pub fewer : length t.subscriptions + 1 ≡ length s.subscriptions
+
+  pub left_first : (s t : State) (at : ℕ) (sub : Subscription) → slice_get s.subscriptions at ≡ Some sub → is_of session sub ≡ true → NonePass (is_of session) (take at s.subscriptions) → t ≡ without s sub (remove s.subscriptions at) → IsLeft at s t
+  left_first s t at sub is mine none ended =
+      let p = is_of session in
+      let rest = remove s.subscriptions at in
+      subst (IsLeft at s) (sym ended) (record {
+        before = subst (NonePass p) (sym (take-removed s.subscriptions at (slice_get_within s.subscriptions at sub is))) none;
+        shared = ap (fold returned s.shared) (sym (filter-first p s.subscriptions at sub is mine none));
+        others = filter-others p s.subscriptions at sub is mine;
+        fewer = length-removed s.subscriptions at sub is;
+      })
+
+  -- where none is left, the session has ended
+  pub ended_none : (s t : State) → t.count ≡ s.count → t.next_delivery ≡ s.next_delivery → t.sessions ≡ remove_entry (is_at (nat_cmp session)) s.sessions → t.durables ≡ s.durables → fold returned t.shared (filter (is_of session) t.subscriptions) ≡ fold returned s.shared (filter (is_of session) s.subscriptions) → filter (λ sub. not (is_of session sub)) t.subscriptions ≡ filter (λ sub. not (is_of session sub)) s.subscriptions → NonePass (is_of session) t.subscriptions → t ≡ ended s session
+  ended_none s t count next sessions durables shared others none =
+      same_state t (ended s session) count next sessions durables (ap (fold returned t.shared) (sym (filter-none (is_of session) t.subscriptions none)) ∙ shared) (sym (filter-all_others (is_of session) t.subscriptions none) ∙ others)

@@ -1,0 +1,125 @@
+//! Lines of messages under keys; none of them is empty.
+
+ghost use Rattle.std.specs.Prelude.{◌≡◌, ◌+◌, IfOk, None, OnErr, OnOk, drop, if◌then◌else◌, ℕ};
+ghost use Rattle.std.specs.BTreeMap.{insert_entry, is_at};
+ghost use Rattle.std.specs.List.{sum_by};
+ghost use Rattle.std.specs.List.Sorted.{IsStrictlySortedBy};
+ghost use Rattle.std.specs.Map.{keys_of, lookup, remove_entry};
+ghost use Rattle.line_core.specs.declared.message.Message.{Message};
+ghost use Rattle.line_core.specs.Lines.{first_of, inserted};
+ghost use Rattle.broker_state.specs.Lists.{is_none};
+ghost use Rattle.broker_state.specs.Names.{AreSame};
+ghost use Rattle.broker_state.specs.Waiting.{line_at, weight_of_lines, with_deliveries, with_line, with_message};
+
+use line_core::{Line, Message};
+use std::alloc::{AllocError, Global};
+use std::collections::BTreeMap;
+
+/// Takes the line under that key out, an empty one where there is none.
+pub fn take_line<K: Ord + Drop>(alloc: Global, lines: &mut BTreeMap<K, Line>, key: &K) -> Line
+    ensures line { result ≡ line_at K.cmp key.now lines.old.entries }
+    ensures others { lines.new.entries ≡ remove_entry (is_at (K.cmp key.now)) lines.old.entries }
+    ensures absent { lookup (is_at (K.cmp key.now)) lines.new.entries ≡ None }
+    ensures ordered { IsStrictlySortedBy K.cmp (keys_of lines.new.entries) }
+{
+    match lines.remove(key) {
+        Some(line) => line,
+        None => Line::new(alloc),
+    }
+}
+
+/// Puts a line in under that key, unless nothing waits in it. Where memory is refused, the other lines stand.
+fn put_line<K: Ord + Drop>(
+    lines: &mut BTreeMap<K, Line>,
+    key: K,
+    line: Line,
+) -> Result<(), AllocError>
+    ensures entries { OnOk result (lines.new.entries
+        ≡ (if is_none line then lines.old.entries else insert_entry K.cmp lines.old.entries key line)) }
+    ensures err { OnErr result (lines.new.entries ≡ lines.old.entries) }
+{
+    if !line.is_empty() {
+        lines.insert(key, line)?;
+    }
+    Ok(())
+}
+
+/// From where the place of a message in its line is looked for.
+#[derive(Drop)]
+pub enum Side {
+    /// From the back: a new message goes last at once.
+    Back,
+    /// From the front, where messages were taken out.
+    Front,
+}
+
+/// Puts a message into a line, to its place by number.
+fn put_into(line: &mut Line, message: Message, from: Side) -> Result<(), AllocError>
+    ensures ok { OnOk result (line.new ≡ inserted message line.old) }
+    ensures same { OnErr result (line.new ≡ line.old) }
+{
+    match from {
+        Side::Back => line.put(message),
+        Side::Front => line.put_back(message),
+    }
+}
+
+/// Puts a message into the line under that key, to its place by number. Where memory is refused, that line is gone, and
+/// the others stand.
+pub fn put<K: Ord + Drop>(
+    alloc: Global,
+    lines: &mut BTreeMap<K, Line>,
+    key: K,
+    message: Message,
+    from: Side,
+) -> Result<(), AllocError>
+    ensures entries { OnOk result (lines.new.entries ≡ with_message K.cmp key message lines.old.entries) }
+    ensures err { OnErr result (lines.new.entries ≡ remove_entry (is_at (K.cmp key)) lines.old.entries) }
+    ensures weight { OnOk result ((weight : Message → ℕ) → weight_of_lines weight lines.new.entries
+        ≡ weight_of_lines weight lines.old.entries + weight message) }
+{
+    let mut line = take_line(alloc, lines, &key);
+    put_into(&mut line, message, from)?;
+    put_line(lines, key, line)
+}
+
+/// Takes the least message out of the line under that key. Where memory is refused, that line is gone, and the others
+/// stand.
+pub fn take<K: Ord + Drop>(
+    lines: &mut BTreeMap<K, Line>,
+    key: &K,
+) -> Result<Option<Message>, AllocError>
+    requires { AreSame K.cmp }
+    ensures taken { IfOk result (λ m. m ≡ first_of (line_at K.cmp key.now lines.old.entries)) }
+    ensures err { OnErr result (lines.new.entries ≡ remove_entry (is_at (K.cmp key.now)) lines.old.entries) }
+    ensures rest { OnOk result (lines.new.entries ≡ with_line K.cmp key.now (drop 1 (line_at K.cmp key.now lines.old.entries)) lines.old.entries) }
+    ensures weight { OnOk result ((weight : Message → ℕ) → weight_of_lines weight lines.new.entries
+        + sum_by weight (line_at K.cmp key.now lines.old.entries)
+        ≡ weight_of_lines weight lines.old.entries + sum_by weight (drop 1 (line_at K.cmp key.now lines.old.entries))) }
+{
+    let Some((key, mut line)) = lines.remove_entry(key) else {
+        return Ok(None);
+    };
+    let message = line.take();
+    put_line(lines, key, line)?;
+    Ok(message)
+}
+
+/// Puts the messages of deliveries back into the line under that key, each to its place by number, which is looked for
+/// from the front. Where memory is refused, that line may be gone, and the others stand.
+pub fn put_back<K: Ord + Clone + Drop>(
+    alloc: Global,
+    lines: &mut BTreeMap<K, Line>,
+    key: &K,
+    deliveries: Vec<(u64, Message)>,
+) -> Result<(), AllocError>
+    requires { (old copy : K) → K.is_clone old copy → copy ≡ old }
+    ensures entries { OnOk result (lines.new.entries ≡ with_deliveries K.cmp key.now deliveries.items lines.old.entries) }
+    ensures weight { OnOk result ((weight : Message → ℕ) → weight_of_lines weight lines.new.entries
+        ≡ weight_of_lines weight lines.old.entries + sum_by (λ delivery. weight delivery.1) deliveries.items) }
+{
+    for (_, message) in deliveries {
+        put(alloc, lines, key.clone()?, message, Side::Front)?;
+    }
+    Ok(())
+}

@@ -1,0 +1,17 @@
+//! What operations do to sessions, subscriptions and lines of messages, and what is handed out.
+
+#![tactic(auto)]
+
+mod acknowledging;
+mod hand_out;
+mod keyed_lines;
+mod order;
+mod sending;
+mod shared_lines;
+mod subscribing;
+mod tables;
+
+pub use order::Order;
+pub use sending::{copies_to, find_room};
+pub use shared_lines::SharedLines;
+pub use tables::Tables;

@@ -1,0 +1,145 @@
+//! Messages are sent.
+
+ghost use Rattle.std.specs.Prelude.{◌≡◌, ◌<◌, ◌≤◌, ◌&&◌, ◌^◌, ℕ, IfOk, IsErr, OnOk, count_by, map};
+ghost use Rattle.std.specs.Str.{bytes_eq};
+ghost use Rattle.broker_state.specs.Operations.{copied, copied_to_names, sent, fanned_out};
+ghost use Rattle.broker_state.specs.Parts.{copies_to, find_room, leaving};
+ghost use Rattle.broker_operations.specs.Tables.{IsTallied, state_of};
+ghost use Rattle.broker_state.specs.Waiting.{is_own};
+
+use crate::order::Order;
+use crate::shared_lines::SharedLines;
+use crate::tables::Tables;
+use broker_state::{DurableName, Held, MOST_BYTES, MOST_MESSAGES, Subscription};
+use command_core::{Dest, Fault, Sending};
+use line_core::{Message, MessageNumber, size};
+use std::alloc::{AllocError, Global};
+use std::collections::BTreeMap;
+
+/// How many durable names are bound to that topic.
+fn names_of(durables: &BTreeMap<DurableName, Dest>, to: &Dest) -> u64
+    ensures counted { result ≡ count_by (λ durable. bytes_eq durable.1 to.now) durables.now.entries }
+    ensures few { result < 2 ^ 63 }
+{
+    durables.iter().filter(|(_, topic)| **topic == *to).count() as u64
+}
+
+/// Whether a message to that destination is copied into the subscription's own line.
+fn listens(sub: &Subscription, to: &Dest) -> bool
+    ensures { result ≡ (is_own sub.now && bytes_eq sub.now.destination to.now) }
+{
+    sub.has_own_line() && sub.destination == *to
+}
+
+/// How many subscriptions of that topic have a line of their own.
+fn listeners_of(order: &Order, to: &Dest) -> u64
+    ensures counted { result ≡ count_by (λ sub. is_own sub && bytes_eq sub.destination to.now) order.now.subscriptions }
+    ensures few { result < 2 ^ 63 }
+{
+    let mut listeners = 0;
+    for at in 0..order.len() {
+        if listens(order.get(at), to) {
+            listeners += 1;
+        }
+    }
+    listeners
+}
+
+/// How many copies of a message to that destination are to be kept: one in a queue's line, or one for each durable name of
+/// a topic and for each of its subscriptions with a line of its own.
+pub fn copies_to(tables: &Tables, to: &Dest) -> u64
+    ensures { result ≡ copies_to to.now tables.now.durables.entries tables.now.order.subscriptions }
+{
+    if to.is_queue() {
+        return 1;
+    }
+    names_of(&tables.durables, to) + listeners_of(&tables.order, to)
+}
+
+/// Whether so many copies of so many bytes find room beside what is held.
+pub fn find_room(held: &Held, copies: u64, size: u64) -> bool
+    requires small { size < 2 ^ 21 }
+    requires within { (held.now.messages ≤ 4096) × (held.now.bytes ≤ 16777216) }
+    ensures { result ≡ find_room held.now.messages held.now.bytes copies size }
+{
+    copies <= MOST_MESSAGES - held.messages && copies * size <= MOST_BYTES - held.bytes
+}
+
+/// Each subscription of the message's topic with a line of its own gets a copy into it.
+fn copy_to_listeners(order: &mut Order, message: &Message) -> Result<(), AllocError>
+    ensures copied { OnOk result (order.new.subscriptions ≡ map (copied message.now) order.old.subscriptions) }
+    ensures added { order.new.added ≡ order.old.added }
+{
+    for at in 0..order.len() {
+        if listens(order.get(at), message.sending.destination()) {
+            order.put(at, message.clone()?)?;
+        }
+    }
+    Ok(())
+}
+
+/// Each durable name of the message's topic gets a copy into its line.
+fn copy_to_names(
+    alloc: Global,
+    durables: &BTreeMap<DurableName, Dest>,
+    shared: &mut SharedLines,
+    message: &Message,
+) -> Result<(), AllocError>
+    ensures { OnOk result (shared.new ≡ record shared.old { names = copied_to_names message.now durables.now.entries shared.old.names }) }
+{
+    for (name, topic) in durables {
+        if *topic == *message.sending.destination() {
+            shared.put_under(alloc, name.clone()?, message.clone()?)?;
+        }
+    }
+    Ok(())
+}
+
+impl Tables {
+    /// A message is sent by the command of that number, at that place among its members. Refused where its copies find no
+    /// room, and then nothing changes.
+    pub fn send(
+        &mut self,
+        alloc: Global,
+        number: u64,
+        place: u32,
+        sending: Sending,
+    ) -> Result<Result<(), Fault>, AllocError>
+        requires tallied { IsTallied number self.old }
+        ensures sent { IfOk result (λ r. sent (state_of number self.old) place sending ≡ leaving r (state_of number self.new)) }
+        ensures same { IfOk result (λ r. IsErr r → self.new ≡ self.old) }
+        ensures tallied { OnOk result (IsTallied number self.new) }
+    {
+        self.shared.stand_in_order();
+        let copies = copies_to(self, sending.destination());
+        let bytes = size(&sending) as u64;
+        if !find_room(&self.held, copies, bytes) {
+            return Ok(Err(Fault::NoRoom));
+        }
+        let message = Message {
+            number: MessageNumber {
+                command: number,
+                place,
+            },
+            sending,
+        };
+        self.fan_out(alloc, message)?;
+        self.held.messages += copies;
+        self.held.bytes += copies * bytes;
+        Ok(Ok(()))
+    }
+
+    /// A message goes into the line of its queue, or into those of its topic's durable names and subscriptions.
+    fn fan_out(&mut self, alloc: Global, message: Message) -> Result<(), AllocError>
+        ensures fanned_out { OnOk result ((number : ℕ) → state_of number self.new ≡ fanned_out (state_of number self.old) message) }
+        ensures held { OnOk result (self.new.held ≡ self.old.held) }
+        ensures added { OnOk result (self.new.order.added ≡ self.old.order.added) }
+    {
+        if !message.sending.destination().is_queue() {
+            copy_to_names(alloc, &self.durables, &mut self.shared, &message)?;
+            return copy_to_listeners(&mut self.order, &message);
+        }
+        let to = message.sending.destination().clone()?;
+        self.shared.put_in_queue(alloc, to, message)
+    }
+}

@@ -1,0 +1,176 @@
+//! The lines that stay when a subscription ends.
+
+ghost use Rattle.std.specs.Prelude.{◌≡◌, ◌+◌, [], IfOk, OnOk, Some, drop, false, not, ℕ};
+ghost use Rattle.std.specs.BTreeMap.{is_at};
+ghost use Rattle.std.specs.List.{sum_by};
+ghost use Rattle.std.specs.List.Sorted.{IsStrictlySortedBy};
+ghost use Rattle.std.specs.Map.{keys_of, remove_entry};
+ghost use Rattle.line_core.specs.declared.message.Message.{Message};
+ghost use Rattle.line_core.specs.Lines.{first_of};
+ghost use Rattle.broker_state.specs.Lists.{is_none};
+ghost use Rattle.broker_state.specs.Names.{name_cmp, text_cmp};
+ghost use Rattle.broker_state.specs.States.{weight_of_subscription};
+ghost use Rattle.broker_state.specs.Waiting.{left_line, left_shared, line_at, line_for, returned, weight_of_shared, with_message};
+
+use crate::keyed_lines::{self, Side};
+use broker_state::{DurableName, Subscription, has_waiting, stand_in_order};
+use command_core::Dest;
+use line_core::{Line, Message};
+use std::alloc::{AllocError, Global};
+use std::collections::BTreeMap;
+use std::marker::Model;
+
+/// The lines that stay when a subscription ends: those of durable names, and those of queues. Contracts see both lists of
+/// lines by rising key.
+#[derive(Debug, Drop)]
+pub struct SharedLines {
+    names: BTreeMap<DurableName, Line>,
+    queues: BTreeMap<Dest, Line>,
+}
+
+impl Model for SharedLines {
+    ghost use Rattle.broker_state.specs.Waiting.{Shared};
+
+    ghost Value = { Shared };
+
+    ghost view = { λ a. record { names = a.names.entries; queues = a.queues.entries } };
+}
+
+/// What vanishes with a subscription that ends: what waited in its own line, and what it has not acknowledged of it.
+#[derive(Debug, Drop)]
+pub(crate) struct Gone {
+    pub line: Line,
+    pub deliveries: Vec<(u64, Message)>,
+}
+
+impl SharedLines {
+    /// No lines. No memory is taken.
+    pub(crate) fn new(alloc: Global) -> SharedLines
+        ensures { result ≡ record { names = []; queues = [] } }
+    {
+        SharedLines {
+            names: BTreeMap::new(alloc),
+            queues: BTreeMap::new(alloc),
+        }
+    }
+
+    /// These lines of durable names and of queues. No memory is taken.
+    pub(crate) fn of(names: BTreeMap<DurableName, Line>, queues: BTreeMap<Dest, Line>) -> SharedLines
+        ensures { result ≡ record { names = names.entries; queues = queues.entries } }
+    {
+        SharedLines { names, queues }
+    }
+
+    /// The lines of durable names that have messages.
+    pub fn names(&self) -> &BTreeMap<DurableName, Line>
+        ensures { result.now.entries ≡ self.now.names }
+    {
+        &self.names
+    }
+
+    /// The lines of queues that have messages.
+    pub fn queues(&self) -> &BTreeMap<Dest, Line>
+        ensures { result.now.entries ≡ self.now.queues }
+    {
+        &self.queues
+    }
+
+    /// The lines stand by rising key, each once. Nothing changes.
+    pub(crate) fn stand_in_order(&self)
+        ensures names { IsStrictlySortedBy name_cmp (keys_of self.now.names) }
+        ensures queues { IsStrictlySortedBy text_cmp (keys_of self.now.queues) }
+    {
+        stand_in_order(&self.names);
+        stand_in_order(&self.queues);
+    }
+
+    /// Whether a message waits for a subscription.
+    pub(crate) fn has_message(&self, sub: &Subscription) -> bool
+        ensures { result ≡ not (is_none (line_for self.now sub.now)) }
+    {
+        has_waiting(&self.names, &self.queues, sub)
+    }
+
+    /// Takes the least message for a subscription out of its line, which has one. Where memory is refused, that line is
+    /// gone, and the others stand.
+    pub(crate) fn take_for(&mut self, sub: &mut Subscription) -> Result<Message, AllocError>
+        requires { is_none (line_for self.old sub.old) ≡ false }
+        ensures taken { IfOk result (λ m. first_of (line_for self.old sub.old) ≡ Some m) }
+        ensures shared { OnOk result (self.new ≡ left_shared self.old sub.old (drop 1 (line_for self.old sub.old))) }
+        ensures weight { OnOk result ((weight : Message → ℕ) → weight_of_shared weight self.new + sum_by weight sub.new.line
+            + sum_by weight (line_for self.old sub.old)
+            ≡ weight_of_shared weight self.old + sum_by weight sub.old.line
+            + sum_by weight (drop 1 (line_for self.old sub.old))) }
+        ensures line { OnOk result (sub.new ≡ left_line sub.old (drop 1 (line_for self.old sub.old))) }
+    {
+        let message = match &sub.durable {
+            Some(name) => keyed_lines::take(&mut self.names, name)?,
+            None if sub.destination.is_queue() => keyed_lines::take(&mut self.queues, &sub.destination)?,
+            None => sub.line.take(),
+        };
+        Ok(message.unwrap())
+    }
+
+    /// Puts a message into the line of that queue. Where memory is refused, that line is gone, and the others stand.
+    pub(crate) fn put_in_queue(
+        &mut self,
+        alloc: Global,
+        to: Dest,
+        message: Message,
+    ) -> Result<(), AllocError>
+        ensures shared { OnOk result (self.new ≡ record self.old { queues = with_message text_cmp to message self.old.queues }) }
+        ensures weight { OnOk result ((weight : Message → ℕ) → weight_of_shared weight self.new ≡ weight_of_shared weight self.old + weight message) }
+    {
+        keyed_lines::put(alloc, &mut self.queues, to, message, Side::Back)
+    }
+
+    /// Puts a message into the line under that durable name. Where memory is refused, that line is gone, and the others
+    /// stand.
+    pub(crate) fn put_under(
+        &mut self,
+        alloc: Global,
+        name: DurableName,
+        message: Message,
+    ) -> Result<(), AllocError>
+        ensures shared { OnOk result (self.new ≡ record self.old { names = with_message name_cmp name message self.old.names }) }
+        ensures weight { OnOk result ((weight : Message → ℕ) → weight_of_shared weight self.new ≡ weight_of_shared weight self.old + weight message) }
+    {
+        keyed_lines::put(alloc, &mut self.names, name, message, Side::Back)
+    }
+
+    /// A subscription has ended: what it has not acknowledged stands in its line again, unless the line was its own; gives
+    /// what vanishes with it. Where memory is refused, its line may be gone, and the others stand.
+    pub(crate) fn take_back(&mut self, alloc: Global, sub: Subscription) -> Result<Gone, AllocError>
+        ensures shared { OnOk result (self.new ≡ returned self.old sub) }
+        ensures weight { IfOk result (λ gone. (weight : Message → ℕ) → weight_of_shared weight self.new + sum_by weight gone.line
+            + sum_by (λ delivery. weight delivery.1) gone.deliveries.items
+            ≡ weight_of_shared weight self.old + weight_of_subscription weight sub) }
+    {
+        let deliveries = sub.unacknowledged.into_vec();
+        match &sub.durable {
+            Some(name) => keyed_lines::put_back(alloc, &mut self.names, name, deliveries)?,
+            None if sub.destination.is_queue() => {
+                keyed_lines::put_back(alloc, &mut self.queues, &sub.destination, deliveries)?;
+            }
+            None => {
+                return Ok(Gone {
+                    line: sub.line,
+                    deliveries,
+                });
+            }
+        }
+        Ok(Gone {
+            line: sub.line,
+            deliveries: Vec::new(alloc),
+        })
+    }
+
+    /// Takes the line under that durable name out, where there is one.
+    pub(crate) fn forget(&mut self, alloc: Global, name: &DurableName) -> Line
+        ensures line { result ≡ line_at name_cmp name.now self.old.names }
+        ensures shared { self.new ≡ record self.old { names = remove_entry (is_at (name_cmp name.now)) self.old.names } }
+        ensures weight { (weight : Message → ℕ) → weight_of_shared weight self.new + sum_by weight result ≡ weight_of_shared weight self.old }
+    {
+        keyed_lines::take_line(alloc, &mut self.names, name)
+    }
+}

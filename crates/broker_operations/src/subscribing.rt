@@ -1,0 +1,390 @@
+//! Subscriptions and sessions begin and end.
+
+ghost use Rattle.std.specs.Prelude.{◌≡◌, ◌+◌, ◌-◌, ◌<◌, ◌≤◌, ◌^◌, [], ℕ, IfOk, IfSome, IsErr, MatchOption, OnOk, Some, count_by, drop, length, remove, slice_get, take};
+ghost use Rattle.std.specs.List.{list_any, sum_by};
+ghost use Rattle.line_core.specs.declared.message.Message.{Message};
+ghost use Rattle.command_core.specs.Operations.{IsGiven};
+ghost use Rattle.command_core.specs.declared.command.Op.TheVariants.{Unsubscribe};
+ghost use Rattle.broker_state.specs.Operations.{begun, executed, client_in, ended, forgotten, given_up_for, is_named, is_of, name_for, restarted, subscribed, uses, with_subscription, without};
+ghost use Rattle.broker_state.specs.Parts.{IsFirst, IsGivenAt, NonePass, but_at, leaving, without_at};
+ghost use Rattle.broker_state.specs.States.{bytes, one};
+ghost use Rattle.broker_operations.specs.Tables.{IsTallied, state_of};
+ghost use Rattle.broker_state.specs.declared.subscription.Subscription.{Subscription};
+
+use crate::order::Order;
+use crate::tables::Tables;
+use broker_state::{DurableName, GivenName, Held, MOST_NAMES, MOST_SUBSCRIPTIONS, Subscription};
+use command_core::{AckMode, Dest, Fault, HeaderText};
+use line_core::{Flight, Line, Message, size};
+use std::alloc::{AllocError, Global};
+use std::collections::BTreeMap;
+
+/// Where the subscription of that session and id waits.
+fn find_named(order: &Order, session: u64, id: &HeaderText) -> Option<usize>
+    ensures { MatchOption result (NonePass (is_named session id.now) order.now.subscriptions)
+        (λ at. IsFirst (is_named session id.now) order.now.subscriptions at) }
+{
+    for at in 0..order.len() {
+        let sub = order.get(at);
+        if sub.session == session && *id == sub.id {
+            return Some(at);
+        }
+    }
+    None
+}
+
+/// Where the subscription of that session and id waits, where an id is given.
+fn find_given(order: &Order, session: u64, id: &Option<HeaderText>) -> Option<usize>
+    ensures { IsGivenAt session id.now order.now.subscriptions result }
+{
+    match id {
+        Some(id) => find_named(order, session, id),
+        None => None,
+    }
+}
+
+/// How many subscriptions a session has.
+fn count_of(order: &Order, session: u64) -> usize
+    ensures { result ≡ count_by (is_of session) order.now.subscriptions }
+{
+    let mut count = 0;
+    for at in 0..order.len() {
+        if order.get(at).session == session {
+            count += 1;
+        }
+    }
+    count
+}
+
+/// Whether the subscription is that of the durable name.
+fn uses(sub: &Subscription, name: &DurableName) -> bool
+    ensures { result ≡ uses name.now sub.now }
+{
+    match &sub.durable {
+        Some(other) => *name == *other,
+        None => false,
+    }
+}
+
+/// Whether a subscription in a place from `from` on and before `to` has the durable name.
+fn is_used_between(order: &Order, name: &DurableName, from: usize, to: usize) -> bool
+    requires { (from ≤ to) × (to ≤ length order.now.subscriptions) }
+    ensures { result ≡ list_any (uses name.now) (drop from (take to order.now.subscriptions)) }
+{
+    for at in from..to {
+        if uses(order.get(at), name) {
+            return true;
+        }
+    }
+    false
+}
+
+/// Whether a subscription has the durable name, other than the one in that place where a place is given.
+fn is_used(order: &Order, name: &DurableName, but: Option<usize>) -> bool
+    requires { IfSome but (λ at. at < length order.now.subscriptions) }
+    ensures { result ≡ list_any (uses name.now) (but_at order.now.subscriptions but) }
+{
+    let end = order.len();
+    match but {
+        None => is_used_between(order, name, 0, end),
+        Some(at) => {
+            is_used_between(order, name, 0, at) || is_used_between(order, name, at + 1, end)
+        }
+    }
+}
+
+/// The messages of a line are held no more.
+fn let_line_go(held: &mut Held, line: Line)
+    requires messages { sum_by one line ≤ held.old.messages }
+    requires bytes { sum_by bytes line ≤ held.old.bytes }
+    ensures messages { held.new.messages + sum_by one line ≡ held.old.messages }
+    ensures bytes { held.new.bytes + sum_by bytes line ≡ held.old.bytes }
+{
+    let mut line = line;
+    while let Some(message) = line.take() {
+        held.messages -= 1;
+        held.bytes -= size(&message.sending) as u64;
+    }
+}
+
+/// The bytes of deliveries, which are held.
+fn bytes_of_deliveries(deliveries: &[(u64, Message)]) -> u64
+    requires { sum_by (λ delivery. bytes delivery.1) deliveries.now ≤ 16777216 }
+    ensures { result ≡ sum_by (λ delivery. bytes delivery.1) deliveries.now }
+{
+    let mut bytes = 0;
+    for (_, message) in deliveries {
+        bytes += size(&message.sending) as u64;
+    }
+    bytes
+}
+
+/// Deliveries are held no more.
+pub fn let_deliveries_go(held: &mut Held, deliveries: &[(u64, Message)])
+    requires within { held.old.bytes ≤ 16777216 }
+    requires messages { sum_by (λ delivery. one delivery.1) deliveries.now ≤ held.old.messages }
+    requires bytes { sum_by (λ delivery. bytes delivery.1) deliveries.now ≤ held.old.bytes }
+    ensures messages { held.new.messages + sum_by (λ delivery. one delivery.1) deliveries.now ≡ held.old.messages }
+    ensures bytes { held.new.bytes + sum_by (λ delivery. bytes delivery.1) deliveries.now ≡ held.old.bytes }
+{
+    held.messages -= deliveries.len() as u64;
+    held.bytes -= bytes_of_deliveries(deliveries);
+}
+
+impl Tables {
+    /// The name of a session's client, where it has one.
+    fn client_of(&self, session: u64) -> Result<Option<GivenName>, AllocError>
+        ensures { IfOk result (λ client. client ≡ client_in self.now.sessions.entries session) }
+    {
+        match self.sessions.get(&session) {
+            Some(Some(client)) => Ok(Some(client.clone()?)),
+            _ => Ok(None),
+        }
+    }
+
+    /// The durable name of a session's subscription, where one is given; on a queue it is left away. Refused where the
+    /// session's client has no name.
+    fn name_for(
+        &self,
+        session: u64,
+        destination: &Dest,
+        durable: Option<HeaderText>,
+    ) -> Result<Result<Option<DurableName>, Fault>, AllocError>
+        requires { IsGiven durable }
+        ensures { IfOk result (λ r. r ≡ name_for (client_in self.now.sessions.entries session) destination.now durable) }
+    {
+        match durable {
+            Some(name) if !destination.is_queue() => match self.client_of(session)? {
+                Some(client) => Ok(Ok(Some(DurableName::new(client, GivenName::new(name))))),
+                None => Ok(Err(Fault::NoClientId)),
+            },
+            _ => Ok(Ok(None)),
+        }
+    }
+
+    /// A subscription begins and waits last, under a durable name where one is given. Refused where the session has one of
+    /// that id, or 16; with a durable name, where the session's client has no name, where somebody uses the durable name or
+    /// it is another topic's, and where it were the 257th. Nothing changes then.
+    pub fn subscribe(
+        &mut self,
+        alloc: Global,
+        number: u64,
+        session: u64,
+        id: HeaderText,
+        destination: Dest,
+        mode: AckMode,
+        durable: Option<HeaderText>,
+    ) -> Result<Result<(), Fault>, AllocError>
+        requires form { IsGiven durable }
+        requires small { number < 2 ^ 62 }
+        requires tallied { IsTallied number self.old }
+        ensures subscribed { IfOk result (λ r. subscribed (state_of number self.old) session id destination mode durable ≡ leaving r (state_of number self.new)) }
+        ensures same { IfOk result (λ r. IsErr r → self.new ≡ self.old) }
+        ensures tallied { OnOk result (IsTallied (number + 1) self.new) }
+    {
+        if let Some(_taken) = find_named(&self.order, session, &id) {
+            return Ok(Err(Fault::SubscriptionIdInUse));
+        }
+        if count_of(&self.order, session) >= MOST_SUBSCRIPTIONS {
+            return Ok(Err(Fault::TooManyEntries));
+        }
+        let durable = match self.name_for(session, &destination, durable)? {
+            Ok(durable) => durable,
+            Err(fault) => return Ok(Err(fault)),
+        };
+        self.begin(
+            number,
+            Subscription {
+                session,
+                id,
+                destination,
+                mode,
+                durable,
+                line: Line::new(alloc),
+                unacknowledged: Flight::new(alloc),
+            },
+        )
+    }
+
+    /// A subscription begins and waits last. Refused where it has a durable name that somebody uses or that is another
+    /// topic's, or that were the 257th, and then nothing changes.
+    fn begin(&mut self, number: u64, sub: Subscription) -> Result<Result<(), Fault>, AllocError>
+        requires small { number < 2 ^ 62 }
+        requires fresh { (sub.line ≡ []) × (sub.unacknowledged ≡ []) }
+        requires tallied { IsTallied number self.old }
+        ensures begun { IfOk result (λ r. begun (state_of number self.old) sub ≡ leaving r (state_of number self.new)) }
+        ensures same { IfOk result (λ r. IsErr r → self.new ≡ self.old) }
+        ensures tallied { OnOk result (IsTallied (number + 1) self.new) }
+    {
+        if let Err(fault) = self.bind(number, &sub)? {
+            return Ok(Err(fault));
+        }
+        self.order.add(sub)?;
+        Ok(Ok(()))
+    }
+
+    /// The durable name of a subscription that is to begin is bound to its topic, unless it has none or the name is bound so
+    /// already. Refused where somebody uses the name or it is another topic's, or it were the 257th, and then nothing
+    /// changes.
+    fn bind(&mut self, number: u64, sub: &Subscription) -> Result<Result<(), Fault>, AllocError>
+        requires tallied { IsTallied number self.old }
+        ensures begun { IfOk result (λ r. begun (state_of number self.old) sub.now ≡ leaving r (with_subscription (state_of number self.new) sub.now)) }
+        ensures order { OnOk result (self.new.order ≡ self.old.order) }
+        ensures same { IfOk result (λ r. IsErr r → self.new ≡ self.old) }
+        ensures tallied { OnOk result (IsTallied number self.new) }
+    {
+        let Some(name) = &sub.durable else {
+            return Ok(Ok(()));
+        };
+        match self.durables.get(name) {
+            Some(topic) => {
+                if *topic != sub.destination || is_used(&self.order, name, None) {
+                    return Ok(Err(Fault::DurableSubscription));
+                }
+                Ok(Ok(()))
+            }
+            None => {
+                if self.durables.len() >= MOST_NAMES {
+                    return Ok(Err(Fault::TooManyEntries));
+                }
+                self.durables
+                    .insert(name.clone()?, sub.destination.clone()?)?;
+                Ok(Ok(()))
+            }
+        }
+    }
+
+    /// The subscription of that id ends, or a durable name of the session's client is given up, with its line; where both
+    /// are given, a subscription of that id ends first, if there is one. Refused where no name is given and the session has
+    /// no subscription of that id; with a name, where the client has none itself, and where the durable name is unknown or
+    /// somebody uses it. Nothing changes then.
+    pub fn unsubscribe(
+        &mut self,
+        alloc: Global,
+        number: u64,
+        session: u64,
+        id: Option<HeaderText>,
+        durable: Option<HeaderText>,
+    ) -> Result<Result<(), Fault>, AllocError>
+        requires form { IsGiven durable }
+        requires tallied { IsTallied number self.old }
+        ensures executed { IfOk result (λ r. executed (state_of number self.old) session (Unsubscribe id durable) ≡ leaving r (state_of number self.new)) }
+        ensures same { IfOk result (λ r. IsErr r → self.new ≡ self.old) }
+        ensures tallied { OnOk result (IsTallied number self.new) }
+    {
+        let at = find_given(&self.order, session, &id);
+        if let Some(name) = durable {
+            return self.give_up(alloc, number, session, at, GivenName::new(name));
+        }
+        match at {
+            None => Ok(Err(Fault::UnknownSubscription)),
+            Some(at) => {
+                self.end_one(alloc, number, at)?;
+                Ok(Ok(()))
+            }
+        }
+    }
+
+    /// The subscription in that place ends, where one is given, and then a durable name of the session's client is given
+    /// up, with its line. Refused where the client has no name itself, and where the durable name is unknown or another
+    /// subscription uses it; then nothing changes.
+    fn give_up(
+        &mut self,
+        alloc: Global,
+        number: u64,
+        session: u64,
+        at: Option<usize>,
+        name: GivenName,
+    ) -> Result<Result<(), Fault>, AllocError>
+        requires tallied { IsTallied number self.old }
+        requires place { IfSome at (λ i. i < length self.old.order.subscriptions) }
+        ensures given_up { IfOk result (λ r. given_up_for (without_at (state_of number self.old) at) (client_in self.old.sessions.entries session) name ≡ leaving r (state_of number self.new)) }
+        ensures same { IfOk result (λ r. IsErr r → self.new ≡ self.old) }
+        ensures tallied { OnOk result (IsTallied number self.new) }
+    {
+        let Some(client) = self.client_of(session)? else {
+            return Ok(Err(Fault::NoClientId));
+        };
+        let name = DurableName::new(client, name);
+        if !self.durables.contains_key(&name) {
+            return Ok(Err(Fault::DurableSubscription));
+        }
+        if is_used(&self.order, &name, at) {
+            return Ok(Err(Fault::DurableSubscription));
+        }
+        self.end_given(alloc, number, at)?;
+        self.forget(alloc, number, &name);
+        Ok(Ok(()))
+    }
+
+    /// The subscription in that place ends, where a place is given.
+    fn end_given(&mut self, alloc: Global, number: u64, at: Option<usize>) -> Result<(), AllocError>
+        requires tallied { IsTallied number self.old }
+        requires place { IfSome at (λ i. i < length self.old.order.subscriptions) }
+        ensures ended { OnOk result (state_of number self.new ≡ without_at (state_of number self.old) at) }
+        ensures tallied { OnOk result (IsTallied number self.new) }
+    {
+        match at {
+            Some(at) => self.end_one(alloc, number, at),
+            None => Ok(()),
+        }
+    }
+
+    /// A durable name is known no more, and what waits in its line is held no more.
+    fn forget(&mut self, alloc: Global, number: u64, name: &DurableName)
+        requires tallied { IsTallied number self.old }
+        ensures forgotten { state_of number self.new ≡ forgotten (state_of number self.old) name.now }
+        ensures tallied { IsTallied number self.new }
+    {
+        self.durables.remove(name);
+        let line = self.shared.forget(alloc, name);
+        let_line_go(&mut self.held, line);
+    }
+
+    /// The subscription in that place ends: what it has not acknowledged stands in its line again, unless the line was its
+    /// own; what vanishes with it is held no more.
+    fn end_one(&mut self, alloc: Global, number: u64, at: usize) -> Result<(), AllocError>
+        requires tallied { IsTallied number self.old }
+        requires place { at < length self.old.order.subscriptions }
+        ensures ended { OnOk result ((sub : Subscription) → slice_get self.old.order.subscriptions at ≡ Some sub
+            → state_of number self.new ≡ without (state_of number self.old) sub (remove self.old.order.subscriptions at)) }
+        ensures tallied { OnOk result (IsTallied number self.new) }
+    {
+        let sub = self.order.remove(at);
+        let gone = self.shared.take_back(alloc, sub)?;
+        let_line_go(&mut self.held, gone.line);
+        let_deliveries_go(&mut self.held, gone.deliveries.as_slice());
+        Ok(())
+    }
+
+    /// The session ends, with all its subscriptions.
+    pub fn end(&mut self, alloc: Global, number: u64, session: u64) -> Result<(), AllocError>
+        requires tallied { IsTallied number self.old }
+        ensures ended { OnOk result (state_of number self.new ≡ ended (state_of number self.old) session) }
+        ensures tallied { OnOk result (IsTallied number self.new) }
+    {
+        let mut at = 0;
+        while at < self.order.len() {
+            if self.order.get(at).session == session {
+                self.end_one(alloc, number, at)?;
+            } else {
+                at += 1;
+            }
+        }
+        self.sessions.remove(&session);
+        Ok(())
+    }
+
+    /// Every session ends, with all subscriptions.
+    pub fn restart(&mut self, alloc: Global, number: u64) -> Result<(), AllocError>
+        requires tallied { IsTallied number self.old }
+        ensures restarted { OnOk result (state_of number self.new ≡ restarted (state_of number self.old)) }
+        ensures tallied { OnOk result (IsTallied number self.new) }
+    {
+        while self.order.len() > 0 {
+            self.end_one(alloc, number, 0)?;
+        }
+        self.sessions = BTreeMap::new(alloc);
+        Ok(())
+    }
+}

@@ -1,0 +1,12 @@
+pub mod Firsts
+pub mod Keys
+pub mod Lookups
+pub mod KeyedLines
+pub mod Serving
+pub mod Served
+pub mod Weights
+pub mod Places
+pub mod Ending
+pub mod Sendings
+pub mod SortedEntries
+pub mod Alls

@@ -1,0 +1,12 @@
+pub mod Lists
+pub mod Names
+pub mod Waiting
+pub mod States
+pub mod HandOut
+pub mod Operations
+pub mod Steps
+pub mod Parts
+pub mod Settles
+pub mod Kept
+pub mod Sound
+pub mod PartsOf
