@@ -11,10 +11,10 @@ const FILLS: [Option<u8>; 4] = [None, Some(0x00), Some(0x01), Some(0x37)];
 const SIZE: u64 = 8_224;
 
 // A plain SEND to `/queue/q`: its record has 28 bytes and those of the body.
-fn sending(alloc: Global, body: usize) -> Result<Entry<()>, Fail> {
+fn sending(alloc: Global, body: u32) -> Result<Entry<()>, Fail> {
     let mut record = Vec::from_slice(alloc, b"\0\0\0\0\0\0\0\0\0\x02\0\0\0\x08/queue/q\0\0")?;
-    record.extend_from_slice(&(body as u32).to_be_bytes())?;
-    record.extend_from_slice(vec![in alloc; b'x'; body]?.as_slice())?;
+    record.extend_from_slice(&body.to_be_bytes())?;
+    record.extend_from_slice(vec![in alloc; b'x'; body as usize]?.as_slice())?;
     let (command, _) = decode(alloc, &record)?;
     match Entry::new(alloc, command, None) {
         Ok(entry) => Ok(entry),
@@ -67,7 +67,7 @@ fn a_block_of_4046_bytes_fills_a_new_area_of_4096(rt: HostRuntime) -> Result<(),
         assert_eq!(rt; snapshot.as_slice(), [0_u8; 32].as_slice());
         assert_eq!(rt; commands(&rt, alloc, &mut disk, &mut area)?, 0);
         assert_eq!(rt; (area.used(), area.snapshot_place()), (41, 40));
-        assert_eq!(rt; area.fits(body as u64 + 28), fits);
+        assert_eq!(rt; area.fits(u64::from(body) + 28), fits);
         let batch = [sending(alloc, body)?];
         let before = disk.calls().len();
         assert!(rt; area.size() == 4_096 && disk.size() == SIZE);
@@ -91,7 +91,10 @@ fn a_block_of_4046_bytes_fills_a_new_area_of_4096(rt: HostRuntime) -> Result<(),
             assert_eq!(rt; disk.calls().len(), before);
         }
         let (mut area, _) = front(&rt, alloc, &mut disk)?;
-        assert_eq!(rt; commands(&rt, alloc, &mut disk, &mut area)?, usize::from(fits));
+        assert_eq!(rt;
+            commands(&rt, alloc, &mut disk, &mut area)?,
+            usize::from(fits)
+        );
     }
     Ok(())
 }
@@ -133,7 +136,10 @@ fn what_is_no_journal_is_told_with_its_place(rt: HostRuntime) -> Result<(), Fail
     let mut short = MemDisk::new(alloc, 31)?;
     assert!(rt; matches!(Area::front(alloc, &mut short), Err(ReadFault::NotAJournal)));
     let mut small = MemDisk::new(alloc, SIZE - 1)?;
-    let told = format!(in alloc; "{}", format(alloc, &mut small, 4_096).unwrap_err())?;
+    let Err(fault) = format(alloc, &mut small, 4_096) else {
+        panic!(rt; "a disk that is too small was formatted");
+    };
+    let told = format!(in alloc; "{fault}")?;
     assert_eq!(rt; told.as_str(), "J8 disk too small");
     Ok(())
 }
@@ -164,7 +170,9 @@ fn a_stop_at_each_call_of_a_batch_leaves_it_in_or_out(rt: HostRuntime) -> Result
 
 // A stop within the switch leaves the area that the selector's byte names, and each of the two is whole.
 #[test]
-fn a_stop_at_each_call_of_a_switch_leaves_one_of_the_snapshots(rt: HostRuntime) -> Result<(), Fail> {
+fn a_stop_at_each_call_of_a_switch_leaves_one_of_the_snapshots(
+    rt: HostRuntime,
+) -> Result<(), Fail> {
     let alloc = rt.alloc();
     for fill in FILLS {
         for passed in 0..5 {
@@ -183,7 +191,11 @@ fn a_stop_at_each_call_of_a_switch_leaves_one_of_the_snapshots(rt: HostRuntime) 
             let odd = fill == Some(0x01) || fill == Some(0x37);
             let is_new = passed >= 4 || passed >= 2 && odd;
             let (area, snapshot) = front(&rt, alloc, &mut disk)?;
-            assert_eq!(rt; snapshot.len(), if is_new { 3 } else { 32 }, "{passed} calls");
+            assert_eq!(rt;
+                snapshot.len(),
+                if is_new { 3 } else { 32 },
+                "{passed} calls"
+            );
             assert_eq!(rt; area.used(), if is_new { 12 } else { 41 });
         }
     }
