@@ -51,18 +51,28 @@ fn a_broker_goes_on_from_its_parts(rt: HostRuntime) -> Result<(), Fail> {
     Ok(())
 }
 
+// Whether no broker has these parts.
+fn are_of_none(alloc: Global, parts: Parts) -> Result<bool, Fail> {
+    Ok(Broker::from_parts(alloc, parts)?.is_none())
+}
+
 #[test]
 fn parts_that_no_broker_has_give_none(rt: HostRuntime) -> Result<(), Fail> {
     let alloc = rt.alloc();
-    let early = Broker::from_parts(alloc, parts_of(alloc, 0)?)?;
-    assert!(rt; early.is_none());
-    let empty = Broker::from_parts(alloc, parts_with(alloc, 2, Line::new(alloc))?)?;
-    assert!(rt; empty.is_none());
+    let early = parts_of(alloc, 0)?;
+    assert!(rt; are_of_none(alloc, early)?);
+    assert!(rt; line_is_of_none(alloc, Line::new(alloc))?);
     let late = line_of(alloc, 2, "/queue/q")?;
-    assert!(rt; Broker::from_parts(alloc, parts_with(alloc, 2, late)?)?.is_none());
+    assert!(rt; line_is_of_none(alloc, late)?);
     let elsewhere = line_of(alloc, 1, "/queue/other")?;
-    assert!(rt; Broker::from_parts(alloc, parts_with(alloc, 2, elsewhere)?)?.is_none());
+    assert!(rt; line_is_of_none(alloc, elsewhere)?);
     Ok(())
+}
+
+// Whether no broker that has carried out two commands has this line in `/queue/q`.
+fn line_is_of_none(alloc: Global, line: Line) -> Result<bool, Fail> {
+    let parts = parts_with(alloc, 2, line)?;
+    are_of_none(alloc, parts)
 }
 
 fn given_name(alloc: Global, text: &str) -> Result<GivenName, Fail> {
