@@ -13,7 +13,3 @@ module _ (s t : State) (session place : ℕ) (m : Member) (ms : List Member) whe
   -- a first member that is not refused leads on to the others
   pub committed_more : applied s session place m ≡ Ok t → committed s session place (m ∷ ms) ≡ committed t session (place + 1) ms
   committed_more is = ap (behind session place ms) is
-
-  -- and where it is, all are
-  pub committed_refused : (fault : Fault) → applied s session place m ≡ Err fault → committed s session place (m ∷ ms) ≡ Err fault
-  committed_refused fault is = ap (behind session place ms) is

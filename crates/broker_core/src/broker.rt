@@ -82,8 +82,9 @@ impl Broker {
             return Err(BrokerFault::Broken);
         }
         self.broken = true;
-        let given = execute(&mut self.tables, alloc, self.count, command)
-            .map_err(BrokerFault::Memory)?;
+        let given = execute(&mut self.tables, alloc, self.count, command).map_err(
+            BrokerFault::Memory,
+        )?;
         self.count += 1;
         self.broken = false;
         Ok(given)

@@ -17,8 +17,8 @@ pub use broker_laws::{
     messages_have_numbers_of_commands, messages_of_queues_are_in_one_place,
     numbers_stay_under_the_next, outputs_have_the_number_of_their_command,
     refused_operations_end_their_session, restarts_end_each_session_in_turn,
-    restarts_keep_what_is_kept, states_stay_in_order,
-    states_stay_sound, subscriptions_stay_within_their_limits,
+    restarts_keep_what_is_kept, states_stay_in_order, states_stay_sound,
+    subscriptions_stay_within_their_limits,
 };
 pub use broker_operations::SharedLines;
 pub use broker_state::{DurableName, GivenName, Held, Parts, Subscription};

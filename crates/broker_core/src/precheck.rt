@@ -106,7 +106,10 @@ fn settle_at(
 }
 
 /// A delivery is acknowledged in a precheck. Refused where no flight has it, and then nothing changes.
-fn precheck_acknowledge(precheck: &mut Precheck, delivery: u64) -> Result<Result<(), Fault>, AllocError>
+fn precheck_acknowledge(
+    precheck: &mut Precheck,
+    delivery: u64,
+) -> Result<Result<(), Fault>, AllocError>
     requires small { precheck.old.held.bytes ≤ 16777216 }
     requires messages { deliveries_in precheck.old.flights.items ≤ precheck.old.held.messages }
     requires bytes { bytes_in precheck.old.flights.items ≤ precheck.old.held.bytes }

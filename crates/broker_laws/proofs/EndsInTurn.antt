@@ -1,5 +1,5 @@
 -- A restart is the end of each session in turn.
-use Rattle.std.proofs.Common.{◌≡◌, ◌≤◌, ◌+◌, ◌==◌, ◌++◌, ◌||◌, List, [], ◌∷◌, ℕ, Bool, true, false, true≢false, IfSome, Option, Some, None, cond, count_by, filter, fold, is_some, map, not, unwrap_or, refl, sym, ap, subst, ◌∙◌, arith, if◌then◌else◌}
+use Rattle.std.proofs.Common.{◌≡◌, ◌≤◌, ◌+◌, ◌==◌, ◌||◌, List, [], ◌∷◌, ℕ, Bool, true, false, true≢false, IfSome, Option, Some, None, cond, count_by, filter, fold, is_some, map, not, unwrap_or, refl, sym, ap, subst, ◌∙◌, arith, if◌then◌else◌}
 use Rattle.std.specs.BTreeMap.{insert_entry, is_at}
 use Rattle.std.specs.Cmp.{IsTotalOrder}
 use Rattle.std.specs.List.{AllByRecursion, list_any}
@@ -25,7 +25,7 @@ use Rattle.broker_state.specs.Names.{AreSame, Name, name_cmp, text_cmp}
 use Rattle.broker_state.specs.Operations.{ended, is_of, restarted, topic_of, uses}
 use Rattle.broker_state.specs.Sound.{AreOnce, AreTo, IsSound}
 use Rattle.broker_state.specs.States.{State, is_open}
-use Rattle.broker_state.specs.Waiting.{Lines, Shared, line_at, returned, returned_from, with_deliveries, with_line, with_message}
+use Rattle.broker_state.specs.Waiting.{Lines, Shared, line_at, returned, returned_from, with_deliveries, with_message}
 use Rattle.broker_state.proofs.Ending.{same_state}
 use Rattle.broker_state.proofs.KeyedLines.{IsRising, absent_behind}
 use Rattle.broker_state.proofs.Keys.{names_total, same_names, same_texts, texts_total}

@@ -110,7 +110,11 @@ impl Order {
     }
 
     /// The one in that place has a delivery acknowledged, with those that its mode settles besides; gives what is settled.
-    pub(crate) fn settle(&mut self, at: usize, delivery: u64) -> Result<Vec<(u64, Message)>, AllocError>
+    pub(crate) fn settle(
+        &mut self,
+        at: usize,
+        delivery: u64,
+    ) -> Result<Vec<(u64, Message)>, AllocError>
         requires place { at < length self.old.subscriptions }
         requires known { (sub : Subscription) → slice_get self.old.subscriptions at ≡ Some sub → has_delivery delivery sub.unacknowledged ≡ true }
         ensures settled { IfOk result (λ out. (sub : Subscription) → slice_get self.old.subscriptions at ≡ Some sub

@@ -55,7 +55,10 @@ impl SharedLines {
     }
 
     /// These lines of durable names and of queues. No memory is taken.
-    pub(crate) fn of(names: BTreeMap<DurableName, Line>, queues: BTreeMap<Dest, Line>) -> SharedLines
+    pub(crate) fn of(
+        names: BTreeMap<DurableName, Line>,
+        queues: BTreeMap<Dest, Line>,
+    ) -> SharedLines
         ensures { result ≡ record { names = names.entries; queues = queues.entries } }
     {
         SharedLines { names, queues }
@@ -105,7 +108,10 @@ impl SharedLines {
     {
         let message = match &sub.durable {
             Some(name) => keyed_lines::take(&mut self.names, name)?,
-            None if sub.destination.is_queue() => keyed_lines::take(&mut self.queues, &sub.destination)?,
+            None if sub.destination.is_queue() => keyed_lines::take(
+                &mut self.queues,
+                &sub.destination,
+            )?,
             None => sub.line.take(),
         };
         Ok(message.unwrap())

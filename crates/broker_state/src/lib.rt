@@ -13,7 +13,9 @@ mod waiting;
 pub use durable_name::DurableName;
 pub use given_name::GivenName;
 pub use held::Held;
-pub use limits::{LAST_DELIVERY, MOST_BYTES, MOST_MESSAGES, MOST_NAMES, MOST_SUBSCRIPTIONS, WINDOW};
+pub use limits::{
+    LAST_DELIVERY, MOST_BYTES, MOST_MESSAGES, MOST_NAMES, MOST_SUBSCRIPTIONS, WINDOW,
+};
 pub use parts::Parts;
 pub use subscription::Subscription;
 pub use waiting::{has_some, has_waiting, stand_in_order};

@@ -2,7 +2,7 @@ use Rattle.std.proofs.Common.{◌≡◌, ◌∷◌, ◌∙◌, ap, arith, length
 use Rattle.broker_state.specs.Operations.{committed}
 use Rattle.broker_state.specs.Parts.{leaving}
 use Rattle.broker_operations.specs.Tables.{state_of}
-use Rattle.broker_core.proofs.Transactions.{committed_more, committed_refused}
+use Rattle.broker_core.proofs.Transactions.{committed_more}
 use Rattle.broker_core.proofs.committing.apply_all.Goals as goal
 
 pub loop-member-preserved : goal.loop-member-preserved
