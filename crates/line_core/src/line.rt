@@ -128,4 +128,15 @@ impl Line {
         self.messages.insert(place, message)?;
         Ok(())
     }
+
+    /// Puts a message back to its place. The place is looked for from the front, where messages were taken out. Where memory
+    /// is refused the line is as it was, and the message is dropped.
+    pub fn put_back(&mut self, message: Message) -> Result<(), AllocError>
+        ensures ok { OnOk result (self.new ≡ inserted message self.old) }
+        ensures same { OnErr result (self.new ≡ self.old) }
+    {
+        let place = self.place_from_front(&message.number);
+        self.messages.insert(place, message)?;
+        Ok(())
+    }
 }

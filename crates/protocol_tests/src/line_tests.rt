@@ -14,8 +14,10 @@ fn message(alloc: Global, command: u64, place: u32) -> Result<Message, Fail> {
     })
 }
 
-// Numbers as they are put into a line.
-const PUT: [(u64, u32); 6] = [(3, 0), (3, 1), (7, 0), (3, 2), (5, 0), (1, 0)];
+// Numbers as they are put into a line, and of those that come back.
+const PUT: [(u64, u32); 3] = [(3, 0), (3, 1), (7, 0)];
+
+const PUT_BACK: [(u64, u32); 3] = [(3, 2), (5, 0), (1, 0)];
 
 // Numbers as they are taken out.
 const TAKEN: [(u64, u32); 6] = [(1, 0), (3, 0), (3, 1), (3, 2), (5, 0), (7, 0)];
@@ -34,6 +36,10 @@ fn messages_wait_in_the_order_of_their_numbers(rt: HostRuntime) -> Result<(), Fa
     for (command, place) in &PUT {
         let message = message(rt.alloc(), *command, *place)?;
         line.put(message)?;
+    }
+    for (command, place) in &PUT_BACK {
+        let message = message(rt.alloc(), *command, *place)?;
+        line.put_back(message)?;
     }
     assert!(rt; matches!(line.first(), Some(message) if size(&message.sending) == 10));
     for (command, place) in &TAKEN {
