@@ -1,6 +1,6 @@
 //! The live area of a journal.
 
-ghost use Rattle.std.specs.Prelude.{◌≡◌, ◌+◌, ◌*◌, ◌<◌, ◌≤◌, ◌^◌, ◌↔◌, IsTrue};
+ghost use Rattle.std.specs.Prelude.{◌≡◌, ◌+◌, ◌*◌, ◌%◌, ◌<◌, ◌≤◌, ◌^◌, ◌↔◌, IsTrue};
 ghost use Rattle.area_core.specs.Journals.{is_odd, other, start};
 
 /// The live area of a journal, at its first closed gate. It holds no disk.
@@ -54,6 +54,13 @@ impl Area {
     {
         let left = self.size - self.gate;
         left >= 10 && records <= left - 10
+    }
+
+    /// Which of the two areas it is: 0 or 1.
+    pub fn number(&self) -> u8
+        ensures { result ≡ self.now.selector % 2 }
+    {
+        self.selector % 2
     }
 
     /// How many bytes each of the two areas has.

@@ -1,0 +1,7 @@
+pub mod Folded
+pub mod Opens
+pub mod Single
+pub mod Sizes
+pub mod Stores
+pub mod Sums
+pub mod Walking

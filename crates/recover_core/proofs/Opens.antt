@@ -1,0 +1,130 @@
+-- What opening a journal may leave.
+use Rattle.std.proofs.Common.{◌≡◌, ◌⊎◌, inl, inr, ⊎_elim, Bool, true, false, ℕ, List, [], drop, refl, sym, ◌∙◌, subst, arith}
+use Rattle.std.proofs.Math.Logic.{∥∥₁_prop, ∥∥₁_map, ∥∥₁_elim}
+use Rattle.disk_core.specs.declared.disk.Disk.{Ghosts}
+use Rattle.disk_core.specs.Images.{Within, Only}
+use Rattle.disk_core.specs.Moments.{Elapses, LeavesOnly}
+use Rattle.disk_core.proofs.Runs.{goes_on, joined, weaker}
+use Rattle.command_core.specs.Commands.{CommandValue}
+use Rattle.broker_core.specs.Operations.{restarted}
+use Rattle.broker_core.specs.States.{State}
+use Rattle.snapshot_core.specs.Snapshots.{Spells}
+use Rattle.area_core.specs.declared.area.Area.{Area}
+use Rattle.area_core.specs.Puts.{Each}
+use Rattle.area_core.specs.Areas.{IsArea}
+use Rattle.area_core.specs.Held.{IsAt}
+use Rattle.area_core.specs.Journals.{is_odd, other, start, Reads}
+use Rattle.recover_core.specs.Opens.{HasRead, HasRestarted, KeepsEither, StandsForSome, RestartsAs, KeepsRestart}
+use Rattle.recover_core.specs.Standing.{Leads, Stands}
+use Rattle.area_core.specs.Switches.{HasIdle, IsBoth, KeepsLive, KeepsBoth}
+use Rattle.recover_core.proofs.Stores.{stands}
+use Rattle.recover_core.proofs.Single.{stands_one}
+
+-- one of the images itself
+pub same_image : (images : List ℕ → Type 0) (c : List ℕ) → images c → KeepsRestart images c
+same_image images c image each = ∥∥₁_map (each c image) (λ (it : StandsForSome c). record { image = c; among = image; before = it.state; was = it.stands; now = it.state; stands = it.stands; same = refl })
+
+pub restart_twice : (s : State) → restarted (restarted s) ≡ restarted s
+restart_twice s = refl
+
+pub fresh_leads : (s : State) (snapshot : List ℕ) → Spells snapshot (restarted s) → Leads snapshot [] (restarted s)
+fresh_leads s snapshot spells = record { first = restarted s; spells = spells; is = refl }
+
+-- where this was read of one of the images, and c stands for that state or for its restart
+pub as_read : (images : List ℕ → Type 0) (area : Area) (s : State) (image c : List ℕ) → images image → HasRead area s image → (Stands c s ⊎ Stands c (restarted s)) → ∥ RestartsAs images c ∥₁
+as_read images area s image c among r (inl old) =
+    ∣ record { image = image; among = among; before = s; was = stands area.size area.selector r.snapshot r.blocks image s r.at.reads r.leads; now = s; stands = old; same = refl } ∣₁
+as_read images area s image c among r (inr new) =
+    ∣ record { image = image; among = among; before = s; was = stands area.size area.selector r.snapshot r.blocks image s r.at.reads r.leads; now = restarted s; stands = new; same = restart_twice s } ∣₁
+
+same_or_other : (a b : Bool) → (a ≡ b) ⊎ (other b ≡ a)
+same_or_other true true = inl refl
+same_or_other true false = inr refl
+same_or_other false true = inr refl
+same_or_other false false = inl refl
+
+-- whichever area is live, it has the state or its restart
+pub both_stand : (area : Area) (snapshot : List ℕ) (blocks : List (List CommandValue)) (next : List ℕ) (s : State) (c : List ℕ) → IsBoth area snapshot blocks next c → Leads snapshot blocks s → Leads next [] (restarted s) → Stands c s ⊎ Stands c (restarted s)
+both_stand area snapshot blocks next s c both old new =
+    ⊎_elim
+    (λ (e : is_odd both.selector ≡ is_odd area.selector). inl (stands area.size both.selector snapshot blocks c s
+    (record { journal = both.journal; area = subst (λ (b : Bool). IsArea area.size snapshot blocks (drop (start area.size b) c)) (sym e) both.live }) old))
+    (λ (e : other (is_odd area.selector) ≡ is_odd both.selector). inr (stands area.size both.selector next [] c (restarted s)
+    (record { journal = both.journal; area = subst (λ (b : Bool). IsArea area.size next [] (drop (start area.size b) c)) e both.idle }) new))
+    (same_or_other (is_odd both.selector) (is_odd area.selector))
+
+moved : (a b : Area) (snapshot : List ℕ) (blocks : List (List CommandValue)) (c : List ℕ) → b.size ≡ a.size → b.selector ≡ a.selector → b.gate ≡ a.gate → IsAt a snapshot blocks c → IsAt b snapshot blocks c
+moved a b snapshot blocks c size selector gate at = record {
+  reads = subst (λ (k : ℕ). Reads k b.selector snapshot blocks c) (sym size) (subst (λ (k : ℕ). Reads a.size k snapshot blocks c) (sym selector) at.reads);
+  gate = gate ∙ at.gate;
+}
+
+-- What is known once the disk was read: each image of now is one that was there at the start, and this was read of it.
+pub record Known (first now : List ℕ → Type 0) (area : Area) (s : State) : Type 0 where
+  pub image : List ℕ
+  pub among : first image
+  pub has : HasRead area s image
+  pub only : Only image now
+
+pub held_now : {first now : List ℕ → Type 0} {area : Area} {s : State} (k : Known first now area s) → Each now (IsAt area k.has.snapshot k.has.blocks)
+held_now {first} {now} {area} k d image = subst (λ (l : List ℕ). IsAt area k.has.snapshot k.has.blocks l) (sym (k.only d image)) k.has.at
+
+-- whatever the step leaves of the state that was read restarts as that does
+pub while_restarted : (first now : List ℕ → Type 0) (area : Area) (s : State) → Known first now area s → (c : List ℕ) → KeepsEither now area s c → KeepsRestart first c
+while_restarted first now area s k c keeps each =
+    ∥∥₁_elim (keeps k.has.snapshot k.has.blocks (held_now k) k.has.leads) ∥∥₁_prop (λ (either : Stands c s ⊎ Stands c (restarted s)). as_read first area s k.image c k.among k.has either)
+
+-- while the snapshot is written, the live area stays
+pub while_written : (images : List ℕ → Type 0) (area : Area) (s : State) (c : List ℕ) → KeepsLive images area c → KeepsEither images area s c
+while_written images area s c keeps snapshot blocks each lead = ∣ inl (stands area.size area.selector snapshot blocks c s (keeps snapshot blocks each).reads lead) ∣₁
+
+-- What is known once the snapshot was written: the live area is as it was, and the other has the snapshot.
+pub record Written (images now : List ℕ → Type 0) (area next : Area) (s : State) : Type 0 where
+  pub live : (c : List ℕ) → now c → KeepsLive images area c
+  pub size : next.size ≡ area.size
+  pub selector : next.selector ≡ area.selector
+  pub gate : next.gate ≡ area.gate
+  pub snapshot : List ℕ
+  pub idle : Each now (HasIdle next snapshot)
+  pub spells : Spells snapshot (restarted s)
+
+pub held_written : {images now : List ℕ → Type 0} {area next : Area} {s : State} (w : Written images now area next s) (snapshot : List ℕ) (blocks : List (List CommandValue)) → Each images (IsAt area snapshot blocks) → Each now (IsAt next snapshot blocks)
+held_written {area = area} {next = next} w snapshot blocks each d image = moved area next snapshot blocks d w.size w.selector w.gate (w.live d image snapshot blocks each)
+
+pub while_switched : (images now : List ℕ → Type 0) (area next : Area) (s : State) → Written images now area next s → (c : List ℕ) → KeepsBoth now next c → KeepsEither images area s c
+while_switched images now area next s w c keeps snapshot blocks each lead =
+    ∣ both_stand next snapshot blocks w.snapshot s c (keeps snapshot blocks w.snapshot (held_written w snapshot blocks each) w.idle) lead (fresh_leads s w.snapshot w.spells) ∣₁
+
+pub then_switched : (images now later : List ℕ → Type 0) (area next last : Area) (s : State) → Written images now area next s
+    → ((snapshot : List ℕ) (blocks : List (List CommandValue)) (new : List ℕ) → Each now (IsAt next snapshot blocks) → Each now (HasIdle next new) → Each later (IsAt last new []))
+    → (snapshot : List ℕ) (blocks : List (List CommandValue)) → Each images (IsAt area snapshot blocks) → HasRestarted later last s
+then_switched images now later area next last s w after snapshot blocks each =
+    let held = after snapshot blocks w.snapshot (held_written w snapshot blocks each) w.idle in record {
+      sound = ∣ record { snapshot = w.snapshot; blocks = []; held = held } ∣₁;
+      stands = λ c image. stands last.size last.selector w.snapshot [] c (restarted s) (held c image).reads (fresh_leads s w.snapshot w.spells);
+    }
+
+-- what was read is what the content stood for
+pub is_read : (area : Area) (s t : State) (image : List ℕ) → HasRead area s image → Stands image t → s ≡ t
+is_read area s t image r stand = stands_one image s t (stands area.size area.selector r.snapshot r.blocks image s r.at.reads r.leads) stand
+
+module _ {D : Type 0} (disk : Ghosts D) (start : D) (only_now : (c : List ℕ) → disk.images_since start (disk.moment start) c → disk.images start c) where
+  pub after_sync : (synced : D) → Within (disk.images synced) (disk.images start) → Elapses (disk.moment start) (disk.moment synced) (disk.images_since start) (disk.images_since synced) (disk.images synced)
+      → LeavesOnly disk.moment disk.images_since start synced (KeepsRestart (disk.images start))
+  after_sync synced within time =
+      goes_on disk start start synced (KeepsRestart (disk.images start)) (disk.images synced)
+      (record { later = omega arith; each = λ c since. same_image (disk.images start) c (only_now c since); before = λ t c le since. inl since })
+      time (λ c image. same_image (disk.images start) c (within c image))
+
+  pub after_read : (synced read : D) → Within (disk.images synced) (disk.images start) → LeavesOnly disk.moment disk.images_since start synced (KeepsRestart (disk.images start))
+      → LeavesOnly disk.moment disk.images_since synced read (disk.images synced) → LeavesOnly disk.moment disk.images_since start read (KeepsRestart (disk.images start))
+  after_read synced read within so_far leaves =
+      joined disk start synced read (KeepsRestart (disk.images start)) so_far (weaker disk synced read _ _ leaves (λ c image. same_image (disk.images start) c (within c image)))
+
+  -- where nothing was done, the images are those of the start
+  pub still : (area : Area) (s : State) → LeavesOnly disk.moment disk.images_since start start (KeepsEither (disk.images start) area s)
+  still area s = record {
+    later = omega arith;
+    each = λ c since snapshot blocks each lead. ∣ inl (stands area.size area.selector snapshot blocks c s (each c (only_now c since)).reads lead) ∣₁;
+    before = λ t c le since. inl since;
+  }

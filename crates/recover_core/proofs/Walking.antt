@@ -1,0 +1,122 @@
+-- Reading block after block.
+use Rattle.std.proofs.Common.{◌≡◌, inl, inr, Bool, true, false, if◌then◌else◌, ◌-◌, ℕ, ◌+◌, ◌<◌, ◌≤◌, ◌^◌, List, [], ◌∷◌, ◌++◌, refl, ◌∙◌, arith}
+use Rattle.command_core.specs.Commands.{CommandValue}
+use Rattle.broker_core.specs.States.{State}
+use Rattle.broker_core.specs.Steps.{state_after}
+use Rattle.snapshot_core.specs.Snapshots.{Spells}
+use Rattle.area_core.specs.declared.area.Area.{Area}
+use Rattle.area_core.specs.declared.faults.AreaFault.TheVariants as areas
+use Rattle.area_core.specs.declared.faults.ReadFault.{ReadFault}
+use Rattle.area_core.specs.declared.faults.ReadFault.TheVariants as reads
+use Rattle.area_core.specs.Damage.{IsBlockTold}
+use Rattle.area_core.specs.Held.{IsAt}
+use Rattle.area_core.specs.Journals.{is_odd, start}
+use Rattle.area_core.specs.Reading.{IsPast}
+use Rattle.recover_core.specs.declared.faults.OpenFault.{OpenFault}
+use Rattle.recover_core.specs.declared.faults.OpenFault.TheVariants.{Read, CountTooLarge, Area as Areas}
+use Rattle.recover_core.specs.Opens.{HasRead, IsFolded}
+use Rattle.recover_core.specs.Standing.{joined}
+use Rattle.recover_core.specs.Told.{IsOpenTold, IsSnapshotTold, IsStateRefused, IsTooLarge, IsWalkTold, IsWriteTold}
+use Rattle.recover_core.specs.Walks.{HasEnded, HasWalked}
+use Rattle.recover_core.proofs.Folded.{follows_leads, follows_more, leads_large}
+use Rattle.recover_core.proofs.Stores.{stands}
+
+-- the snapshot alone was read
+pub walked_first : (area : Area) (s : State) (snapshot content : List ℕ) → IsPast area snapshot [] content → Spells snapshot s → HasWalked area s content
+walked_first area s snapshot content past spells = record {
+  snapshot = snapshot;
+  blocks = [];
+  past = past;
+  follows = record { first = s; spells = spells; folded = inl refl };
+}
+
+-- a block more
+pub walked_on : (area next : Area) (s t : State) (content : List ℕ) (batch : List CommandValue) → IsFolded s batch t
+    → ((snapshot : List ℕ) (blocks : List (List CommandValue)) → IsPast area snapshot blocks content → IsPast next snapshot (blocks ++ batch ∷ []) content)
+    → HasWalked area s content → HasWalked next t content
+walked_on area next s t content batch folded past w = record {
+  snapshot = w.snapshot;
+  blocks = w.blocks ++ batch ∷ [];
+  past = past w.snapshot w.blocks w.past;
+  follows = follows_more w.snapshot w.blocks s t batch w.follows folded;
+}
+
+-- the closed gate
+pub walked_out : (area next : Area) (s : State) (content : List ℕ)
+    → ((snapshot : List ℕ) (blocks : List (List CommandValue)) → IsPast area snapshot blocks content → IsAt next snapshot blocks content)
+    → HasWalked area s content → HasEnded next s content
+walked_out area next s content ends w = record { snapshot = w.snapshot; blocks = w.blocks; at = ends w.snapshot w.blocks w.past; follows = w.follows }
+
+-- where the count is not large, that is the state that the content stands for
+pub read_of : (area : Area) (s : State) (content : List ℕ) → HasEnded area s content → s.count ≤ 2 ^ 61 → HasRead area s content
+read_of area s content ended small = record { snapshot = ended.snapshot; blocks = ended.blocks; at = ended.at; leads = follows_leads ended.snapshot ended.blocks s ended.follows small }
+
+-- where it is, the content stands for a state whose count is large too
+pub too_large : (area : Area) (s : State) (content : List ℕ) → HasEnded area s content → 2 ^ 61 < s.count → IsTooLarge content
+too_large area s content ended large =
+    let f = ended.follows in
+    let t = state_after f.first (joined ended.blocks) in
+    record {
+      state = t;
+      stands = stands area.size area.selector ended.snapshot ended.blocks content t ended.at.reads (record { first = f.first; spells = f.spells; is = refl });
+      large = leads_large ended.snapshot ended.blocks s f large;
+    }
+
+-- what is told of a block is so of the content
+pub block_told : (fault : ReadFault) (area : Area) (s : State) (content : List ℕ) → HasWalked area s content → IsBlockTold fault area content → IsWalkTold (Read fault) content
+block_told reads.NotAJournal area s content w told = told
+block_told (reads.Damaged place) area s content w told = record { area = area; snapshot = w.snapshot; blocks = w.blocks; past = w.past; damaged = told }
+block_told reads.Device area s content w told = told
+block_told reads.UnknownVersion area s content w told = told
+block_told reads.TooSmall area s content w told = told
+block_told (reads.Memory refused) area s content w told = told
+
+-- what is told of the snapshot is so of the content
+pub snapshot_told : (fault : OpenFault) (area : Area) (snapshot content : List ℕ) (place : ℕ) → IsPast area snapshot [] content → place ≡ start area.size (is_odd area.selector) + 8
+    → IsSnapshotTold fault snapshot place → IsStateRefused fault content
+snapshot_told (Read reads.NotAJournal) area snapshot content place past at so = absurd so
+snapshot_told (Read (reads.Damaged told)) area snapshot content place past at so =
+    inr (inl (record { area = area; snapshot = snapshot; past = past; at = so.0 ∙ at; none = so.1 }))
+snapshot_told (Read reads.Device) area snapshot content place past at so = absurd so
+snapshot_told (Read reads.UnknownVersion) area snapshot content place past at so = absurd so
+snapshot_told (Read reads.TooSmall) area snapshot content place past at so = absurd so
+snapshot_told (Read (reads.Memory refused)) area snapshot content place past at so = so
+snapshot_told CountTooLarge area snapshot content place past at so = absurd so
+snapshot_told (Areas fault) area snapshot content place past at so = absurd so
+
+-- what is told of the blocks is so
+pub walk_told : (fault : OpenFault) (content : List ℕ) → IsWalkTold fault content → IsStateRefused fault content
+walk_told (Read reads.NotAJournal) content so = absurd so
+walk_told (Read (reads.Damaged place)) content told = inr (inr told)
+walk_told (Read reads.Device) content told = told
+walk_told (Read reads.UnknownVersion) content so = absurd so
+walk_told (Read reads.TooSmall) content so = absurd so
+walk_told (Read (reads.Memory refused)) content told = told
+walk_told CountTooLarge content told = told
+walk_told (Areas areas.Device) content so = absurd so
+walk_told (Areas areas.Full) content so = absurd so
+walk_told (Areas areas.Broken) content so = absurd so
+walk_told (Areas (areas.Memory refused)) content told = told
+
+-- what is told of writing is so of the content that was read
+pub write_told : (fault : OpenFault) (area : Area) (s : State) (content : List ℕ) → HasRead area s content → IsWriteTold fault area.size s → IsOpenTold fault content
+write_told (Read fault) area s content has so = absurd so
+write_told CountTooLarge area s content has so = absurd so
+write_told (Areas areas.Device) area s content has told = told
+write_told (Areas areas.Full) area s content has told = record {
+  size = area.size;
+  selector = area.selector;
+  journal = has.at.reads.journal;
+  state = s;
+  stands = stands area.size area.selector has.snapshot has.blocks content s has.at.reads has.leads;
+  long = told;
+}
+write_told (Areas areas.Broken) area s content has so = absurd so
+write_told (Areas (areas.Memory refused)) area s content has told = told
+
+-- each block read takes the gate on, within the area
+pub measure : (was more : Bool) (size now gate next : ℕ) → was ≡ true → now ≡ size → gate ≤ next → (more ≡ true → gate < next) → next + 1 ≤ now
+    → (if more then 1 else 0) + (now - next) < (if was then 1 else 0) + (size - gate)
+measure true true size now gate next is same forward grows within = omega (arith, same, grows refl, within)
+measure true false size now gate next is same forward grows within = omega (arith, same, forward, within)
+measure false more size now gate next is same forward grows within = absurd (cc is)

@@ -1,0 +1,7 @@
+pub mod Opens
+pub mod Seen
+pub mod Sound
+pub mod Standing
+pub mod Stores
+pub mod Told
+pub mod Walks

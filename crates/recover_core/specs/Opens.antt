@@ -1,0 +1,56 @@
+-- What opening a journal keeps.
+use Rattle.std.specs.Prelude.{◌≡◌, ◌<◌, ◌^◌, ◌⊎◌, ℕ, List}
+use Rattle.command_core.specs.Commands.{CommandValue}
+use Rattle.broker_core.specs.Operations.{restarted}
+use Rattle.broker_core.specs.States.{State}
+use Rattle.broker_core.specs.Steps.{state_after}
+use Rattle.area_core.specs.declared.area.Area.{Area}
+use Rattle.area_core.specs.Held.{IsAt}
+use Rattle.area_core.specs.Puts.{Each}
+use Rattle.recover_core.specs.Sound.{IsSound}
+use Rattle.recover_core.specs.Standing.{Leads, Stands, StandFor, StandsForEither}
+
+-- what was read of an image: where its live area is, and the state that it stands for
+pub record HasRead (area : Area) (s : State) (image : List ℕ) : Type 0 where
+  pub snapshot : List ℕ
+  pub blocks : List (List CommandValue)
+  pub at : IsAt area snapshot blocks image
+  pub leads : Leads snapshot blocks s
+
+-- the image stands for some state
+pub record StandsForSome (image : List ℕ) : Type 0 where
+  pub state : State
+  pub stands : Stands image state
+
+-- the image stands for a state that restarts as one of those does that one of these images stands for
+pub record RestartsAs (images : List ℕ → Type 0) (c : List ℕ) : Type 0 where
+  pub image : List ℕ
+  pub among : images image
+  pub before : State
+  pub was : Stands image before
+  pub now : State
+  pub stands : Stands c now
+  pub same : restarted now ≡ restarted before
+
+-- where each of these images stands for a state, that one does so too, and it restarts as one of those
+abbrev pub KeepsRestart : (List ℕ → Type 0) → List ℕ → Type 0
+KeepsRestart images c = ((d : List ℕ) → images d → ∥ StandsForSome d ∥₁) → ∥ RestartsAs images c ∥₁
+
+-- where each image held this area, which led to that state, an image of now stands for the state or for its restart
+abbrev pub KeepsEither : (List ℕ → Type 0) → Area → State → List ℕ → Type 0
+KeepsEither images area s c =
+    (snapshot : List ℕ) (blocks : List (List CommandValue)) → Each images (IsAt area snapshot blocks) → Leads snapshot blocks s → StandsForEither s (restarted s) c
+
+-- each image has the area that is held now, and stands for the restart of that state
+pub record HasRestarted (images : List ℕ → Type 0) (area : Area) (s : State) : Type 0 where
+  pub sound : IsSound images area
+  pub stands : StandFor images (restarted s)
+
+-- the count passes 2^61 on the way, and the rest was left out
+pub record IsLeftOut (before : State) (commands : List CommandValue) (now : State) : Type 0 where
+  pub now_large : 2 ^ 61 < now.count
+  pub all_large : 2 ^ 61 < (state_after before commands).count
+
+-- These commands lead to this state, or the count passes 2^61 on the way, and the rest was left out.
+abbrev pub IsFolded : State → List CommandValue → State → Type 0
+IsFolded before commands now = (now ≡ state_after before commands) ⊎ IsLeftOut before commands now

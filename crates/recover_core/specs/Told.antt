@@ -1,0 +1,113 @@
+-- Which fault is told, and what is so of the content where it is.
+use Rattle.std.specs.Prelude.{◌≡◌, ◌⊎◌, ◌<◌, ◌+◌, ◌^◌, ℕ, List, [], length, Result, Ok, Err}
+use Rattle.disk_core.specs.Faults.{IsOneMore}
+use Rattle.command_core.specs.Commands.{CommandValue}
+use Rattle.broker_core.specs.Operations.{restarted}
+use Rattle.broker_core.specs.States.{State}
+use Rattle.snapshot_core.specs.Snapshots.{Spells}
+use Rattle.area_core.specs.declared.area.Area.{Area}
+use Rattle.area_core.specs.declared.faults.AreaFault.{AreaFault}
+use Rattle.area_core.specs.declared.faults.AreaFault.TheVariants as areas
+use Rattle.area_core.specs.declared.faults.ReadFault.{ReadFault}
+use Rattle.area_core.specs.declared.faults.ReadFault.TheVariants.{Damaged, Device}
+use Rattle.area_core.specs.declared.faults.ReadFault.TheVariants as reads
+use Rattle.area_core.specs.Damage.{IsDamagedAt, IsFrontTold, IsLongSnapshot}
+use Rattle.area_core.specs.Journals.{IsJournal, is_odd, start}
+use Rattle.area_core.specs.Reading.{IsPast}
+use Rattle.recover_core.specs.declared.faults.OpenFault.{OpenFault}
+use Rattle.recover_core.specs.declared.faults.OpenFault.TheVariants.{Read, CountTooLarge, Area as Areas}
+use Rattle.recover_core.specs.Standing.{Stands}
+
+-- the live area's snapshot, which begins at that place, spells no state
+pub record IsBadSnapshot (content : List ℕ) (place : ℕ) : Type 0 where
+  pub area : Area
+  pub snapshot : List ℕ
+  pub past : IsPast area snapshot [] content
+  pub at : place ≡ start area.size (is_odd area.selector) + 8
+  pub none : (s : State) → Spells snapshot s → ⊥
+
+-- behind some blocks of the live area stands what is damaged at that place
+pub record IsBadBlock (content : List ℕ) (place : ℕ) : Type 0 where
+  pub area : Area
+  pub snapshot : List ℕ
+  pub blocks : List (List CommandValue)
+  pub past : IsPast area snapshot blocks content
+  pub damaged : IsDamagedAt area content place
+
+-- what is told of the header and the live area is so
+abbrev pub IsStateTold : ReadFault → List ℕ → Type 0
+IsStateTold (Damaged place) content = IsLongSnapshot content place ⊎ IsBadSnapshot content place ⊎ IsBadBlock content place
+IsStateTold fault content = IsFrontTold fault content
+
+-- the content stands for a state after more than 2^61 commands
+pub record IsTooLarge (content : List ℕ) : Type 0 where
+  pub state : State
+  pub stands : Stands content state
+  pub large : 2 ^ 61 < state.count
+
+-- the snapshot of the state after the restart doesn't fit into an area of this length, with the gate behind it
+pub record IsLong (size : ℕ) (s : State) : Type 0 where
+  pub snapshot : List ℕ
+  pub spells : Spells snapshot (restarted s)
+  pub long : size < length snapshot + 9
+
+-- the content stands for a state whose snapshot after the restart doesn't fit into one of its areas
+pub record IsTooLong (content : List ℕ) : Type 0 where
+  pub size : ℕ
+  pub selector : ℕ
+  pub journal : IsJournal size selector content
+  pub state : State
+  pub stands : Stands content state
+  pub long : IsLong size state
+
+-- what is told of writing is so
+abbrev pub IsAreaTold : AreaFault → List ℕ → Type 0
+IsAreaTold areas.Full content = IsTooLong content
+IsAreaTold areas.Broken content = ⊥
+IsAreaTold _ content = Unit {0}
+
+-- what is told of writing that snapshot is so
+abbrev pub IsWriteTold : OpenFault → ℕ → State → Type 0
+IsWriteTold (Areas areas.Full) size s = IsLong size s
+IsWriteTold (Areas areas.Device) size s = Unit {0}
+IsWriteTold (Areas (areas.Memory _)) size s = Unit {0}
+IsWriteTold _ size s = ⊥
+
+-- what is told where a journal is not opened is so
+abbrev pub IsOpenTold : OpenFault → List ℕ → Type 0
+IsOpenTold (Read fault) content = IsStateTold fault content
+IsOpenTold CountTooLarge content = IsTooLarge content
+IsOpenTold (Areas fault) content = IsAreaTold fault content
+
+-- the disk failed just where that is told
+abbrev pub IsCausedBy : OpenFault → ℕ → ℕ → Type 0
+IsCausedBy (Read Device) before now = IsOneMore before now
+IsCausedBy (Areas areas.Device) before now = IsOneMore before now
+IsCausedBy _ before now = now ≡ before
+
+-- the same of an answer
+abbrev pub IsOpenCaused : {T : Type 0} → ℕ → ℕ → Result T OpenFault → Type 0
+IsOpenCaused before now (Ok _) = now ≡ before
+IsOpenCaused before now (Err fault) = IsCausedBy fault before now
+
+-- what is told of these bytes, of which the first stands at that place, is so
+abbrev pub IsSnapshotTold : OpenFault → List ℕ → ℕ → Type 0
+IsSnapshotTold (Read (Damaged at)) bytes place = (at ≡ place) × ((s : State) → Spells bytes s → ⊥)
+IsSnapshotTold (Read (reads.Memory _)) bytes place = Unit {0}
+IsSnapshotTold _ bytes place = ⊥
+
+-- what is told of blocks is so
+abbrev pub IsWalkTold : OpenFault → List ℕ → Type 0
+IsWalkTold (Read (Damaged place)) content = IsBadBlock content place
+IsWalkTold (Read Device) content = Unit {0}
+IsWalkTold CountTooLarge content = IsTooLarge content
+IsWalkTold (Areas (areas.Memory _)) content = Unit {0}
+IsWalkTold (Read (reads.Memory _)) content = Unit {0}
+IsWalkTold _ content = ⊥
+
+-- what is told of the header and the live area is so, and nothing else is told
+abbrev pub IsStateRefused : OpenFault → List ℕ → Type 0
+IsStateRefused (Read fault) content = IsStateTold fault content
+IsStateRefused CountTooLarge content = IsTooLarge content
+IsStateRefused (Areas (areas.Memory _)) content = Unit {0}
+IsStateRefused _ content = ⊥

@@ -1,0 +1,68 @@
+//! Why a journal was not opened.
+
+ghost use Rattle.std.specs.Prelude.{◌≡◌};
+
+use area_core::{AreaFault, ReadFault};
+use disk_core::DeviceFault;
+use std::alloc::AllocError;
+use thiserror::Error;
+
+/// Why a journal was not opened.
+#[derive(Debug, Drop, Error)]
+pub enum OpenFault {
+    /// It could not be read.
+    #[error("{0}")]
+    Read(ReadFault),
+    /// The disk stands for a state after more than 2^61 commands.
+    #[error("J5 count too large")]
+    CountTooLarge,
+    /// The snapshot of the state after the restart was not written: the disk failed, it does not fit, or memory was refused.
+    #[error("{0}")]
+    Area(AreaFault),
+}
+
+impl From<ReadFault> for OpenFault {
+    ghost use Rattle.std.specs.Prelude.{◌≡◌};
+    ghost use Rattle.recover_core.specs.declared.faults.OpenFault.TheVariants.{Read};
+
+    ghost from_gives = { λ refused fault. fault ≡ Read refused };
+
+    fn from(refused: ReadFault) -> OpenFault {
+        OpenFault::Read(refused)
+    }
+}
+
+impl From<AreaFault> for OpenFault {
+    ghost use Rattle.std.specs.Prelude.{◌≡◌};
+    ghost use Rattle.recover_core.specs.declared.faults.OpenFault.TheVariants.{Area};
+
+    ghost from_gives = { λ refused fault. fault ≡ Area refused };
+
+    fn from(refused: AreaFault) -> OpenFault {
+        OpenFault::Area(refused)
+    }
+}
+
+impl From<DeviceFault> for OpenFault {
+    ghost use Rattle.std.specs.Prelude.{◌≡◌};
+    ghost use Rattle.area_core.specs.declared.faults.AreaFault.TheVariants.{Device};
+    ghost use Rattle.recover_core.specs.declared.faults.OpenFault.TheVariants.{Area};
+
+    ghost from_gives = { λ refused fault. fault ≡ Area Device };
+
+    fn from(_refused: DeviceFault) -> OpenFault {
+        OpenFault::Area(AreaFault::Device)
+    }
+}
+
+impl From<AllocError> for OpenFault {
+    ghost use Rattle.std.specs.Prelude.{◌≡◌};
+    ghost use Rattle.area_core.specs.declared.faults.AreaFault.TheVariants.{Memory};
+    ghost use Rattle.recover_core.specs.declared.faults.OpenFault.TheVariants.{Area};
+
+    ghost from_gives = { λ refused fault. fault ≡ Area (Memory refused) };
+
+    fn from(refused: AllocError) -> OpenFault {
+        OpenFault::Area(AreaFault::Memory(refused))
+    }
+}

@@ -1,0 +1,45 @@
+//! Commands that were read are carried out again.
+
+ghost use Rattle.std.specs.Prelude.{◌≡◌, ◌<◌, ◌^◌, OnOk, IfErr, false};
+ghost use Rattle.broker_core.specs.Steps.{step};
+ghost use Rattle.recover_core.specs.Opens.{IsFolded};
+
+use broker_core::{Broker, BrokerFault};
+use command_core::Command;
+use std::alloc::{AllocError, Global};
+
+/// A journal of more commands is not opened.
+pub(crate) const MOST_COUNTED: u64 = 1 << 61;
+
+// Carries out one command and lets its outputs go: they were given out before the stop, or nobody is there to hear them.
+fn repeat(alloc: Global, broker: &mut Broker, command: Command) -> Result<(), AllocError>
+    requires count { broker.old.state.count < 2 ^ 62 }
+    requires whole { broker.old.broken ≡ false }
+    ensures state { OnOk result (broker.new.state ≡ step broker.old.state command) }
+    ensures whole { OnOk result (broker.new.broken ≡ false) }
+{
+    match broker.step(alloc, command) {
+        Ok(_) => Ok(()),
+        Err(BrokerFault::Memory(refused)) => Err(refused),
+        Err(BrokerFault::Broken) => Err(AllocError),
+    }
+}
+
+// Carries out commands in their order. Once more than 2^61 are counted, the rest is let go.
+pub(crate) fn repeat_all(
+    alloc: Global,
+    broker: &mut Broker,
+    commands: Vec<Command>,
+) -> Result<(), AllocError>
+    requires whole { broker.old.broken ≡ false }
+    ensures state { OnOk result (IsFolded broker.old.state commands.items broker.new.state) }
+    ensures whole { OnOk result (broker.new.broken ≡ false) }
+{
+    for command in commands {
+        if broker.count() > MOST_COUNTED {
+            return Ok(());
+        }
+        repeat(alloc, broker, command)?;
+    }
+    Ok(())
+}

@@ -1,0 +1,21 @@
+//! Recovery: what a disk stands for, a journal that is opened, and the store that commands are added to.
+
+#![tactic(auto)]
+
+mod faults;
+mod folding;
+mod law;
+mod opening;
+mod reading;
+mod seen;
+mod size_law;
+mod store;
+mod storing;
+
+pub use area_core::AreaFault;
+pub use faults::OpenFault;
+pub use law::an_image_stands_for_one_state;
+pub use opening::open;
+pub use seen::{Seen, VERSION, read};
+pub use size_law::restarts_fit_large_areas;
+pub use store::Store;

@@ -1,0 +1,130 @@
+//! Opening a journal.
+
+ghost use Rattle.std.specs.Prelude.{◌≡◌, ◌+◌, ◌*◌, ◌≤◌, ◌^◌, false, length, ℕ, List, IfErr, IfOk, IfSome, IsSome, OnOk};
+ghost use Rattle.command_core.specs.Commands.{CommandValue};
+ghost use Rattle.disk_core.specs.Moments.{LeavesOnly};
+ghost use Rattle.area_core.specs.Held.{IsAt};
+ghost use Rattle.area_core.specs.Puts.{Each};
+ghost use Rattle.broker_core.specs.Operations.{restarted};
+ghost use Rattle.broker_core.specs.States.{State};
+ghost use Rattle.recover_core.specs.Opens.{HasRestarted, KeepsEither, KeepsRestart};
+ghost use Rattle.recover_core.specs.Sound.{IsSound};
+ghost use Rattle.recover_core.specs.Standing.{Stands, StandFor};
+ghost use Rattle.recover_core.specs.Stores.{disk_of, is_broken, opened_by};
+ghost use Rattle.recover_core.specs.Told.{IsCausedBy, IsOpenCaused, IsOpenTold, IsWriteTold};
+ghost use Rattle.snapshot_core.specs.Snapshots.{Spells};
+
+use crate::OpenFault;
+use crate::reading::read_state;
+use crate::store::Store;
+use area_core::Area;
+use broker_core::{Broker, BrokerFault};
+use disk_core::Disk;
+use snapshot_core::encode_state;
+use std::alloc::{AllocError, Global};
+
+// Ends all sessions of the broker, and answers the snapshot of what is left.
+fn restart(alloc: Global, broker: &mut Broker) -> Result<Vec<u8>, AllocError>
+    requires whole { broker.old.broken ≡ false }
+    ensures state { IfOk result (λ snapshot. broker.new.state ≡ restarted broker.old.state) }
+    ensures whole { IfOk result (λ snapshot. broker.new.broken ≡ false) }
+    ensures spells { IfOk result (λ snapshot. Spells snapshot.items (restarted broker.old.state)) }
+{
+    match broker.restart(alloc) {
+        Ok(()) => encode_state(alloc, broker),
+        Err(BrokerFault::Memory(refused)) => Err(refused),
+        Err(BrokerFault::Broken) => Err(AllocError),
+    }
+}
+
+// Writes what a restart leaves of the broker into the area that is not live, and makes that one live.
+fn write_restarted<D: Disk>(
+    alloc: Global,
+    disk: &mut D,
+    area: &mut Area,
+    broker: &mut Broker,
+) -> Result<(), OpenFault>
+    requires room { 32 + 2 * area.old.size ≤ length (D.content disk.old) }
+    requires whole { broker.old.broken ≡ false }
+    requires area { area.old.broken ≡ false }
+    ensures any_moment { D.honest disk.old →
+        LeavesOnly D.moment D.images_since disk.old disk.new
+        (KeepsEither (D.images disk.old) area.old broker.old.state) }
+    ensures after { D.honest disk.old → OnOk result (
+        (snapshot : List ℕ) (blocks : List (List CommandValue)) → Each (D.images disk.old) (IsAt area.old snapshot blocks) →
+        HasRestarted (D.images disk.new) area.new broker.old.state) }
+    ensures state { OnOk result (broker.new.state ≡ restarted broker.old.state) }
+    ensures whole { OnOk result ((broker.new.broken ≡ false) × (area.new.broken ≡ false)) }
+    ensures size { (area.new.size ≡ area.old.size) × (length (D.content disk.new) ≡ length (D.content disk.old)) }
+    ensures refused { IfErr result (λ fault. IsWriteTold fault area.old.size broker.old.state) }
+    ensures cause { IsOpenCaused (D.failures disk.old) (D.failures disk.new) result }
+    ensures honest { D.honest disk.old → D.honest disk.new }
+    ensures was_honest { D.honest disk.new → D.honest disk.old }
+{
+    let snapshot = restart(alloc, broker)?;
+    area.write_snapshot(alloc, disk, &snapshot)?;
+    area.switch(disk)?;
+    Ok(())
+}
+
+// Reads the state, writes what a restart leaves of it into the other area, and makes that one live.
+fn open_area<D: Disk>(alloc: Global, disk: &mut D) -> Result<(Area, Broker), OpenFault>
+    ensures any_moment { D.honest disk.old →
+        LeavesOnly D.moment D.images_since disk.old disk.new (KeepsRestart (D.images disk.old)) }
+    ensures sound { D.honest disk.old → IfOk result (λ opened. IsSound (D.images disk.new) opened.0) }
+    ensures state { D.honest disk.old → IfOk result (λ opened.
+        (s : State) → Stands (D.content disk.old) s → opened.1.state ≡ restarted s) }
+    ensures stands { D.honest disk.old → IfOk result (λ opened. StandFor (D.images disk.new) opened.1.state) }
+    ensures small { IfOk result (λ opened. opened.1.state.count ≤ 2 ^ 61) }
+    ensures whole { IfOk result (λ opened. (opened.0.broken ≡ false) × (opened.1.broken ≡ false)) }
+    ensures room { IfOk result (λ opened. 32 + 2 * opened.0.size ≤ length (D.content disk.new)) }
+    ensures refused { D.honest disk.old → IfErr result (λ fault. IsOpenTold fault (D.content disk.old)) }
+    ensures cause { IsOpenCaused (D.failures disk.old) (D.failures disk.new) result }
+    ensures size { length (D.content disk.new) ≡ length (D.content disk.old) }
+    ensures honest { D.honest disk.old → D.honest disk.new }
+    ensures was_honest { D.honest disk.new → D.honest disk.old }
+{
+    disk.sync()?;
+    let (mut area, mut broker) = read_state(alloc, disk)?;
+    match write_restarted(alloc, disk, &mut area, &mut broker) {
+        Ok(()) => Ok((area, broker)),
+        Err(fault) => Err(fault),
+    }
+}
+
+/// Opens a journal: reads the state that the disk stands for, ends its sessions, writes what is left into the other area,
+/// and makes that one live.
+///
+/// A stop at any moment leaves a disk that stands for a state with the same restart. A refusal hands the disk back, and it
+/// may be opened again.
+pub fn open<D: Disk>(alloc: Global, disk: D) -> Result<Store<D>, (D, OpenFault)>
+    ensures any_moment { D.honest disk → IfOk result (λ store.
+        LeavesOnly D.moment D.images_since disk (disk_of store) (KeepsRestart (D.images disk))) }
+    ensures any_moment_err { D.honest disk → IfErr result (λ back.
+        LeavesOnly D.moment D.images_since disk back.0 (KeepsRestart (D.images disk))) }
+    ensures state { D.honest disk → IfOk result (λ store. IfSome (opened_by store) (λ broker.
+        (s : State) → Stands (D.content disk) s → broker.state ≡ restarted s)) }
+    ensures stands { D.honest disk → IfOk result (λ store. IfSome (opened_by store) (λ broker. StandFor (D.images (disk_of store)) broker.state)) }
+    ensures opened { IfOk result (λ store. IsSome (opened_by store)) }
+    ensures small { IfOk result (λ store. IfSome (opened_by store) (λ broker. (broker.state.count ≤ 2 ^ 61) × (broker.broken ≡ false))) }
+    ensures whole { IfOk result (λ store. is_broken store ≡ false) }
+    ensures refused { D.honest disk → IfErr result (λ back. IsOpenTold back.1 (D.content disk)) }
+    ensures cause { IfOk result (λ store. D.failures (disk_of store) ≡ D.failures disk) }
+    ensures cause_err { IfErr result (λ back. IsCausedBy back.1 (D.failures disk) (D.failures back.0)) }
+    ensures size { IfOk result (λ store. length (D.content (disk_of store)) ≡ length (D.content disk)) }
+    ensures size_err { IfErr result (λ back. length (D.content back.0) ≡ length (D.content disk)) }
+    ensures honest { IfOk result (λ store. D.honest disk → D.honest (disk_of store)) }
+    ensures honest_err { IfErr result (λ back. D.honest disk → D.honest back.0) }
+    ensures was_honest { IfOk result (λ store. D.honest (disk_of store) → D.honest disk) }
+    ensures was_honest_err { IfErr result (λ back. D.honest back.0 → D.honest disk) }
+{
+    let mut disk = disk;
+    match open_area(alloc, &mut disk) {
+        Ok((area, broker)) => Ok(Store {
+            disk,
+            area,
+            opened: Some(broker),
+        }),
+        Err(fault) => Err((disk, fault)),
+    }
+}

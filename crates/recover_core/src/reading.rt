@@ -1,0 +1,122 @@
+//! The state that a disk stands for is read.
+
+ghost use Rattle.std.specs.Prelude.{◌≡◌, ◌+◌, ◌*◌, ◌≤◌, ◌<◌, ◌^◌, IfErr, IfOk, OnOk, false, true, length};
+ghost use Rattle.area_core.specs.Reading.{Quiet};
+ghost use Rattle.snapshot_core.specs.Snapshots.{Spells};
+ghost use Rattle.recover_core.specs.Opens.{HasRead};
+ghost use Rattle.recover_core.specs.Told.{IsOpenCaused, IsSnapshotTold, IsStateRefused, IsWalkTold};
+ghost use Rattle.recover_core.specs.Walks.{HasEnded, HasWalked};
+
+use crate::OpenFault;
+use crate::folding::{MOST_COUNTED, repeat_all};
+use area_core::{Area, ReadFault};
+use broker_core::Broker;
+use command_core::DecodeFault;
+use disk_core::Disk;
+use snapshot_core::decode_state;
+use std::alloc::Global;
+
+// The broker of the state that the bytes spell, of which the first stands at that place of the disk.
+fn state_of(alloc: Global, bytes: &[u8], place: u64) -> Result<Broker, OpenFault>
+    ensures spelled { IfOk result (λ broker. Spells bytes.now broker.state) }
+    ensures whole { IfOk result (λ broker. broker.broken ≡ false) }
+    ensures refused { IfErr result (λ fault. IsSnapshotTold fault bytes.now place) }
+{
+    match decode_state(alloc, bytes) {
+        Ok(broker) => Ok(broker),
+        Err(DecodeFault::NoSpelling) => Err(OpenFault::Read(ReadFault::Damaged(place))),
+        Err(DecodeFault::Memory(refused)) => Err(OpenFault::Read(ReadFault::Memory(refused))),
+    }
+}
+
+// Reads the next block and carries out its commands; answers whether there was one, or the gate is closed.
+fn read_block<D: Disk>(
+    alloc: Global,
+    disk: &mut D,
+    area: &mut Area,
+    broker: &mut Broker,
+) -> Result<bool, OpenFault>
+    requires room { 32 + 2 * area.old.size ≤ length (D.content disk.old) }
+    requires whole { broker.old.broken ≡ false }
+    ensures on { D.honest disk.old → IfOk result (λ more. more ≡ true →
+        HasWalked area.old broker.old.state (D.content disk.old) → HasWalked area.new broker.new.state (D.content disk.old)) }
+    ensures end { D.honest disk.old → IfOk result (λ more. more ≡ false →
+        HasWalked area.old broker.old.state (D.content disk.old) → HasEnded area.new broker.new.state (D.content disk.old)) }
+    ensures refused { D.honest disk.old → IfErr result (λ fault.
+        HasWalked area.old broker.old.state (D.content disk.old) → IsWalkTold fault (D.content disk.old)) }
+    ensures forward { area.old.gate ≤ area.new.gate }
+    ensures grows { IfOk result (λ more. more ≡ true → area.old.gate < area.new.gate) }
+    ensures place { (area.new.size ≡ area.old.size) × (area.new.selector ≡ area.old.selector) × (area.new.broken ≡ area.old.broken) }
+    ensures whole { OnOk result (broker.new.broken ≡ false) }
+    ensures quiet { D.honest disk.old → Quiet D.Disk disk.old disk.new }
+    ensures cause { IsOpenCaused (D.failures disk.old) (D.failures disk.new) result }
+    ensures size { length (D.content disk.new) ≡ length (D.content disk.old) }
+    ensures honest { D.honest disk.old → D.honest disk.new }
+    ensures was_honest { D.honest disk.new → D.honest disk.old }
+{
+    match area.next_block(alloc, disk) {
+        Ok(Some(commands)) => {
+            repeat_all(alloc, broker, commands)?;
+            Ok(true)
+        }
+        Ok(None) => Ok(false),
+        Err(fault) => Err(OpenFault::Read(fault)),
+    }
+}
+
+// Reads blocks up to the first closed gate, and carries out their commands. Too many commands are told once all was read,
+// since damage anywhere in the live area is told first.
+fn read_blocks<D: Disk>(
+    alloc: Global,
+    disk: &mut D,
+    area: &mut Area,
+    broker: &mut Broker,
+) -> Result<(), OpenFault>
+    requires room { 32 + 2 * area.old.size ≤ length (D.content disk.old) }
+    requires whole { broker.old.broken ≡ false }
+    ensures read { D.honest disk.old → HasWalked area.old broker.old.state (D.content disk.old) →
+        OnOk result (HasRead area.new broker.new.state (D.content disk.old)) }
+    ensures small { OnOk result (broker.new.state.count ≤ 2 ^ 61) }
+    ensures refused { D.honest disk.old → HasWalked area.old broker.old.state (D.content disk.old) →
+        IfErr result (λ fault. IsWalkTold fault (D.content disk.old)) }
+    ensures place { (area.new.size ≡ area.old.size) × (area.new.selector ≡ area.old.selector) × (area.new.broken ≡ area.old.broken) }
+    ensures whole { OnOk result (broker.new.broken ≡ false) }
+    ensures quiet { D.honest disk.old → Quiet D.Disk disk.old disk.new }
+    ensures cause { IsOpenCaused (D.failures disk.old) (D.failures disk.new) result }
+    ensures size { length (D.content disk.new) ≡ length (D.content disk.old) }
+    ensures honest { D.honest disk.old → D.honest disk.new }
+    ensures was_honest { D.honest disk.new → D.honest disk.old }
+{
+    let mut more = true;
+    while more {
+        more = read_block(alloc, disk, area, broker)?;
+    }
+    if broker.count() > MOST_COUNTED {
+        return Err(OpenFault::CountTooLarge);
+    }
+    Ok(())
+}
+
+// The live area, and the broker of the state that the disk stands for.
+pub(crate) fn read_state<D: Disk>(alloc: Global, disk: &mut D) -> Result<(Area, Broker), OpenFault>
+    ensures read { D.honest disk.old → IfOk result (λ r. HasRead r.0 r.1.state (D.content disk.old)) }
+    ensures small { IfOk result (λ r. r.1.state.count ≤ 2 ^ 61) }
+    ensures refused { D.honest disk.old → IfErr result (λ fault. IsStateRefused fault (D.content disk.old)) }
+    ensures whole { IfOk result (λ r. (r.0.broken ≡ false) × (r.1.broken ≡ false)) }
+    ensures room { IfOk result (λ r. 32 + 2 * r.0.size ≤ length (D.content disk.new)) }
+    ensures quiet { D.honest disk.old → Quiet D.Disk disk.old disk.new }
+    ensures cause { IsOpenCaused (D.failures disk.old) (D.failures disk.new) result }
+    ensures size { length (D.content disk.new) ≡ length (D.content disk.old) }
+    ensures honest { D.honest disk.old → D.honest disk.new }
+    ensures was_honest { D.honest disk.new → D.honest disk.old }
+{
+    let (mut area, snapshot) = Area::front(alloc, disk)?;
+    let mut broker = match state_of(alloc, &snapshot, area.snapshot_place()) {
+        Ok(broker) => broker,
+        Err(fault) => return Err(fault),
+    };
+    match read_blocks(alloc, disk, &mut area, &mut broker) {
+        Ok(()) => Ok((area, broker)),
+        Err(fault) => Err(fault),
+    }
+}

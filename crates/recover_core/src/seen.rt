@@ -1,0 +1,53 @@
+//! What a journal shows of itself.
+
+ghost use Rattle.std.specs.Prelude.{◌≡◌, ◌+◌, length, IfErr, IfOk};
+ghost use Rattle.area_core.specs.Reading.{Quiet};
+ghost use Rattle.recover_core.specs.Seen.{IsSeen};
+ghost use Rattle.recover_core.specs.Told.{IsOpenCaused, IsStateRefused};
+
+use crate::OpenFault;
+use crate::reading::read_state;
+use broker_core::Held;
+use disk_core::Disk;
+use std::alloc::Global;
+
+/// The one version of journals that is known.
+pub const VERSION: u8 = 1;
+
+/// What a journal shows of itself.
+#[derive(Debug, Drop)]
+pub struct Seen {
+    /// The version of its header.
+    pub version: u8,
+    /// Which of its two areas is live: 0 or 1.
+    pub area: u8,
+    /// How many bytes of the live area are used: those up to its first closed gate, and that gate.
+    pub used: u64,
+    /// How many commands were carried out.
+    pub count: u64,
+    /// What is held, with the sessions as they were: none has ended.
+    pub held: Held,
+}
+
+/// Reads what a journal shows of itself. Nothing is written, and no session ends.
+///
+/// It is refused just as opening it is: `Read` where it is no journal or is damaged, the disk failed or memory was refused,
+/// and `CountTooLarge`.
+pub fn read<D: Disk>(alloc: Global, disk: &mut D) -> Result<Seen, OpenFault>
+    ensures seen { D.honest disk.old → IfOk result (λ seen. IsSeen seen (D.content disk.old)) }
+    ensures refused { D.honest disk.old → IfErr result (λ fault. IsStateRefused fault (D.content disk.old)) }
+    ensures quiet { D.honest disk.old → Quiet D.Disk disk.old disk.new }
+    ensures cause { IsOpenCaused (D.failures disk.old) (D.failures disk.new) result }
+    ensures size { length (D.content disk.new) ≡ length (D.content disk.old) }
+    ensures honest { D.honest disk.old → D.honest disk.new }
+    ensures was_honest { D.honest disk.new → D.honest disk.old }
+{
+    let (area, broker) = read_state(alloc, disk)?;
+    Ok(Seen {
+        version: VERSION,
+        area: area.number(),
+        used: area.used(),
+        count: broker.count(),
+        held: broker.held(),
+    })
+}
