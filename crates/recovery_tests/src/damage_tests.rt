@@ -1,4 +1,4 @@
-use crate::journals::{OPEN, SEND, SIZE, append, batch_of, formatted, opened, told};
+use crate::journals::{OPEN, SEND, SIZE, formatted, journal_of, told};
 use disk_core::{Disk, MemDisk};
 use recover_core::{OpenFault, read};
 use std::alloc::Global;
@@ -8,11 +8,7 @@ use std::test::Fail;
 // A journal whose second area is live, from place 4,128 on: the empty state, a block of an Open and a SEND, and two blocks
 // of a SEND each. The gates stand at 4,168, 4,217, 4,255 and 4,293.
 fn journal(alloc: Global) -> Result<MemDisk, Fail> {
-    let (mut store, _broker) = opened(alloc, formatted(alloc)?)?;
-    append(alloc, &mut store, batch_of(alloc, &[OPEN, SEND])?.as_slice())?;
-    append(alloc, &mut store, batch_of(alloc, &[SEND])?.as_slice())?;
-    append(alloc, &mut store, batch_of(alloc, &[SEND])?.as_slice())?;
-    Ok(store.into_disk())
+    journal_of(alloc, &[&[OPEN, SEND], &[SEND], &[SEND]])
 }
 
 // Writes these bytes over a disk.
@@ -108,14 +104,16 @@ fn each_byte_of_the_frame_counts(rt: HostRuntime) -> Result<(), Fail> {
     Ok(())
 }
 
+// Each length up to 64 bytes, and then each sixteenth up to the whole.
 #[test]
-fn a_disk_that_is_cut_is_told_at_each_length(rt: HostRuntime) -> Result<(), Fail> {
+fn a_disk_that_is_cut_is_told(rt: HostRuntime) -> Result<(), Fail> {
     let alloc = rt.alloc();
     let mut disk = journal(alloc)?;
     let mut bytes = [0; SIZE as usize];
     assert!(rt; disk.size() == SIZE);
     disk.read_at(0, &mut bytes)?;
-    for size in 0..=SIZE {
+    for step in 0..=574_u64 {
+        let size = if step < 64 { step } else { step * 16 - 960 };
         let mut cut = MemDisk::new(alloc, size)?;
         assert!(rt; cut.size() == size && size <= SIZE);
         cut.write_at(0, &bytes[..size as usize])?;

@@ -24,15 +24,24 @@ pub(crate) const SEND: &[u8] = b"\0\0\0\0\0\0\0\0\0\x02\0\0\0\x08/queue/q\0\0\0\
 pub(crate) const SUBSCRIBE: &[u8] =
     b"\0\0\0\0\0\0\0\0\0\x03\0\0\0\x01s\0\0\0\x08/queue/q\x01\0";
 
+// Adds the command of a record to a batch.
+pub(crate) fn push_record(
+    alloc: Global,
+    batch: &mut Vec<Entry<()>>,
+    record: &[u8],
+) -> Result<(), Fail> {
+    let (command, _) = decode(alloc, record)?;
+    match Entry::new(alloc, command, None) {
+        Ok(entry) => Ok(batch.push(entry)?),
+        Err(_) => Err(Fail::from("no memory for a record")),
+    }
+}
+
 // A batch of the commands of these records.
 pub(crate) fn batch_of(alloc: Global, records: &[&[u8]]) -> Result<Vec<Entry<()>>, Fail> {
     let mut batch = Vec::new(alloc);
     for record in records {
-        let (command, _) = decode(alloc, record)?;
-        match Entry::new(alloc, command, None) {
-            Ok(entry) => batch.push(entry)?,
-            Err(_) => return Err(Fail::from("no memory for a record")),
-        }
+        push_record(alloc, &mut batch, record)?;
     }
     Ok(batch)
 }
@@ -56,24 +65,44 @@ pub(crate) fn append<D: Disk>(
     store.append(alloc, batch)
 }
 
-// The store and its broker.
-pub(crate) fn opened(alloc: Global, disk: MemDisk) -> Result<(Store<MemDisk>, Broker), Fail> {
-    match open(alloc, disk) {
-        Ok(mut store) => match store.broker() {
-            Some(broker) => Ok((store, broker)),
-            None => Err(Fail::from("no broker")),
+// Adds batches of these records.
+fn add_all(alloc: Global, store: &mut Store<MemDisk>, batches: &[&[&[u8]]]) -> Result<(), Fail> {
+    for records in batches {
+        let batch = batch_of(alloc, records)?;
+        append(alloc, store, batch.as_slice())?;
+    }
+    Ok(())
+}
+
+// A journal that was opened, and has these batches.
+pub(crate) fn journal_of(alloc: Global, batches: &[&[&[u8]]]) -> Result<MemDisk, Fail> {
+    match open(alloc, formatted(alloc)?) {
+        Ok(mut store) => match add_all(alloc, &mut store, batches) {
+            Ok(()) => Ok(store.into_disk()),
+            Err(fail) => Err(fail),
         },
         Err((_, fault)) => Err(Fail::from(fault)),
     }
 }
 
-// What opening the disk tells: the count and the held messages, or the fault.
+// How many commands the broker counts, and how many messages it holds.
+fn line_of(alloc: Global, broker: &Broker) -> Result<String, Fail> {
+    let held = broker.held().messages;
+    Ok(format!(in alloc; "{} {held}", broker.count())?)
+}
+
+// That of the store that was opened.
+fn opened_line(alloc: Global, store: &mut Store<MemDisk>) -> Result<String, Fail> {
+    match store.broker() {
+        Some(broker) => line_of(alloc, &broker),
+        None => Ok(String::new(alloc)),
+    }
+}
+
+// What opening the disk tells: that, or the fault.
 pub(crate) fn told(alloc: Global, disk: MemDisk) -> Result<String, Fail> {
-    Ok(match open(alloc, disk) {
-        Ok(mut store) => match store.broker() {
-            Some(broker) => format!(in alloc; "{} {}", broker.count(), broker.held().messages)?,
-            None => String::new(alloc),
-        },
-        Err((_, fault)) => format!(in alloc; "{fault}")?,
-    })
+    match open(alloc, disk) {
+        Ok(mut store) => opened_line(alloc, &mut store),
+        Err((_, fault)) => Ok(format!(in alloc; "{fault}")?),
+    }
 }

@@ -1,4 +1,6 @@
-use crate::journals::{FILLS, OPEN, SEND, SUBSCRIBE, append, batch_of, formatted, opened, told};
+use crate::journals::{
+    FILLS, OPEN, SEND, SUBSCRIBE, append, batch_of, formatted, journal_of, push_record, told,
+};
 use area_core::format;
 use broker_core::Broker;
 use command_core::{Entry, decode};
@@ -9,22 +11,32 @@ use std::alloc::Global;
 use std::process::Abort;
 use std::test::Fail;
 
+// The disk after opening it with so many calls that pass, and whether it was opened.
+fn stopped_opening(
+    alloc: Global,
+    disk: MemDisk,
+    passed: u64,
+    fill: Option<u8>,
+) -> (MemDisk, bool) {
+    let (fuse, done) = match open(alloc, FuseDisk::new(disk, passed)) {
+        Ok(store) => (store.into_disk(), true),
+        Err((fuse, _)) => (fuse, false),
+    };
+    let mut disk = fuse.into_inner();
+    disk.crash(fill);
+    (disk, done)
+}
+
 // A stop at each call of opening leaves the same state, whatever the unsynced bytes are.
 #[test]
 fn a_stop_at_each_call_of_opening_leaves_the_state(rt: HostRuntime) -> Result<(), Fail> {
     let alloc = rt.alloc();
     for fill in FILLS {
         for passed in 0..24_u64 {
-            let (mut store, _broker) = opened(alloc, formatted(alloc)?)?;
-            append(alloc, &mut store, batch_of(alloc, &[OPEN, SEND, SUBSCRIBE])?.as_slice())?;
-            let (done, fuse) = match open(alloc, FuseDisk::new(store.into_disk(), passed)) {
-                Ok(store) => (true, store.into_disk()),
-                Err((fuse, _)) => (false, fuse),
-            };
-            assert!(rt; done || passed < 20, "{passed} calls are not enough");
-            let mut disk = fuse.into_inner();
-            disk.crash(fill);
+            let journal = journal_of(alloc, &[&[OPEN, SEND, SUBSCRIBE]])?;
+            let (disk, done) = stopped_opening(alloc, journal, passed, fill);
             assert_eq!(rt; told(alloc, disk)?.as_str(), "3 1", "{passed} calls");
+            assert!(rt; done || passed < 20, "{passed} calls are not enough");
         }
     }
     Ok(())
@@ -45,20 +57,36 @@ fn stopped(
     disk
 }
 
+// That of a journal that is opened for it.
+fn stopped_batch(
+    alloc: Global,
+    journal: MemDisk,
+    batch: &[Entry<()>],
+    passed: u64,
+    fill: Option<u8>,
+) -> Result<MemDisk, Fail> {
+    match open(alloc, journal) {
+        Ok(store) => Ok(stopped(alloc, store, batch, passed, fill)),
+        Err((_, fault)) => Err(Fail::from(fault)),
+    }
+}
+
 // Whether a batch is in where a stop comes after so many calls.
 fn is_in(passed: u64, fill: Option<u8>) -> bool {
     passed >= 4 || passed >= 2 && fill == Some(1)
 }
 
+// The session of command 2 sends to `/queue/q`.
+const SEND_OF_2: &[u8] = b"\0\0\0\0\0\0\0\x02\0\x02\0\0\0\x08/queue/q\0\0\0\0\0\x01x";
+
 #[test]
 fn a_stop_at_each_call_of_a_batch_leaves_all_of_it_or_none(rt: HostRuntime) -> Result<(), Fail> {
     let alloc = rt.alloc();
+    let batch = batch_of(alloc, &[OPEN, SEND_OF_2, SEND_OF_2])?;
     for fill in FILLS {
         for passed in 0..5_u64 {
-            let (mut store, _broker) = opened(alloc, formatted(alloc)?)?;
-            append(alloc, &mut store, batch_of(alloc, &[OPEN, SEND])?.as_slice())?;
-            let batch = batch_of(alloc, &[SUBSCRIBE, SEND, SEND])?;
-            let disk = stopped(alloc, store, batch.as_slice(), passed, fill);
+            let journal = journal_of(alloc, &[&[OPEN, SEND]])?;
+            let disk = stopped_batch(alloc, journal, batch.as_slice(), passed, fill)?;
             let wanted = if is_in(passed, fill) { "5 3" } else { "2 1" };
             assert_eq!(rt; told(alloc, disk)?.as_str(), wanted, "{passed} calls");
         }
@@ -70,34 +98,27 @@ fn a_stop_at_each_call_of_a_batch_leaves_all_of_it_or_none(rt: HostRuntime) -> R
 #[test]
 fn a_store_that_failed_stays_broken(rt: HostRuntime) -> Result<(), Fail> {
     let alloc = rt.alloc();
-    let (store, _broker) = opened(alloc, formatted(alloc)?)?;
-    let mut store = store.fuse(1);
     let batch = batch_of(alloc, &[OPEN])?;
+    let Ok(store) = open(alloc, formatted(alloc)?) else {
+        panic!(rt; "a new journal is not opened");
+    };
+    let mut store = store.fuse(1);
     assert!(rt; matches!(append(alloc, &mut store, batch.as_slice()), Err(AreaFault::Device)));
     assert!(rt; matches!(append(alloc, &mut store, batch.as_slice()), Err(AreaFault::Broken)));
-    assert!(rt; store.broker().is_none());
     assert_eq!(rt; told(alloc, store.into_disk().into_inner())?.as_str(), "0 0");
     Ok(())
 }
 
-// A state grows by what a snapshot has and a record lacks, so that it may not fit once it was restarted; in a larger area
-// it would.
+// A message takes two bytes more in a snapshot than in its record: what fitted as blocks may not fit once it was restarted.
 #[test]
 fn a_snapshot_that_does_not_fit_is_told(rt: HostRuntime) -> Result<(), Fail> {
     let alloc = rt.alloc();
-    let (mut store, _broker) = opened(alloc, formatted(alloc)?)?;
-    append(alloc, &mut store, batch_of(alloc, &[OPEN])?.as_slice())?;
-    for _ in 0..100_u8 {
-        append(alloc, &mut store, batch_of(alloc, &[SEND])?.as_slice())?;
-    }
-    assert_eq!(rt; told(alloc, store.into_disk())?.as_str(), "101 100");
-    let (mut store, _broker) = opened(alloc, formatted(alloc)?)?;
-    append(alloc, &mut store, batch_of(alloc, &[OPEN])?.as_slice())?;
-    let sends = [SEND; 27];
-    for _ in 0..5_u8 {
-        append(alloc, &mut store, batch_of(alloc, &sends)?.as_slice())?;
-    }
-    assert_eq!(rt; told(alloc, store.into_disk())?.as_str(), "J4 journal full");
+    let sends: &[&[u8]] = &[SEND; 26];
+    let journal = journal_of(alloc, &[&[OPEN], sends, sends, sends, sends, sends])?;
+    assert_eq!(rt; told(alloc, journal)?.as_str(), "131 130");
+    let sends: &[&[u8]] = &[SEND; 27];
+    let journal = journal_of(alloc, &[&[OPEN], sends, sends, sends, sends, sends])?;
+    assert_eq!(rt; told(alloc, journal)?.as_str(), "J4 journal full");
     Ok(())
 }
 
@@ -122,26 +143,28 @@ const ASKED: [&[u8]; 8] = [
     b"\0\x09\0",
 ];
 
-// Eight commands by chance, of sessions whose numbers lie before this one.
+// A record by chance, of a session whose number lies before this one.
+fn some_record(alloc: Global, seed: &mut u64, count: u64) -> Result<Vec<u8>, Fail> {
+    let chosen = chance(seed);
+    let mut record = Vec::new(alloc);
+    if chosen % 4 == 0 {
+        record.extend_from_slice(OPEN)?;
+    } else {
+        let session = count.saturating_sub(chosen % 13);
+        record.extend_from_slice(&session.to_be_bytes())?;
+        record.extend_from_slice(ASKED[(chosen / 64 % 8) as usize])?;
+    }
+    Ok(record)
+}
+
+// Eight commands by chance.
 fn some_batch(alloc: Global, seed: &mut u64, count: u64) -> Result<Vec<Entry<()>>, Fail> {
-    let mut records = Vec::new(alloc);
+    let mut batch = Vec::new(alloc);
     for _ in 0..8_u8 {
-        let chosen = chance(seed);
-        let mut record = Vec::new(alloc);
-        if chosen % 4 == 0 {
-            record.extend_from_slice(OPEN)?;
-        } else {
-            let session = count.saturating_sub(chosen % 13);
-            record.extend_from_slice(&session.to_be_bytes())?;
-            record.extend_from_slice(ASKED[(chosen / 64 % 8) as usize])?;
-        }
-        records.push(record)?;
+        let record = some_record(alloc, seed, count)?;
+        push_record(alloc, &mut batch, record.as_slice())?;
     }
-    let mut slices = Vec::new(alloc);
-    for record in records.iter() {
-        slices.push(record.as_slice())?;
-    }
-    batch_of(alloc, slices.as_slice())
+    Ok(batch)
 }
 
 // The broker in memory carries out the batch.
@@ -164,45 +187,73 @@ fn snapshot(alloc: Global, broker: &Broker) -> Result<Vec<u8>, Fail> {
     Ok(encode_state(alloc, broker)?)
 }
 
-// One life of a journal: it is opened as the broker in memory is, takes three batches, and stops within a fourth.
+// The snapshot of the broker that was opened.
+fn opened_snapshot(alloc: Global, store: &mut Store<MemDisk>) -> Result<Vec<u8>, Fail> {
+    match store.broker() {
+        Some(broker) => snapshot(alloc, &broker),
+        None => Err(Fail::from("no broker")),
+    }
+}
+
+// What is opened is the broker in memory; then both take three batches.
+fn live(
+    rt: &impl Abort,
+    alloc: Global,
+    store: &mut Store<MemDisk>,
+    memory: &mut Broker,
+    seed: &mut u64,
+) -> Result<(), Fail> {
+    let opened = opened_snapshot(alloc, store)?;
+    assert!(rt; opened.as_slice() == snapshot(alloc, memory)?.as_slice());
+    for _ in 0..3_u8 {
+        let batch = some_batch(alloc, seed, memory.count())?;
+        append(alloc, store, batch.as_slice())?;
+        follow(alloc, memory, batch.as_slice())?;
+    }
+    Ok(())
+}
+
+// One life of a journal: it is opened, takes three batches, and stops within this one.
 fn life(
     rt: &impl Abort,
     alloc: Global,
     disk: MemDisk,
     memory: &mut Broker,
     seed: &mut u64,
-    number: u64,
+    last: (&[Entry<()>], u64, Option<u8>),
 ) -> Result<MemDisk, Fail> {
-    let (mut store, broker) = opened(alloc, disk)?;
-    let same = snapshot(alloc, &broker)?.as_slice() == snapshot(alloc, memory)?.as_slice();
-    assert!(rt; same, "life {number}");
-    for _ in 0..3_u8 {
-        let batch = some_batch(alloc, seed, memory.count())?;
-        append(alloc, &mut store, batch.as_slice())?;
-        follow(alloc, memory, batch.as_slice())?;
+    let (batch, passed, fill) = last;
+    match open(alloc, disk) {
+        Ok(mut store) => match live(rt, alloc, &mut store, memory, seed) {
+            Ok(()) => Ok(stopped(alloc, store, batch, passed, fill)),
+            Err(fail) => Err(fail),
+        },
+        Err((_, fault)) => Err(Fail::from(fault)),
     }
-    let batch = some_batch(alloc, seed, memory.count())?;
-    let (passed, fill) = (number % 5, FILLS[(number / 5 % 4) as usize]);
-    let disk = stopped(alloc, store, batch.as_slice(), passed, fill);
-    if is_in(passed, fill) {
-        follow(alloc, memory, batch.as_slice())?;
-    }
-    memory.restart(alloc)?;
-    Ok(disk)
 }
 
-// A thousand commands and more, with a stop at each call of a batch and each fill: what is opened is the broker in memory
-// after the same commands and restarts.
-#[test]
-fn what_is_opened_is_the_broker_that_did_the_same(rt: HostRuntime) -> Result<(), Fail> {
-    let alloc = rt.alloc();
+// Forty lives of a journal, with a stop at each call of a batch and each fill.
+fn lives(rt: &impl Abort, alloc: Global, memory: &mut Broker) -> Result<(), Fail> {
     let mut disk = MemDisk::new(alloc, 2_097_184)?;
     format(alloc, &mut disk, 1_048_576)?;
-    let mut memory = Broker::new(alloc);
     let mut seed = 88_172_645_463_325_252;
     for number in 0..40_u64 {
-        disk = life(&rt, alloc, disk, &mut memory, &mut seed, number)?;
+        let batch = some_batch(alloc, &mut seed, memory.count())?;
+        let (passed, fill) = (number % 5, FILLS[(number / 5 % 4) as usize]);
+        disk = life(rt, alloc, disk, memory, &mut seed, (batch.as_slice(), passed, fill))?;
+        if is_in(passed, fill) {
+            follow(alloc, memory, batch.as_slice())?;
+        }
+        memory.restart(alloc)?;
     }
-    assert!(rt; memory.count() >= 1_000);
     Ok(())
+}
+
+// A thousand commands and more: what is opened is the broker in memory after the same commands and restarts.
+#[test]
+fn what_is_opened_is_the_broker_that_did_the_same(rt: HostRuntime) -> Result<(), Fail> {
+    let mut memory = Broker::new(rt.alloc());
+    let lived = lives(&rt, rt.alloc(), &mut memory);
+    assert!(rt; memory.count() >= 1_000);
+    lived
 }
