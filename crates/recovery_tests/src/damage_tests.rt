@@ -26,7 +26,11 @@ const DAMAGES: [(u64, &[u8], &str); 24] = [
     (8, b"\0\0\0\0\0\0\x10\x01", "J8 disk too small"),
     // Another odd selector, bytes that are not read, and an even selector: the area as it was formatted.
     (16, b"\x7b", "4 3"),
-    (17, b"\xff\xff\xff\xff\xff\xff\xff\xff\xff\xff\xff\xff\xff\xff\xff", "4 3"),
+    (
+        17,
+        b"\xff\xff\xff\xff\xff\xff\xff\xff\xff\xff\xff\xff\xff\xff\xff",
+        "4 3",
+    ),
     (16, b"\x7a", "0 0"),
     // The snapshot's length: one less, one more, as much as fits, and one more than that.
     (4_128, b"\0\0\0\0\0\0\0\x1f", "J2 damaged at 4136"),
@@ -35,8 +39,16 @@ const DAMAGES: [(u64, &[u8], &str); 24] = [
     (4_128, b"\0\0\0\0\0\0\x0f\xf8", "J2 damaged at 4128"),
     // A count of 2^61 and more before the blocks; one that is 2^61 behind them; and one more.
     (4_136, b"\x20\0\0\0\0\0\0\x01", "J5 count too large"),
-    (4_136, b"\x1f\xff\xff\xff\xff\xff\xff\xfc", "2305843009213693952 0"),
-    (4_136, b"\x1f\xff\xff\xff\xff\xff\xff\xfd", "J5 count too large"),
+    (
+        4_136,
+        b"\x1f\xff\xff\xff\xff\xff\xff\xfc",
+        "2305843009213693952 0",
+    ),
+    (
+        4_136,
+        b"\x1f\xff\xff\xff\xff\xff\xff\xfd",
+        "J5 count too large",
+    ),
     // The gates: what is not 1 is closed.
     (4_168, b"\0", "0 0"),
     (4_217, b"\x37", "2 1"),
@@ -134,12 +146,18 @@ fn a_journal_shows_what_it_holds(rt: HostRuntime) -> Result<(), Fail> {
     let mut disk = formatted(alloc)?;
     let empty = read(alloc, &mut disk)?;
     assert_eq!(rt; (empty.version, empty.area, empty.used), (1, 0, 41));
-    assert_eq!(rt; (empty.count, empty.held.messages, empty.held.bytes), (0, 0, 0));
+    assert_eq!(rt;
+        (empty.count, empty.held.messages, empty.held.bytes),
+        (0, 0, 0)
+    );
     let mut disk = journal(alloc)?;
     for _ in 0..2_u8 {
         let seen = read(alloc, &mut disk)?;
         assert_eq!(rt; (seen.version, seen.area, seen.used), (1, 1, 166));
-        assert_eq!(rt; (seen.count, seen.held.messages, seen.held.bytes), (4, 3, 27));
+        assert_eq!(rt;
+            (seen.count, seen.held.messages, seen.held.bytes),
+            (4, 3, 27)
+        );
     }
     write(&rt, &mut disk, 4_136, b"\x20\0\0\0\0\0\0\x01")?;
     assert!(rt; matches!(read(alloc, &mut disk), Err(OpenFault::CountTooLarge)));

@@ -21,8 +21,7 @@ pub(crate) const OPEN: &[u8] = b"\0\0\0\0\0\0\0\0\0\x01\0";
 pub(crate) const SEND: &[u8] = b"\0\0\0\0\0\0\0\0\0\x02\0\0\0\x08/queue/q\0\0\0\0\0\x01x";
 
 // It listens to `/queue/q` as `s`, and acknowledges.
-pub(crate) const SUBSCRIBE: &[u8] =
-    b"\0\0\0\0\0\0\0\0\0\x03\0\0\0\x01s\0\0\0\x08/queue/q\x01\0";
+pub(crate) const SUBSCRIBE: &[u8] = b"\0\0\0\0\0\0\0\0\0\x03\0\0\0\x01s\0\0\0\x08/queue/q\x01\0";
 
 // Adds the command of a record to a batch.
 pub(crate) fn push_record(

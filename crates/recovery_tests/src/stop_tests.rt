@@ -12,12 +12,7 @@ use std::process::Abort;
 use std::test::Fail;
 
 // The disk after opening it with so many calls that pass, and whether it was opened.
-fn stopped_opening(
-    alloc: Global,
-    disk: MemDisk,
-    passed: u64,
-    fill: Option<u8>,
-) -> (MemDisk, bool) {
+fn stopped_opening(alloc: Global, disk: MemDisk, passed: u64, fill: Option<u8>) -> (MemDisk, bool) {
     let (fuse, done) = match open(alloc, FuseDisk::new(disk, passed)) {
         Ok(store) => (store.into_disk(), true),
         Err((fuse, _)) => (fuse, false),
@@ -103,9 +98,22 @@ fn a_store_that_failed_stays_broken(rt: HostRuntime) -> Result<(), Fail> {
         panic!(rt; "a new journal is not opened");
     };
     let mut store = store.fuse(1);
-    assert!(rt; matches!(append(alloc, &mut store, batch.as_slice()), Err(AreaFault::Device)));
-    assert!(rt; matches!(append(alloc, &mut store, batch.as_slice()), Err(AreaFault::Broken)));
-    assert_eq!(rt; told(alloc, store.into_disk().into_inner())?.as_str(), "0 0");
+    assert!(rt;
+        matches!(
+            append(alloc, &mut store, batch.as_slice()),
+            Err(AreaFault::Device)
+        )
+    );
+    assert!(rt;
+        matches!(
+            append(alloc, &mut store, batch.as_slice()),
+            Err(AreaFault::Broken)
+        )
+    );
+    assert_eq!(rt;
+        told(alloc, store.into_disk().into_inner())?.as_str(),
+        "0 0"
+    );
     Ok(())
 }
 
@@ -181,7 +189,10 @@ fn follow(alloc: Global, memory: &mut Broker, batch: &[Entry<()>]) -> Result<(),
 
 // The snapshot of a broker.
 fn snapshot(alloc: Global, broker: &Broker) -> Result<Vec<u8>, Fail> {
-    if broker.is_broken() || broker.sessions().len() > 1_000 || broker.subscription_count() > 1_000 {
+    if broker.is_broken()
+        || broker.sessions().len() > 1_000
+        || broker.subscription_count() > 1_000
+    {
         return Err(Fail::from("not what the test made"));
     }
     Ok(encode_state(alloc, broker)?)
@@ -240,7 +251,14 @@ fn lives(rt: &impl Abort, alloc: Global, memory: &mut Broker) -> Result<(), Fail
     for number in 0..40_u64 {
         let batch = some_batch(alloc, &mut seed, memory.count())?;
         let (passed, fill) = (number % 5, FILLS[(number / 5 % 4) as usize]);
-        disk = life(rt, alloc, disk, memory, &mut seed, (batch.as_slice(), passed, fill))?;
+        disk = life(
+            rt,
+            alloc,
+            disk,
+            memory,
+            &mut seed,
+            (batch.as_slice(), passed, fill),
+        )?;
         if is_in(passed, fill) {
             follow(alloc, memory, batch.as_slice())?;
         }
