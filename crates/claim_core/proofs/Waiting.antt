@@ -2,7 +2,10 @@
 use Rattle.std.proofs.Common.{◌≡◌, ℕ, ◌<◌, ◌≤◌, List, [], ◌∷◌, ◌++◌, length, sym, refl, ap, ◌∙◌, ⊎_elim, arith, cond}
 use Rattle.std.proofs.lemmas.Bool.{cases_lt, lt-ltb, le-ltb, le-leb, lt-leb}
 use Rattle.std.specs.Prelude.{filter, nat_le}
+use Rattle.atomic_table.specs.Seated.{TableId}
+use Rattle.claim_core.specs.declared.views.View.{View}
 use Rattle.claim_core.specs.Counts.{Pair, above, open_of}
+use Rattle.claim_core.specs.Seats.{SessionSeatValue, waiting, claimer_of, session_value}
 use Rattle.claim_core.proofs.Sums.{from_is, from_not}
 
 pub open_skip : (m : ℕ) (p : Pair) (ps : List Pair) → p.0 < m → open_of m (p ∷ ps) ≡ open_of m ps
@@ -35,3 +38,7 @@ pub open_snoc : (m : ℕ) (own : List Pair) (p : Pair) → m ≤ p.0 → open_of
 open_snoc m [] p le = open_keep m p [] le
 open_snoc m (q ∷ qs) p le = ⊎_elim (λ lt. open_skip m q (qs ++ p ∷ []) lt ∙ (open_snoc m qs p le ∙ sym (ap (λ l. l ++ p.0 ∷ []) (open_skip m q qs lt))))
     (λ ge. open_keep m q (qs ++ p ∷ []) ge ∙ (ap (λ l. q.0 ∷ l) (open_snoc m qs p le) ∙ sym (ap (λ l. l ++ p.0 ∷ []) (open_keep m q qs ge)))) (cases_lt q.0 m)
+
+-- as many tickets are kept as commands wait
+pub kept_waiting : (ring : TableId) (number : ℕ) (v : View) (s : SessionSeatValue) (waits : List ℕ) → session_value ring number v ≡ s → waits ≡ open_of (claimer_of v).seen (claimer_of v).own → length waits ≡ waiting s
+kept_waiting ring number v s waits is kept = ap length kept ∙ (open_length (claimer_of v).seen (claimer_of v).own ∙ ap waiting is)

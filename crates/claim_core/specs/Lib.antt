@@ -1,4 +1,6 @@
+pub mod Appends
 pub mod Counts
-pub mod Rule
-pub mod Steps
 pub mod Laid
+pub mod Rule
+pub mod Seats
+pub mod Steps

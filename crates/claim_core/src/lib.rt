@@ -3,5 +3,10 @@
 #![tactic(auto)]
 
 mod plays;
+mod refusals;
+mod seats;
 mod steps;
 mod views;
+
+pub use refusals::{NotYet, Refused};
+pub use seats::{FlushSeat, SessionSeat};
