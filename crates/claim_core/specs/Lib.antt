@@ -1,5 +1,6 @@
 pub mod Appends
 pub mod Counts
+pub mod Endings
 pub mod Laid
 pub mod Rule
 pub mod Seats

@@ -70,6 +70,9 @@ with_mark f mark = flushing f.ring f.base f.taken mark f.stopped f.seats
 abbrev pub when_stopped : FlushSeatValue → FlushSeatValue
 when_stopped f = flushing f.ring f.base f.taken f.published true f.seats
 
+abbrev pub with_seat : FlushSeatValue → FlushSeatValue
+with_seat f = flushing f.ring f.base f.taken f.published f.stopped (f.seats + 1)
+
 -- what a seat at the table knows, with a blank in the cases that it never has
 abbrev pub claimer_of : View → Claimer
 claimer_of (Owns o) = claimer [] None 0 false

@@ -2,11 +2,18 @@
 
 #![tactic(auto)]
 
+mod ending;
+mod opening;
 mod plays;
 mod refusals;
+mod released;
+mod ring;
 mod seats;
 mod steps;
 mod views;
 
+pub use ending::RingEnd;
 pub use refusals::{NotYet, Refused};
+pub use released::Released;
+pub use ring::Ring;
 pub use seats::{FlushSeat, SessionSeat};

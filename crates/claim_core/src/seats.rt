@@ -1,11 +1,12 @@
 //! The seats of a ring: who makes steps at it.
 
-ghost use Rattle.std.specs.Prelude.{◌≡◌, ◌+◌, ◌<◌, ◌≤◌, nat_lt, MatchOption};
+ghost use Rattle.std.specs.Prelude.{◌≡◌, ◌+◌, ◌<◌, ◌≤◌, ◌^◌, false, [], nat_lt, vec_capacity, MatchOption};
+ghost use Rattle.claim_core.specs.declared.views.View.TheVariants.{Owns};
 ghost use Rattle.claim_core.specs.Rule.{far};
-ghost use Rattle.claim_core.specs.Steps.{IsLast};
-ghost use Rattle.claim_core.specs.Seats.{waiting, with_seen, with_stop, with_own, next_ticket, with_taken, with_mark, when_stopped};
+ghost use Rattle.claim_core.specs.Steps.{IsLast, owning};
+ghost use Rattle.claim_core.specs.Seats.{waiting, with_seen, with_stop, with_own, next_ticket, with_taken, with_mark, when_stopped, with_seat, new_session, new_flushing};
 
-use crate::steps::{claim, free, hold, load_mark, load_stop, raise, ready, stop};
+use crate::steps::{claim, deal, free, hold, load_mark, load_stop, raise, ready, stop};
 use crate::views::{Board, Place};
 use command_core::Entry;
 use std::marker::Model;
@@ -104,6 +105,40 @@ impl<B> Model for FlushSeat<B> {
 }
 
 impl<B> FlushSeat<B> {
+    // The seat of a new ring, which has dealt none.
+    pub(crate) fn new(place: Place<B>, base: u64) -> FlushSeat<B>
+        requires { (place.me ≡ (Owns (owning base [] false base false 0 []), [])) × (base ≤ 2 ^ 61) }
+        ensures { result ≡ new_flushing place.table_id base 0 }
+    {
+        FlushSeat {
+            place,
+            base,
+            next: base,
+            mark: base,
+        }
+    }
+
+    // A session's seat more.
+    pub(crate) fn deal<const WINDOW: usize>(
+        &mut self,
+        board: &Board<B>,
+        waits: Vec<u64>,
+        number: u32,
+    ) -> SessionSeat<B, WINDOW>
+        requires fits { (self.old.ring ≡ board.now.table_id) × (board.now.table_id.words ≡ board.now.table_id.slots + 3) }
+        requires few { self.old.seats < board.now.key.seats }
+        requires waits { (waits.items ≡ []) × (WINDOW ≤ vec_capacity waits) }
+        ensures counted { self.new ≡ with_seat self.old }
+        ensures dealt { result ≡ new_session self.old.ring self.old.base number }
+    {
+        let place = deal(board, &mut self.place);
+        SessionSeat {
+            place,
+            waits,
+            number,
+        }
+    }
+
     /// The ticket after those taken, which comes next.
     pub fn next(&self) -> u64
         ensures next { result ≡ next_ticket self.now }
