@@ -6,3 +6,4 @@ pub mod Flushing
 pub mod Dealing
 pub mod Waiting
 pub mod Starting
+pub mod History

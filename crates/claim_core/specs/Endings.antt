@@ -1,14 +1,11 @@
 -- What is known of a ring at its end.
-use Rattle.std.specs.Prelude.{◌≡◌, ℕ, ◌+◌, ◌<◌, ◌≤◌, List, [], ◌++◌, length, map, true, false, None}
+use Rattle.std.specs.Prelude.{◌≡◌, ℕ, ◌+◌, ◌<◌, ◌≤◌, List, [], ◌++◌, length, true}
 use mathlib.Core.Option.{some}
 use lib.ListN.{get_elem?}
 use Rattle.command_core.specs.Commands.{CommandValue}
 use Rattle.claim_core.specs.declared.ending.RingEnd.{RingEnd}
-use Rattle.claim_core.specs.declared.views.Claimer.{Claimer}
-use Rattle.claim_core.specs.declared.views.Owner.{Owner}
 use Rattle.claim_core.specs.Counts.{sum_of, times}
 use Rattle.claim_core.specs.Rule.{IsRising, IsOwnOf}
-use Rattle.claim_core.specs.Steps.{claimer, owning}
 use Rattle.claim_core.specs.Seats.{SessionSeatValue, FlushSeatValue, next_ticket}
 
 -- A seat's own commands stand in the history at its tickets, which rise. It read no mark over the flusher's, and found
@@ -30,10 +27,3 @@ pub record Ends (seats : List SessionSeatValue) (flush : FlushSeatValue) (log : 
   pub prefix : (rest : List CommandValue) × (log ≡ flush.taken ++ rest)
   pub once : (i : ℕ) → i < length log → sum_of (λ (seat : SessionSeatValue). times (flush.base + i) seat.own) seats ≡ 1
   pub each : (k : ℕ) (seat : SessionSeatValue) → get_elem? seats k ≡ some seat → Matches flush log seat
-
--- what the table knows of a session's seat between calls, and of the flusher's once so many are back
-abbrev pub claimer_from : SessionSeatValue → Claimer
-claimer_from s = claimer s.own None s.seen s.stopped
-
-abbrev pub owner_with : FlushSeatValue → List SessionSeatValue → Owner
-owner_with f back = owning f.base f.taken false f.published f.stopped f.seats (map claimer_from back)

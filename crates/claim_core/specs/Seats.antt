@@ -1,5 +1,5 @@
 -- What contracts see of a ring and of its seats.
-use Rattle.std.specs.Prelude.{◌≡◌, ℕ, ◌+◌, ◌*◌, ◌<◌, ◌≤◌, List, [], ◌∷◌, ◌++◌, length, Bool, true, false, None}
+use Rattle.std.specs.Prelude.{◌≡◌, ℕ, ◌+◌, ◌*◌, ◌<◌, ◌≤◌, List, [], ◌∷◌, ◌++◌, length, map, Bool, true, false, None}
 use Rattle.atomic_table.specs.Seated.{TableId}
 use Rattle.command_core.specs.Commands.{CommandValue}
 use Rattle.claim_core.specs.declared.views.Limits.{Limits}
@@ -89,6 +89,13 @@ session_value ring number v = session ring number (claimer_of v).own (claimer_of
 
 abbrev pub flush_value : TableId → View → FlushSeatValue
 flush_value ring v = flushing ring (owner_of v).base (owner_of v).taken (owner_of v).published (owner_of v).stopped (owner_of v).count
+
+-- what the table knows of a session's seat between calls, and of the flusher's once these seats are back
+abbrev pub claimer_from : SessionSeatValue → Claimer
+claimer_from s = claimer s.own None s.seen s.stopped
+
+abbrev pub owner_with : FlushSeatValue → List SessionSeatValue → Owner
+owner_with f back = owning f.base f.taken false f.published f.stopped f.seats (map claimer_from back)
 
 -- between calls a session's seat has no place out and no ticket pending; its open tickets are kept, and there is room
 -- for a whole window of them

@@ -2,6 +2,7 @@
 
 #![tactic(auto)]
 
+mod closing;
 mod ending;
 mod opening;
 mod plays;

@@ -1,12 +1,17 @@
 //! The seats of a ring: who makes steps at it.
 
-ghost use Rattle.std.specs.Prelude.{◌≡◌, ◌+◌, ◌<◌, ◌≤◌, ◌^◌, false, [], nat_lt, vec_capacity, MatchOption};
-ghost use Rattle.claim_core.specs.declared.views.View.TheVariants.{Owns};
+ghost use Rattle.std.specs.Prelude.{◌≡◌, ◌+◌, ◌<◌, ◌≤◌, ◌^◌, false, List, [], length, nat_lt, vec_capacity, All, MatchOption};
+ghost use Rattle.command_core.specs.Commands.{CommandValue};
+ghost use Rattle.claim_core.specs.declared.views.View.TheVariants.{Owns, Claims};
+ghost use Rattle.claim_core.specs.Endings.{Ends};
 ghost use Rattle.claim_core.specs.Rule.{far};
 ghost use Rattle.claim_core.specs.Steps.{IsLast, owning};
-ghost use Rattle.claim_core.specs.Seats.{waiting, with_seen, with_stop, with_own, next_ticket, with_taken, with_mark, when_stopped, with_seat, new_session, new_flushing};
+ghost use Rattle.claim_core.specs.Seats.{waiting, with_seen, with_stop, with_own, next_ticket, with_taken, with_mark, when_stopped, with_seat, new_session, new_flushing, claimer_from};
 
-use crate::steps::{claim, deal, free, hold, load_mark, load_stop, raise, ready, stop};
+use crate::ending::RingEnd;
+use crate::steps::{
+    claim, deal, free, gather, hold, load_mark, load_stop, load_tail, raise, ready, stop,
+};
 use crate::views::{Board, Place};
 use command_core::Entry;
 use std::marker::Model;
@@ -38,6 +43,14 @@ impl<B, const WINDOW: usize> SessionSeat<B, WINDOW> {
         ensures { result ≡ self.now.number }
     {
         self.number
+    }
+
+    // The seat at the table, to be taken back.
+    fn into_place(self) -> Place<B>
+        ensures ring { result.table_id ≡ self.ring }
+        ensures knows { result.me ≡ (Claims (claimer_from self), []) }
+    {
+        self.place
     }
 
     // Whether the flusher has stopped the ring.
@@ -186,5 +199,33 @@ impl<B> FlushSeat<B> {
         ensures { self.new ≡ when_stopped self.old }
     {
         stop(board, &mut self.place);
+    }
+
+    // Takes all sessions' seats back and reads the next ticket.
+    pub(crate) fn gather_all<const WINDOW: usize>(
+        self,
+        board: &Board<B>,
+        seats: Vec<SessionSeat<B, WINDOW>>,
+    ) -> RingEnd
+        requires fits { (self.ring ≡ board.now.table_id) × (board.now.table_id.words ≡ board.now.table_id.slots + 3) }
+        requires seats { All (λ seat. seat.ring ≡ board.now.table_id) seats.items }
+        requires all { length seats.items ≡ self.seats }
+        ensures { (log : List CommandValue) × Ends seats.items self log result }
+    {
+        let FlushSeat {
+            mut place,
+            base,
+            next,
+            mark,
+        } = self;
+        for seat in seats {
+            gather(board, &mut place, seat.into_place());
+        }
+        RingEnd {
+            base,
+            claimed: load_tail(board, &mut place),
+            taken: next,
+            mark,
+        }
     }
 }
