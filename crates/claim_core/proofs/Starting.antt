@@ -1,9 +1,10 @@
 -- How the ring starts.
-use Rattle.std.proofs.Common.{◌≡◌, ℕ, zero, suc, ◌+◌, ◌-◌, ◌*◌, ◌%◌, ◌<◌, ◌≤◌, ◌≢◌, List, [], ◌∷◌, map, length, get_or, set, replicate, false, sym, refl, ◌∙◌, subst, inl, ⊎_elim, arith, length-set, get_or-set_other, get_or-set_same, mod-lt}
+use Rattle.std.proofs.Common.{◌≡◌, ℕ, zero, suc, ◌+◌, ◌-◌, ◌*◌, ◌%◌, ◌<◌, ◌≤◌, ◌≢◌, List, [], ◌∷◌, ◌++◌, ◌⊎◌, map, length, get_or, set, replicate, false, sym, refl, ap, ◌∙◌, subst, inl, inr, ⊎_elim, arith, length-set, get_or-set_other, get_or-set_same, mod-lt}
 use Rattle.std.proofs.lemmas.Bool.{cases_eq, false≢true}
 use mathlib.Core.Option.{some, some-injective, some-ne-none}
 use lib.ListN.{get_elem?, length-map, length-replicate}
-use Rattle.std.specs.Prelude.{Option, None}
+use Rattle.std.specs.Prelude.{Option, Some, None, slice_get}
+use Rattle.atomic_table.specs.Seated.{TableId}
 use Rattle.atomic_table.specs.Table.{opening}
 use Rattle.command_core.specs.Commands.{CommandValue}
 use Rattle.command_core.specs.Entries.{EntryValue}
@@ -12,6 +13,7 @@ use Rattle.claim_core.specs.declared.views.Owner.{Owner}
 use Rattle.claim_core.specs.declared.views.View.{View}
 use Rattle.claim_core.specs.Rule.{far, first_view, Fits, RingRule}
 use Rattle.claim_core.specs.Steps.{owning}
+use Rattle.claim_core.specs.Seats.{SessionSeatValue, new_session}
 use Rattle.claim_core.specs.Laid.{IsLaid}
 use Rattle.claim_core.proofs.Moves.{apart}
 
@@ -65,3 +67,23 @@ starts {B} key row n pos small roomy low laid = let o : Owner = owning key.base 
     place : (t : ℕ) → key.base ≤ t → t < key.base + n → get_or row (t % length (map some (replicate {A = Option (EntryValue B)} n None)) + 3) 0 ≡ 3 * t
     place t a b = let i : ℕ = t - key.base in let e : key.base + i ≡ t = omega arith in let is : length (map some (replicate {A = Option (EntryValue B)} n None)) ≡ n = length-map (replicate {A = Option (EntryValue B)} n None) some ∙ length-replicate n None in
         subst (λ m. get_or row (t % m + 3) 0 ≡ 3 * t) (sym is) (subst (λ z. get_or row (z % n + 3) 0 ≡ 3 * z) e (laid.4 i (omega arith)))
+
+abbrev value_in : {A : Type 0} → A → Option A → A
+value_in d None = d
+value_in d (Some x) = x
+
+abbrev IsThere : {A : Type 0} → Option A → Type 0
+IsThere None = ⊥
+IsThere (Some x) = Unit {0}
+
+-- an item of a list that one is added to
+get_snoc : {A : Type 0} (xs : List A) (y : A) (k : ℕ) (z : A) → slice_get (xs ++ y ∷ []) k ≡ Some z → (slice_get xs k ≡ Some z) ⊎ ((k ≡ length xs) × (y ≡ z))
+get_snoc [] y zero z e = inr (refl, ap (value_in y) e)
+get_snoc [] y (suc k) z e = absurd (subst IsThere (sym e) tt)
+get_snoc (x ∷ xs) y zero z e = inl e
+get_snoc (x ∷ xs) y (suc k) z e = ⊎_elim (λ old. inl old) (λ new. inr (ap suc new.0, new.1)) (get_snoc xs y k z e)
+
+-- the seats of a new ring, and one more
+pub one_more : (ring : TableId) (base n : ℕ) (seats : List SessionSeatValue) (seat : SessionSeatValue) → length seats ≡ n → seat ≡ new_session ring base n
+    → ((k : ℕ) (s : SessionSeatValue) → slice_get seats k ≡ Some s → s ≡ new_session ring base k) → (k : ℕ) (s : SessionSeatValue) → slice_get (seats ++ seat ∷ []) k ≡ Some s → s ≡ new_session ring base k
+one_more ring base n seats seat len is old k s at = ⊎_elim (λ e. old k s e) (λ (new : (k ≡ length seats) × (seat ≡ s)). sym new.1 ∙ (is ∙ ap (new_session ring base) (sym (new.0 ∙ len)))) (get_snoc seats seat k s at)
