@@ -4,7 +4,6 @@ use Rattle.std.proofs.lemmas.Bool.{cases_eq, false≢true}
 use mathlib.Core.Option.{some, some-injective, some-ne-none}
 use lib.ListN.{get_elem?, length-map, length-replicate}
 use Rattle.std.specs.Prelude.{Option, Some, None, slice_get}
-use Rattle.atomic_table.specs.Seated.{TableId}
 use Rattle.atomic_table.specs.Table.{opening}
 use Rattle.command_core.specs.Commands.{CommandValue}
 use Rattle.command_core.specs.Entries.{EntryValue}
@@ -13,6 +12,9 @@ use Rattle.claim_core.specs.declared.views.Owner.{Owner}
 use Rattle.claim_core.specs.declared.views.View.{View}
 use Rattle.claim_core.specs.Rule.{far, first_view, Fits, RingRule}
 use Rattle.claim_core.specs.Steps.{owning}
+use Rattle.std.specs.Prelude.{All}
+use Rattle.std.proofs.lemmas.List.Elements.{All-push}
+use Rattle.atomic_table.specs.Seated.{TableId}
 use Rattle.claim_core.specs.Seats.{SessionSeatValue, new_session}
 use Rattle.claim_core.specs.Laid.{IsLaid}
 use Rattle.claim_core.proofs.Moves.{apart}
@@ -83,7 +85,15 @@ get_snoc [] y (suc k) z e = absurd (subst IsThere (sym e) tt)
 get_snoc (x ∷ xs) y zero z e = inl e
 get_snoc (x ∷ xs) y (suc k) z e = ⊎_elim (λ old. inl old) (λ new. inr (ap suc new.0, new.1)) (get_snoc xs y k z e)
 
+abbrev pub Numbered : List SessionSeatValue → Type 0
+Numbered seats = (k : ℕ) (s : SessionSeatValue) → slice_get seats k ≡ Some s → s.number ≡ k
+
+abbrev pub AllNew : TableId → ℕ → List SessionSeatValue → Type 0
+AllNew ring base seats = All (λ (s : SessionSeatValue). s ≡ new_session ring base s.number) seats
+
 -- the seats of a new ring, and one more
-pub one_more : (ring : TableId) (base n : ℕ) (seats : List SessionSeatValue) (seat : SessionSeatValue) → length seats ≡ n → seat ≡ new_session ring base n
-    → ((k : ℕ) (s : SessionSeatValue) → slice_get seats k ≡ Some s → s ≡ new_session ring base k) → (k : ℕ) (s : SessionSeatValue) → slice_get (seats ++ seat ∷ []) k ≡ Some s → s ≡ new_session ring base k
-one_more ring base n seats seat len is old k s at = ⊎_elim (λ e. old k s e) (λ (new : (k ≡ length seats) × (seat ≡ s)). sym new.1 ∙ (is ∙ ap (new_session ring base) (sym (new.0 ∙ len)))) (get_snoc seats seat k s at)
+pub one_more : (ring : TableId) (base n : ℕ) (seats seats' : List SessionSeatValue) (seat : SessionSeatValue) → seats' ≡ seats ++ seat ∷ [] → length seats ≡ n → seat ≡ new_session ring base n → AllNew ring base seats → Numbered seats → AllNew ring base seats' × Numbered seats'
+one_more ring base n seats seats' seat more len is new numbered =
+    let itself : seat ≡ new_session ring base seat.number = is ∙ ap (λ (s : SessionSeatValue). new_session ring base s.number) (sym is) in
+    let next : Numbered (seats ++ seat ∷ []) = λ k s at. ⊎_elim (λ e. numbered k s e) (λ (last : (k ≡ length seats) × (seat ≡ s)). ap (λ (z : SessionSeatValue). z.number) (sym last.1) ∙ (ap (λ (z : SessionSeatValue). z.number) is ∙ sym (last.0 ∙ len))) (get_snoc seats seat k s at) in
+    (subst (AllNew ring base) (sym more) (All-push (λ (s : SessionSeatValue). s ≡ new_session ring base s.number) seats seat new itself), subst Numbered (sym more) next)

@@ -10,6 +10,7 @@ mod refusals;
 mod released;
 mod ring;
 mod seats;
+mod sizes;
 mod steps;
 mod views;
 
@@ -18,3 +19,4 @@ pub use refusals::{NotYet, Refused};
 pub use released::Released;
 pub use ring::Ring;
 pub use seats::{FlushSeat, SessionSeat};
+pub use sizes::{BrokerRing, BrokerSeat, PLACES, SEATS, WINDOW};

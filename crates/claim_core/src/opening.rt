@@ -1,6 +1,6 @@
 //! How a ring is made.
 
-ghost use Rattle.std.specs.Prelude.{◌≡◌, ℕ, ◌+◌, ◌*◌, ◌<◌, ◌≤◌, ◌^◌, IfOk, OnOk, length, slice_get, Some};
+ghost use Rattle.std.specs.Prelude.{◌≡◌, ℕ, ◌+◌, ◌*◌, ◌<◌, ◌≤◌, ◌^◌, IfOk, OnOk, All, length, slice_get, Some};
 ghost use Rattle.claim_core.specs.Laid.{IsLaid};
 ghost use Rattle.claim_core.specs.Seats.{SessionSeatValue, new_session, new_flushing, with_seat};
 
@@ -92,7 +92,8 @@ impl<B: Drop, const SEATS: usize, const WINDOW: usize, const PLACES: usize> Ring
         requires base { base ≤ 2 ^ 61 }
         ensures flush { IfOk result (λ made. made.2 ≡ new_flushing made.0 base SEATS) }
         ensures count { IfOk result (λ made. length made.1.items ≡ SEATS) }
-        ensures seats { IfOk result (λ made. (k : ℕ) (seat : SessionSeatValue) → slice_get made.1.items k ≡ Some seat → seat ≡ new_session made.0 base k) }
+        ensures seats { IfOk result (λ made. All (λ seat. seat ≡ new_session made.0 base seat.number) made.1.items) }
+        ensures numbers { IfOk result (λ made. (k : ℕ) (seat : SessionSeatValue) → slice_get made.1.items k ≡ Some seat → seat.number ≡ k) }
     {
         let (ring, mut flush) = Ring::bare(alloc, base)?;
         let mut seats = Vec::with_capacity(alloc, SEATS)?;

@@ -20,7 +20,7 @@ use std::marker::Model;
 /// commands with their tickets, the mark that it read last, and whether its last append found the ring stopped.
 #[derive(Drop)]
 pub struct SessionSeat<B, const WINDOW: usize> {
-    place: Place<B>,
+    pub(crate) place: Place<B>,
     // Its own tickets that are not under the mark it read last.
     waits: Vec<u64>,
     number: u32,
