@@ -6,7 +6,7 @@ use lib.ListN.{get_elem?}
 use lib.Seq.{set-get_or}
 use Rattle.std.specs.Prelude.{Option, Some, None}
 use Rattle.atomic_table.specs.Table.{State, step, Act, keeps, takes, gives, Valid, carried_after, stepped, Allows}
-use Rattle.atomic_table.proofs.Lists.{at_snoc, set_here, set_else, set_again, at_longer, at_last}
+use Rattle.atomic_table.proofs.Lists.{at_snoc, set_here, set_else, at_longer, at_last}
 use Rattle.command_core.specs.Commands.{CommandValue}
 use Rattle.command_core.specs.Entries.{EntryValue}
 use Rattle.claim_core.specs.declared.views.Limits.{Limits}
@@ -15,7 +15,7 @@ use Rattle.claim_core.specs.declared.views.View.{View}
 use Rattle.claim_core.specs.declared.views.View.TheVariants.{Owns, Claims, Spent}
 use Rattle.claim_core.specs.Counts.{Pair, sum_of, same, from, times, above, pends, times_of, pends_of}
 use Rattle.claim_core.specs.Rule.{far, ClaimerOk, Fits, Stands, RingRule}
-use Rattle.claim_core.specs.Steps.{claimer, Sat, MayClaim, saw_mark, saw_stop, IsLast, claimed, claimed_for, readied}
+use Rattle.claim_core.specs.Steps.{claimer, Sat, MayClaim, saw_mark, saw_stop, IsLast, claimed_for, readied}
 use Rattle.claim_core.proofs.Sums.{sum_set, sum_at, sum_le, sum_zero, sum_snoc, same_is, same_not, above_mono, from_one, pends_le}
 use Rattle.claim_core.proofs.Moves.{Homes, Longer, none_not_some, claims_injective, number_injective, self_pends, apart, rising_snoc, get_below, stands_still, claimer_moves, same_sum}
 use Rattle.claim_core.proofs.Near.{near, nearer, tail_low, taken_within}

@@ -5,7 +5,6 @@ use mathlib.Core.Option.{some, some-injective, some-ne-none}
 use lib.ListN.{get_elem?, length-map, length-replicate}
 use Rattle.std.specs.Prelude.{Option, Some, None, slice_get}
 use Rattle.atomic_table.specs.Table.{opening}
-use Rattle.command_core.specs.Commands.{CommandValue}
 use Rattle.command_core.specs.Entries.{EntryValue}
 use Rattle.claim_core.specs.declared.views.Limits.{Limits}
 use Rattle.claim_core.specs.declared.views.Owner.{Owner}

@@ -26,12 +26,8 @@ pub struct Ring<B, const SEATS: usize, const WINDOW: usize, const PLACES: usize>
     pub(crate) table: Table<Option<Entry<B>>, View, Limits, Claiming, Global>,
 }
 
-impl<B, const SEATS: usize, const WINDOW: usize, const PLACES: usize> Model for Ring<
-    B,
-    SEATS,
-    WINDOW,
-    PLACES,
-> {
+impl<B, const SEATS: usize, const WINDOW: usize, const PLACES: usize> Model
+    for Ring<B, SEATS, WINDOW, PLACES> {
     ghost use Rattle.atomic_table.specs.Seated.{TableId, table_id_coded};
     ghost use Rattle.claim_core.specs.Seats.{IsRing};
 
@@ -96,7 +92,8 @@ impl<B, const SEATS: usize, const WINDOW: usize, const PLACES: usize> Ring<
         ensures released { IfOk result (λ released. (released ≡ out) × (out.number < seat.new.seen)) }
         ensures not_yet { IfErr result (λ back. (back.0 ≡ out) × (back.1.0 ≡ seat.new.seen) × (seat.new.seen ≤ out.number)) }
     {
-        let mark = seat.read_mark(&self.table.shared);
+        let board = &self.table.shared;
+        let mark = seat.read_mark(board);
         Released::under(mark, out)
     }
 

@@ -17,8 +17,11 @@ use std::marker::Brand;
 
 // The words: the next ticket, the mark, whether the ring is stopped, and from here on one for each place.
 const TAIL: usize = 0;
+
 const MARK: usize = 1;
+
 const STOP: usize = 2;
+
 const FIRST_PLACE: usize = 3;
 
 // A session's seat loads the mark.
@@ -60,13 +63,7 @@ pub fn claim<B>(board: &Board<B>, seat: &mut Place<B>, entry: &Entry<B>) -> u64
 }
 
 // Puts the entry into the place of the pending ticket, and makes it ready.
-pub fn ready<B>(
-    board: &Board<B>,
-    seat: &mut Place<B>,
-    ticket: u64,
-    place: usize,
-    entry: Entry<B>,
-)
+pub fn ready<B>(board: &Board<B>, seat: &mut Place<B>, ticket: u64, place: usize, entry: Entry<B>)
     requires fits { (seat.old.table_id ≡ board.now.table_id) × (board.now.table_id.words ≡ board.now.table_id.slots + 3) }
     requires place { (place ≡ ticket % board.now.table_id.slots) × (place < board.now.table_id.slots) × (3 * ticket + 1 < 2 ^ 64) }
     requires claimed { (c : Claimer) × (own : List Pair) × (more : List (ℕ × Option (EntryValue B))) × (seat.old.me.0 ≡ Claims c) × (c.pending ≡ Some ticket) × (c.own ≡ own ++ (ticket, entry.command) ∷ []) × (seat.old.me.1 ≡ (place, None) ∷ more) }
