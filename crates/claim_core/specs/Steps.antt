@@ -1,6 +1,7 @@
 -- What each step tells the seat that makes it.
 use Rattle.std.specs.Prelude.{◌≡◌, ℕ, ◌+◌, ◌*◌, ◌%◌, ◌<◌, ◌≤◌, List, [], ◌∷◌, ◌++◌, ◌≢◌, length, Bool, Option, Some, None, true, false}
 use mathlib.Core.Option.{some}
+use Rattle.atomic_table.specs.Seated.{TableId}
 use Rattle.atomic_table.specs.Table.{Step, Me, rest}
 use Rattle.command_core.specs.Commands.{CommandValue}
 use Rattle.command_core.specs.Entries.{EntryValue}
@@ -44,6 +45,14 @@ joined_to (Owns o) w = joined_with o w
 joined_to (Claims c) w = Claims c
 joined_to Spent w = Spent
 
+-- the seat is at that table, which has three words before those of its places
+abbrev pub IsAt : TableId → TableId → Type 0
+IsAt seat board = (seat ≡ board) × (board.words ≡ board.slots + 3)
+
+-- the place of a ticket, where there are n
+abbrev pub IsPlaceOf : ℕ → ℕ → ℕ → Type 0
+IsPlaceOf ticket place n = (place ≡ ticket % n) × (place < n)
+
 -- a ticket may be claimed: none is pending, few commands wait for the mark, and that isn't far
 abbrev pub MayClaim : ℕ → View → Type 0
 MayClaim window v = (c : Claimer) × (v ≡ Claims c) × (c.pending ≡ None) × (above c.seen c.own < window) × (c.seen < far)
@@ -66,6 +75,19 @@ Ended o tail =
     × (o.published ≤ next_of o)
     × (length o.joined ≡ o.count → (i : ℕ) → i < length log → sum_of (λ (c : Claimer). times (o.base + i) c.own) o.joined ≡ 1)
     × ((k : ℕ) (c : Claimer) → get_elem? o.joined k ≡ some c → IsRising o.base c.own × (c.seen ≤ o.published) × (c.stopped ≡ true → o.stopped ≡ true) × IsOwnOf o.base log c.own)
+
+-- the ticket is the last own one, for the entry's command, and pending; its place was taken last, and is empty
+abbrev pub MayFill : {B : Type 0} → ℕ → ℕ → EntryValue B → Sat B → Type 0
+MayFill {B} ticket place e me = (c : Claimer) × (own : List Pair) × (more : List (ℕ × Option (EntryValue B)))
+    × (me.0 ≡ Claims c) × (c.pending ≡ Some ticket) × (c.own ≡ own ++ (ticket, e.command) ∷ []) × (me.1 ≡ (place, None) ∷ more)
+
+-- the ticket was taken last, and its place is held and empty
+abbrev pub MayFree : {B : Type 0} → ℕ → ℕ → Sat B → Type 0
+MayFree {B} ticket place me = (o : Owner) × (more : List (ℕ × Option (EntryValue B))) × (me.0 ≡ Owns o) × (o.held ≡ true) × (ticket + 1 ≡ next_of o) × (me.1 ≡ (place, None) ∷ more)
+
+-- the mark may be raised to m
+abbrev pub MayRaise : ℕ → View → Type 0
+MayRaise m v = (o : Owner) × (v ≡ Owns o) × (o.held ≡ false) × (o.published ≤ m) × (m ≤ next_of o)
 
 -- Each of these says of a step, of the seat before it, of the number that it found (at a store, that it stored) and of the seat after it what becomes of the view.
 module _ {B : Type 0} where

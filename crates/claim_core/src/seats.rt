@@ -5,7 +5,7 @@ ghost use Rattle.command_core.specs.Commands.{CommandValue};
 ghost use Rattle.claim_core.specs.declared.views.View.TheVariants.{Owns, Claims};
 ghost use Rattle.claim_core.specs.Endings.{Ends};
 ghost use Rattle.claim_core.specs.Rule.{far};
-ghost use Rattle.claim_core.specs.Steps.{IsLast, owning};
+ghost use Rattle.claim_core.specs.Steps.{IsAt, IsLast, owning};
 ghost use Rattle.claim_core.specs.Seats.{waiting, with_seen, with_stop, with_own, next_ticket, with_taken, with_mark, when_stopped, with_seat, new_session, new_flushing, claimer_from};
 
 use crate::ending::RingEnd;
@@ -46,7 +46,7 @@ impl<B, const WINDOW: usize> SessionSeat<B, WINDOW> {
     }
 
     // The seat at the table, to be taken back.
-    fn into_place(self) -> Place<B>
+    pub(crate) fn into_place(self) -> Place<B>
         ensures ring { result.table_id ≡ self.ring }
         ensures knows { result.me ≡ (Claims (claimer_from self), []) }
     {
@@ -55,7 +55,7 @@ impl<B, const WINDOW: usize> SessionSeat<B, WINDOW> {
 
     // Whether the flusher has stopped the ring.
     pub(crate) fn finds_stop(&mut self, board: &Board<B>) -> bool
-        requires fits { (self.old.ring ≡ board.now.table_id) × (board.now.table_id.words ≡ board.now.table_id.slots + 3) }
+        requires fits { IsAt self.old.ring board.now.table_id }
         ensures { self.new ≡ with_stop self.old result }
     {
         load_stop(board, &mut self.place) == 1
@@ -63,7 +63,7 @@ impl<B, const WINDOW: usize> SessionSeat<B, WINDOW> {
 
     // Reads the mark, and lets the open tickets under it go.
     pub(crate) fn read_mark(&mut self, board: &Board<B>) -> u64
-        requires fits { (self.old.ring ≡ board.now.table_id) × (board.now.table_id.words ≡ board.now.table_id.slots + 3) }
+        requires fits { IsAt self.old.ring board.now.table_id }
         ensures seen { self.new ≡ with_seen self.old result }
         ensures no_less { self.old.seen ≤ result }
     {
@@ -81,7 +81,7 @@ impl<B, const WINDOW: usize> SessionSeat<B, WINDOW> {
 
     // Claims the next ticket for the entry, and makes it ready.
     pub(crate) fn put(&mut self, board: &Board<B>, places: u64, entry: Entry<B>) -> u64
-        requires fits { (self.old.ring ≡ board.now.table_id) × (board.now.table_id.words ≡ board.now.table_id.slots + 3) }
+        requires fits { IsAt self.old.ring board.now.table_id }
         requires places { (board.now.table_id.slots ≡ places) × (0 < places) × (places ≤ 4096) }
         requires room { (board.now.key.window ≡ WINDOW) × (waiting self.old < WINDOW) × (self.old.seen < far) }
         ensures added { self.new ≡ with_own self.old result entry.command }
@@ -138,7 +138,7 @@ impl<B> FlushSeat<B> {
         waits: Vec<u64>,
         number: u32,
     ) -> SessionSeat<B, WINDOW>
-        requires fits { (self.old.ring ≡ board.now.table_id) × (board.now.table_id.words ≡ board.now.table_id.slots + 3) }
+        requires fits { IsAt self.old.ring board.now.table_id }
         requires few { self.old.seats < board.now.key.seats }
         requires waits { (waits.items ≡ []) × (WINDOW ≤ vec_capacity waits) }
         ensures counted { self.new ≡ with_seat self.old }
@@ -170,7 +170,7 @@ impl<B> FlushSeat<B> {
 
     // Takes the next entry where it is ready.
     pub(crate) fn pick(&mut self, board: &Board<B>, places: u64) -> Option<Entry<B>>
-        requires fits { (self.old.ring ≡ board.now.table_id) × (board.now.table_id.words ≡ board.now.table_id.slots + 3) }
+        requires fits { IsAt self.old.ring board.now.table_id }
         requires places { (board.now.table_id.slots ≡ places) × (0 < places) × (places ≤ 4096) }
         ensures { MatchOption result (self.new ≡ self.old) (λ entry. self.new ≡ with_taken self.old entry.command) }
     {
@@ -186,7 +186,7 @@ impl<B> FlushSeat<B> {
     }
 
     pub(crate) fn raise_to(&mut self, board: &Board<B>, mark: u64)
-        requires fits { (self.old.ring ≡ board.now.table_id) × (board.now.table_id.words ≡ board.now.table_id.slots + 3) }
+        requires fits { IsAt self.old.ring board.now.table_id }
         requires mark { (self.old.published ≤ mark) × (mark ≤ next_ticket self.old) }
         ensures { self.new ≡ with_mark self.old mark }
     {
@@ -195,7 +195,7 @@ impl<B> FlushSeat<B> {
     }
 
     pub(crate) fn stop_ring(&mut self, board: &Board<B>)
-        requires fits { (self.old.ring ≡ board.now.table_id) × (board.now.table_id.words ≡ board.now.table_id.slots + 3) }
+        requires fits { IsAt self.old.ring board.now.table_id }
         ensures { self.new ≡ when_stopped self.old }
     {
         stop(board, &mut self.place);
@@ -207,7 +207,7 @@ impl<B> FlushSeat<B> {
         board: &Board<B>,
         seats: Vec<SessionSeat<B, WINDOW>>,
     ) -> RingEnd
-        requires fits { (self.ring ≡ board.now.table_id) × (board.now.table_id.words ≡ board.now.table_id.slots + 3) }
+        requires fits { IsAt self.ring board.now.table_id }
         requires seats { All (λ seat. seat.ring ≡ board.now.table_id) seats.items }
         requires all { length seats.items ≡ self.seats }
         ensures { (log : List CommandValue) × Ends seats.items self log result }
