@@ -12,6 +12,8 @@ mod ring;
 mod seats;
 mod sizes;
 mod steps;
+#[cfg(test)]
+mod tests;
 mod views;
 
 pub use ending::RingEnd;
