@@ -3,7 +3,7 @@ use Rattle.std.proofs.Common.{◌≡◌, ◌≢◌, ℕ, ◌+◌, ◌-◌, ◌/�
 use Rattle.std.specs.Fmt.{decimal}
 use Rattle.std.proofs.lemmas.Fmt.{decimal_digit, decimal_step}
 use Rattle.std.proofs.lemmas.Bool.{cases_lt}
-use Rattle.engine_core.specs.ScriptLines.{IsOfNoForm, IsNoLoss, IsNumber, IsNoNumber, IsDigit, AreDigits, AreNoDigits, HasDigit, HasNoDigit, HasDigits, HasNoDigits}
+use Rattle.engine_core.specs.ScriptLines.{IsOfNoForm, IsNoCrash, IsNoLoss, IsNumber, IsNoNumber, IsDigit, AreDigits, AreNoDigits, HasDigit, HasNoDigit, HasDigits, HasNoDigits}
 use Rattle.std.specs.Prelude.{codes, Option, Some, None, MatchOption, slice_index}
 use Rattle.std.proofs.Common.{take_all, length-drop, false, ◌==◌}
 use Rattle.std.specs.Str.{bytes_eq}
@@ -17,10 +17,12 @@ two_digits n s low high =
     let wide : n < 2 ^ 64 = omega arith in
     rw (decimal_step n low wide, decimal_digit (n / 10) tens)
 
-pub of_no_form : (line : List ℕ) → line ≢ [] → line ≢ codes "flush" → IsNoLoss line → HasNoDigit line → HasNoDigits line → IsOfNoForm line
-of_no_form line some other stays one two = record {
+pub of_no_form : (line : List ℕ) → line ≢ [] → line ≢ codes "flush" → line ≢ codes "open" → IsNoCrash line → IsNoLoss line → HasNoDigit line → HasNoDigits line → IsOfNoForm line
+of_no_form line some other shut whole stays one two = record {
   not_blank = some;
   not_flush = other;
+  not_open = shut;
+  not_crash = whole;
   not_lost = stays;
   not_received = λ n text small e. elim (cases_lt n 10) [ inl low ↦ one n text low (e ∙ one_digit n (32 ∷ text) low) | inr high ↦ two n text high small (e ∙ two_digits n (32 ∷ text) high (omega arith)) ];
 }
@@ -41,6 +43,9 @@ not_empty (x ∷ s) h e = cc
 
 pub not_flush : (line : List ℕ) → bytes_eq line (codes "flush") ≡ false → line ≢ codes "flush"
 not_flush line h e = let g : bytes_eq (codes "flush") (codes "flush") ≡ false = subst (λ l. bytes_eq l (codes "flush") ≡ false) e h in cc
+
+pub not_open : (line : List ℕ) → bytes_eq line (codes "open") ≡ false → line ≢ codes "open"
+not_open line h e = let g : bytes_eq (codes "open") (codes "open") ≡ false = subst (λ l. bytes_eq l (codes "open") ≡ false) e h in cc
 
 one_digit_alone : (n : ℕ) → n < 10 → decimal n ≡ (48 + n) ∷ []
 one_digit_alone n small = decimal_digit n small

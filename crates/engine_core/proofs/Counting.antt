@@ -2,10 +2,10 @@
 use Rattle.std.proofs.Common.{◌≡◌, List, [], ◌∷◌, ◌++◌, ℕ, ap, ◌∙◌, subst}
 use Rattle.std.specs.List.{fold}
 use Rattle.session_core.specs.declared.act.Act.{Act}
-use Rattle.engine_core.specs.declared.script.Connection.{Connection}
+use Rattle.engine_core.specs.declared.running_script.Connection.{Connection}
 use Rattle.session_core.specs.Sessions.{Hearing, Hears}
 use Rattle.engine_core.specs.Queues.{Progress, acted, IsTooFar, GoTooFar}
-use Rattle.engine_core.specs.Scripts.{ScriptValue, connection_at, ReceivesTooFar}
+use Rattle.engine_core.specs.Running.{ScriptValue, connection_at, ReceivesTooFar}
 
 pub go_too_far : (connection : ℕ) (start now : Progress) (acts before rest behind : List Act) (act : Act)
     → acts ≡ before ++ rest → rest ≡ act ∷ behind → now ≡ fold (acted connection) start before → IsTooFar connection now.queue act → GoTooFar connection start acts

@@ -1,8 +1,13 @@
 pub mod Connections
+pub mod Counts
 pub mod Encodings
 pub mod Carrying
+pub mod Batching
+pub mod Crashing
+pub mod Recording
+pub mod Performing
 pub mod Receiving
 pub mod Counting
-pub mod Running
+pub mod LineByLine
 pub mod Pieces
 pub mod Turning

@@ -2,12 +2,13 @@
 use Rattle.std.proofs.Common.{◌≡◌, ◌+◌, ◌-◌, ◌≤◌, List, [], ◌∷◌, ◌++◌, ℕ, Option, length, take, drop, refl, ap, sym, ◌∙◌, append_assoc, append-nil, arith, subst, length-append, length-drop, inl, inr, take_all}
 use Rattle.std.proofs.Math.Seq.{take-add, take-append_seam}
 use Rattle.std.proofs.lemmas.List.{take-append-drop}
-use Rattle.engine_core.specs.Scripts.{ScriptValue, Takes, IsLine, HasNoLf, HasNoLine, HasLineTooFar, HasLineThatPrints, text_of_lines}
+use Rattle.engine_core.specs.declared.script.Script.{Script}
+use Rattle.engine_core.specs.Scripts.{Takes, IsLine, HasNoLf, HasNoLine, HasLineTooFar, HasLineThatPrints, text_of_lines}
 use Rattle.engine_core.specs.Runs.{Goes, Halts, StopsIn, IsTooLong}
 use Rattle.engine_core.specs.declared.run.Run.{Run}
 use Rattle.engine_core.specs.declared.fault.ScriptFault.{ScriptFault}
-use Rattle.engine_core.specs.declared.fault.ScriptFault.TheVariants.{Memory, NotUnderstood, CountTooLarge, Input, Output}
-use Rattle.engine_core.proofs.Running.{takes_append, appends_append, takes_nothing, appends_nothing, stops_too_long}
+use Rattle.engine_core.specs.declared.fault.ScriptFault.TheVariants.{Memory, NotUnderstood, CountTooLarge, Opening, Storing, Input, Output}
+use Rattle.engine_core.proofs.LineByLine.{takes_append, appends_append, takes_nothing, appends_nothing, stops_too_long}
 
 pub goes_nothing : (run : Run) (contents : Option (List ℕ)) → IsLine run.begun.items → Goes run [] run contents contents
 goes_nothing run contents line = record {
@@ -43,6 +44,8 @@ pub stops_later : (fault : ScriptFault) (old mid : Run) (x y : List ℕ) (before
 stops_later (NotUnderstood k) old mid x y before middle after g (lines, rest, h, e, none) =
     (g.lines ++ lines, rest, halts_later old mid x y lines rest before middle after g h, omega (arith, e, g.count, length-append g.lines lines), none)
 stops_later (Memory refused) old mid x y before middle after g (lines, rest, h) = (g.lines ++ lines, rest, halts_later old mid x y lines rest before middle after g h)
+stops_later (Opening refused) old mid x y before middle after g (lines, rest, h) = (g.lines ++ lines, rest, halts_later old mid x y lines rest before middle after g h)
+stops_later (Storing refused) old mid x y before middle after g (lines, rest, h) = (g.lines ++ lines, rest, halts_later old mid x y lines rest before middle after g h)
 stops_later CountTooLarge old mid x y before middle after g (lines, rest, h, far) = (g.lines ++ lines, rest, halts_later old mid x y lines rest before middle after g h, far)
 stops_later Input old mid x y before middle after g (lines, rest, h) = (g.lines ++ lines, rest, halts_later old mid x y lines rest before middle after g h)
 stops_later Output old mid x y before middle after g h = record {
@@ -54,7 +57,7 @@ stops_later Output old mid x y before middle after g h = record {
   tried = h.tried;
 }
 
-takes_before : (s t : ScriptValue) (begun x z : List ℕ) (lines : List (List ℕ)) (printed rest : List ℕ) → Takes s begun x lines printed t rest → Takes s begun (x ++ z) lines printed t (rest ++ z)
+takes_before : (s t : Script) (begun x z : List ℕ) (lines : List (List ℕ)) (printed rest : List ℕ) → Takes s begun x lines printed t rest → Takes s begun (x ++ z) lines printed t (rest ++ z)
 takes_before s t begun x z lines printed rest takes = record {
   whole = sym (append_assoc begun x z) ∙ ap (λ l. l ++ z) takes.whole ∙ append_assoc (text_of_lines lines) rest z;
   each = takes.each;
@@ -69,19 +72,21 @@ halts_before old x z lines rest before after h = record {
   writes = h.writes;
 }
 
-no_line_before : (rest z : List ℕ) → HasNoLine rest → HasNoLine (rest ++ z)
-no_line_before rest z (inl (line, behind, whole, no_lf, long)) = inl (line, behind ++ z, ap (λ l. l ++ z) whole ∙ append_assoc line behind z, no_lf, long)
-no_line_before rest z (inr (line, behind, whole, no_lf, form)) = inr (line, behind ++ z, ap (λ l. l ++ z) whole ∙ append_assoc line (10 ∷ behind) z, no_lf, form)
+no_line_before : (s : Script) (rest z : List ℕ) → HasNoLine s rest → HasNoLine s (rest ++ z)
+no_line_before s rest z (inl (line, behind, whole, no_lf, long)) = inl (line, behind ++ z, ap (λ l. l ++ z) whole ∙ append_assoc line behind z, no_lf, long)
+no_line_before s rest z (inr (line, behind, whole, no_lf, form)) = inr (line, behind ++ z, ap (λ l. l ++ z) whole ∙ append_assoc line (10 ∷ behind) z, no_lf, form)
 
-too_far_before : (s : ScriptValue) (rest z : List ℕ) → HasLineTooFar s rest → HasLineTooFar s (rest ++ z)
+too_far_before : (s : Script) (rest z : List ℕ) → HasLineTooFar s rest → HasLineTooFar s (rest ++ z)
 too_far_before s rest z (line, behind, whole, is_line, far) = (line, behind ++ z, ap (λ l. l ++ z) whole ∙ append_assoc line (10 ∷ behind) z, is_line, far)
 
-prints_before : (s : ScriptValue) (rest z : List ℕ) → HasLineThatPrints s rest → HasLineThatPrints s (rest ++ z)
+prints_before : (s : Script) (rest z : List ℕ) → HasLineThatPrints s rest → HasLineThatPrints s (rest ++ z)
 prints_before s rest z (line, behind, text, t, whole, is_line, prints) = (line, behind ++ z, text, t, ap (λ l. l ++ z) whole ∙ append_assoc line (10 ∷ behind) z, is_line, prints)
 
 pub stops_before : (fault : ScriptFault) (old : Run) (x z : List ℕ) (before after : Option (List ℕ)) → StopsIn fault old x before after → StopsIn fault old (x ++ z) before after
-stops_before (NotUnderstood k) old x z before after (lines, rest, h, e, none) = (lines, rest ++ z, halts_before old x z lines rest before after h, e, no_line_before rest z none)
+stops_before (NotUnderstood k) old x z before after (lines, rest, h, e, none) = (lines, rest ++ z, halts_before old x z lines rest before after h, e, no_line_before h.end rest z none)
 stops_before (Memory refused) old x z before after (lines, rest, h) = (lines, rest ++ z, halts_before old x z lines rest before after h)
+stops_before (Opening refused) old x z before after (lines, rest, h) = (lines, rest ++ z, halts_before old x z lines rest before after h)
+stops_before (Storing refused) old x z before after (lines, rest, h) = (lines, rest ++ z, halts_before old x z lines rest before after h)
 stops_before CountTooLarge old x z before after (lines, rest, h, far) = (lines, rest ++ z, halts_before old x z lines rest before after h, too_far_before h.end rest z far)
 stops_before Input old x z before after (lines, rest, h) = (lines, rest ++ z, halts_before old x z lines rest before after h)
 stops_before Output old x z before after h = record {

@@ -4,11 +4,11 @@ use Rattle.std.specs.BTreeMap.{insert_entry, is_at}
 use Rattle.std.specs.List.{fold}
 use Rattle.std.specs.Map.{remove_entry}
 use Rattle.std.specs.Ordering.{nat_cmp}
-use Rattle.engine_core.specs.declared.script.Connection.{Connection}
+use Rattle.engine_core.specs.declared.running_script.Connection.{Connection}
 use Rattle.session_core.specs.declared.act.Act.{Act}
 use Rattle.session_core.specs.Sessions.{Hearing, Hears}
 use Rattle.engine_core.specs.Queues.{QueueValue, Progress, acted}
-use Rattle.engine_core.specs.Scripts.{connection_at, Receives}
+use Rattle.engine_core.specs.Running.{connection_at, Receives}
 
 pub received : (connections : List (ℕ × Connection)) (queue after : QueueValue) (n : ℕ) (bytes start text : List ℕ) (taken : Connection) (others all : List (ℕ × Connection)) (acts : List Act) (session : Hearing) (number : ℕ)
     → taken ≡ connection_at n (record { connections = connections; queue = queue })

@@ -2,12 +2,18 @@
 use Rattle.std.proofs.Common.{◌≡◌, ◌≢◌, ◌+◌, List, [], ◌++◌, ℕ, Option, Some, None, Bool, true, false, refl, ap, sym, ◌∙◌, append_assoc, append-nil, arith, subst, inl, inr}
 use Rattle.std.specs.Io.KnownBytes.{Appends, Consumes, IsAtEnd, Keeps}
 use Rattle.std.specs.declared.alloc.AllocError.{AllocError}
-use Rattle.engine_core.specs.Scripts.{ScriptValue, beginning, Takes, IsLine, IsScript, Tries, text_of_lines}
-use Rattle.engine_core.specs.Runs.{Goes, Halts, StopsIn, Turned, Stopped, EndsWithin, Begins, Stops}
+use Rattle.recover_core.specs.declared.faults.OpenFault.{OpenFault}
+use Rattle.recover_core.specs.Told.{IsOpenTold}
+use Rattle.broker_core.specs.States.{State}
+use Rattle.engine_core.specs.Running.{beginning}
+use Rattle.engine_core.specs.Scripts.{Takes, IsLine, IsScript, Tries, text_of_lines}
+use Rattle.engine_core.specs.Runs.{Goes, Halts, StopsIn, Turned, Stopped, EndsWithin, Begins, Stops, StopsAtOnce, StopsOver, IsToldAtOnce}
+use Rattle.engine_core.specs.declared.script.Script.{Script}
+use Rattle.engine_core.specs.declared.script.Script.TheVariants.{Running}
 use Rattle.engine_core.specs.declared.run.Run.{Run}
 use Rattle.engine_core.specs.declared.fault.ScriptFault.{ScriptFault}
-use Rattle.engine_core.specs.declared.fault.ScriptFault.TheVariants.{Memory, NotUnderstood, CountTooLarge, Input, Output}
-use Rattle.engine_core.proofs.Running.{takes_nothing, appends_nothing}
+use Rattle.engine_core.specs.declared.fault.ScriptFault.TheVariants.{Memory, NotUnderstood, CountTooLarge, Opening, Storing, Input, Output}
+use Rattle.engine_core.proofs.LineByLine.{takes_nothing, appends_nothing}
 use Rattle.engine_core.proofs.Pieces.{goes_nothing, goes_append, stops_later}
 
 pub consumes_nothing : (unread : Option (List ℕ)) → Consumes unread unread []
@@ -42,6 +48,8 @@ turned_later end old mid new unread middle left before between after first secon
 ends_later : (fault : ScriptFault) (old mid : Run) (x y : List ℕ) (left before between after : Option (List ℕ)) → Goes old x mid before between → EndsWithin fault mid y left between after → EndsWithin fault old (x ++ y) left before after
 ends_later (NotUnderstood k) old mid x y left before between after first (new, second, at_end, some, e) = (new, goes_append old mid new x y before between after first second, at_end, some, e)
 ends_later (Memory refused) old mid x y left before between after first h = absurd h
+ends_later (Opening refused) old mid x y left before between after first h = absurd h
+ends_later (Storing refused) old mid x y left before between after first h = absurd h
 ends_later CountTooLarge old mid x y left before between after first h = absurd h
 ends_later Input old mid x y left before between after first h = absurd h
 ends_later Output old mid x y left before between after first h = absurd h
@@ -64,55 +72,64 @@ stopped_at_end fault run bytes unread left contents line reads none at_end is so
     subst (λ f. Stopped f run unread left contents contents) (sym is) (record { bytes = bytes; reads = reads; stops = inr (ends_here run (run.lines + 1) bytes left contents line none at_end some refl) })
 
 -- a run that begins
-from_start : (start : Run) (bytes : List ℕ) (lines : List (List ℕ)) (printed rest : List ℕ) (end : ScriptValue) → start.script ≡ beginning → start.begun.items ≡ [] → Takes start.script start.begun.items bytes lines printed end rest → Takes beginning [] bytes lines printed end rest
-from_start start bytes lines printed rest end script none t = subst (λ b. Takes beginning b bytes lines printed end rest) none (subst (λ s. Takes s start.begun.items bytes lines printed end rest) script t)
+from_start : (state : State) (start : Run) (bytes : List ℕ) (lines : List (List ℕ)) (printed rest : List ℕ) (end : Script) → start.script ≡ Running (beginning state) → start.begun.items ≡ [] → Takes start.script start.begun.items bytes lines printed end rest → Takes (Running (beginning state)) [] bytes lines printed end rest
+from_start state start bytes lines printed rest end script none t = subst (λ b. Takes (Running (beginning state)) b bytes lines printed end rest) none (subst (λ s. Takes s start.begun.items bytes lines printed end rest) script t)
 
-abbrev begins : (start : Run) (bytes : List ℕ) (lines : List (List ℕ)) (rest : List ℕ) (unread left before after : Option (List ℕ)) → start.script ≡ beginning → start.begun.items ≡ [] → Consumes unread left bytes → Halts start bytes lines rest before after → Begins lines rest unread left before after
-begins start bytes lines rest unread left before after script none reads h =
-    record { input = bytes; printed = h.printed; end = h.end; reads = reads; takes = from_start start bytes lines h.printed rest h.end script none h.takes; writes = h.writes }
+abbrev begins : (state : State) (start : Run) (bytes : List ℕ) (lines : List (List ℕ)) (rest : List ℕ) (unread left before after : Option (List ℕ)) → start.script ≡ Running (beginning state) → start.begun.items ≡ [] → Consumes unread left bytes → Halts start bytes lines rest before after → Begins state lines rest unread left before after
+begins state start bytes lines rest unread left before after script none reads h =
+    record { input = bytes; printed = h.printed; end = h.end; reads = reads; takes = from_start state start bytes lines h.printed rest h.end script none h.takes; writes = h.writes }
 
 halts : (start new : Run) (bytes : List ℕ) (before after : Option (List ℕ)) (g : Goes start bytes new before after) → Halts start bytes g.lines new.begun.items before after
 halts start new bytes before after g = record { printed = g.printed; end = new.script; takes = g.takes; writes = g.writes }
 
-stops_in : (fault : ScriptFault) (start : Run) (bytes : List ℕ) (unread left before after : Option (List ℕ)) → start.script ≡ beginning → start.begun.items ≡ [] → start.lines ≡ 0 → Consumes unread left bytes → StopsIn fault start bytes before after → Stops fault unread left before after
-stops_in (NotUnderstood k) start bytes unread left before after script none first reads (lines, rest, h, e, no_line) =
-    (lines, rest, begins start bytes lines rest unread left before after script none reads h, omega (arith, e, first), inl no_line)
-stops_in (Memory refused) start bytes unread left before after script none first reads (lines, rest, h) = (lines, rest, begins start bytes lines rest unread left before after script none reads h)
-stops_in CountTooLarge start bytes unread left before after script none first reads (lines, rest, h, far) = (lines, rest, begins start bytes lines rest unread left before after script none reads h, far)
-stops_in Input start bytes unread left before after script none first reads (lines, rest, h) = (lines, rest, begins start bytes lines rest unread left before after script none reads h)
-stops_in Output start bytes unread left before after script none first reads h = (bytes, reads, subst (λ b. Tries beginning b bytes) none (subst (λ s. Tries s start.begun.items bytes) script h))
+stops_in : (state : State) (fault : ScriptFault) (start : Run) (bytes : List ℕ) (unread left before after : Option (List ℕ)) → start.script ≡ Running (beginning state) → start.begun.items ≡ [] → start.lines ≡ 0 → Consumes unread left bytes → StopsIn fault start bytes before after → Stops state fault unread left before after
+stops_in state (NotUnderstood k) start bytes unread left before after script none first reads (lines, rest, h, e, no_line) =
+    (lines, rest, begins state start bytes lines rest unread left before after script none reads h, omega (arith, e, first), inl no_line)
+stops_in state (Memory refused) start bytes unread left before after script none first reads (lines, rest, h) = (lines, rest, begins state start bytes lines rest unread left before after script none reads h)
+stops_in state (Opening refused) start bytes unread left before after script none first reads (lines, rest, h) = (lines, rest, begins state start bytes lines rest unread left before after script none reads h)
+stops_in state (Storing refused) start bytes unread left before after script none first reads (lines, rest, h) = (lines, rest, begins state start bytes lines rest unread left before after script none reads h)
+stops_in state CountTooLarge start bytes unread left before after script none first reads (lines, rest, h, far) = (lines, rest, begins state start bytes lines rest unread left before after script none reads h, far)
+stops_in state Input start bytes unread left before after script none first reads (lines, rest, h) = (lines, rest, begins state start bytes lines rest unread left before after script none reads h)
+stops_in state Output start bytes unread left before after script none first reads h = (bytes, reads, subst (λ b. Tries (Running (beginning state)) b bytes) none (subst (λ s. Tries s start.begun.items bytes) script h))
 
-ends_in : (fault : ScriptFault) (start : Run) (bytes : List ℕ) (unread left before after : Option (List ℕ)) → start.script ≡ beginning → start.begun.items ≡ [] → start.lines ≡ 0 → Consumes unread left bytes → EndsWithin fault start bytes left before after → Stops fault unread left before after
-ends_in (NotUnderstood k) start bytes unread left before after script none first reads (new, g, at_end, some, e) =
-    (g.lines, new.begun.items, begins start bytes g.lines new.begun.items unread left before after script none reads (halts start new bytes before after g), omega (arith, e, g.count, first), inr (at_end, some, g.begun.no_lf))
-ends_in (Memory refused) start bytes unread left before after script none first reads h = absurd h
-ends_in CountTooLarge start bytes unread left before after script none first reads h = absurd h
-ends_in Input start bytes unread left before after script none first reads h = absurd h
-ends_in Output start bytes unread left before after script none first reads h = absurd h
+ends_in : (state : State) (fault : ScriptFault) (start : Run) (bytes : List ℕ) (unread left before after : Option (List ℕ)) → start.script ≡ Running (beginning state) → start.begun.items ≡ [] → start.lines ≡ 0 → Consumes unread left bytes → EndsWithin fault start bytes left before after → Stops state fault unread left before after
+ends_in state (NotUnderstood k) start bytes unread left before after script none first reads (new, g, at_end, some, e) =
+    (g.lines, new.begun.items, begins state start bytes g.lines new.begun.items unread left before after script none reads (halts start new bytes before after g), omega (arith, e, g.count, first), inr (at_end, some, g.begun.no_lf))
+ends_in state (Memory refused) start bytes unread left before after script none first reads h = absurd h
+ends_in state (Opening refused) start bytes unread left before after script none first reads h = absurd h
+ends_in state (Storing refused) start bytes unread left before after script none first reads h = absurd h
+ends_in state CountTooLarge start bytes unread left before after script none first reads h = absurd h
+ends_in state Input start bytes unread left before after script none first reads h = absurd h
+ends_in state Output start bytes unread left before after script none first reads h = absurd h
 
-pub stops_script : (fault : ScriptFault) (start : Run) (unread left before after : Option (List ℕ)) → start.script ≡ beginning → start.begun.items ≡ [] → start.lines ≡ 0 → Stopped fault start unread left before after → Stops fault unread left before after
-stops_script fault start unread left before after script none first s = elim s.stops [
-  | inl h ↦ stops_in fault start s.bytes unread left before after script none first s.reads h
-  | inr h ↦ ends_in fault start s.bytes unread left before after script none first s.reads h
+pub stops_script : (state : State) (fault : ScriptFault) (start : Run) (unread left before after : Option (List ℕ)) → start.script ≡ Running (beginning state) → start.begun.items ≡ [] → start.lines ≡ 0 → Stopped fault start unread left before after → Stops state fault unread left before after
+stops_script state fault start unread left before after script none first s = elim s.stops [
+  | inl h ↦ stops_in state fault start s.bytes unread left before after script none first s.reads h
+  | inr h ↦ ends_in state fault start s.bytes unread left before after script none first s.reads h
 ]
 
-pub stops_at_once : (refused : ScriptFault) (unread contents : Option (List ℕ)) (e : AllocError) → refused ≡ Memory e → Stops refused unread unread contents contents
-stops_at_once refused unread contents e is =
-    subst (λ f. Stops f unread unread contents contents) (sym is)
-    ([], [], record { input = []; printed = []; end = beginning; reads = consumes_nothing unread; takes = takes_nothing beginning [] []; writes = appends_nothing contents })
+-- a fault before anything was read
+at_once : (content : List ℕ) (fault : ScriptFault) (unread contents : Option (List ℕ)) → IsToldAtOnce fault content → StopsOver content fault unread unread contents contents
+at_once content fault unread contents told = inl (record { told = told; same_unread = refl; same_written = refl })
+
+pub refused_at_once : (content : List ℕ) (fault : ScriptFault) (unread contents : Option (List ℕ)) (e : AllocError) → fault ≡ Memory e → StopsOver content fault unread unread contents contents
+refused_at_once content fault unread contents e is = at_once content fault unread contents (subst (λ f. IsToldAtOnce f content) (sym is) tt)
+
+pub not_opened : (content : List ℕ) (fault : ScriptFault) (unread contents : Option (List ℕ)) (told : OpenFault) → fault ≡ Opening told → IsOpenTold told content → StopsOver content fault unread unread contents contents
+not_opened content fault unread contents told is so = at_once content fault unread contents (subst (λ f. IsToldAtOnce f content) (sym is) so)
 
 -- a script that was read to its end
-pub record Whole (unread left before after : Option (List ℕ)) : Type 0 where
+pub record Whole (state : State) (unread left before after : Option (List ℕ)) : Type 0 where
   pub input : List ℕ
   pub printed : List ℕ
   pub reads : Consumes unread left input
   pub at_end : IsAtEnd left
-  pub script : IsScript input printed
+  pub script : IsScript state input printed
   pub writes : Appends before after printed
 
-pub whole : (start new : Run) (unread left before after : Option (List ℕ)) → start.script ≡ beginning → start.begun.items ≡ [] → Turned true start new unread left before after → Whole unread left before after
-whole start new unread left before after script none t =
-    let takes = from_start start t.bytes t.goes.lines t.goes.printed new.begun.items new.script script none t.goes.takes in
+pub whole : (state : State) (start new : Run) (unread left before after : Option (List ℕ)) → start.script ≡ Running (beginning state) → start.begun.items ≡ [] → Turned true start new unread left before after → Whole state unread left before after
+whole state start new unread left before after script none t =
+    let takes = from_start state start t.bytes t.goes.lines t.goes.printed new.begun.items new.script script none t.goes.takes in
     let at_end = t.at_end refl in
     record {
       input = t.bytes;

@@ -1,5 +1,5 @@
 use Rattle.session_core.specs.Sessions.{fresh}
-use Rattle.engine_core.specs.declared.script.Connection.{Connection}
+use Rattle.engine_core.specs.declared.running_script.Connection.{Connection}
 
 -- a connection that has received nothing
 abbrev pub new_connection : Connection

@@ -1,6 +1,9 @@
 pub mod ScriptLines
 pub mod PercentTexts
 pub mod Queues
+pub mod Batches
+pub mod Journals
+pub mod Running
 pub mod Scripts
 pub mod Connections
 pub mod Runs

@@ -18,11 +18,13 @@ use Rattle.session_core.specs.declared.act.Act.{Act}
 use Rattle.session_core.specs.declared.act.Act.TheVariants.{Do, Direct, Close}
 
 -- Between the connections and the broker: the commands that wait for the next flush, in their order, each with the
--- connection that it came from; which connection opened which session; and the broker as it was last flushed.
+-- connection that it came from; which connection opened which session; the broker as it was last flushed; and whether what
+-- was flushed is durable.
 pub record QueueValue : Type 0 where
   pub waiting : List Waiting
   pub openers : List (ℕ × ℕ)
   pub state : State
+  pub durable : Bool
 
 -- a line that is printed for a connection: its number, a blank and the frame
 abbrev pub line_for : ℕ → Frame → List ℕ

@@ -1,9 +1,22 @@
 use Rattle.std.specs.Prelude.{◌≡◌, ◌≢◌, ◌+◌, ◌<◌, ◌≤◌, ◌⊎◌, List, [], ◌++◌, ℕ, Bool, true, Option, length}
 use Rattle.std.specs.Io.KnownBytes.{Appends, Consumes, IsAtEnd}
-use Rattle.engine_core.specs.Scripts.{ScriptValue, beginning, Takes, IsLine, HasNoLf, HasNoLine, HasLineTooFar, Tries}
+use Rattle.broker_core.specs.States.{State}
+use Rattle.recover_core.specs.Told.{IsOpenTold}
+use Rattle.engine_core.specs.Running.{beginning}
+use Rattle.engine_core.specs.Scripts.{BeginsWith, Takes, IsLine, HasNoLf, HasNoLine, HasLineTooFar, Tries}
 use Rattle.engine_core.specs.declared.fault.ScriptFault.{ScriptFault}
-use Rattle.engine_core.specs.declared.fault.ScriptFault.TheVariants.{Memory, NotUnderstood, CountTooLarge, Output}
+use Rattle.engine_core.specs.declared.fault.ScriptFault.TheVariants.{Memory, NotUnderstood, CountTooLarge, Opening, Output}
+use Rattle.engine_core.specs.declared.script.Script.{Script}
+use Rattle.engine_core.specs.declared.script.Script.TheVariants.{Running}
 use Rattle.engine_core.specs.declared.run.Run.{Run}
+
+-- a run before the first read, over a disk of this content
+pub record IsBegun (content : List ℕ) (run : Run) : Type 0 where
+  pub start : State
+  pub begins : BeginsWith content start
+  pub script : run.script ≡ Running (beginning start)
+  pub begun : run.begun.items ≡ []
+  pub lines : run.lines ≡ 0
 
 -- bytes lead a run on: the lines that end in them print, and what follows begins a line
 pub record Goes (old : Run) (bytes : List ℕ) (new : Run) (before after : Option (List ℕ)) : Type 0 where
@@ -18,7 +31,7 @@ pub record Goes (old : Run) (bytes : List ℕ) (new : Run) (before after : Optio
 -- bytes lead a run on as far as these lines, and what they print is written
 pub record Halts (old : Run) (bytes : List ℕ) (lines : List (List ℕ)) (rest : List ℕ) (before after : Option (List ℕ)) : Type 0 where
   pub printed : List ℕ
-  pub end : ScriptValue
+  pub end : Script
   pub takes : Takes old.script old.begun.items bytes lines printed end rest
   pub writes : Appends before after printed
 
@@ -27,7 +40,7 @@ pub record Halts (old : Run) (bytes : List ℕ) (lines : List (List ℕ)) (rest 
 abbrev pub StopsIn : ScriptFault → Run → List ℕ → Option (List ℕ) → Option (List ℕ) → Type 0
 StopsIn Output old bytes before after = Tries old.script old.begun.items bytes
 StopsIn (NotUnderstood k) old bytes before after =
-    (lines : List (List ℕ)) × (rest : List ℕ) × Halts old bytes lines rest before after × (k ≡ old.lines + length lines + 1) × HasNoLine rest
+    (lines : List (List ℕ)) × (rest : List ℕ) × (h : Halts old bytes lines rest before after) × (k ≡ old.lines + length lines + 1) × HasNoLine h.end rest
 StopsIn CountTooLarge old bytes before after =
     (lines : List (List ℕ)) × (rest : List ℕ) × (h : Halts old bytes lines rest before after) × HasLineTooFar h.end rest
 StopsIn _ old bytes before after = (lines : List (List ℕ)) × (rest : List ℕ) × Halts old bytes lines rest before after
@@ -57,23 +70,42 @@ pub record Stopped (fault : ScriptFault) (old : Run) (unread left before after :
   pub reads : Consumes unread left bytes
   pub stops : StopsIn fault old bytes before after ⊎ EndsWithin fault old bytes left before after
 
--- what was read begins a script: these lines, and what they print is written
-pub record Begins (lines : List (List ℕ)) (rest : List ℕ) (unread left before after : Option (List ℕ)) : Type 0 where
+-- what was read begins a script from this state on: these lines, and what they print is written
+pub record Begins (start : State) (lines : List (List ℕ)) (rest : List ℕ) (unread left before after : Option (List ℕ)) : Type 0 where
   pub input : List ℕ
   pub printed : List ℕ
-  pub end : ScriptValue
+  pub end : Script
   pub reads : Consumes unread left input
-  pub takes : Takes beginning [] input lines printed end rest
+  pub takes : Takes (Running (beginning start)) [] input lines printed end rest
   pub writes : Appends before after printed
 
--- A fault stops a script. Unless it is the writer's, what is written is what the lines before print, and a line is told
--- only where it is none: it has too many bytes, is of no form, or ends the script with no LF. The commands are too many
--- only where the next line is one that runs too far, and the writer fails only where the next line prints.
-abbrev pub Stops : ScriptFault → Option (List ℕ) → Option (List ℕ) → Option (List ℕ) → Option (List ℕ) → Type 0
-Stops Output unread left before after = (input : List ℕ) × Consumes unread left input × Tries beginning [] input
-Stops (NotUnderstood k) unread left before after =
-    (lines : List (List ℕ)) × (rest : List ℕ) × Begins lines rest unread left before after × (k ≡ length lines + 1)
-    × (HasNoLine rest ⊎ (IsAtEnd left × (rest ≢ []) × HasNoLf rest))
-Stops CountTooLarge unread left before after =
-    (lines : List (List ℕ)) × (rest : List ℕ) × (b : Begins lines rest unread left before after) × HasLineTooFar b.end rest
-Stops _ unread left before after = (lines : List (List ℕ)) × (rest : List ℕ) × Begins lines rest unread left before after
+-- A fault stops a script that began with this state. Unless it is the writer's, what is written is what the lines before
+-- print, and a line is told only where it is none: it has too many bytes, says nothing that is understood, or ends the
+-- script with no LF. The commands are too many only where the next line is one that runs too far, and the writer fails only
+-- where the next line prints.
+abbrev pub Stops : State → ScriptFault → Option (List ℕ) → Option (List ℕ) → Option (List ℕ) → Option (List ℕ) → Type 0
+Stops start Output unread left before after = (input : List ℕ) × Consumes unread left input × Tries (Running (beginning start)) [] input
+Stops start (NotUnderstood k) unread left before after =
+    (lines : List (List ℕ)) × (rest : List ℕ) × (b : Begins start lines rest unread left before after) × (k ≡ length lines + 1)
+    × (HasNoLine b.end rest ⊎ (IsAtEnd left × (rest ≢ []) × HasNoLf rest))
+Stops start CountTooLarge unread left before after =
+    (lines : List (List ℕ)) × (rest : List ℕ) × (b : Begins start lines rest unread left before after) × HasLineTooFar b.end rest
+Stops start _ unread left before after = (lines : List (List ℕ)) × (rest : List ℕ) × Begins start lines rest unread left before after
+
+-- memory was refused, or the disk was not opened, and what is told of it is so
+abbrev pub IsToldAtOnce : ScriptFault → List ℕ → Type 0
+IsToldAtOnce (Memory refused) content = Unit {0}
+IsToldAtOnce (Opening fault) content = IsOpenTold fault content
+IsToldAtOnce _ content = ⊥
+
+-- a fault comes before anything is read or written
+pub record StopsAtOnce (content : List ℕ) (fault : ScriptFault) (unread left before after : Option (List ℕ)) : Type 0 where
+  pub told : IsToldAtOnce fault content
+  pub same_unread : left ≡ unread
+  pub same_written : after ≡ before
+
+-- a fault stops a script over a disk of this content: at once, or once it began with the state that the disk stands for
+abbrev pub StopsOver : List ℕ → ScriptFault → Option (List ℕ) → Option (List ℕ) → Option (List ℕ) → Option (List ℕ) → Type 0
+StopsOver content fault unread left before after =
+    StopsAtOnce content fault unread left before after
+    ⊎ ((start : State) × BeginsWith content start × Stops start fault unread left before after)

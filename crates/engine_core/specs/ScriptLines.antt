@@ -1,7 +1,8 @@
-use Rattle.std.specs.Prelude.{◌≡◌, ◌≢◌, ◌+◌, ◌/◌, ◌%◌, ◌<◌, ◌≤◌, List, [], ◌∷◌, ◌++◌, ℕ, codes, drop, length}
+use Rattle.std.specs.Prelude.{◌≡◌, ◌≢◌, ◌+◌, ◌*◌, ◌/◌, ◌%◌, ◌^◌, ◌<◌, ◌≤◌, List, [], ◌∷◌, ◌++◌, ℕ, Option, Some, None, true, codes, drop, length}
+use Rattle.std.specs.Char.{digit_value, is_digit}
 use Rattle.std.specs.Fmt.{decimal}
 use Rattle.engine_core.specs.declared.script_line.ScriptLine.{ScriptLine}
-use Rattle.engine_core.specs.declared.script_line.ScriptLine.TheVariants.{Blank, Flush, Lose, Receive}
+use Rattle.engine_core.specs.declared.script_line.ScriptLine.TheVariants.{Blank, Flush, Open, Crash, Lose, Receive}
 
 -- the number of a connection in decimal
 abbrev pub IsNumber : List ℕ → ℕ → Type 0
@@ -17,10 +18,38 @@ IsLoss line n = (n < 32) × (line ≡ codes "lost " ++ decimal n)
 abbrev pub IsNoLoss : List ℕ → Type 0
 IsNoLoss line = (n : ℕ) → n < 32 → line ≢ codes "lost " ++ decimal n
 
--- the line says that: nothing, `flush`, `lost` with a connection's number, or such a number, a blank and a text
+-- how many calls, in decimal
+abbrev pub IsCount : List ℕ → ℕ → Type 0
+IsCount text k = (k < 2 ^ 64) × (text ≡ decimal k)
+
+abbrev pub IsNoCount : List ℕ → Type 0
+IsNoCount text = (k : ℕ) → k < 2 ^ 64 → text ≢ decimal k
+
+-- two hexadecimal digits of either case, and the byte that they are
+abbrev pub AreHexDigits : ℕ → ℕ → ℕ → Type 0
+AreHexDigits high low b = (is_digit high 16 ≡ true) × (is_digit low 16 ≡ true) × (b ≡ 16 * digit_value high + digit_value low)
+
+-- how many calls, a blank, and the two digits of a byte
+abbrev pub IsCountAndFill : List ℕ → ℕ → ℕ → Type 0
+IsCountAndFill text k b = (k < 2 ^ 64) × (high : ℕ) × (low : ℕ) × AreHexDigits high low b × (text ≡ decimal k ++ 32 ∷ high ∷ low ∷ [])
+
+abbrev pub IsNoCountAndFill : List ℕ → Type 0
+IsNoCountAndFill text = (k b : ℕ) → IsCountAndFill text k b → ⊥
+
+-- the line is `crash`, a blank and how many calls pass, and where a byte fills, a blank and its digits
+abbrev pub IsCrash : List ℕ → ℕ → Option ℕ → Type 0
+IsCrash line k None = (text : List ℕ) × (line ≡ codes "crash " ++ text) × IsCount text k
+IsCrash line k (Some b) = (text : List ℕ) × (line ≡ codes "crash " ++ text) × IsCountAndFill text k b
+
+abbrev pub IsNoCrash : List ℕ → Type 0
+IsNoCrash line = (k : ℕ) (fill : Option ℕ) → IsCrash line k fill → ⊥
+
+-- the line says that: nothing, `flush`, `open`, a crash, `lost` with a connection's number, or such a number, a blank and a text
 abbrev pub Says : List ℕ → ScriptLine → Type 0
 Says line Blank = line ≡ []
 Says line Flush = line ≡ codes "flush"
+Says line Open = line ≡ codes "open"
+Says line (Crash k fill) = IsCrash line k fill
 Says line (Lose n) = IsLoss line n
 Says line (Receive n text) = (n < 32) × (line ≡ decimal n ++ 32 ∷ text.now)
 
@@ -28,6 +57,8 @@ Says line (Receive n text) = (n < 32) × (line ≡ decimal n ++ 32 ∷ text.now)
 pub record IsOfNoForm (line : List ℕ) : Type 0 where
   pub not_blank : line ≢ []
   pub not_flush : line ≢ codes "flush"
+  pub not_open : line ≢ codes "open"
+  pub not_crash : IsNoCrash line
   pub not_lost : IsNoLoss line
   pub not_received : (n : ℕ) (text : List ℕ) → n < 32 → line ≢ decimal n ++ 32 ∷ text
 

@@ -1,84 +1,112 @@
-use Rattle.std.specs.Prelude.{◌≡◌, ◌≢◌, ◌⊎◌, ◌<◌, ◌≤◌, List, [], ◌∷◌, ◌++◌, ℕ, Some, codes, length, unwrap_or, flat_map}
-use Rattle.std.specs.BTreeMap.{insert_entry, is_at}
+-- What the lines of a script print.
+use Rattle.std.specs.Prelude.{◌≡◌, ◌≢◌, ◌⊎◌, ◌<◌, ◌≤◌, List, [], ◌∷◌, ◌++◌, ℕ, Option, codes, length, take, flat_map}
 use Rattle.std.specs.Fmt.{decimal}
-use Rattle.std.specs.List.{fold, AllByRecursion}
-use Rattle.std.specs.Map.{lookup, remove_entry}
-use Rattle.std.specs.Ordering.{nat_cmp}
-use Rattle.broker_core.specs.States.{empty_state}
+use Rattle.std.specs.List.{AllByRecursion}
+use Rattle.disk_core.specs.Memory.{Memory}
+use Rattle.broker_core.specs.Operations.{restarted}
+use Rattle.broker_core.specs.States.{State, held_messages}
+use Rattle.broker_core.specs.Steps.{state_after}
+use Rattle.recover_core.specs.Standing.{Stands}
 use Rattle.engine_core.specs.PercentTexts.{decoded}
-use Rattle.engine_core.specs.ScriptLines.{IsOfNoForm, IsLoss}
-use Rattle.session_core.specs.Sessions.{Hearing, Hears, loss_of}
-use Rattle.engine_core.specs.Connections.{new_connection}
-use Rattle.engine_core.specs.Queues.{QueueValue, Progress, acted, acted_on, flush_text, flushed, IsTooFar, GoTooFar}
-use Rattle.session_core.specs.declared.act.Act.{Act}
-use Rattle.engine_core.specs.declared.script.Connection.{Connection}
+use Rattle.engine_core.specs.ScriptLines.{IsOfNoForm, IsLoss, IsCrash}
+use Rattle.engine_core.specs.Queues.{QueueValue, commands_of, flush_text, flushed}
+use Rattle.engine_core.specs.Running.{ScriptValue, beginning, Loses, LosesTooFar, Receives, ReceivesTooFar}
+use Rattle.engine_core.specs.declared.script.Script.{Script}
+use Rattle.engine_core.specs.declared.script.Script.TheVariants.{Running, Stopped, Over}
 
--- a script as far as it has run: its connections by rising number, and the queue
-pub record ScriptValue : Type 0 where
-  pub connections : List (ℕ × Connection)
-  pub queue : QueueValue
+-- the state that a script begins with on a disk: the restart of the one that the disk stands for
+abbrev pub BeginsWith : List ℕ → State → Type 0
+BeginsWith content start = (s : State) → Stands content s → start ≡ restarted s
 
--- before the first line
-abbrev pub beginning : ScriptValue
-beginning = record { connections = []; queue = record { waiting = []; openers = []; state = empty_state } }
+-- the image stands for the state after the first n of the waiting commands
+pub record StandsWithin (queue : QueueValue) (image : List ℕ) : Type 0 where
+  pub n : ℕ
+  pub stands : Stands image (state_after queue.state (take n (commands_of queue.waiting)))
 
--- a connection, new where there is none
-abbrev pub connection_at : ℕ → ScriptValue → Connection
-connection_at n s = unwrap_or (lookup (is_at (nat_cmp n)) s.connections) new_connection
+-- the disk does not run
+abbrev pub IsStopped : Script → Type 0
+IsStopped (Running s) = ⊥
+IsStopped _ = Unit {0}
 
--- the script with a connection as it is now
-abbrev pub with_connection : ℕ → Connection → List (ℕ × Connection) → List (ℕ × Connection)
-with_connection n connection connections = insert_entry nat_cmp (remove_entry (is_at (nat_cmp n)) connections) n connection
+-- the disk runs, and this is so
+abbrev pub OnRunning : Script → (ScriptValue → Type 0) → Type 0
+OnRunning (Running s) P = P s
+OnRunning _ P = ⊥
 
--- A connection receives bytes: its session hears them, and what they ask for is done, act by act.
-pub record Receives (s : ScriptValue) (n : ℕ) (bytes printed : List ℕ) (t : ScriptValue) : Type 0 where
-  pub acts : List Act
-  pub session : Hearing
-  pub hears : Hears (connection_at n s).session bytes acts session
-  pub progress : Progress
-  pub done : progress ≡ fold (acted n) (record { number = (connection_at n s).number; queue = s.queue; text = [] }) acts
-  pub same_text : printed ≡ progress.text
-  pub after : t ≡ record { connections = with_connection n (record { session = session; number = progress.number }) s.connections; queue = progress.queue }
+-- the disk runs, and goes on to run as is said
+abbrev pub GoesBy : Script → (ScriptValue → ScriptValue → Type 0) → Script → Type 0
+GoesBy s P t = OnRunning s (λ before. (after : ScriptValue) × P before after × (t ≡ Running after))
 
--- a connection receives bytes that ask for a command once as many have been carried out as may be
-pub record ReceivesTooFar (s : ScriptValue) (n : ℕ) (bytes : List ℕ) : Type 0 where
-  pub acts : List Act
-  pub session : Hearing
-  pub hears : Hears (connection_at n s).session bytes acts session
-  pub go_too_far : GoTooFar n (record { number = (connection_at n s).number; queue = s.queue; text = [] }) acts
-
--- A connection is gone: the end of its session is done, where one is to come, and it is none of the connections.
-pub record Loses (s : ScriptValue) (n : ℕ) (printed : List ℕ) (t : ScriptValue) : Type 0 where
-  pub progress : Progress
-  pub done : progress ≡ acted_on n (record { number = (connection_at n s).number; queue = s.queue; text = [] }) (loss_of (connection_at n s).session.phase)
-  pub same_text : printed ≡ progress.text
-  pub after : t ≡ record { connections = remove_entry (is_at (nat_cmp n)) s.connections; queue = progress.queue }
-
--- a connection is gone, and the end of its session comes once as many commands have been carried out as may be
-pub record LosesTooFar (s : ScriptValue) (n : ℕ) : Type 0 where
-  pub act : Act
-  pub is_loss : loss_of (connection_at n s).session.phase ≡ Some act
-  pub too_far : IsTooFar n s.queue act
+-- a disk of this content is there, with the state that it stands for
+abbrev pub HasDisk : Script → List ℕ → Type 0
+HasDisk (Running s) content = Stands content s.queue.state
+HasDisk (Stopped disk) content = content ≡ disk.content
+HasDisk Over content = ⊥
 
 -- a line has a connection receive such bytes, or be gone so: it runs too far
-abbrev pub RunsTooFar : ScriptValue → List ℕ → Type 0
-RunsTooFar s line =
+abbrev pub RunsTooFar : Script → List ℕ → Type 0
+RunsTooFar (Running s) line =
     ((n : ℕ) × IsLoss line n × LosesTooFar s n)
     ⊎ ((n : ℕ) × (text : List ℕ) × (n < 32) × (line ≡ decimal n ++ 32 ∷ text) × ReceivesTooFar s n (decoded text))
+RunsTooFar _ line = ⊥
 
--- What a line prints, and what it leaves: an empty line nothing, `flush` what waits, `lost` with a connection's number
--- what the loss brings, such a number with a blank and a text what the connection receives.
-abbrev pub Prints : ScriptValue → List ℕ → List ℕ → ScriptValue → Type 0
+-- what is printed of an opened journal: how many commands it counts, and how many messages it holds
+abbrev pub open_text : State → List ℕ
+open_text s = codes "open " ++ decimal s.count ++ 32 ∷ (decimal (held_messages s) ++ 10 ∷ [])
+
+-- the state that opening gives: the restart of the one as it was last flushed, or of the one that a stopped disk stands for
+abbrev pub Reopens : Script → State → Type 0
+Reopens (Running s) state = state ≡ restarted s.queue.state
+Reopens (Stopped disk) state = (s : State) → Stands disk.content s → state ≡ restarted s
+Reopens Over state = ⊥
+
+-- The disk is opened: what it counts and holds is printed, and the script goes on from there, with no connection and no
+-- command that waits.
+pub record Opens (s : Script) (printed : List ℕ) (t : Script) : Type 0 where
+  pub state : State
+  pub reopens : Reopens s state
+  pub same_text : printed ≡ open_text state
+  pub after : t ≡ Running (beginning state)
+
+-- The disk stops within a flush: nothing is printed, and it stands for the state after so many of the waiting commands.
+pub record Crashes (s : ScriptValue) (printed : List ℕ) (t : Script) : Type 0 where
+  pub none : printed ≡ []
+  pub disk : Memory
+  pub after : t ≡ Stopped disk
+  pub stands : ∥ StandsWithin s.queue disk.content ∥₁
+
+-- what a line prints that leaves the script running, and what it leaves: `flush` what waits, `lost` with a connection's
+-- number what the loss brings, such a number with a blank and a text what the connection receives
+abbrev pub GoesOn : ScriptValue → List ℕ → List ℕ → ScriptValue → Type 0
+GoesOn s line printed t =
+    ((line ≡ codes "flush") × (printed ≡ flush_text s.queue) × (t ≡ record s { queue = flushed s.queue }))
+    ⊎ (((n : ℕ) × IsLoss line n × Loses s n printed t)
+    ⊎ ((n : ℕ) × (text : List ℕ) × (n < 32) × (line ≡ decimal n ++ 32 ∷ text) × Receives s n (decoded text) printed t))
+
+-- what a line prints that is understood while the disk runs alone
+abbrev pub RunsOn : Script → List ℕ → List ℕ → Script → Type 0
+RunsOn (Running s) line printed t =
+    ((u : ScriptValue) × GoesOn s line printed u × (t ≡ Running u))
+    ⊎ ((k : ℕ) × (fill : Option ℕ) × IsCrash line k fill × Crashes s printed t)
+RunsOn _ line printed t = ⊥
+
+-- What a line prints, and what it leaves: an empty line nothing, `open` what is opened, and the others only while the disk
+-- runs.
+abbrev pub Prints : Script → List ℕ → List ℕ → Script → Type 0
 Prints s line printed t =
     ((line ≡ []) × (printed ≡ []) × (t ≡ s))
-    ⊎ (((line ≡ codes "flush") × (printed ≡ flush_text s.queue) × (t ≡ record s { queue = flushed s.queue }))
-    ⊎ (((n : ℕ) × IsLoss line n × Loses s n printed t)
-    ⊎ ((n : ℕ) × (text : List ℕ) × (n < 32) × (line ≡ decimal n ++ 32 ∷ text) × Receives s n (decoded text) printed t)))
+    ⊎ (((line ≡ codes "open") × Opens s printed t)
+    ⊎ RunsOn s line printed t)
+
+-- the line says nothing that is understood: once the disk has stopped, all but an empty line and `open`
+abbrev pub IsNotUnderstood : Script → List ℕ → Type 0
+IsNotUnderstood (Running s) line = IsOfNoForm line
+IsNotUnderstood _ line = (line ≢ []) × (line ≢ codes "open")
 
 -- what lines print, one after another
-abbrev pub PrintsAll : ScriptValue → List (List ℕ) → List ℕ → ScriptValue → Type 0
+abbrev pub PrintsAll : Script → List (List ℕ) → List ℕ → Script → Type 0
 PrintsAll s [] printed t = (printed ≡ []) × (t ≡ s)
-PrintsAll s (line ∷ lines) printed t = (first : List ℕ) × (others : List ℕ) × (u : ScriptValue) × Prints s line first u × PrintsAll u lines others t × (printed ≡ first ++ others)
+PrintsAll s (line ∷ lines) printed t = (first : List ℕ) × (others : List ℕ) × (u : Script) × Prints s line first u × PrintsAll u lines others t × (printed ≡ first ++ others)
 
 -- no LF stands in it
 abbrev pub HasNoLf : List ℕ → Type 0
@@ -95,39 +123,39 @@ text_of_lines lines = flat_map (λ line. line ++ 10 ∷ []) lines
 
 -- What a part of a script leads to, behind the beginning of a line: whole lines and what they print, and the beginning of
 -- one more line.
-pub record Takes (s : ScriptValue) (begun bytes : List ℕ) (lines : List (List ℕ)) (printed : List ℕ) (t : ScriptValue) (rest : List ℕ) : Type 0 where
+pub record Takes (s : Script) (begun bytes : List ℕ) (lines : List (List ℕ)) (printed : List ℕ) (t : Script) (rest : List ℕ) : Type 0 where
   pub whole : begun ++ bytes ≡ text_of_lines lines ++ rest
   pub each : AllByRecursion IsLine lines
   pub prints : PrintsAll s lines printed t
 
--- What a script's bytes print: they are whole lines, and these print it.
-pub record IsScript (input printed : List ℕ) : Type 0 where
+-- What a script's bytes print from this state on: they are whole lines, and these print it.
+pub record IsScript (start : State) (input printed : List ℕ) : Type 0 where
   pub lines : List (List ℕ)
   pub whole : input ≡ text_of_lines lines
   pub each : AllByRecursion IsLine lines
-  pub end : ScriptValue
-  pub prints : PrintsAll beginning lines printed end
+  pub end : Script
+  pub prints : PrintsAll (Running (beginning start)) lines printed end
 
 -- bytes with a line at their front that runs too far
-abbrev pub HasLineTooFar : ScriptValue → List ℕ → Type 0
+abbrev pub HasLineTooFar : Script → List ℕ → Type 0
 HasLineTooFar s bytes = (line : List ℕ) × (behind : List ℕ) × (bytes ≡ line ++ 10 ∷ behind) × IsLine line × RunsTooFar s line
 
 -- bytes with a line at their front that prints
-abbrev pub HasLineThatPrints : ScriptValue → List ℕ → Type 0
+abbrev pub HasLineThatPrints : Script → List ℕ → Type 0
 HasLineThatPrints s bytes =
-    (line : List ℕ) × (behind : List ℕ) × (text : List ℕ) × (t : ScriptValue) × (bytes ≡ line ++ 10 ∷ behind) × IsLine line × Prints s line text t
+    (line : List ℕ) × (behind : List ℕ) × (text : List ℕ) × (t : Script) × (bytes ≡ line ++ 10 ∷ behind) × IsLine line × Prints s line text t
 
 -- a part of a script leads as far as a line that prints
-pub record Tries (s : ScriptValue) (begun bytes : List ℕ) : Type 0 where
+pub record Tries (s : Script) (begun bytes : List ℕ) : Type 0 where
   pub lines : List (List ℕ)
   pub rest : List ℕ
   pub printed : List ℕ
-  pub end : ScriptValue
+  pub end : Script
   pub takes : Takes s begun bytes lines printed end rest
   pub tried : HasLineThatPrints end rest
 
--- Bytes with no line of a script at their front: one has more bytes than a line may have, or is of no form.
-abbrev pub HasNoLine : List ℕ → Type 0
-HasNoLine bytes =
+-- Bytes with no line at their front that is understood: one has more bytes than a line may have, or says nothing.
+abbrev pub HasNoLine : Script → List ℕ → Type 0
+HasNoLine s bytes =
     ((line : List ℕ) × (behind : List ℕ) × (bytes ≡ line ++ behind) × HasNoLf line × (1048576 < length line))
-    ⊎ ((line : List ℕ) × (behind : List ℕ) × (bytes ≡ line ++ 10 ∷ behind) × HasNoLf line × IsOfNoForm line)
+    ⊎ ((line : List ℕ) × (behind : List ℕ) × (bytes ≡ line ++ 10 ∷ behind) × HasNoLf line × IsNotUnderstood s line)

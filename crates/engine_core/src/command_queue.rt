@@ -1,17 +1,21 @@
 //! The queue between the connections and the broker: what waits for the next flush, and what a flush prints.
 
-ghost use Rattle.std.specs.Prelude.{◌≡◌, ◌≢◌, ◌++◌, ◌<◌, ◌≤◌, ◌^◌, OnOk, IfOk, IfErr, string_bytes, nat_eq, count_by, ◌+◌, length};
-ghost use Rattle.std.specs.List.{flat_map};
+ghost use Rattle.std.specs.Prelude.{◌≡◌, ◌≢◌, ◌++◌, ◌<◌, ◌≤◌, ◌^◌, OnOk, IfOk, IfErr, IfSome, string_bytes, nat_eq, count_by, ◌+◌, length};
+ghost use Rattle.std.specs.List.{AllByRecursion, flat_map};
 ghost use Rattle.frame_core.specs.Writable.{Writable};
 ghost use Rattle.command_core.specs.Commands.{Fits};
 ghost use Rattle.command_core.specs.Operations.{IsOp};
 ghost use Rattle.broker_core.specs.Steps.{state_after, outs_of};
+ghost use Rattle.recover_core.specs.Standing.{Stands, joined};
+ghost use Rattle.engine_core.specs.Batches.{HasSome};
 ghost use Rattle.engine_core.specs.Queues.{line_of_out, commands_of};
+ghost use Rattle.engine_core.specs.Scripts.{StandsWithin};
 
+use crate::batches::{Batch, batches_of};
 use crate::fault::QueueFault;
-use crate::printing::print_outs;
-use broker_core::Broker;
+use crate::journal::Journal;
 use command_core::{Command, HeaderText, Op};
+use disk_core::MemDisk;
 use std::alloc::Global;
 use std::collections::BTreeMap;
 use std::marker::Model;
@@ -26,11 +30,11 @@ pub struct Waiting {
 
 /// The queue. Contracts see the commands that wait, which connection opened which session, and the broker's state as it
 /// was last flushed.
-#[derive(Debug, Drop)]
+#[derive(Drop)]
 pub struct CommandQueue {
     waiting: Vec<Waiting>,
     openers: BTreeMap<u64, u8>,
-    broker: Broker,
+    journal: Journal,
 }
 
 impl Model for CommandQueue {
@@ -39,9 +43,9 @@ impl Model for CommandQueue {
 
     ghost Value = { QueueValue };
 
-    ghost view = { λ a. record { waiting = a.waiting.items; openers = a.openers.entries; state = a.broker.state } };
+    ghost view = { λ a. record { waiting = a.waiting.items; openers = a.openers.entries; state = a.journal.state; durable = a.journal.durable } };
 
-    ghost invariant = { λ a. a.broker.state.count + length a.waiting.items ≤ 2 ^ 62 };
+    ghost invariant = { λ a. a.journal.state.count + length a.waiting.items ≤ 2 ^ 62 };
 }
 
 /// How many commands of a connection may wait.
@@ -52,28 +56,51 @@ const LAST_COUNT: u64 = 1 << 60;
 
 impl CommandQueue {
     ghost use Rattle.engine_core.specs.Queues.{QueueValue, flushed, flush_text, with_room, room_text, CountsTooFar, number_for, as_command, is_full};
-    ghost use Rattle.broker_core.specs.States.{empty_state};
     ghost use Rattle.std.specs.Prelude.{[]};
 
-    /// A queue before the first command. No memory is taken.
-    pub fn new(alloc: Global) -> CommandQueue
-        ensures { result ≡ record { waiting = []; openers = []; state = empty_state } }
+    /// A queue in which nothing waits, over a journal that was just opened. No memory is taken.
+    pub fn over(alloc: Global, journal: Journal) -> CommandQueue
+        requires { journal.state.count ≤ 2 ^ 62 }
+        ensures { result ≡ record { waiting = []; openers = []; state = journal.state; durable = journal.durable } }
     {
         CommandQueue {
             waiting: Vec::new(alloc),
             openers: BTreeMap::new(alloc),
-            broker: Broker::new(alloc),
+            journal,
         }
     }
 
-    /// Has the broker carry out what waits, and adds a line for each output to the text.
+    /// Makes what waits durable, has the broker carry it out, and adds a line for each output to the text.
     pub fn flush(&mut self, alloc: Global, text: &mut String) -> Result<(), QueueFault>
         ensures state { OnOk result (self.new ≡ flushed self.old) }
         ensures text { OnOk result (string_bytes text.new ≡ string_bytes text.old ++ flush_text self.old) }
         ensures err { IfErr result (λ fault. fault ≢ QueueFault.CountTooLarge) }
     {
         let waiting = mem::replace(&mut self.waiting, Vec::new(alloc));
-        execute(alloc, &mut self.broker, &self.openers, waiting, text)
+        let batches = batches_of(alloc, waiting)?;
+        record_all(alloc, &mut self.journal, &self.openers, batches, text)
+    }
+
+    /// Makes what waits durable while so many calls of the disk pass. The disk then stops, and has the fill in what was not
+    /// synced, or without one what was there before.
+    pub fn crash(self, alloc: Global, calls: u64, fill: Option<u8>) -> Result<MemDisk, QueueFault>
+        ensures stands { IfOk result (λ disk. ∥ StandsWithin self disk.content ∥₁) }
+        ensures err { IfErr result (λ fault. fault ≢ QueueFault.CountTooLarge) }
+    {
+        let CommandQueue {
+            waiting,
+            journal,
+            ..
+        } = self;
+        let batches = batches_of(alloc, waiting)?;
+        journal.crash(alloc, batches.as_slice(), calls, fill)
+    }
+
+    /// The disk, unless the journal failed. What waits is dropped.
+    pub fn into_disk(self) -> Option<MemDisk>
+        ensures { IfSome result (λ disk. Stands disk.content self.state) }
+    {
+        self.journal.into_disk()
     }
 
     /// Whether as many commands of the connection wait as may.
@@ -104,10 +131,10 @@ impl CommandQueue {
         if self.is_full(connection) {
             self.flush(alloc, text)?;
         }
-        if self.broker.count() >= LAST_COUNT {
+        if self.journal.count() >= LAST_COUNT {
             return Err(QueueFault::CountTooLarge);
         }
-        let next = self.broker.count() + self.waiting.len() as u64;
+        let next = self.journal.count() + self.waiting.len() as u64;
         let (number, session) = match op {
             Op::Open { .. } => (next, 0),
             Op::Send(_)
@@ -140,23 +167,24 @@ fn count_of(waiting: &[Waiting], connection: u8) -> usize
         .count()
 }
 
-/// Has the broker carry out waiting commands, in order, and adds a line for each output to the text.
-fn execute(
+/// Makes batches durable one after another, has the broker carry out each once it is, and adds a line for each output to the
+/// text.
+fn record_all(
     alloc: Global,
-    broker: &mut Broker,
+    journal: &mut Journal,
     openers: &BTreeMap<u64, u8>,
-    waiting: Vec<Waiting>,
+    batches: Vec<Batch>,
     text: &mut String,
 ) -> Result<(), QueueFault>
-    requires { broker.old.state.count + length waiting.items ≤ 2 ^ 62 }
-    ensures state { OnOk result (broker.new.state ≡ state_after broker.old.state (commands_of waiting.items)) }
-    ensures text { OnOk result (string_bytes text.new ≡ string_bytes text.old ++ flat_map (line_of_out openers.now.entries) (outs_of broker.old.state (commands_of waiting.items))) }
-    ensures count { broker.new.state.count ≤ 2 ^ 62 }
+    requires some { AllByRecursion HasSome batches.items }
+    requires room { journal.old.state.count + length (joined batches.items) ≤ 2 ^ 62 }
+    ensures state { OnOk result (journal.new ≡ record { state = state_after journal.old.state (joined batches.items); durable = journal.old.durable }) }
+    ensures text { OnOk result (string_bytes text.new ≡ string_bytes text.old ++ flat_map (line_of_out openers.now.entries) (outs_of journal.old.state (joined batches.items))) }
+    ensures count { journal.new.state.count ≤ 2 ^ 62 }
     ensures err { IfErr result (λ fault. fault ≢ QueueFault.CountTooLarge) }
 {
-    for Waiting { command, .. } in waiting {
-        let outs = broker.step(alloc, command)?;
-        print_outs(alloc, text, openers, outs.as_slice())?;
+    for batch in batches {
+        journal.record(alloc, openers, batch, text)?;
     }
     Ok(())
 }

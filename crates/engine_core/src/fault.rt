@@ -1,14 +1,17 @@
 //! Why a script does not run to its end.
 
 ghost use Rattle.std.specs.Prelude.{◌≡◌};
+ghost use Rattle.engine_core.specs.FaultTexts.{IsNotDamaged, area_text, read_text};
 
+use area_core::{AreaFault, ReadFault};
 use broker_core::BrokerFault;
+use recover_core::OpenFault;
 use session_core::SessionFault;
 use std::alloc::{AllocError, AllocFailed};
 use std::{error, fmt};
 use thiserror::Error;
 
-/// Why the queue can't take or flush a command.
+/// Why a line of a script isn't carried out.
 #[derive(Debug, Drop, Error)]
 pub enum QueueFault {
     /// Memory was refused.
@@ -17,6 +20,12 @@ pub enum QueueFault {
     /// As many commands have been carried out as may be: 2^60.
     #[error("J5 count too large")]
     CountTooLarge,
+    /// The disk was not opened.
+    #[error("{0}")]
+    Opening(OpenFault),
+    /// A batch was not stored, or the journal failed before.
+    #[error("{0}")]
+    Storing(AreaFault),
 }
 
 impl From<AllocError> for QueueFault {
@@ -31,10 +40,9 @@ impl From<AllocError> for QueueFault {
 }
 
 impl<Lost: Drop> From<AllocFailed<Lost>> for QueueFault {
-    ghost use Rattle.std.specs.Prelude.{◌≢◌};
-    ghost use Rattle.engine_core.specs.declared.fault.QueueFault.TheVariants as faults;
+    ghost use Rattle.engine_core.specs.OfQueue.{IsMemory};
 
-    ghost from_gives = { λ _ r. r ≢ faults.CountTooLarge };
+    ghost from_gives = { λ _ r. IsMemory r };
 
     fn from(failed: AllocFailed<Lost>) -> QueueFault {
         QueueFault::Memory(AllocError::from(failed))
@@ -42,10 +50,9 @@ impl<Lost: Drop> From<AllocFailed<Lost>> for QueueFault {
 }
 
 impl From<BrokerFault> for QueueFault {
-    ghost use Rattle.std.specs.Prelude.{◌≢◌};
-    ghost use Rattle.engine_core.specs.declared.fault.QueueFault.TheVariants as faults;
+    ghost use Rattle.engine_core.specs.OfQueue.{IsMemory};
 
-    ghost from_gives = { λ _ r. r ≢ faults.CountTooLarge };
+    ghost from_gives = { λ _ r. IsMemory r };
 
     fn from(fault: BrokerFault) -> QueueFault {
         match fault {
@@ -55,11 +62,32 @@ impl From<BrokerFault> for QueueFault {
     }
 }
 
-impl From<SessionFault> for QueueFault {
-    ghost use Rattle.std.specs.Prelude.{◌≢◌};
+impl From<OpenFault> for QueueFault {
+    ghost use Rattle.std.specs.Prelude.{◌≡◌};
     ghost use Rattle.engine_core.specs.declared.fault.QueueFault.TheVariants as faults;
 
-    ghost from_gives = { λ _ r. r ≢ faults.CountTooLarge };
+    ghost from_gives = { λ fault r. r ≡ faults.Opening fault };
+
+    fn from(fault: OpenFault) -> QueueFault {
+        QueueFault::Opening(fault)
+    }
+}
+
+impl From<AreaFault> for QueueFault {
+    ghost use Rattle.std.specs.Prelude.{◌≡◌};
+    ghost use Rattle.engine_core.specs.declared.fault.QueueFault.TheVariants as faults;
+
+    ghost from_gives = { λ fault r. r ≡ faults.Storing fault };
+
+    fn from(fault: AreaFault) -> QueueFault {
+        QueueFault::Storing(fault)
+    }
+}
+
+impl From<SessionFault> for QueueFault {
+    ghost use Rattle.engine_core.specs.OfQueue.{IsMemory};
+
+    ghost from_gives = { λ _ r. IsMemory r };
 
     fn from(_: SessionFault) -> QueueFault {
         QueueFault::Memory(AllocError)
@@ -71,11 +99,15 @@ impl From<SessionFault> for QueueFault {
 pub enum ScriptFault {
     /// Memory was refused.
     Memory(AllocError),
-    /// The line of that number, counted from 1, says nothing that a script can say, is longer than 1,048,576 bytes, or
+    /// The line of that number, counted from 1, says nothing that is understood there, is longer than 1,048,576 bytes, or
     /// is the last one and has no LF.
     NotUnderstood { line: u64 },
-    /// As many commands have been carried out as may be: 2^60.
+    /// A command comes once as many have been carried out as may be: 2^60.
     CountTooLarge,
+    /// The disk was not opened, at the start or by a line.
+    Opening(OpenFault),
+    /// Commands were not stored: they do not fit, the disk failed, or memory was refused.
+    Storing(AreaFault),
     /// The script can't be read, or was read 4,294,967,296 times.
     Input,
     /// What it prints can't be written.
@@ -93,13 +125,49 @@ impl fmt::Display for ScriptFault {
         match self {
             ScriptFault::Memory(_) => f.write_str("no memory"),
             ScriptFault::NotUnderstood { line } => write!(f, "line {line} not understood"),
-            ScriptFault::CountTooLarge => f.write_str("J5 count too large"),
+            ScriptFault::CountTooLarge | ScriptFault::Opening(OpenFault::CountTooLarge) => {
+                f.write_str("J5 count too large")
+            }
+            ScriptFault::Opening(OpenFault::Read(ReadFault::Damaged(place))) => {
+                write!(f, "J2 damaged at {place}")
+            }
+            ScriptFault::Opening(OpenFault::Read(fault)) => f.write_str(read_text(fault)),
+            ScriptFault::Opening(OpenFault::Area(fault)) | ScriptFault::Storing(fault) => {
+                f.write_str(area_text(fault))
+            }
             ScriptFault::Input | ScriptFault::Output => f.write_str("input or output failed"),
         }
     }
 }
 
 impl error::Error for ScriptFault {}
+
+// What is told of a disk that was not read, except of a damaged one.
+fn read_text(fault: &ReadFault) -> &'static str
+    requires { IsNotDamaged fault.now }
+    ensures { result.now ≡ read_text fault.now }
+{
+    match fault {
+        ReadFault::NotAJournal => "J1 not a journal",
+        ReadFault::Damaged(_) => "J2 damaged",
+        ReadFault::Device => "J3 device failed",
+        ReadFault::UnknownVersion => "J7 unknown version",
+        ReadFault::TooSmall => "J8 disk too small",
+        ReadFault::Memory(_) => "no memory",
+    }
+}
+
+// What is told of a journal that took nothing.
+fn area_text(fault: &AreaFault) -> &'static str
+    ensures { result.now ≡ area_text fault.now }
+{
+    match fault {
+        AreaFault::Device => "J3 device failed",
+        AreaFault::Full => "J4 journal full",
+        AreaFault::Broken => "J6 store broken",
+        AreaFault::Memory(_) => "no memory",
+    }
+}
 
 impl From<QueueFault> for ScriptFault {
     ghost use Rattle.engine_core.specs.OfQueue.{of_queue};
@@ -111,7 +179,20 @@ impl From<QueueFault> for ScriptFault {
         match fault {
             QueueFault::Memory(refused) => ScriptFault::Memory(refused),
             QueueFault::CountTooLarge => ScriptFault::CountTooLarge,
+            QueueFault::Opening(fault) => ScriptFault::Opening(fault),
+            QueueFault::Storing(fault) => ScriptFault::Storing(fault),
         }
+    }
+}
+
+impl From<OpenFault> for ScriptFault {
+    ghost use Rattle.std.specs.Prelude.{◌≡◌};
+    ghost use Rattle.engine_core.specs.declared.fault.ScriptFault.TheVariants as faults;
+
+    ghost from_gives = { λ fault r. r ≡ faults.Opening fault };
+
+    fn from(fault: OpenFault) -> ScriptFault {
+        ScriptFault::Opening(fault)
     }
 }
 

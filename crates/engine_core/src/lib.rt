@@ -2,11 +2,14 @@
 
 #![tactic(auto)]
 
+mod batches;
 mod command_queue;
 mod fault;
+mod journal;
 mod percent;
 mod printing;
 mod run;
+mod running_script;
 mod script;
 mod script_line;
 mod worked;

@@ -3,12 +3,18 @@
 ghost use Rattle.std.specs.Prelude.{◌≡◌, ◌≢◌, ◌+◌, ◌++◌, ◌∷◌, ◌<◌, ◌≤◌, ◌*◌, ◌^◌, [], ℕ, List, true, IfOk, IfErr, OnOk, OnErr, MatchOption, length, drop, take, slice_index};
 ghost use Rattle.std.specs.List.{AllByRecursion};
 ghost use Rattle.std.specs.Io.KnownBytes.{Appends, Consumes, IsAtEnd};
-ghost use Rattle.engine_core.specs.Scripts.{IsLine, HasNoLf, IsScript};
-ghost use Rattle.engine_core.specs.Runs.{Goes, StopsIn, Stops, IsTooLong, Turned, Stopped};
+ghost use Rattle.broker_core.specs.States.{State};
+ghost use Rattle.recover_core.specs.Told.{IsOpenTold};
+ghost use Rattle.engine_core.specs.Scripts.{BeginsWith, IsLine, HasNoLf, IsScript};
+ghost use Rattle.engine_core.specs.Runs.{Goes, IsBegun, StopsIn, StopsOver, IsTooLong, Turned, Stopped};
 
 use crate::fault::ScriptFault;
+use crate::journal::Journal;
+use crate::running_script::RunningScript;
 use crate::script::Script;
+use disk_core::MemDisk;
 use memchr::memchr;
+use recover_core::OpenFault;
 use std::alloc::Global;
 use std::io::{ErrorKind, Read, Write};
 
@@ -29,8 +35,8 @@ pub struct Run {
     pub lines: u64,
 }
 
-/// Runs a script: reads it to its end, and writes what each line prints as soon as the line is done. The bytes are read
-/// in pieces of 65,536, and at most 4,294,967,296 reads are made.
+/// Runs a script over a disk: opens the disk's journal, reads the script to its end, and writes what each line prints as
+/// soon as the line is done. The bytes are read in pieces of 65,536, and at most 4,294,967,296 reads are made.
 ///
 /// Where it is refused, what was written is what the lines before the refused one print, unless it is the writer that
 /// failed. Commands that wait at the end of the script are dropped.
@@ -38,23 +44,36 @@ pub fn run_script<R: Read, W: Write>(
     alloc: Global,
     reader: &mut R,
     writer: &mut W,
+    disk: MemDisk,
 ) -> Result<(), ScriptFault>
-    // What is written is what the lines print that were read, and nothing else.
-    ensures ok { OnOk result ((input : List ℕ) × (printed : List ℕ)
+    // What is written is what the lines print that were read, and nothing else, from the restart of the state on that the
+    // disk stands for.
+    ensures ok { OnOk result ((input : List ℕ) × (printed : List ℕ) × (start : State) × BeginsWith disk.content start
         × Consumes (R.remaining reader.old) (R.remaining reader.new) input × IsAtEnd (R.remaining reader.new)
-        × IsScript input printed × Appends (W.contents writer.old) (W.contents writer.new) printed) }
+        × IsScript start input printed × Appends (W.contents writer.old) (W.contents writer.new) printed) }
     // On a fault other than the writer's, it is what the lines before print; a line is told only where it is none, and a
     // count too large only where the next line asks for a command once 2^60 have been carried out. The writer's fault comes
-    // only where the next line prints.
-    ensures err { IfErr result (λ fault. Stops fault (R.remaining reader.old) (R.remaining reader.new) (W.contents writer.old) (W.contents writer.new)) }
+    // only where the next line prints. Where the disk is not opened at the start, nothing is read or written.
+    ensures err { IfErr result (λ fault. StopsOver disk.content fault (R.remaining reader.old) (R.remaining reader.new) (W.contents writer.old) (W.contents writer.new)) }
 {
     let mut piece = vec![in alloc; 0u8; PIECE]?;
-    let mut run = Run {
-        script: Script::new(alloc),
-        begun: Vec::new(alloc),
-        lines: 0,
-    };
+    let mut run = begin(alloc, disk)?;
     read_to_end(alloc, &mut run, piece.as_mut_slice(), reader, writer)
+}
+
+/// A run before the first read.
+fn begin(alloc: Global, disk: MemDisk) -> Result<Run, OpenFault>
+    ensures ok { IfOk result (IsBegun disk.content) }
+    ensures err { IfErr result (λ fault. IsOpenTold fault disk.content) }
+{
+    match Journal::open(alloc, disk) {
+        Ok(journal) => Ok(Run {
+            script: Script::Running(RunningScript::over(alloc, journal)),
+            begun: Vec::new(alloc),
+            lines: 0,
+        }),
+        Err(fault) => Err(fault),
+    }
 }
 
 /// Reads the script to its end, and runs each line.

@@ -1,172 +1,150 @@
-//! A script as far as it has run: its connections and the queue.
+//! A script as far as it has run, line by line.
 
-ghost use Rattle.std.specs.Prelude.{◌≡◌, ◌++◌, ◌<◌, [], IfOk, IfErr, OnOk, MatchOption, string_bytes};
-ghost use Rattle.std.specs.List.{AllByRecursion, fold};
-ghost use Rattle.session_core.specs.Sessions.{HasForm};
-ghost use Rattle.std.specs.Prelude.{unwrap_or};
-ghost use Rattle.std.specs.BTreeMap.{is_at};
-ghost use Rattle.std.specs.Map.{lookup, remove_entry};
-ghost use Rattle.std.specs.Ordering.{nat_cmp};
-ghost use Rattle.engine_core.specs.Connections.{new_connection};
-ghost use Rattle.engine_core.specs.Queues.{Progress, acted, IsTooFar, GoTooFar};
+ghost use Rattle.std.specs.Prelude.{◌≡◌, ◌≢◌, ◌≤◌, ◌^◌, ◌++◌, IfErr, IfOk, IfSome, MatchOption, true, string_bytes};
+ghost use Rattle.engine_core.specs.Scripts.{BeginsWith, HasDisk, open_text};
 
-use crate::command_queue::CommandQueue;
 use crate::fault::QueueFault;
+use crate::journal::Journal;
 use crate::percent::decode_text;
-use crate::printing::print_frame;
+use crate::running_script::RunningScript;
 use crate::script_line::{ScriptLine, read_line};
-use session_core::{Act, Session};
+use area_core::AreaFault;
+use disk_core::MemDisk;
 use std::alloc::Global;
-use std::collections::BTreeMap;
-use std::marker::Model;
+use std::mem;
 
-/// A connection of a script: its session, and that session's number once it has one.
+/// A script as far as it has run.
 #[derive(Drop)]
-pub struct Connection {
-    pub session: Session,
-    pub number: u64,
-}
-
-/// A script as far as it has run. Contracts see its connections by rising number, and the queue.
-#[derive(Drop)]
-pub struct Script {
-    connections: BTreeMap<u8, Connection>,
-    queue: CommandQueue,
-}
-
-impl Model for Script {
-    ghost use Rattle.engine_core.specs.Scripts.{ScriptValue};
-
-    ghost Value = { ScriptValue };
-
-    ghost view = { λ a. record { connections = a.connections.entries; queue = a.queue } };
+pub enum Script {
+    /// Its disk runs.
+    Running(RunningScript),
+    /// Its disk has stopped, and is to be opened.
+    Stopped(MemDisk),
+    /// Its disk is gone: its journal failed, or was not opened.
+    Over,
 }
 
 impl Script {
-    ghost use Rattle.engine_core.specs.Scripts.{beginning, Loses, Receives, Prints, LosesTooFar, ReceivesTooFar, RunsTooFar};
-    ghost use Rattle.engine_core.specs.ScriptLines.{IsOfNoForm};
+    ghost use Rattle.recover_core.specs.Standing.{Stands};
+    ghost use Rattle.engine_core.specs.PercentTexts.{decoded};
+    ghost use Rattle.engine_core.specs.Queues.{flush_text, flushed};
+    ghost use Rattle.engine_core.specs.Running.{Loses, LosesTooFar, Receives, ReceivesTooFar};
+    ghost use Rattle.engine_core.specs.Scripts.{Crashes, GoesBy, IsNotUnderstood, IsStopped, OnRunning, Opens, Prints, RunsTooFar};
 
-    /// A script before its first line. No memory is taken.
-    pub fn new(alloc: Global) -> Script
-        ensures { result ≡ beginning }
-    {
-        Script {
-            connections: BTreeMap::new(alloc),
-            queue: CommandQueue::new(alloc),
-        }
-    }
-
-    /// Does what a line says, and answers what it prints; `None` where the line says nothing that a script can say.
+    /// Does what a line says, and answers what it prints; `None` where the line says nothing that is understood.
     pub fn perform(&mut self, alloc: Global, line: &[u8]) -> Result<Option<String>, QueueFault>
-        ensures ok { IfOk result (λ printed. MatchOption printed (IsOfNoForm line.now)
+        ensures ok { IfOk result (λ printed. MatchOption printed (IsNotUnderstood self.old line.now)
             (λ text. Prints self.old line.now (string_bytes text) self.new)) }
         ensures err { IfErr result (λ fault. fault ≡ QueueFault.CountTooLarge → RunsTooFar self.old line.now) }
     {
         match read_line(line) {
             None => Ok(None),
             Some(ScriptLine::Blank) => Ok(Some(String::new(alloc))),
-            Some(ScriptLine::Flush) => {
-                let mut text = String::new(alloc);
-                self.queue.flush(alloc, &mut text)?;
-                Ok(Some(text))
-            }
-            Some(ScriptLine::Lose { connection }) => Ok(Some(self.lose(alloc, connection)?)),
-            Some(ScriptLine::Receive { connection, text }) => {
-                let bytes = decode_text(alloc, text)?;
-                Ok(Some(self.receive(alloc, connection, bytes.as_slice())?))
-            }
+            Some(ScriptLine::Open) => Ok(Some(self.open(alloc)?)),
+            Some(ScriptLine::Crash { calls, fill }) => self.crash(alloc, calls, fill),
+            Some(ScriptLine::Flush) => self.flush(alloc),
+            Some(ScriptLine::Lose { connection }) => self.lose(alloc, connection),
+            Some(ScriptLine::Receive { connection, text }) => self.receive(alloc, connection, text),
         }
     }
 
-    /// A connection receives bytes; answers what is printed.
-    fn receive(&mut self, alloc: Global, n: u8, bytes: &[u8]) -> Result<String, QueueFault>
-        ensures ok { IfOk result (λ text. Receives self.old n bytes.now (string_bytes text) self.new) }
-        ensures err { IfErr result (λ fault. fault ≡ QueueFault.CountTooLarge → ReceivesTooFar self.old n bytes.now) }
+    /// Opens the disk, and begins anew with what it stands for; answers what is printed.
+    fn open(&mut self, alloc: Global) -> Result<String, QueueFault>
+        ensures ok { IfOk result (λ text. Opens self.old (string_bytes text) self.new) }
+        ensures err { IfErr result (λ fault. fault ≢ QueueFault.CountTooLarge) }
     {
-        let Connection {
-            mut session,
-            number,
-        } = take_connection(alloc, &mut self.connections, n);
-        let acts = session.feed(alloc, bytes)?;
-        let mut text = String::new(alloc);
-        let number = do_acts(alloc, &mut self.queue, n, number, acts, &mut text)?;
-        self.connections.insert(n, Connection { session, number })?;
-        Ok(text)
-    }
-
-    /// A connection is gone; answers what is printed.
-    fn lose(&mut self, alloc: Global, n: u8) -> Result<String, QueueFault>
-        ensures ok { IfOk result (λ text. Loses self.old n (string_bytes text) self.new) }
-        ensures err { IfErr result (λ fault. fault ≡ QueueFault.CountTooLarge → LosesTooFar self.old n) }
-    {
-        let Connection {
-            mut session,
-            number,
-        } = take_connection(alloc, &mut self.connections, n);
-        let mut text = String::new(alloc);
-        let Some(act) = session.lost() else {
-            return Ok(text);
+        let Some(disk) = into_disk(mem::replace(self, Script::Over)) else {
+            return Err(QueueFault::Storing(AreaFault::Broken));
         };
-        do_act(alloc, &mut self.queue, n, number, act, &mut text)?;
+        let mut text = String::new(alloc);
+        let journal = open_journal(alloc, disk, &mut text)?;
+        *self = Script::Running(RunningScript::over(alloc, journal));
         Ok(text)
     }
-}
 
-/// Takes a connection out of the others; a new one where there is none of that number.
-fn take_connection(alloc: Global, connections: &mut BTreeMap<u8, Connection>, n: u8) -> Connection
-    ensures taken { result ≡ unwrap_or (lookup (is_at (nat_cmp n)) connections.old.entries) new_connection }
-    ensures others { connections.new.entries ≡ remove_entry (is_at (nat_cmp n)) connections.old.entries }
-{
-    match connections.remove(&n) {
-        Some(connection) => connection,
-        None => Connection {
-            session: Session::new(alloc),
-            number: 0,
-        },
-    }
-}
-
-/// Does what a connection's acts ask for, one after another; answers the number of its session then.
-fn do_acts(
-    alloc: Global,
-    queue: &mut CommandQueue,
-    connection: u8,
-    number: u64,
-    acts: Vec<Act>,
-    text: &mut String,
-) -> Result<u64, QueueFault>
-    requires { AllByRecursion HasForm acts.items }
-    ensures ok { IfOk result (λ n. record { number = n; queue = queue.new; text = string_bytes text.new }
-        ≡ fold (acted connection) (record { number = number; queue = queue.old; text = string_bytes text.old }) acts.items) }
-    ensures err { IfErr result (λ fault. fault ≡ QueueFault.CountTooLarge
-        → GoTooFar connection (record { number = number; queue = queue.old; text = string_bytes text.old }) acts.items) }
-{
-    let mut number = number;
-    for act in acts {
-        number = do_act(alloc, queue, connection, number, act, text)?;
-    }
-    Ok(number)
-}
-
-fn do_act(
-    alloc: Global,
-    queue: &mut CommandQueue,
-    connection: u8,
-    number: u64,
-    act: Act,
-    text: &mut String,
-) -> Result<u64, QueueFault>
-    requires { HasForm act }
-    ensures ok { IfOk result (λ n. record { number = n; queue = queue.new; text = string_bytes text.new }
-        ≡ acted connection (record { number = number; queue = queue.old; text = string_bytes text.old }) act) }
-    ensures err { IfErr result (λ fault. fault ≡ QueueFault.CountTooLarge → IsTooFar connection queue.old act) }
-{
-    match act {
-        Act::Do(op, receipt) => queue.submit(alloc, connection, number, op, receipt, text),
-        Act::Direct(notice) => {
-            print_frame(alloc, text, connection, notice.frame())?;
-            Ok(number)
+    /// The disk stops within a flush, of which nothing is printed; `None` where it has stopped before.
+    fn crash(
+        &mut self,
+        alloc: Global,
+        calls: u64,
+        fill: Option<u8>,
+    ) -> Result<Option<String>, QueueFault>
+        ensures ok { IfOk result (λ printed. MatchOption printed (IsStopped self.old)
+            (λ text. OnRunning self.old (λ s. Crashes s (string_bytes text) self.new))) }
+        ensures err { IfErr result (λ fault. fault ≢ QueueFault.CountTooLarge) }
+    {
+        match mem::replace(self, Script::Over) {
+            Script::Running(script) => {
+                *self = Script::Stopped(script.crash(alloc, calls, fill)?);
+                Ok(Some(String::new(alloc)))
+            }
+            stopped => {
+                *self = stopped;
+                Ok(None)
+            }
         }
-        Act::Close(_) => Ok(number),
     }
+
+    /// Flushes; answers what is printed, `None` where the disk has stopped.
+    fn flush(&mut self, alloc: Global) -> Result<Option<String>, QueueFault>
+        ensures ok { IfOk result (λ printed. MatchOption printed (IsStopped self.old)
+            (λ text. GoesBy self.old (λ s u. (string_bytes text ≡ flush_text s.queue) × (u ≡ record s { queue = flushed s.queue })) self.new)) }
+        ensures err { IfErr result (λ fault. fault ≢ QueueFault.CountTooLarge) }
+    {
+        match self {
+            Script::Running(script) => Ok(Some(script.flush(alloc)?)),
+            Script::Stopped(_) | Script::Over => Ok(None),
+        }
+    }
+
+    /// A connection is gone; answers what is printed, `None` where the disk has stopped.
+    fn lose(&mut self, alloc: Global, n: u8) -> Result<Option<String>, QueueFault>
+        ensures ok { IfOk result (λ printed. MatchOption printed (IsStopped self.old)
+            (λ text. GoesBy self.old (λ s u. Loses s n (string_bytes text) u) self.new)) }
+        ensures err { IfErr result (λ fault. fault ≡ QueueFault.CountTooLarge → OnRunning self.old (λ s. LosesTooFar s n)) }
+    {
+        match self {
+            Script::Running(script) => Ok(Some(script.lose(alloc, n)?)),
+            Script::Stopped(_) | Script::Over => Ok(None),
+        }
+    }
+
+    /// A connection receives what a text stands for; answers what is printed, `None` where the disk has stopped.
+    fn receive(&mut self, alloc: Global, n: u8, text: &[u8]) -> Result<Option<String>, QueueFault>
+        ensures ok { IfOk result (λ printed. MatchOption printed (IsStopped self.old)
+            (λ answer. GoesBy self.old (λ s u. Receives s n (decoded text.now) (string_bytes answer) u) self.new)) }
+        ensures err { IfErr result (λ fault. fault ≡ QueueFault.CountTooLarge → OnRunning self.old (λ s. ReceivesTooFar s n (decoded text.now))) }
+    {
+        match self {
+            Script::Running(script) => {
+                let bytes = decode_text(alloc, text)?;
+                Ok(Some(script.receive(alloc, n, bytes.as_slice())?))
+            }
+            Script::Stopped(_) | Script::Over => Ok(None),
+        }
+    }
+}
+
+// The disk, where there is one.
+fn into_disk(script: Script) -> Option<MemDisk>
+    ensures { IfSome result (λ disk. HasDisk script disk.content) }
+{
+    match script {
+        Script::Running(script) => script.into_disk(),
+        Script::Stopped(disk) => Some(disk),
+        Script::Over => None,
+    }
+}
+
+// Opens the journal of a disk, and adds the line that tells of it to the text.
+fn open_journal(alloc: Global, disk: MemDisk, text: &mut String) -> Result<Journal, QueueFault>
+    ensures state { IfOk result (λ journal. BeginsWith disk.content journal.state) }
+    ensures durable { IfOk result (λ journal. journal.durable ≡ true) }
+    ensures text { IfOk result (λ journal. string_bytes text.new ≡ string_bytes text.old ++ open_text journal.state) }
+    ensures small { IfOk result (λ journal. journal.state.count ≤ 2 ^ 61) }
+    ensures err { IfErr result (λ fault. fault ≢ QueueFault.CountTooLarge) }
+{
+    let journal = Journal::open(alloc, disk)?;
+    journal.tell(alloc, text)?;
+    Ok(journal)
 }

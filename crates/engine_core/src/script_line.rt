@@ -1,15 +1,24 @@
 //! What a line of a script says.
 
-ghost use Rattle.std.specs.Prelude.{◌≡◌, ◌+◌, ◌<◌, ◌≤◌, MatchOption};
-ghost use Rattle.engine_core.specs.ScriptLines.{Says, IsOfNoForm, IsLoss, IsNoLoss, IsNumber, IsNoNumber, HasNoDigit, HasDigit, HasNoDigits, HasDigits, IsDigit, AreDigits, AreNoDigits};
+ghost use Rattle.std.specs.Prelude.{◌≡◌, ◌≢◌, ◌+◌, ◌<◌, ◌≤◌, ◌↔◌, ℕ, true, IsTrue, MatchOption};
+ghost use Rattle.std.specs.Char.{digit_value, is_digit};
+ghost use Rattle.std.specs.Fmt.{decimal};
+ghost use Rattle.engine_core.specs.ScriptLines.{AreHexDigits, IsCount, IsCountAndFill, IsCrash, IsNoCount, IsNoCountAndFill, IsNoCrash, Says, IsOfNoForm, IsLoss, IsNoLoss, IsNumber, IsNoNumber, HasNoDigit, HasDigit, HasNoDigits, HasDigits, IsDigit, AreDigits, AreNoDigits};
+
+use itoa::Buffer;
 
 /// What a line of a script says.
 #[derive(Clone, Copy, Debug)]
 pub enum ScriptLine<'a> {
     /// Nothing: the line is empty.
     Blank,
-    /// All waiting commands are applied, and their outputs printed.
+    /// All waiting commands are made durable and carried out, and their outputs printed.
     Flush,
+    /// The disk is opened.
+    Open,
+    /// The disk stops after so many more calls, within a flush. What was not synced holds this byte then, or without one
+    /// what it held before.
+    Crash { calls: u64, fill: Option<u8> },
     /// A connection, from 0 to 31, is gone.
     Lose { connection: u8 },
     /// A connection, from 0 to 31, receives what the text stands for.
@@ -26,6 +35,12 @@ pub fn read_line(line: &[u8]) -> Option<ScriptLine<'_>>
     if line == b"flush".as_slice() {
         return Some(ScriptLine::Flush);
     }
+    if line == b"open".as_slice() {
+        return Some(ScriptLine::Open);
+    }
+    if let Some((calls, fill)) = crash(line) {
+        return Some(ScriptLine::Crash { calls, fill });
+    }
     if let Some(connection) = lost(line) {
         return Some(ScriptLine::Lose { connection });
     }
@@ -40,6 +55,88 @@ pub fn read_line(line: &[u8]) -> Option<ScriptLine<'_>>
             connection,
             text: &line[3..],
         }),
+        None => None,
+    }
+}
+
+// how many calls pass before the crash that the line says, and the byte that fills
+fn crash(line: &[u8]) -> Option<(u64, Option<u8>)>
+    ensures { MatchOption result (IsNoCrash line.now) (λ said. IsCrash line.now said.0 said.1) }
+{
+    let Some(text) = line.strip_prefix(b"crash ".as_slice()) else {
+        return None;
+    };
+    match count_and_fill(text) {
+        Some((calls, fill)) => Some((calls, Some(fill))),
+        None => match count(text) {
+            Some(calls) => Some((calls, None)),
+            None => None,
+        },
+    }
+}
+
+// a number in decimal without leading zeros, a blank, and two hexadecimal digits
+fn count_and_fill(text: &[u8]) -> Option<(u64, u8)>
+    ensures { MatchOption result (IsNoCountAndFill text.now) (λ said. IsCountAndFill text.now said.0 said.1) }
+{
+    if text.len() < 3 {
+        return None;
+    }
+    let (front, end) = text.split_at(text.len() - 3);
+    if end[0] != b' ' {
+        return None;
+    }
+    let Some(calls) = count(front) else {
+        return None;
+    };
+    match hex_byte(end[1], end[2]) {
+        Some(fill) => Some((calls, fill)),
+        None => None,
+    }
+}
+
+// a number in decimal without leading zeros
+fn count(text: &[u8]) -> Option<u64>
+    ensures { MatchOption result (IsNoCount text.now) (IsCount text.now) }
+{
+    let Ok(digits) = str::from_utf8(text) else {
+        return None;
+    };
+    match digits.parse() {
+        Ok(number) => {
+            if is_decimal(digits, number) {
+                Some(number)
+            } else {
+                None
+            }
+        }
+        Err(_) => None,
+    }
+}
+
+// whether the text is the number in decimal
+fn is_decimal(text: &str, number: u64) -> bool
+    ensures { IsTrue result ↔ (text.now ≡ decimal number) }
+{
+    Buffer::new().format(number) == text
+}
+
+// the byte of two hexadecimal digits
+fn hex_byte(high: u8, low: u8) -> Option<u8>
+    ensures { MatchOption result ((b : ℕ) → AreHexDigits high low b → ⊥) (AreHexDigits high low) }
+{
+    let (Some(high), Some(low)) = (hex_digit(high), hex_digit(low)) else {
+        return None;
+    };
+    Some(16 * high + low)
+}
+
+// the value of a hexadecimal digit
+fn hex_digit(byte: u8) -> Option<u8>
+    ensures { MatchOption result (is_digit byte 16 ≢ true) (λ d. (is_digit byte 16 ≡ true) × (digit_value byte ≡ d) × (d < 16)) }
+{
+    match (byte as char).to_digit(16) {
+        Some(value) => Some(value as u8),
         None => None,
     }
 }

@@ -1,37 +1,59 @@
-use Rattle.std.specs.Prelude.{◌≡◌, ◌≢◌, List, [], ◌∷◌, ◌++◌, ℕ, Option, codes}
+use Rattle.std.specs.Prelude.{◌≡◌, ◌≢◌, ◌⊎◌, List, [], ◌∷◌, ◌++◌, ℕ, Option, codes}
 use Rattle.std.specs.Io.KnownBytes.{Appends, Consumes, IsAtEnd}
 use Rattle.clap.specs.Values.{kind_of}
 use Rattle.clap.specs.declared.error.Error.{Error}
 use Rattle.clap.specs.declared.error.kind.ErrorKind.TheVariants.{OutOfMemory}
 use Rattle.engine_core.specs.Scripts.{IsScript}
 use Rattle.engine_core.specs.FaultTexts.{fault_text}
+use Rattle.broker_core.specs.States.{empty_state}
 use Rattle.engine_core.specs.Runs.{Stops}
-use Rattle.engine_core.specs.declared.fault.ScriptFault.TheVariants.{Memory}
+use Rattle.engine_core.specs.declared.fault.ScriptFault.{ScriptFault}
+use Rattle.engine_core.specs.declared.fault.ScriptFault.TheVariants.{Memory, Opening}
 use Rattle.stompd.specs.declared.tool.Failure.{Failure}
-use Rattle.stompd.specs.declared.tool.Failure.TheVariants.{CommandLine, Script}
+use Rattle.stompd.specs.declared.tool.Failure.TheVariants.{CommandLine, Script, Format}
 
--- a script was read to its end, and what was written is what it prints
+-- a script was read to its end, and what was written is what it prints from an empty journal on
 pub record RunsToEnd (unread left before after : Option (List ℕ)) : Type 0 where
   pub input : List ℕ
   pub printed : List ℕ
   pub reads : Consumes unread left input
   pub ends : IsAtEnd left
-  pub is_script : IsScript input printed
+  pub is_script : IsScript empty_state input printed
   pub writes : Appends before after printed
 
 -- the status to end with
 abbrev pub status_of : Failure → ℕ
 status_of (CommandLine error) = 2
 status_of (Script fault) = 1
+status_of (Format fault) = 1
 
--- the failure is the script's, which a fault stops, or it is the command line's
+-- memory was refused, or the disk was not opened, before the script was read
+abbrev pub IsAtOnce : ScriptFault → Type 0
+IsAtOnce (Memory refused) = Unit {0}
+IsAtOnce (Opening fault) = Unit {0}
+IsAtOnce _ = ⊥
+
+-- nothing was read or written
+abbrev pub Untouched : Option (List ℕ) → Option (List ℕ) → Option (List ℕ) → Option (List ℕ) → Type 0
+Untouched unread left before after = (left ≡ unread) × (after ≡ before)
+
+-- the failure comes before a script is read: memory was refused, or its disk was not formatted
+abbrev pub IsBeforehand : Failure → Type 0
+IsBeforehand (CommandLine error) = ⊥
+IsBeforehand (Script (Memory refused)) = Unit {0}
+IsBeforehand (Script _) = ⊥
+IsBeforehand (Format fault) = Unit {0}
+
+-- the failure is the script's, which a fault stops, at once or once it began with an empty journal; or nothing was read
 abbrev pub StopsBy : Failure → Option (List ℕ) → Option (List ℕ) → Option (List ℕ) → Option (List ℕ) → Type 0
-StopsBy (CommandLine error) unread left before after = (left ≡ unread) × (after ≡ before)
-StopsBy (Script fault) unread left before after = Stops fault unread left before after
+StopsBy (CommandLine error) unread left before after = Untouched unread left before after
+StopsBy (Script fault) unread left before after = (IsAtOnce fault × Untouched unread left before after) ⊎ Stops empty_state fault unread left before after
+StopsBy (Format fault) unread left before after = Untouched unread left before after
 
 -- a script's fault is told in one line
 abbrev pub IsTold : Failure → Option (List ℕ) → Option (List ℕ) → Type 0
 IsTold (CommandLine error) before after = Unit {0}
+IsTold (Format fault) before after = Unit {0}
 IsTold (Script fault) before after = Appends before after (codes "stompd: " ++ fault_text fault ++ 10 ∷ [])
 
 -- the failure tells of a refused command line, or of want of memory there
@@ -39,3 +61,4 @@ abbrev pub Tells : Error → Failure → Type 0
 Tells error (CommandLine other) = (other ≡ error) × (kind_of error ≢ OutOfMemory)
 Tells error (Script (Memory refused)) = kind_of error ≡ OutOfMemory
 Tells error (Script _) = ⊥
+Tells error (Format fault) = ⊥

@@ -4,6 +4,8 @@
 
 mod command_line;
 #[cfg(test)]
+mod crash_tests;
+#[cfg(test)]
 mod delivery_tests;
 #[cfg(test)]
 mod durable_tests;

@@ -88,7 +88,7 @@ fn in_octets(alloc: Global, script: &str) -> Result<String, Fail> {
     let mut cut = String::new(alloc);
     for line in script.lines() {
         match line.split_once(' ') {
-            Some((connection, text)) if connection != "lost" => {
+            Some((connection, text)) if connection != "lost" && connection != "crash" => {
                 push_octets(&mut cut, connection, text)?;
             }
             _ => {

@@ -1,11 +1,15 @@
 //! The program as a function of its words and streams.
 
-ghost use Rattle.std.specs.Prelude.{◌≡◌, ◌≤◌, IfErr, OnOk, map};
+ghost use Rattle.std.specs.Prelude.{◌≡◌, ◌≤◌, IfErr, IfOk, OnOk, map};
+ghost use Rattle.broker_core.specs.States.{empty_state};
+ghost use Rattle.recover_core.specs.Standing.{Stands};
 ghost use Rattle.stompd.specs.CommandLines.{AsksForScript};
-ghost use Rattle.stompd.specs.Failures.{RunsToEnd, StopsBy, IsTold, Tells, status_of};
+ghost use Rattle.stompd.specs.Failures.{RunsToEnd, StopsBy, IsBeforehand, IsTold, Tells, status_of};
 
 use crate::command_line::{Subcommand, subcommand_of};
+use area_core::{FormatFault, format};
 use clap::error::ErrorKind;
+use disk_core::MemDisk;
 use engine_core::{ScriptFault, run_script};
 use std::alloc::{AllocError, Global};
 use std::convert::AsStr;
@@ -21,6 +25,12 @@ pub const FAILED: u8 = 1;
 /// The status where the words ask for nothing that it does, or for help.
 pub const BAD_COMMAND_LINE: u8 = 2;
 
+/// How many bytes the disk of a script has.
+const SCRIPT_DISK: u64 = 2_097_184;
+
+/// How many bytes stand before the two areas of a journal.
+const HEADER: u64 = 32;
+
 /// Why the program did not do what it was asked for.
 #[derive(Debug, Drop)]
 pub enum Failure {
@@ -28,6 +38,8 @@ pub enum Failure {
     CommandLine(clap::Error),
     /// The script did not run to its end, or memory was refused before it began.
     Script(ScriptFault),
+    /// The script's disk was not formatted.
+    Format(FormatFault),
 }
 
 impl Failure {
@@ -37,7 +49,7 @@ impl Failure {
     {
         match self {
             Failure::CommandLine(_) => BAD_COMMAND_LINE,
-            Failure::Script(_) => FAILED,
+            Failure::Script(_) | Failure::Format(_) => FAILED,
         }
     }
 
@@ -48,6 +60,7 @@ impl Failure {
         match self {
             Failure::CommandLine(error) => write!(errors, "{error}"),
             Failure::Script(fault) => writeln!(errors, "stompd: {fault}"),
+            Failure::Format(fault) => writeln!(errors, "stompd: {fault}"),
         }
     }
 }
@@ -94,11 +107,39 @@ pub fn run<S: AsStr, R: Read, W: Write>(
     ensures script { IfErr result (λ failure. StopsBy failure (R.remaining reader.old) (R.remaining reader.new) (W.contents writer.old) (W.contents writer.new)) }
 {
     match subcommand_of(alloc, words) {
-        Ok(Subcommand::Script) => match run_script(alloc, reader, writer) {
+        Ok(Subcommand::Script) => script(alloc, reader, writer),
+        Err(error) => Err(refusal(error)),
+    }
+}
+
+/// Runs a script over a disk in memory, with an empty journal.
+fn script<R: Read, W: Write>(alloc: Global, reader: &mut R, writer: &mut W) -> Result<(), Failure>
+    ensures ok { OnOk result (RunsToEnd (R.remaining reader.old) (R.remaining reader.new) (W.contents writer.old) (W.contents writer.new)) }
+    ensures status { IfErr result (λ failure. status_of failure ≡ 1) }
+    ensures err { IfErr result (λ failure. StopsBy failure (R.remaining reader.old) (R.remaining reader.new) (W.contents writer.old) (W.contents writer.new)) }
+{
+    match empty_journal(alloc, SCRIPT_DISK) {
+        Ok(disk) => match run_script(alloc, reader, writer, disk) {
             Ok(()) => Ok(()),
             Err(fault) => Err(Failure::Script(fault)),
         },
-        Err(error) => Err(refusal(error)),
+        Err(failure) => Err(failure),
+    }
+}
+
+/// A disk in memory of so many bytes, with an empty journal.
+fn empty_journal(alloc: Global, size: u64) -> Result<MemDisk, Failure>
+    requires { 32 ≤ size }
+    ensures empty { IfOk result (λ disk. Stands disk.content empty_state) }
+    ensures err { IfErr result IsBeforehand }
+{
+    let mut disk = match MemDisk::new(alloc, size) {
+        Ok(disk) => disk,
+        Err(refused) => return Err(Failure::Script(ScriptFault::Memory(refused))),
+    };
+    match format(alloc, &mut disk, (size - HEADER) / 2) {
+        Ok(()) => Ok(disk),
+        Err(fault) => Err(Failure::Format(fault)),
     }
 }
 

@@ -1,10 +1,9 @@
 use Rattle.std.proofs.Common.{◌≡◌, ◌∙◌, ◌∷◌, [], sym, ap, subst, ◌+◌, Option, Some, None, MatchOption, string_bytes}
-use Rattle.engine_core.specs.Scripts.{IsLine, Prints, RunsTooFar}
+use Rattle.engine_core.specs.Scripts.{IsLine, IsNotUnderstood, Prints, RunsTooFar}
 use Rattle.std.specs.Io.KnownBytes.{Appends}
-use Rattle.engine_core.specs.ScriptLines.{IsOfNoForm}
 use Rattle.std.proofs.lemmas.Result.{err_from_is_err_and}
 use Rattle.engine_core.specs.declared.fault.QueueFault.TheVariants.{CountTooLarge}
-use Rattle.engine_core.proofs.Running.{stops_too_long, stops_at_queue, stops_at_no_form, stops_at_writer, goes_on_line}
+use Rattle.engine_core.proofs.LineByLine.{stops_too_long, stops_at_queue, stops_at_no_form, stops_at_writer, goes_on_line}
 use Rattle.engine_core.proofs.run.end_line.Goals as goal
 
 pub returns-in_err-begin_line-clause-err : goal.returns-in_err-begin_line-clause-err
@@ -31,7 +30,7 @@ pub returns-in-None-clause-err : goal.returns-in-None-clause-err
 returns-in-None-clause-err g c =
     let begun = c.in_ok-begin_line.ensures in
     let line = c.as_slice.result.now in
-    let none = option_none (IsOfNoForm line) (λ text. Prints c.begin_line.new.run.script line (string_bytes text) c.perform.new.self) c.in_ok-perform.field-0 c.in-None.is c.in_ok-perform.ensures.ok in
+    let none = subst (λ s. IsNotUnderstood s line) begun.same.0 (option_none (IsNotUnderstood c.begin_line.new.run.script line) (λ text. Prints c.begin_line.new.run.script line (string_bytes text) c.perform.new.self) c.in_ok-perform.field-0 c.in-None.is c.in_ok-perform.ensures.ok) in
     stops_at_no_form c.args.run.now c.args.bytes.now line _ _ c.requires.begun c.requires.bytes (c.as_slice.ensures.value ∙ begun.ok.0) none (ap (λ n. n + 1) begun.same.1)
 
 pub returns-in_ok-write_text-in-Some-clause-ok : goal.returns-in_ok-write_text-in-Some-clause-ok
@@ -39,7 +38,7 @@ returns-in_ok-write_text-in-Some-clause-ok g c =
     let begun = c.in_ok-begin_line.ensures in
     let text = c.in-Some.text in
     let line = c.as_slice.result.now in
-    let some = option_some (IsOfNoForm line) (λ t. Prints c.begin_line.new.run.script line (string_bytes t) c.perform.new.self) c.in_ok-perform.field-0 text c.in-Some.is c.in_ok-perform.ensures.ok in
+    let some = option_some (IsNotUnderstood c.begin_line.new.run.script line) (λ t. Prints c.begin_line.new.run.script line (string_bytes t) c.perform.new.self) c.in_ok-perform.field-0 text c.in-Some.is c.in_ok-perform.ensures.ok in
     goes_on_line c.args.run.now _ c.args.bytes.now line (string_bytes text) _ _ (c.as_slice.ensures.value ∙ begun.ok.0)
     (subst IsLine (sym c.as_slice.ensures.value) begun.ok.1)
     (subst (λ s. Prints s line (string_bytes text) c.perform.new.self) begun.same.0 some)
@@ -52,7 +51,7 @@ returns-in_err-write_text-in-Some-clause-err g c =
     let text = c.in-Some.text in
     let line = c.as_slice.result.now in
     let p = err_from_is_err_and c.from_residual-in_err-write_text-in-Some.result c.from_residual-in_err-write_text-in-Some.ensures.1 in
-    let some = option_some (IsOfNoForm line) (λ t. Prints c.begin_line.new.run.script line (string_bytes t) c.perform.new.self) c.in_ok-perform.field-0 text c.in-Some.is c.in_ok-perform.ensures.ok in
+    let some = option_some (IsNotUnderstood c.begin_line.new.run.script line) (λ t. Prints c.begin_line.new.run.script line (string_bytes t) c.perform.new.self) c.in_ok-perform.field-0 text c.in-Some.is c.in_ok-perform.ensures.ok in
     rw (p.1, p.2, c.in_err-write_text-in-Some.ensures.err) (stops_at_writer c.args.run.now c.args.bytes.now line (string_bytes text) c.perform.new.self (c.as_slice.ensures.value ∙ begun.ok.0)
     (subst IsLine (sym c.as_slice.ensures.value) begun.ok.1)
     (subst (λ s. Prints s line (string_bytes text) c.perform.new.self) begun.same.0 some))

@@ -2,7 +2,7 @@ use Rattle.std.proofs.Common.{◌≡◌, ◌++◌, string_bytes}
 use Rattle.std.specs.List.{fold, AllByRecursion}
 use Rattle.session_core.specs.Sessions.{HasForm}
 use Rattle.engine_core.specs.Queues.{acted}
-use Rattle.engine_core.proofs.script.do_acts.Given as goal
+use Rattle.engine_core.proofs.running_script.do_acts.Given as goal
 
 abbrev pub invariant-loop-act : goal.invariant-loop-act
 invariant-loop-act l = record {

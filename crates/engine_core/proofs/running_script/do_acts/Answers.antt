@@ -1,6 +1,6 @@
 use Rattle.std.proofs.lemmas.Result.{err_from_is_err_and}
 use Rattle.engine_core.proofs.Counting.{go_too_far}
-use Rattle.engine_core.proofs.script.do_acts.Goals as goal
+use Rattle.engine_core.proofs.running_script.do_acts.Goals as goal
 
 pub returns-in_err-number-clause-err : goal.returns-in_err-number-clause-err
 returns-in_err-number-clause-err c =

@@ -3,17 +3,17 @@ use Rattle.std.proofs.Common.{◌≡◌, ◌+◌, List, [], ◌∷◌, ◌++◌,
 use Rattle.std.specs.List.{AllByRecursion}
 use Rattle.std.specs.Io.KnownBytes.{Appends}
 use Rattle.std.proofs.lemmas.Grind.{flat_map-append}
-use Rattle.engine_core.specs.ScriptLines.{IsOfNoForm}
 use Rattle.engine_core.specs.OfQueue.{of_queue}
 use Rattle.engine_core.specs.Runs.{Goes, Halts, StopsIn, IsTooLong}
 use Rattle.engine_core.specs.declared.run.Run.{Run}
 use Rattle.engine_core.specs.declared.fault.QueueFault.{QueueFault}
 use Rattle.engine_core.specs.declared.fault.QueueFault.TheVariants as queue
 use Rattle.engine_core.specs.declared.fault.ScriptFault.{ScriptFault}
-use Rattle.engine_core.specs.declared.fault.ScriptFault.TheVariants.{Memory, NotUnderstood, CountTooLarge, Input, Output}
-use Rattle.engine_core.specs.Scripts.{ScriptValue, Prints, PrintsAll, Takes, IsLine, HasNoLf, RunsTooFar, Tries, text_of_lines}
+use Rattle.engine_core.specs.declared.fault.ScriptFault.TheVariants.{Memory, NotUnderstood, CountTooLarge, Opening, Storing, Input, Output}
+use Rattle.engine_core.specs.Scripts.{IsNotUnderstood, Prints, PrintsAll, Takes, IsLine, HasNoLf, RunsTooFar, Tries, text_of_lines}
+use Rattle.engine_core.specs.declared.script.Script.{Script}
 
-pub prints_append : (s t u : ScriptValue) (a b : List (List ℕ)) (p q : List ℕ) → PrintsAll s a p t → PrintsAll t b q u → PrintsAll s (a ++ b) (p ++ q) u
+pub prints_append : (s t u : Script) (a b : List (List ℕ)) (p q : List ℕ) → PrintsAll s a p t → PrintsAll t b q u → PrintsAll s (a ++ b) (p ++ q) u
 prints_append s t u [] b p q first second =
     let e : q ≡ p ++ q = ap (λ x. x ++ q) (sym first.0) in
     subst (λ x. PrintsAll s b x u) e (subst (λ v. PrintsAll v b q u) first.1 second)
@@ -24,7 +24,7 @@ pub each_append : (a b : List (List ℕ)) → AllByRecursion IsLine a → AllByR
 each_append [] b first second = second
 each_append (line ∷ a) b first second = (first.0, each_append a b first.1 second)
 
-pub takes_append : (s t u : ScriptValue) (begun x y : List ℕ) (a b : List (List ℕ)) (p q middle rest : List ℕ)
+pub takes_append : (s t u : Script) (begun x y : List ℕ) (a b : List (List ℕ)) (p q middle rest : List ℕ)
     → Takes s begun x a p t middle → Takes t middle y b q u rest → Takes s begun (x ++ y) (a ++ b) (p ++ q) u rest
 takes_append s t u begun x y a b p q middle rest first second = record {
   whole = sym (append_assoc begun x y) ∙ ap (λ z. z ++ y) first.whole ∙ append_assoc (text_of_lines a) middle y ∙ ap (λ z. text_of_lines a ++ z) second.whole
@@ -44,11 +44,11 @@ appends_nothing None = tt
 appends_nothing (Some a) = sym (append-nil a)
 
 -- no line yet
-pub takes_nothing : (s : ScriptValue) (begun x : List ℕ) → Takes s begun x [] [] s (begun ++ x)
+pub takes_nothing : (s : Script) (begun x : List ℕ) → Takes s begun x [] [] s (begun ++ x)
 takes_nothing s begun x = record { whole = refl; each = tt; prints = (refl, refl) }
 
 -- one line
-pub takes_line : (s t : ScriptValue) (begun x printed : List ℕ) → IsLine (begun ++ x) → Prints s (begun ++ x) printed t → Takes s begun (x ++ 10 ∷ []) ((begun ++ x) ∷ []) printed t []
+pub takes_line : (s t : Script) (begun x printed : List ℕ) → IsLine (begun ++ x) → Prints s (begun ++ x) printed t → Takes s begun (x ++ 10 ∷ []) ((begun ++ x) ∷ []) printed t []
 takes_line s t begun x printed line prints = record {
   whole = sym (append_assoc begun x (10 ∷ [])) ∙ sym (append-nil ((begun ++ x) ++ 10 ∷ [])) ∙ ap (λ z. z ++ []) (sym (append-nil ((begun ++ x) ++ 10 ∷ [])));
   each = (line, tt);
@@ -67,6 +67,10 @@ pub stops_at_queue : (fault : QueueFault) (given : ScriptFault) (old : Run) (byt
     → line ≡ old.begun.items ++ bytes → IsLine line → (fault ≡ queue.CountTooLarge → RunsTooFar old.script line) → given ≡ of_queue fault → StopsIn given old (bytes ++ 10 ∷ []) contents contents
 stops_at_queue (queue.Memory refused) given old bytes line contents same is_line far e =
     subst (λ f. StopsIn f old (bytes ++ 10 ∷ []) contents contents) (sym e) ([], old.begun.items ++ (bytes ++ 10 ∷ []), halts_nothing old (bytes ++ 10 ∷ []) contents)
+stops_at_queue (queue.Opening refused) given old bytes line contents same is_line far e =
+    subst (λ f. StopsIn f old (bytes ++ 10 ∷ []) contents contents) (sym e) ([], old.begun.items ++ (bytes ++ 10 ∷ []), halts_nothing old (bytes ++ 10 ∷ []) contents)
+stops_at_queue (queue.Storing refused) given old bytes line contents same is_line far e =
+    subst (λ f. StopsIn f old (bytes ++ 10 ∷ []) contents contents) (sym e) ([], old.begun.items ++ (bytes ++ 10 ∷ []), halts_nothing old (bytes ++ 10 ∷ []) contents)
 stops_at_queue queue.CountTooLarge given old bytes line contents same is_line far e =
     subst (λ f. StopsIn f old (bytes ++ 10 ∷ []) contents contents) (sym e) (
       [],
@@ -84,11 +88,13 @@ stops_too_long (NotUnderstood k) old bytes after contents line no_lf (e, long) =
   inl (old.begun.items ++ bytes, after, sym (append_assoc old.begun.items bytes after), no_lf_append old.begun.items bytes line.no_lf no_lf, long),
 )
 stops_too_long (Memory refused) old bytes after contents line no_lf h = ([], old.begun.items ++ (bytes ++ after), halts_nothing old (bytes ++ after) contents)
+stops_too_long (Opening refused) old bytes after contents line no_lf h = absurd h
+stops_too_long (Storing refused) old bytes after contents line no_lf h = absurd h
 stops_too_long CountTooLarge old bytes after contents line no_lf h = absurd h
 stops_too_long Input old bytes after contents line no_lf h = absurd h
 stops_too_long Output old bytes after contents line no_lf h = absurd h
 
-pub stops_at_no_form : (old : Run) (bytes line : List ℕ) (k : ℕ) (contents : Option (List ℕ)) → IsLine old.begun.items → HasNoLf bytes → line ≡ old.begun.items ++ bytes → IsOfNoForm line → k ≡ old.lines + 1 → StopsIn (NotUnderstood k) old (bytes ++ 10 ∷ []) contents contents
+pub stops_at_no_form : (old : Run) (bytes line : List ℕ) (k : ℕ) (contents : Option (List ℕ)) → IsLine old.begun.items → HasNoLf bytes → line ≡ old.begun.items ++ bytes → IsNotUnderstood old.script line → k ≡ old.lines + 1 → StopsIn (NotUnderstood k) old (bytes ++ 10 ∷ []) contents contents
 stops_at_no_form old bytes line k contents begun no_lf same form e = (
   [],
   old.begun.items ++ (bytes ++ 10 ∷ []),
@@ -98,7 +104,7 @@ stops_at_no_form old bytes line k contents begun no_lf same form e = (
 )
 
 -- the line is one, but what it prints could not be written
-pub stops_at_writer : (old : Run) (bytes line printed : List ℕ) (new : ScriptValue)
+pub stops_at_writer : (old : Run) (bytes line printed : List ℕ) (new : Script)
     → line ≡ old.begun.items ++ bytes → IsLine line → Prints old.script line printed new → Tries old.script old.begun.items (bytes ++ 10 ∷ [])
 stops_at_writer old bytes line printed new same is_line prints = record {
   lines = [];

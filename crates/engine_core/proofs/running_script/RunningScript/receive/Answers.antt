@@ -1,9 +1,9 @@
 use Rattle.std.proofs.Common.{subst, string_bytes}
-use Rattle.engine_core.specs.Scripts.{Receives, ReceivesTooFar}
+use Rattle.engine_core.specs.Running.{Receives, ReceivesTooFar}
 use Rattle.std.proofs.lemmas.Result.{err_from_is_err_and}
 use Rattle.engine_core.proofs.Receiving.{received}
 use Rattle.engine_core.proofs.Counting.{receives_too_far}
-use Rattle.engine_core.proofs.script.Script.receive.Goals as goal
+use Rattle.engine_core.proofs.running_script.RunningScript.receive.Goals as goal
 
 pub returns-clause-ok : goal.returns-clause-ok
 returns-clause-ok c =

@@ -1,0 +1,59 @@
+-- A script while its disk runs: what its connections receive, and how they are gone.
+use Rattle.std.specs.Prelude.{◌≡◌, List, [], ℕ, Some, true, unwrap_or}
+use Rattle.std.specs.BTreeMap.{insert_entry, is_at}
+use Rattle.std.specs.List.{fold}
+use Rattle.std.specs.Map.{lookup, remove_entry}
+use Rattle.std.specs.Ordering.{nat_cmp}
+use Rattle.broker_core.specs.States.{State}
+use Rattle.session_core.specs.Sessions.{Hearing, Hears, loss_of}
+use Rattle.session_core.specs.declared.act.Act.{Act}
+use Rattle.engine_core.specs.Connections.{new_connection}
+use Rattle.engine_core.specs.Queues.{QueueValue, Progress, acted, acted_on, IsTooFar, GoTooFar}
+use Rattle.engine_core.specs.declared.running_script.Connection.{Connection}
+
+-- a script while its disk runs: its connections by rising number, and the queue
+pub record ScriptValue : Type 0 where
+  pub connections : List (ℕ × Connection)
+  pub queue : QueueValue
+
+-- with a journal of this state just opened: nobody is connected, and nothing waits
+abbrev pub beginning : State → ScriptValue
+beginning state = record { connections = []; queue = record { waiting = []; openers = []; state = state; durable = true } }
+
+-- a connection, new where there is none
+abbrev pub connection_at : ℕ → ScriptValue → Connection
+connection_at n s = unwrap_or (lookup (is_at (nat_cmp n)) s.connections) new_connection
+
+-- the script with a connection as it is now
+abbrev pub with_connection : ℕ → Connection → List (ℕ × Connection) → List (ℕ × Connection)
+with_connection n connection connections = insert_entry nat_cmp (remove_entry (is_at (nat_cmp n)) connections) n connection
+
+-- A connection receives bytes: its session hears them, and what they ask for is done, act by act.
+pub record Receives (s : ScriptValue) (n : ℕ) (bytes printed : List ℕ) (t : ScriptValue) : Type 0 where
+  pub acts : List Act
+  pub session : Hearing
+  pub hears : Hears (connection_at n s).session bytes acts session
+  pub progress : Progress
+  pub done : progress ≡ fold (acted n) (record { number = (connection_at n s).number; queue = s.queue; text = [] }) acts
+  pub same_text : printed ≡ progress.text
+  pub after : t ≡ record { connections = with_connection n (record { session = session; number = progress.number }) s.connections; queue = progress.queue }
+
+-- a connection receives bytes that ask for a command once as many have been carried out as may be
+pub record ReceivesTooFar (s : ScriptValue) (n : ℕ) (bytes : List ℕ) : Type 0 where
+  pub acts : List Act
+  pub session : Hearing
+  pub hears : Hears (connection_at n s).session bytes acts session
+  pub go_too_far : GoTooFar n (record { number = (connection_at n s).number; queue = s.queue; text = [] }) acts
+
+-- A connection is gone: the end of its session is done, where one is to come, and it is none of the connections.
+pub record Loses (s : ScriptValue) (n : ℕ) (printed : List ℕ) (t : ScriptValue) : Type 0 where
+  pub progress : Progress
+  pub done : progress ≡ acted_on n (record { number = (connection_at n s).number; queue = s.queue; text = [] }) (loss_of (connection_at n s).session.phase)
+  pub same_text : printed ≡ progress.text
+  pub after : t ≡ record { connections = remove_entry (is_at (nat_cmp n)) s.connections; queue = progress.queue }
+
+-- a connection is gone, and the end of its session comes once as many commands have been carried out as may be
+pub record LosesTooFar (s : ScriptValue) (n : ℕ) : Type 0 where
+  pub act : Act
+  pub is_loss : loss_of (connection_at n s).session.phase ≡ Some act
+  pub too_far : IsTooFar n s.queue act

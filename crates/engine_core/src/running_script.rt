@@ -1,0 +1,182 @@
+//! A script while its disk runs: its connections and the queue.
+
+ghost use Rattle.std.specs.Prelude.{◌≡◌, ◌≢◌, ◌≤◌, ◌^◌, IfErr, IfOk, string_bytes, unwrap_or};
+ghost use Rattle.std.specs.List.{AllByRecursion, fold};
+ghost use Rattle.session_core.specs.Sessions.{HasForm};
+ghost use Rattle.std.specs.BTreeMap.{is_at};
+ghost use Rattle.std.specs.Map.{lookup, remove_entry};
+ghost use Rattle.std.specs.Ordering.{nat_cmp};
+ghost use Rattle.engine_core.specs.Connections.{new_connection};
+ghost use Rattle.engine_core.specs.Queues.{Progress, acted, IsTooFar, GoTooFar};
+
+use crate::command_queue::CommandQueue;
+use crate::fault::QueueFault;
+use crate::journal::Journal;
+use crate::percent::decode_text;
+use crate::printing::print_frame;
+use disk_core::MemDisk;
+use session_core::{Act, Session};
+use std::alloc::Global;
+use std::collections::BTreeMap;
+use std::marker::Model;
+
+/// A connection of a script: its session, and that session's number once it has one.
+#[derive(Drop)]
+pub struct Connection {
+    pub session: Session,
+    pub number: u64,
+}
+
+/// A script while its disk runs. Contracts see its connections by rising number, and the queue.
+#[derive(Drop)]
+pub struct RunningScript {
+    connections: BTreeMap<u8, Connection>,
+    queue: CommandQueue,
+}
+
+impl Model for RunningScript {
+    ghost use Rattle.engine_core.specs.Running.{ScriptValue};
+
+    ghost Value = { ScriptValue };
+
+    ghost view = { λ a. record { connections = a.connections.entries; queue = a.queue } };
+}
+
+impl RunningScript {
+    ghost use Rattle.std.specs.Prelude.{◌≡◌, [], IfOk, IfErr, OnOk, IfSome, true, string_bytes};
+    ghost use Rattle.recover_core.specs.Standing.{Stands};
+    ghost use Rattle.engine_core.specs.Queues.{flush_text, flushed};
+    ghost use Rattle.engine_core.specs.Running.{beginning, Loses, Receives, LosesTooFar, ReceivesTooFar};
+    ghost use Rattle.engine_core.specs.Scripts.{StandsWithin};
+
+    /// A script with nobody connected, over a journal that was just opened. No memory is taken.
+    pub fn over(alloc: Global, journal: Journal) -> RunningScript
+        requires count { journal.state.count ≤ 2 ^ 62 }
+        requires durable { journal.durable ≡ true }
+        ensures { result ≡ beginning journal.state }
+    {
+        RunningScript {
+            connections: BTreeMap::new(alloc),
+            queue: CommandQueue::over(alloc, journal),
+        }
+    }
+
+    /// Flushes, and answers what is printed.
+    pub fn flush(&mut self, alloc: Global) -> Result<String, QueueFault>
+        ensures state { OnOk result (self.new ≡ record self.old { queue = flushed self.old.queue }) }
+        ensures text { IfOk result (λ text. string_bytes text ≡ flush_text self.old.queue) }
+        ensures err { IfErr result (λ fault. fault ≢ QueueFault.CountTooLarge) }
+    {
+        let mut text = String::new(alloc);
+        self.queue.flush(alloc, &mut text)?;
+        Ok(text)
+    }
+
+    /// The disk, unless the journal failed. What waits and the connections are dropped.
+    pub fn into_disk(self) -> Option<MemDisk>
+        ensures { IfSome result (λ disk. Stands disk.content self.queue.state) }
+    {
+        self.queue.into_disk()
+    }
+
+    /// Flushes while so many calls of the disk pass; the disk then stops, and has the fill in what was not synced, or
+    /// without one what was there before.
+    pub fn crash(self, alloc: Global, calls: u64, fill: Option<u8>) -> Result<MemDisk, QueueFault>
+        ensures stands { IfOk result (λ disk. ∥ StandsWithin self.queue disk.content ∥₁) }
+        ensures err { IfErr result (λ fault. fault ≢ QueueFault.CountTooLarge) }
+    {
+        self.queue.crash(alloc, calls, fill)
+    }
+
+    /// A connection receives bytes; answers what is printed.
+    pub fn receive(&mut self, alloc: Global, n: u8, bytes: &[u8]) -> Result<String, QueueFault>
+        ensures ok { IfOk result (λ text. Receives self.old n bytes.now (string_bytes text) self.new) }
+        ensures err { IfErr result (λ fault. fault ≡ QueueFault.CountTooLarge → ReceivesTooFar self.old n bytes.now) }
+    {
+        let Connection {
+            mut session,
+            number,
+        } = take_connection(alloc, &mut self.connections, n);
+        let acts = session.feed(alloc, bytes)?;
+        let mut text = String::new(alloc);
+        let number = do_acts(alloc, &mut self.queue, n, number, acts, &mut text)?;
+        self.connections.insert(n, Connection { session, number })?;
+        Ok(text)
+    }
+
+    /// A connection is gone; answers what is printed.
+    pub fn lose(&mut self, alloc: Global, n: u8) -> Result<String, QueueFault>
+        ensures ok { IfOk result (λ text. Loses self.old n (string_bytes text) self.new) }
+        ensures err { IfErr result (λ fault. fault ≡ QueueFault.CountTooLarge → LosesTooFar self.old n) }
+    {
+        let Connection {
+            mut session,
+            number,
+        } = take_connection(alloc, &mut self.connections, n);
+        let mut text = String::new(alloc);
+        let Some(act) = session.lost() else {
+            return Ok(text);
+        };
+        do_act(alloc, &mut self.queue, n, number, act, &mut text)?;
+        Ok(text)
+    }
+}
+
+/// Takes a connection out of the others; a new one where there is none of that number.
+fn take_connection(alloc: Global, connections: &mut BTreeMap<u8, Connection>, n: u8) -> Connection
+    ensures taken { result ≡ unwrap_or (lookup (is_at (nat_cmp n)) connections.old.entries) new_connection }
+    ensures others { connections.new.entries ≡ remove_entry (is_at (nat_cmp n)) connections.old.entries }
+{
+    match connections.remove(&n) {
+        Some(connection) => connection,
+        None => Connection {
+            session: Session::new(alloc),
+            number: 0,
+        },
+    }
+}
+
+/// Does what a connection's acts ask for, one after another; answers the number of its session then.
+fn do_acts(
+    alloc: Global,
+    queue: &mut CommandQueue,
+    connection: u8,
+    number: u64,
+    acts: Vec<Act>,
+    text: &mut String,
+) -> Result<u64, QueueFault>
+    requires { AllByRecursion HasForm acts.items }
+    ensures ok { IfOk result (λ n. record { number = n; queue = queue.new; text = string_bytes text.new }
+        ≡ fold (acted connection) (record { number = number; queue = queue.old; text = string_bytes text.old }) acts.items) }
+    ensures err { IfErr result (λ fault. fault ≡ QueueFault.CountTooLarge
+        → GoTooFar connection (record { number = number; queue = queue.old; text = string_bytes text.old }) acts.items) }
+{
+    let mut number = number;
+    for act in acts {
+        number = do_act(alloc, queue, connection, number, act, text)?;
+    }
+    Ok(number)
+}
+
+fn do_act(
+    alloc: Global,
+    queue: &mut CommandQueue,
+    connection: u8,
+    number: u64,
+    act: Act,
+    text: &mut String,
+) -> Result<u64, QueueFault>
+    requires { HasForm act }
+    ensures ok { IfOk result (λ n. record { number = n; queue = queue.new; text = string_bytes text.new }
+        ≡ acted connection (record { number = number; queue = queue.old; text = string_bytes text.old }) act) }
+    ensures err { IfErr result (λ fault. fault ≡ QueueFault.CountTooLarge → IsTooFar connection queue.old act) }
+{
+    match act {
+        Act::Do(op, receipt) => queue.submit(alloc, connection, number, op, receipt, text),
+        Act::Direct(notice) => {
+            print_frame(alloc, text, connection, notice.frame())?;
+            Ok(number)
+        }
+        Act::Close(_) => Ok(number),
+    }
+}
