@@ -9,8 +9,10 @@ use Rattle.broker_core.specs.States.{empty_state}
 use Rattle.engine_core.specs.Runs.{Stops}
 use Rattle.engine_core.specs.declared.fault.ScriptFault.{ScriptFault}
 use Rattle.engine_core.specs.declared.fault.ScriptFault.TheVariants.{Memory, Opening}
+use Rattle.journal_files.specs.JournalFiles.{Shows}
+use Rattle.journal_files.specs.declared.journal_files.FileFault.TheVariants.{Output}
 use Rattle.stompd.specs.declared.tool.Failure.{Failure}
-use Rattle.stompd.specs.declared.tool.Failure.TheVariants.{CommandLine, Script, Format}
+use Rattle.stompd.specs.declared.tool.Failure.TheVariants.{CommandLine, Number, Script, Format, File}
 
 -- a script was read to its end, and what was written is what it prints from an empty journal on
 pub record RunsToEnd (unread left before after : Option (List ℕ)) : Type 0 where
@@ -21,11 +23,18 @@ pub record RunsToEnd (unread left before after : Option (List ℕ)) : Type 0 whe
   pub is_script : IsScript empty_state input printed
   pub writes : Appends before after printed
 
+-- What was asked for is done: a script was read to its end, and what it prints is written; or nothing was read, and
+-- nothing written but what a journal shows of itself.
+abbrev pub IsDone : Option (List ℕ) → Option (List ℕ) → Option (List ℕ) → Option (List ℕ) → Type 0
+IsDone unread left before after = RunsToEnd unread left before after ⊎ ((left ≡ unread) × ((after ≡ before) ⊎ Shows before after))
+
 -- the status to end with
 abbrev pub status_of : Failure → ℕ
 status_of (CommandLine error) = 2
 status_of (Script fault) = 1
 status_of (Format fault) = 1
+status_of (File fault) = 1
+status_of Number = 2
 
 -- memory was refused, or the disk was not opened, before the script was read
 abbrev pub IsAtOnce : ScriptFault → Type 0
@@ -43,17 +52,24 @@ IsBeforehand (CommandLine error) = ⊥
 IsBeforehand (Script (Memory refused)) = Unit {0}
 IsBeforehand (Script _) = ⊥
 IsBeforehand (Format fault) = Unit {0}
+IsBeforehand (File fault) = ⊥
+IsBeforehand Number = ⊥
 
--- the failure is the script's, which a fault stops, at once or once it began with an empty journal; or nothing was read
+-- the failure is the script's, which a fault stops, at once or once it began with an empty journal; or nothing was read, and
+-- written only where a journal is shown
 abbrev pub StopsBy : Failure → Option (List ℕ) → Option (List ℕ) → Option (List ℕ) → Option (List ℕ) → Type 0
 StopsBy (CommandLine error) unread left before after = Untouched unread left before after
 StopsBy (Script fault) unread left before after = (IsAtOnce fault × Untouched unread left before after) ⊎ Stops empty_state fault unread left before after
 StopsBy (Format fault) unread left before after = Untouched unread left before after
+StopsBy (File fault) unread left before after = (left ≡ unread) × (fault ≢ Output → after ≡ before)
+StopsBy Number unread left before after = Untouched unread left before after
 
 -- a script's fault is told in one line
 abbrev pub IsTold : Failure → Option (List ℕ) → Option (List ℕ) → Type 0
 IsTold (CommandLine error) before after = Unit {0}
 IsTold (Format fault) before after = Unit {0}
+IsTold (File fault) before after = Unit {0}
+IsTold Number before after = after ≡ before
 IsTold (Script fault) before after = Appends before after (codes "stompd: " ++ fault_text fault ++ 10 ∷ [])
 
 -- the failure tells of a refused command line, or of want of memory there
@@ -62,3 +78,5 @@ Tells error (CommandLine other) = (other ≡ error) × (kind_of error ≢ OutOfM
 Tells error (Script (Memory refused)) = kind_of error ≡ OutOfMemory
 Tells error (Script _) = ⊥
 Tells error (Format fault) = ⊥
+Tells error (File fault) = ⊥
+Tells error Number = ⊥

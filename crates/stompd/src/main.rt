@@ -28,6 +28,7 @@ fn main(rt: HostRuntime) -> ExitCode {
     let mut errors = rt.stderr().lock();
     let status = match words_of(&rt) {
         Ok(words) => tool(
+            &rt,
             rt.alloc(),
             words.as_slice(),
             &mut reader,

@@ -1,8 +1,10 @@
 use crate::tool::tool;
 use std::alloc::Global;
+use std::fs::File;
 use std::io;
 use std::io::{ErrorKind, Read, Write};
 use std::process::Abort;
+use std::rt::Files;
 use std::test::Fail;
 
 const CONNECT: &str = "0 CONNECT%0Aaccept-version:1.2%0A%0A%00\n";
@@ -39,7 +41,7 @@ impl Write for Failing {
 }
 
 pub fn expect(
-    rt: &impl Abort,
+    rt: &(impl Abort + Files<File = File>),
     alloc: Global,
     script: &[u8],
     status: u8,
@@ -50,7 +52,7 @@ pub fn expect(
     let mut writer = Vec::new(alloc);
     let mut errors = Vec::new(alloc);
     let words = ["stompd", "script"];
-    let ended = tool(alloc, &words, &mut reader, &mut writer, &mut errors);
+    let ended = tool(rt, alloc, &words, &mut reader, &mut writer, &mut errors);
     assert_eq!(rt; String::from_utf8(writer)?.as_str(), printed);
     assert_eq!(rt; String::from_utf8(errors)?.as_str(), told);
     assert_eq!(rt; ended, status);
@@ -102,7 +104,7 @@ fn in_octets(alloc: Global, script: &str) -> Result<String, Fail> {
 
 /// The script as it stands, and with one octet a line.
 pub fn expect_whole_and_octets(
-    rt: &impl Abort,
+    rt: &(impl Abort + Files<File = File>),
     alloc: Global,
     script: &str,
     printed: &str,
@@ -114,7 +116,7 @@ pub fn expect_whole_and_octets(
 
 /// Text after a CONNECT, and a flush: CONNECTED comes first.
 fn expect_after_connect(
-    rt: &impl Abort,
+    rt: &(impl Abort + Files<File = File>),
     alloc: Global,
     text: &str,
     printed: &str,
@@ -136,7 +138,7 @@ pub fn text_of(alloc: Global, lines: &[&str]) -> Result<String, Fail> {
 
 /// The script of these lines as it stands, and with one octet a line.
 pub fn expect_lines(
-    rt: &impl Abort,
+    rt: &(impl Abort + Files<File = File>),
     alloc: Global,
     script: &[&str],
     printed: &[&str],
@@ -148,7 +150,7 @@ pub fn expect_lines(
 
 /// Frames of connection 0 after a CONNECT, and a flush: CONNECTED comes first, and all goes to connection 0.
 pub fn expect_frames(
-    rt: &impl Abort,
+    rt: &(impl Abort + Files<File = File>),
     alloc: Global,
     frames: &[&str],
     printed: &[&str],
@@ -293,7 +295,7 @@ fn a_stream_that_fails_is_told(rt: HostRuntime) -> Result<(), Fail> {
     let mut written = Vec::new(alloc);
     let mut told = Vec::new(alloc);
     assert_eq!(rt;
-        tool(alloc, &words, &mut Failing, &mut written, &mut told),
+        tool(&rt, alloc, &words, &mut Failing, &mut written, &mut told),
         1
     );
     assert_eq!(rt;
@@ -304,7 +306,7 @@ fn a_stream_that_fails_is_told(rt: HostRuntime) -> Result<(), Fail> {
     told.clear();
     let mut reader = script.as_bytes();
     assert_eq!(rt;
-        tool(alloc, &words, &mut reader, &mut Failing, &mut told),
+        tool(&rt, alloc, &words, &mut reader, &mut Failing, &mut told),
         1
     );
     assert_eq!(rt;
@@ -313,7 +315,7 @@ fn a_stream_that_fails_is_told(rt: HostRuntime) -> Result<(), Fail> {
     );
     let mut nothing = b"0\n".as_slice();
     assert_eq!(rt;
-        tool(alloc, &words, &mut nothing, &mut written, &mut Failing),
+        tool(&rt, alloc, &words, &mut nothing, &mut written, &mut Failing),
         1
     );
     Ok(())
@@ -335,7 +337,7 @@ fn words_that_ask_for_nothing_are_refused(rt: HostRuntime) -> Result<(), Fail> {
         let mut reader = FLUSH.as_bytes();
         let mut written = Vec::new(alloc);
         let mut told = Vec::new(alloc);
-        assert_eq!(rt; tool(alloc, words, &mut reader, &mut written, &mut told), 2);
+        assert_eq!(rt; tool(&rt, alloc, words, &mut reader, &mut written, &mut told), 2);
         assert!(rt; written.is_empty() && reader.len() == FLUSH.len() && !told.is_empty());
         if words.last() == Some(&"serve") {
             assert_eq!(rt; String::from_utf8(told)?.as_str(), unknown);

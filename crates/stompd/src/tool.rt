@@ -4,17 +4,20 @@ ghost use Rattle.std.specs.Prelude.{◌≡◌, ◌≤◌, IfErr, IfOk, OnOk, map
 ghost use Rattle.broker_core.specs.States.{empty_state};
 ghost use Rattle.recover_core.specs.Standing.{Stands};
 ghost use Rattle.stompd.specs.CommandLines.{AsksForScript};
-ghost use Rattle.stompd.specs.Failures.{RunsToEnd, StopsBy, IsBeforehand, IsTold, Tells, status_of};
+ghost use Rattle.stompd.specs.Failures.{IsDone, RunsToEnd, StopsBy, IsBeforehand, IsTold, Tells, status_of};
 
-use crate::command_line::{Subcommand, subcommand_of};
+use crate::command_line::{Refused, Subcommand, subcommand_of};
 use area_core::{FormatFault, format};
 use clap::error::ErrorKind;
 use disk_core::MemDisk;
 use engine_core::{ScriptFault, run_script};
+use journal_files::{FileFault, format_file, show_file};
 use std::alloc::{AllocError, Global};
 use std::convert::AsStr;
+use std::fs::File;
 use std::io;
 use std::io::{Read, Write};
+use std::rt::Files;
 
 /// The status where the program did what it was asked for.
 pub const DONE: u8 = 0;
@@ -36,10 +39,14 @@ const HEADER: u64 = 32;
 pub enum Failure {
     /// The words ask for nothing that the program does, or for help; the error holds the text for the user.
     CommandLine(clap::Error),
+    /// A number in the words is none. There is no text for the user.
+    Number,
     /// The script did not run to its end, or memory was refused before it began.
     Script(ScriptFault),
     /// The script's disk was not formatted.
     Format(FormatFault),
+    /// A journal file was not made, or not shown.
+    File(FileFault),
 }
 
 impl Failure {
@@ -48,8 +55,8 @@ impl Failure {
         ensures { result ≡ status_of self.now }
     {
         match self {
-            Failure::CommandLine(_) => BAD_COMMAND_LINE,
-            Failure::Script(_) | Failure::Format(_) => FAILED,
+            Failure::CommandLine(_) | Failure::Number => BAD_COMMAND_LINE,
+            Failure::Script(_) | Failure::Format(_) | Failure::File(_) => FAILED,
         }
     }
 
@@ -59,8 +66,10 @@ impl Failure {
     {
         match self {
             Failure::CommandLine(error) => write!(errors, "{error}"),
+            Failure::Number => Ok(()),
             Failure::Script(fault) => writeln!(errors, "stompd: {fault}"),
             Failure::Format(fault) => writeln!(errors, "stompd: {fault}"),
+            Failure::File(fault) => writeln!(errors, "stompd: {fault}"),
         }
     }
 }
@@ -68,7 +77,8 @@ impl Failure {
 /// Does what the words ask for, of which the first is the program's name, and answers the status to end with: 0 where it
 /// is done, 1 on a fault, 2 on a bad command line. A fault and a bad command line are told on `errors`; where that cannot
 /// be written, it is left out.
-pub fn tool<S: AsStr, R: Read, W: Write, E: Write>(
+pub fn tool<T: Files<File = File>, S: AsStr, R: Read, W: Write, E: Write>(
+    rt: &T,
     alloc: Global,
     words: &[S],
     reader: &mut R,
@@ -76,13 +86,16 @@ pub fn tool<S: AsStr, R: Read, W: Write, E: Write>(
     errors: &mut E,
 ) -> u8
     ensures status { result ≤ 2 }
-    // It is done: the script was read to its end, what it prints is written, and there is nothing to tell.
-    ensures done { result ≡ 0 → RunsToEnd (R.remaining reader.old) (R.remaining reader.new) (W.contents writer.old) (W.contents writer.new)
+    // It is done, and there is nothing to tell.
+    ensures done { result ≡ 0 → IsDone (R.remaining reader.old) (R.remaining reader.new) (W.contents writer.old) (W.contents writer.new)
         × (errors.new ≡ errors.old) }
+    // Where the words ask for the script, it was read to its end, and what it prints is written.
+    ensures script { AsksForScript (map S.text words.now) → result ≡ 0
+        → RunsToEnd (R.remaining reader.old) (R.remaining reader.new) (W.contents writer.old) (W.contents writer.new) }
     // Words that ask for the script are no bad command line, and a bad one leaves the script unread and writes nothing.
     ensures refused { result ≡ 2 → (AsksForScript (map S.text words.now) → ⊥) × (reader.new ≡ reader.old) × (writer.new ≡ writer.old) }
 {
-    match run(alloc, words, reader, writer) {
+    match run(rt, alloc, words, reader, writer) {
         Ok(()) => DONE,
         Err(failure) => {
             let _told = failure.tell(errors);
@@ -95,20 +108,32 @@ pub fn tool<S: AsStr, R: Read, W: Write, E: Write>(
 ///
 /// On a bad command line nothing is read or written. Where the script stops, what was written is what the lines before
 /// the fault print, unless it is the writer that failed.
-pub fn run<S: AsStr, R: Read, W: Write>(
+pub fn run<T: Files<File = File>, S: AsStr, R: Read, W: Write>(
+    rt: &T,
     alloc: Global,
     words: &[S],
     reader: &mut R,
     writer: &mut W,
 ) -> Result<(), Failure>
-    ensures ok { OnOk result (RunsToEnd (R.remaining reader.old) (R.remaining reader.new) (W.contents writer.old) (W.contents writer.new)) }
+    ensures ok { OnOk result (IsDone (R.remaining reader.old) (R.remaining reader.new) (W.contents writer.old) (W.contents writer.new)) }
+    ensures script_ok { AsksForScript (map S.text words.now)
+        → OnOk result (RunsToEnd (R.remaining reader.old) (R.remaining reader.new) (W.contents writer.old) (W.contents writer.new)) }
     ensures command_line { IfErr result (λ failure. status_of failure ≡ 2
         → (AsksForScript (map S.text words.now) → ⊥) × (reader.new ≡ reader.old) × (writer.new ≡ writer.old)) }
     ensures script { IfErr result (λ failure. StopsBy failure (R.remaining reader.old) (R.remaining reader.new) (W.contents writer.old) (W.contents writer.new)) }
 {
     match subcommand_of(alloc, words) {
         Ok(Subcommand::Script) => script(alloc, reader, writer),
-        Err(error) => Err(refusal(error)),
+        Ok(Subcommand::Format { file, bytes }) => match format_file(alloc, rt, file, bytes) {
+            Ok(()) => Ok(()),
+            Err(fault) => Err(Failure::File(fault)),
+        },
+        Ok(Subcommand::Show { file }) => match show_file(alloc, rt, file, writer) {
+            Ok(()) => Ok(()),
+            Err(fault) => Err(Failure::File(fault)),
+        },
+        Err(Refused::Words(error)) => Err(refusal(error)),
+        Err(Refused::Number) => Err(Failure::Number),
     }
 }
 
