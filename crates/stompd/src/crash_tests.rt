@@ -200,7 +200,7 @@ fn calls_pass_over_all_batches(rt: HostRuntime) -> Result<(), Fail> {
         send.repeat(alloc, 5)?
     )?;
     let cases = [
-        (&many, 3, "open 0 0"),
+        (&many, 3u64, "open 0 0"),
         (&many, 4, "open 32 28"),
         (&many, 7, "open 32 28"),
         (&many, 8, "open 33 28"),
