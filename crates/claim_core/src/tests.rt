@@ -32,11 +32,7 @@ fn append(ring: &Ring<(), 2, 2, 4>, seat: &mut SessionSeat<(), 2>, entry: Entry<
 }
 
 // Claims a ticket for the entry and leaves it pending.
-fn begin(
-    ring: &Ring<(), 2, 2, 4>,
-    seat: SessionSeat<(), 2>,
-    entry: &Entry<()>,
-) -> (u64, Place<()>)
+fn begin(ring: &Ring<(), 2, 2, 4>, seat: SessionSeat<(), 2>, entry: &Entry<()>) -> (u64, Place<()>)
     requires ring { seat.ring ≡ ring.now }
     requires new { (seat.own ≡ []) × (seat.seen ≡ 0) × (seat.stopped ≡ false) }
     ensures ring { result.1.table_id ≡ ring.now }
@@ -54,7 +50,13 @@ fn finish(ring: &Ring<(), 2, 2, 4>, mut place: Place<()>, ticket: u64, entry: En
     requires pending { place.me ≡ (Claims (claimer ((ticket, entry.command) ∷ []) (Some ticket) 0 false), (ticket % 4, None) ∷ []) }
     requires low { ticket < 2 ^ 62 }
 {
-    ready(&ring.table.shared, &mut place, ticket, (ticket % 4) as usize, entry);
+    ready(
+        &ring.table.shared,
+        &mut place,
+        ticket,
+        (ticket % 4) as usize,
+        entry,
+    );
 }
 
 #[test]

@@ -9,11 +9,7 @@ use std::test::Fail;
 use std::thread::{self, Threads};
 
 // How often each ticket came, where every seat was then busy at mark 0.
-fn fill_apart(
-    alloc: Global,
-    ring: &BrokerRing<()>,
-    seats: Vec<BrokerSeat<()>>,
-) -> Option<[u8; 256]>
+fn fill_apart(alloc: Global, ring: &BrokerRing<()>, seats: Vec<BrokerSeat<()>>) -> Option<[u8; 256]>
     requires { All (λ seat. seat ≡ new_session ring.now 0 seat.number) seats.items }
 {
     let mut counts = [0u8; 256];

@@ -13,12 +13,7 @@ fn count(counts: &mut [u8], ticket: u64) {
 }
 
 // Appends eight entries, counts their tickets, and answers whether a ninth is refused as busy at mark 0.
-fn fill(
-    alloc: Global,
-    ring: &BrokerRing<()>,
-    seat: &mut BrokerSeat<()>,
-    counts: &mut [u8],
-) -> bool
+fn fill(alloc: Global, ring: &BrokerRing<()>, seat: &mut BrokerSeat<()>, counts: &mut [u8]) -> bool
     requires { seat.old.ring ≡ ring.now }
 {
     for number in 0..8u64 {
