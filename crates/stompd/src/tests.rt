@@ -1,5 +1,6 @@
 use crate::tool::tool;
 use std::alloc::Global;
+use std::fs;
 use std::fs::File;
 use std::io;
 use std::io::{ErrorKind, Read, Write};
@@ -326,7 +327,9 @@ fn words_that_ask_for_nothing_are_refused(rt: HostRuntime) -> Result<(), Fail> {
     let alloc = rt.alloc();
     let unknown =
         "error: unrecognized subcommand 'serve'\n\nUsage: stompd <COMMAND>\n\nFor more information, try '--help'.\n";
-    let cases: [&[&str]; 5] = [
+    let cases: [&[&str]; 7] = [
+        &["stompd", "format", "file"],
+        &["stompd", "show"],
         &["stompd", "serve"],
         &["stompd"],
         &["stompd", "--help"],
@@ -343,5 +346,48 @@ fn words_that_ask_for_nothing_are_refused(rt: HostRuntime) -> Result<(), Fail> {
             assert_eq!(rt; String::from_utf8(told)?.as_str(), unknown);
         }
     }
+    Ok(())
+}
+
+/// Runs the program on the words, with nothing to read.
+fn expect_of(
+    rt: &(impl Abort + Files<File = File>),
+    alloc: Global,
+    words: &[&str],
+    wanted: (u8, &str, &str),
+) -> Result<(), Fail> {
+    let mut nothing = b"".as_slice();
+    let mut written = Vec::new(alloc);
+    let mut told = Vec::new(alloc);
+    let status = tool(rt, alloc, words, &mut nothing, &mut written, &mut told);
+    let (wanted_status, printed, error) = wanted;
+    assert_eq!(rt; String::from_utf8(written)?.as_str(), printed);
+    assert_eq!(rt; String::from_utf8(told)?.as_str(), error);
+    assert_eq!(rt; status, wanted_status);
+    Ok(())
+}
+
+#[test]
+fn a_journal_file_is_made_and_shown(rt: HostRuntime) -> Result<(), Fail> {
+    let alloc = rt.alloc();
+    let path = "stompd_journal_file";
+    let _ = fs::remove_file(&rt, path);
+    let small = (1, "", "stompd: J8 disk too small\n");
+    let closed = (1, "", "stompd: cannot open\n");
+    let shown = (0, "version 1\narea 0\nused 41\ncount 0\nheld 0\n", "");
+    expect_of(&rt, alloc, &["stompd", "show", path], closed)?;
+    expect_of(&rt, alloc, &["stompd", "format", path, "8223"], small)?;
+    expect_of(&rt, alloc, &["stompd", "format", path, "31"], small)?;
+    for bytes in ["", "+8224", "8224 ", "18446744073709551616"] {
+        expect_of(&rt, alloc, &["stompd", "format", path, bytes], (2, "", ""))?;
+    }
+    expect_of(&rt, alloc, &["stompd", "format", path, "08224"], (0, "", ""))?;
+    expect_of(&rt, alloc, &["stompd", "show", path], shown)?;
+    expect_of(&rt, alloc, &["stompd", "format", path, "8224"], closed)?;
+    expect_of(&rt, alloc, &["stompd", "show", path], shown)?;
+    fs::write(&rt, path, [0; 64].as_slice())?;
+    let none = (1, "", "stompd: J1 not a journal\n");
+    expect_of(&rt, alloc, &["stompd", "show", path], none)?;
+    fs::remove_file(&rt, path)?;
     Ok(())
 }
