@@ -1,13 +1,14 @@
 use crate::journals::{
-    FILLS, OPEN, SEND, SUBSCRIBE, append, batch_of, formatted, journal_of, push_record, told,
+    FILLS, OPEN, SEND, SIZE, SUBSCRIBE, append, batch_of, formatted, journal_of, push_record, told,
 };
 use area_core::format;
 use broker_core::Broker;
 use command_core::{Entry, decode};
-use disk_core::{FuseDisk, MemDisk};
-use recover_core::{AreaFault, Store, open};
+use disk_core::{FileDisk, FuseDisk, MemDisk};
+use recover_core::{AreaFault, Store, open, read};
 use snapshot_core::encode_state;
 use std::alloc::Global;
+use std::fs;
 use std::process::Abort;
 use std::test::Fail;
 
@@ -114,6 +115,26 @@ fn a_store_that_failed_stays_broken(rt: HostRuntime) -> Result<(), Fail> {
         told(alloc, store.into_disk().into_inner())?.as_str(),
         "0 0"
     );
+    Ok(())
+}
+
+// Of a file no contract knows what it holds.
+#[test]
+fn a_store_over_a_file_is_opened_again(rt: HostRuntime) -> Result<(), Fail> {
+    let alloc = rt.alloc();
+    let path = "recovery_tests_file";
+    let _ = fs::remove_file(&rt, path);
+    let mut disk = FileDisk::create(&rt, path, SIZE)?;
+    format(alloc, &mut disk, 4_096)?;
+    let batch = batch_of(alloc, &[OPEN, SEND])?;
+    match open(alloc, disk) {
+        Ok(mut store) => append(alloc, &mut store, batch.as_slice())?,
+        Err((_, fault)) => return Err(Fail::from(fault)),
+    }
+    let mut disk = FileDisk::open(&rt, path)?;
+    let seen = read(alloc, &mut disk)?;
+    assert_eq!(rt; (seen.area, seen.count, seen.held.messages), (1, 2, 1));
+    fs::remove_file(&rt, path)?;
     Ok(())
 }
 
