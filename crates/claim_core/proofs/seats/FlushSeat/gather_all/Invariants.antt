@@ -1,0 +1,7 @@
+use Rattle.std.proofs.Common.{◌≡◌}
+use Rattle.claim_core.specs.declared.views.View.TheVariants.{Owns}
+use Rattle.claim_core.specs.Seats.{owner_with}
+use Rattle.claim_core.proofs.seats.FlushSeat.gather_all.Given as goal
+
+abbrev pub invariant-loop-seat : goal.invariant-loop-seat
+invariant-loop-seat g l = (l.place.table_id ≡ l.board.table_id) × (l.place.me.0 ≡ Owns (owner_with l.fn.self l.yielded))

@@ -1,0 +1,7 @@
+pub mod Appends
+pub mod Counts
+pub mod Endings
+pub mod Laid
+pub mod Rule
+pub mod Seats
+pub mod Steps

@@ -1,0 +1,22 @@
+//! The claim buffer: sessions claim places in one order of all commands without waiting, and one flusher takes them.
+
+#![tactic(auto)]
+
+mod closing;
+mod ending;
+mod opening;
+mod plays;
+mod refusals;
+mod released;
+mod ring;
+mod seats;
+mod sizes;
+mod steps;
+mod views;
+
+pub use ending::RingEnd;
+pub use refusals::{NotYet, Refused};
+pub use released::Released;
+pub use ring::Ring;
+pub use seats::{FlushSeat, SessionSeat};
+pub use sizes::{BrokerRing, BrokerSeat, PLACES, SEATS, WINDOW};

@@ -1,0 +1,83 @@
+//! What each step tells the seat that makes it. These types are for the proofs alone.
+
+ghost use Rattle.claim_core.specs.declared.views.View.TheVariants.{Spent};
+ghost use Rattle.claim_core.specs.Steps.{saw_mark, saw_stop, claimed_for, readied, took, freed, raised, stopped, ended, dealt, fresh, joined_to};
+
+use crate::views::{Told, View};
+use atomic_table::{Join, Play, Split};
+use command_core::Entry;
+use std::marker::PhantomData;
+
+pub struct SeeMark;
+
+impl<B> Play<Option<Entry<B>>, View> for SeeMark {
+    ghost then = { saw_mark };
+}
+
+pub struct SeeStop;
+
+impl<B> Play<Option<Entry<B>>, View> for SeeStop {
+    ghost then = { saw_stop };
+}
+
+pub struct Claim<C> {
+    marker: PhantomData<C>,
+}
+
+impl<B, C: Told> Play<Option<Entry<B>>, View> for Claim<C> {
+    ghost then = { claimed_for C.command };
+}
+
+pub struct Ready;
+
+impl<B> Play<Option<Entry<B>>, View> for Ready {
+    ghost then = { readied };
+}
+
+pub struct Take;
+
+impl<B> Play<Option<Entry<B>>, View> for Take {
+    ghost then = { took };
+}
+
+pub struct Free;
+
+impl<B> Play<Option<Entry<B>>, View> for Free {
+    ghost then = { freed };
+}
+
+pub struct Raise;
+
+impl<B> Play<Option<Entry<B>>, View> for Raise {
+    ghost then = { raised };
+}
+
+pub struct Stop;
+
+impl<B> Play<Option<Entry<B>>, View> for Stop {
+    ghost then = { stopped };
+}
+
+// The owner deals a seat.
+pub struct Deal;
+
+impl Split<View> for Deal {
+    ghost left = { dealt };
+
+    ghost right = { fresh };
+}
+
+// The owner takes a seat back.
+pub struct Gather;
+
+impl Join<View> for Gather {
+    ghost both = { joined_to };
+
+    ghost spent = { Spent };
+}
+
+pub struct End;
+
+impl<B> Play<Option<Entry<B>>, View> for End {
+    ghost then = { ended };
+}

@@ -1,0 +1,52 @@
+//! What may leave.
+
+ghost use Rattle.std.specs.Prelude.{◌≡◌, ◌<◌, ◌≤◌, IfOk, IfErr};
+ghost use Rattle.frame_core.specs.Writable.{Writable};
+
+use crate::refusals::NotYet;
+use command_core::Out;
+use frame_core::Frame;
+use std::marker::Model;
+
+/// An output that may leave, since its number is under a mark that was read. Only `Ring::release` makes one. Contracts
+/// see it as the output.
+#[derive(Debug, Drop)]
+pub struct Released {
+    out: Out,
+}
+
+impl Model for Released {
+    ghost use Rattle.command_core.specs.Outs.{OutValue};
+
+    ghost Value = { OutValue };
+
+    ghost view = { λ a. a.out };
+}
+
+impl Released {
+    // The output, where its number is under the mark.
+    pub(crate) fn under(mark: u64, out: Out) -> Result<Released, (Out, NotYet)>
+        ensures ok { IfOk result (λ released. (released ≡ out) × (out.number < mark)) }
+        ensures not_yet { IfErr result (λ back. (back.0 ≡ out) × (back.1.0 ≡ mark) × (mark ≤ out.number)) }
+    {
+        if out.number() < mark {
+            Ok(Released { out })
+        } else {
+            Err((out, NotYet(mark)))
+        }
+    }
+
+    pub fn frame(&self) -> &Frame
+        ensures value { result.now ≡ self.now.frame }
+        ensures form { Writable self.now.frame }
+    {
+        self.out.frame()
+    }
+
+    /// The number of the command that gave it.
+    pub fn number(&self) -> u64
+        ensures { result ≡ self.now.number }
+    {
+        self.out.number()
+    }
+}

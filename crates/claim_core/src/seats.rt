@@ -1,0 +1,231 @@
+//! The seats of a ring: who makes steps at it.
+
+ghost use Rattle.std.specs.Prelude.{◌≡◌, ◌+◌, ◌<◌, ◌≤◌, ◌^◌, false, List, [], length, nat_lt, vec_capacity, All, MatchOption};
+ghost use Rattle.command_core.specs.Commands.{CommandValue};
+ghost use Rattle.claim_core.specs.declared.views.View.TheVariants.{Owns, Claims};
+ghost use Rattle.claim_core.specs.Endings.{Ends};
+ghost use Rattle.claim_core.specs.Rule.{far};
+ghost use Rattle.claim_core.specs.Steps.{IsLast, owning};
+ghost use Rattle.claim_core.specs.Seats.{waiting, with_seen, with_stop, with_own, next_ticket, with_taken, with_mark, when_stopped, with_seat, new_session, new_flushing, claimer_from};
+
+use crate::ending::RingEnd;
+use crate::steps::{
+    claim, deal, free, gather, hold, load_mark, load_stop, load_tail, raise, ready, stop,
+};
+use crate::views::{Board, Place};
+use command_core::Entry;
+use std::marker::Model;
+
+/// The seat of one session at a ring. It takes no memory after it was made. Contracts see its ring, its number, its own
+/// commands with their tickets, the mark that it read last, and whether its last append found the ring stopped.
+#[derive(Drop)]
+pub struct SessionSeat<B, const WINDOW: usize> {
+    pub(crate) place: Place<B>,
+    // Its own tickets that are not under the mark it read last.
+    waits: Vec<u64>,
+    number: u32,
+}
+
+impl<B, const WINDOW: usize> Model for SessionSeat<B, WINDOW> {
+    ghost use Rattle.std.specs.Prelude.{vec_capacity};
+    ghost use Rattle.claim_core.specs.Seats.{SessionSeatValue, session_value, IsSession};
+
+    ghost Value = { SessionSeatValue };
+
+    ghost view = { λ a. session_value a.place.table_id a.number a.place.me.0 };
+
+    ghost invariant = { λ a. IsSession WINDOW a.place.me a.waits.items (vec_capacity a.waits) };
+}
+
+impl<B, const WINDOW: usize> SessionSeat<B, WINDOW> {
+    /// Which of the ring's seats it is, counted from 0.
+    pub fn number(&self) -> u32
+        ensures { result ≡ self.now.number }
+    {
+        self.number
+    }
+
+    // The seat at the table, to be taken back.
+    fn into_place(self) -> Place<B>
+        ensures ring { result.table_id ≡ self.ring }
+        ensures knows { result.me ≡ (Claims (claimer_from self), []) }
+    {
+        self.place
+    }
+
+    // Whether the flusher has stopped the ring.
+    pub(crate) fn finds_stop(&mut self, board: &Board<B>) -> bool
+        requires fits { (self.old.ring ≡ board.now.table_id) × (board.now.table_id.words ≡ board.now.table_id.slots + 3) }
+        ensures { self.new ≡ with_stop self.old result }
+    {
+        load_stop(board, &mut self.place) == 1
+    }
+
+    // Reads the mark, and lets the open tickets under it go.
+    pub(crate) fn read_mark(&mut self, board: &Board<B>) -> u64
+        requires fits { (self.old.ring ≡ board.now.table_id) × (board.now.table_id.words ≡ board.now.table_id.slots + 3) }
+        ensures seen { self.new ≡ with_seen self.old result }
+        ensures no_less { self.old.seen ≤ result }
+    {
+        let mark = load_mark(board, &mut self.place);
+        self.waits.retain(|ticket| *ticket >= mark);
+        mark
+    }
+
+    // Whether fewer of its own commands than the window wait for the mark.
+    pub(crate) fn has_room(&self) -> bool
+        ensures { result ≡ nat_lt (waiting self.now) WINDOW }
+    {
+        self.waits.len() < WINDOW
+    }
+
+    // Claims the next ticket for the entry, and makes it ready.
+    pub(crate) fn put(&mut self, board: &Board<B>, places: u64, entry: Entry<B>) -> u64
+        requires fits { (self.old.ring ≡ board.now.table_id) × (board.now.table_id.words ≡ board.now.table_id.slots + 3) }
+        requires places { (board.now.table_id.slots ≡ places) × (0 < places) × (places ≤ 4096) }
+        requires room { (board.now.key.window ≡ WINDOW) × (waiting self.old < WINDOW) × (self.old.seen < far) }
+        ensures added { self.new ≡ with_own self.old result entry.command }
+        ensures unseen { self.old.seen ≤ result }
+        ensures last { IsLast result self.old.own }
+    {
+        let ticket = claim(board, &mut self.place, &entry);
+        let place = (ticket % places) as usize;
+        ready(board, &mut self.place, ticket, place, entry);
+        self.waits.push_reserved(ticket);
+        ticket
+    }
+}
+
+/// The seat of the one who takes the entries and raises the mark. Contracts see its ring, the ring's first ticket, the
+/// commands that it has taken, the mark, whether it has stopped the ring, and how many sessions' seats there are.
+#[derive(Drop)]
+pub struct FlushSeat<B> {
+    place: Place<B>,
+    base: u64,
+    // The ticket after those taken.
+    next: u64,
+    mark: u64,
+}
+
+impl<B> Model for FlushSeat<B> {
+    ghost use Rattle.claim_core.specs.Seats.{FlushSeatValue, flush_value, IsFlush};
+
+    ghost Value = { FlushSeatValue };
+
+    ghost view = { λ a. flush_value a.place.table_id a.place.me.0 };
+
+    ghost invariant = { λ a. IsFlush a.place.me a.base a.next a.mark };
+}
+
+impl<B> FlushSeat<B> {
+    // The seat of a new ring, which has dealt none.
+    pub(crate) fn new(place: Place<B>, base: u64) -> FlushSeat<B>
+        requires { (place.me ≡ (Owns (owning base [] false base false 0 []), [])) × (base ≤ 2 ^ 61) }
+        ensures { result ≡ new_flushing place.table_id base 0 }
+    {
+        FlushSeat {
+            place,
+            base,
+            next: base,
+            mark: base,
+        }
+    }
+
+    // A session's seat more.
+    pub(crate) fn deal<const WINDOW: usize>(
+        &mut self,
+        board: &Board<B>,
+        waits: Vec<u64>,
+        number: u32,
+    ) -> SessionSeat<B, WINDOW>
+        requires fits { (self.old.ring ≡ board.now.table_id) × (board.now.table_id.words ≡ board.now.table_id.slots + 3) }
+        requires few { self.old.seats < board.now.key.seats }
+        requires waits { (waits.items ≡ []) × (WINDOW ≤ vec_capacity waits) }
+        ensures counted { self.new ≡ with_seat self.old }
+        ensures dealt { result ≡ new_session self.old.ring self.old.base number }
+    {
+        let place = deal(board, &mut self.place);
+        SessionSeat {
+            place,
+            waits,
+            number,
+        }
+    }
+
+    /// The ticket after those taken, which comes next.
+    pub fn next(&self) -> u64
+        ensures next { result ≡ next_ticket self.now }
+        ensures mark { self.now.published ≤ result }
+    {
+        self.next
+    }
+
+    /// The mark: every number under it is published.
+    pub fn mark(&self) -> u64
+        ensures mark { result ≡ self.now.published }
+        ensures base { self.now.base ≤ result }
+    {
+        self.mark
+    }
+
+    // Takes the next entry where it is ready.
+    pub(crate) fn pick(&mut self, board: &Board<B>, places: u64) -> Option<Entry<B>>
+        requires fits { (self.old.ring ≡ board.now.table_id) × (board.now.table_id.words ≡ board.now.table_id.slots + 3) }
+        requires places { (board.now.table_id.slots ≡ places) × (0 < places) × (places ≤ 4096) }
+        ensures { MatchOption result (self.new ≡ self.old) (λ entry. self.new ≡ with_taken self.old entry.command) }
+    {
+        let ticket = self.next;
+        let place = (ticket % places) as usize;
+        if hold(board, &mut self.place, ticket, place) != 3 * ticket + 1 {
+            return None;
+        }
+        let entry = board.exchange(&mut self.place, place, None);
+        free(board, &mut self.place, ticket, place, places);
+        self.next = ticket + 1;
+        entry
+    }
+
+    pub(crate) fn raise_to(&mut self, board: &Board<B>, mark: u64)
+        requires fits { (self.old.ring ≡ board.now.table_id) × (board.now.table_id.words ≡ board.now.table_id.slots + 3) }
+        requires mark { (self.old.published ≤ mark) × (mark ≤ next_ticket self.old) }
+        ensures { self.new ≡ with_mark self.old mark }
+    {
+        raise(board, &mut self.place, mark);
+        self.mark = mark;
+    }
+
+    pub(crate) fn stop_ring(&mut self, board: &Board<B>)
+        requires fits { (self.old.ring ≡ board.now.table_id) × (board.now.table_id.words ≡ board.now.table_id.slots + 3) }
+        ensures { self.new ≡ when_stopped self.old }
+    {
+        stop(board, &mut self.place);
+    }
+
+    // Takes all sessions' seats back and reads the next ticket.
+    pub(crate) fn gather_all<const WINDOW: usize>(
+        self,
+        board: &Board<B>,
+        seats: Vec<SessionSeat<B, WINDOW>>,
+    ) -> RingEnd
+        requires fits { (self.ring ≡ board.now.table_id) × (board.now.table_id.words ≡ board.now.table_id.slots + 3) }
+        requires seats { All (λ seat. seat.ring ≡ board.now.table_id) seats.items }
+        requires all { length seats.items ≡ self.seats }
+        ensures { (log : List CommandValue) × Ends seats.items self log result }
+    {
+        let FlushSeat {
+            mut place,
+            base,
+            next,
+            mark,
+        } = self;
+        for seat in seats {
+            gather(board, &mut place, seat.into_place());
+        }
+        RingEnd {
+            base,
+            claimed: load_tail(board, &mut place),
+            taken: next,
+            mark,
+        }
+    }
+}
