@@ -1,0 +1,10 @@
+//! Tests of recovery by its public face: what is told of a damaged journal, and what a stop at each call leaves.
+
+#![tactic(auto)]
+
+#[cfg(test)]
+mod damage_tests;
+#[cfg(test)]
+mod journals;
+#[cfg(test)]
+mod stop_tests;
