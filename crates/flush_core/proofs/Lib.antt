@@ -1,2 +1,3 @@
 pub mod Keeping
 pub mod Taken
+pub mod Turns

@@ -81,6 +81,17 @@ pub record IsFlusher {D : Type 0} (honest : D → Type 0) (images : D → List �
   pub stopped : f.broken ≡ true → f.seat.stopped ≡ true
   pub running : f.broken ≡ false → IsRunning honest images f
 
+-- two flushers are the same but for their disks
+pub record IsSame {C D : Type 0} (one : Flushed C) (other : Flushed D) : Type 0 where
+  pub seat : other.seat ≡ one.seat
+  pub opening : other.opening ≡ one.opening
+  pub stored : other.stored ≡ one.stored
+  pub settled : other.settled ≡ one.settled
+  pub broker : other.broker ≡ one.broker
+  pub waiting : other.waiting ≡ one.waiting
+  pub left : other.left ≡ one.left
+  pub broken : other.broken ≡ one.broken
+
 -- How the fields show it while no step has failed: the journal is whole, entries stand for the commands that wait to be
 -- stored and for those that wait to be carried out, and there is room for the outputs that wait.
 pub record IsHeld {B : Type 0} (seat : FlushSeatValue) (stored settled : ℕ) (journal : Bool) (batch done : List (EntryValue B)) (bytes left waiting room : ℕ) : Type 0 where

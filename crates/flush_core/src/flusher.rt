@@ -1,10 +1,10 @@
 //! The flusher, and what it keeps.
 
-ghost use Rattle.std.specs.Prelude.{◌≡◌, ◌≤◌, [], List, ℕ, true, false};
+ghost use Rattle.std.specs.Prelude.{◌≡◌, ◌≤◌, [], false};
 ghost use Rattle.disk_core.specs.Fuse.{calls_left, fused};
 ghost use Rattle.recover_core.specs.Standing.{StandFor};
-ghost use Rattle.recover_core.specs.Stores.{disk_of, is_broken, size_of, used_of};
-ghost use Rattle.flush_core.specs.Flushed.{AreUnder, HoldBetween, IsFlusher, flushed};
+ghost use Rattle.recover_core.specs.Stores.{disk_of, is_broken};
+ghost use Rattle.flush_core.specs.Flushed.{HoldBetween, IsFlusher, IsSame, flushed};
 
 use broker_core::Broker;
 use claim_core::FlushSeat;
@@ -88,5 +88,43 @@ impl<D: Disk> Flusher<D> {
         ensures kept { IsFlusher D.honest D.images self.now }
     {
         self.broken
+    }
+
+    /// The disk and the seat, as they are. Outputs that wait are let go.
+    pub fn into_parts(self) -> (D, FlushSeat<()>)
+        ensures parts { (result.0 ≡ self.disk) × (result.1 ≡ self.seat) }
+        ensures kept { IsFlusher D.honest D.images self }
+    {
+        (self.journal.into_disk(), self.seat)
+    }
+
+    /// The disk, as it is. The seat and the outputs that wait are let go.
+    pub fn into_disk(self) -> D
+        ensures disk { result ≡ self.disk }
+        ensures held { D.honest result → HoldBetween (D.images result) self.opening self.seat }
+    {
+        self.journal.into_disk()
+    }
+
+    /// The same flusher over a disk that passes so many more calls and then fails.
+    pub fn fuse(self, calls: u64) -> Flusher<FuseDisk<D>>
+        ensures disk { fused result.disk ≡ self.disk }
+        ensures calls { calls_left result.disk ≡ calls }
+        ensures same { IsSame self result }
+    {
+        Flusher {
+            journal: self.journal.fuse(calls),
+            broker: self.broker,
+            seat: self.seat,
+            opening: self.opening,
+            batch: self.batch,
+            bytes: self.bytes,
+            done: self.done,
+            stored: self.stored,
+            settled: self.settled,
+            waiting: self.waiting,
+            left: self.left,
+            broken: self.broken,
+        }
     }
 }

@@ -35,6 +35,9 @@ impl<D: Disk> Flusher<D> {
         ensures honest { D.honest self.old.disk → D.honest self.new.disk }
         ensures was_honest { D.honest self.new.disk → D.honest self.old.disk }
     {
+        if self.is_broken() {
+            return Err(FlushFault::Broken);
+        }
         let count = self.gather(ring)?;
         self.store(alloc, ring)?;
         self.settle(alloc, ring)?;
