@@ -1,8 +1,7 @@
 -- What a flusher keeps, from call to call.
-use Rattle.std.proofs.Common.{◌≡◌, ◌<◌, ◌≤◌, ◌+◌, ◌-◌, ◌^◌, ◌++◌, ◌⊎◌, ⊎_elim, ℕ, Bool, true, false, List, [], ◌∷◌, length, length-append, take, drop, refl, sym, ◌∙◌, ap, subst, arith}
-use Rattle.std.proofs.Math.Logic.{∥∥₁_prop, ∥∥₁_map, ∥∥₁_elim}
+use Rattle.std.proofs.Common.{◌≡◌, ◌<◌, ◌≤◌, ◌+◌, ◌-◌, ◌^◌, ◌++◌, ⊎_elim, ℕ, Bool, true, false, List, [], ◌∷◌, length, length-append, take, refl, sym, ◌∙◌, ap, subst, arith}
+use Rattle.std.proofs.Math.Logic.{∥∥₁_map}
 use Rattle.std.proofs.lemmas.List.{length-take-le}
-use Rattle.std.specs.List.{AllByRecursion}
 use Rattle.frame_core.proofs.Lists.{all_append}
 use Rattle.command_core.specs.Commands.{CommandValue}
 use Rattle.area_core.specs.Areas.{commands, records}
@@ -14,9 +13,9 @@ use Rattle.broker_core.specs.Steps.{outs_of, state_after}
 use Rattle.claim_core.specs.Seats.{FlushSeatValue, next_ticket, when_stopped, with_mark}
 use Rattle.recover_core.specs.Standing.{StandFor, Stands, StandsForEither}
 use Rattle.flush_core.specs.Batches.{IsBatch, between, from_on, state_at, state_taken, with_more}
-use Rattle.flush_core.specs.Flushed.{AfterSome, AreUnder, Flushed, HoldBetween, IsFlusher, IsHeld, IsRunning, gathered, unsettled}
-use Rattle.flush_core.specs.Outcomes.{publishing, settling, storing, taking}
-use Rattle.flush_core.proofs.Taken.{all_at, at_between, at_more, at_start, between_all, between_more, between_none, count_after, from_end, from_more, length_between, length_commands, outs_under, sound_after, under_more}
+use Rattle.flush_core.specs.Flushed.{AfterSome, AreUnder, Flushed, HoldBetween, IsFlusher, IsHeld, unsettled}
+use Rattle.flush_core.specs.Outcomes.{settling}
+use Rattle.flush_core.proofs.Taken.{all_at, at_between, at_more, at_start, between_all, between_more, between_none, count_after, from_end, length_between, length_commands, outs_under, sound_after, under_more}
 
 -- each image stands for the state at one number
 pub hold_at : (images : List ℕ → Type 0) (opening : State) (seat : FlushSeatValue) (n : ℕ) → seat.published ≤ n → n ≤ next_ticket seat → StandFor images (state_at opening seat n) → HoldBetween images opening seat
@@ -114,25 +113,25 @@ module _ {D : Type 0} (honest : D → Type 0) (images : D → List ℕ → Type 
       → f.broker ≡ record { state = f.opening; broken = false } → f.opening.count ≡ f.seat.base → IsSound f.opening
       → (honest f.disk → StandFor (images f.disk) f.opening) → f.waiting ≡ [] → f.left ≡ [] → f.broken ≡ false → IsFlusher honest images f
   starts f none published stored settled broker count sound stand waiting left whole =
-    let same : (n : ℕ) → state_at f.opening f.seat n ≡ f.opening = λ n. at_start f.opening f.seat n none in
-    let at : (n : ℕ) → honest f.disk → StandFor (images f.disk) (state_at f.opening f.seat n) = λ n h. subst (λ (s : State). StandFor (images f.disk) s) (sym (same n)) (stand h) in
-    record {
-      begun = omega (arith, published);
-      marked = omega (arith, published, settled);
-      settled = omega (arith, settled, stored);
-      stored = omega (arith, stored);
-      opened = count;
-      sound = sound;
-      each = λ h. hold_at (images f.disk) f.opening f.seat f.seat.base (omega (arith, published)) (omega arith) (at f.seat.base h);
-      under = subst (λ (l : List OutValue). AreUnder f.seat.published l) (sym left) tt;
-      stopped = λ broken. absurd (cc (broken, whole));
-      running = λ _. record {
-        stands = at f.stored;
-        broker = broker ∙ ap (λ (s : State). record { state = s; broken = false }) (sym (same f.settled));
-        batch = subst (λ (l : List CommandValue). IsBatch l) (sym (from_end f.seat f.stored (omega (arith, stored, ap (λ (l : List CommandValue). length l) none)))) no_batch;
-        waiting = subst (λ (l : List OutValue). AreUnder f.settled l) (sym waiting) tt;
-      };
-    }
+      let same : (n : ℕ) → state_at f.opening f.seat n ≡ f.opening = λ n. at_start f.opening f.seat n none in
+      let at : (n : ℕ) → honest f.disk → StandFor (images f.disk) (state_at f.opening f.seat n) = λ n h. subst (λ (s : State). StandFor (images f.disk) s) (sym (same n)) (stand h) in
+      record {
+        begun = omega (arith, published);
+        marked = omega (arith, published, settled);
+        settled = omega (arith, settled, stored);
+        stored = omega (arith, stored);
+        opened = count;
+        sound = sound;
+        each = λ h. hold_at (images f.disk) f.opening f.seat f.seat.base (omega (arith, published)) (omega arith) (at f.seat.base h);
+        under = subst (λ (l : List OutValue). AreUnder f.seat.published l) (sym left) tt;
+        stopped = λ broken. absurd (cc (broken, whole));
+        running = λ _. record {
+          stands = at f.stored;
+          broker = broker ∙ ap (λ (s : State). record { state = s; broken = false }) (sym (same f.settled));
+          batch = subst (λ (l : List CommandValue). IsBatch l) (sym (from_end f.seat f.stored (omega (arith, stored, ap (λ (l : List CommandValue). length l) none)))) no_batch;
+          waiting = subst (λ (l : List OutValue). AreUnder f.settled l) (sym waiting) tt;
+        };
+      }
 
   -- more is taken
   pub takes : (f : Flushed D) (seat : FlushSeatValue) (more : List CommandValue) → seat ≡ with_more f.seat more → IsBatch (from_on seat f.stored) → f.broken ≡ false → IsFlusher honest images f → IsFlusher honest images (record f { seat = seat })
@@ -195,80 +194,80 @@ module _ {D : Type 0} (honest : D → Type 0) (images : D → List ℕ → Type 
       → (honest next → StandFor (images next) (state_taken f.opening f.seat)) → IsFlusher honest images f
       → IsFlusher honest images (record f { disk = next; size = size; used = used; stored = stored })
   stores f next size used stored is whole after kept =
-    let stand : honest next → StandFor (images next) (state_at f.opening f.seat stored) = λ h. subst (λ (s : State). StandFor (images next) s) (sym (all_at f.opening f.seat stored is)) (after h) in
-    let run = kept.running whole in
-    record {
-      begun = kept.begun;
-      marked = kept.marked;
-      settled = omega (arith, is, kept.settled, kept.stored);
-      stored = omega (arith, is);
-      opened = kept.opened;
-      sound = kept.sound;
-      each = λ h. hold_at (images next) f.opening f.seat stored (omega (arith, is, kept.marked, kept.settled, kept.stored)) (omega (arith, is)) (stand h);
-      under = kept.under;
-      stopped = kept.stopped;
-      running = λ _. record {
-        stands = stand;
-        broker = run.broker;
-        batch = subst (λ (l : List CommandValue). IsBatch l) (sym (from_end f.seat stored is)) no_batch;
-        waiting = run.waiting;
-      };
-    }
+      let stand : honest next → StandFor (images next) (state_at f.opening f.seat stored) = λ h. subst (λ (s : State). StandFor (images next) s) (sym (all_at f.opening f.seat stored is)) (after h) in
+      let run = kept.running whole in
+      record {
+        begun = kept.begun;
+        marked = kept.marked;
+        settled = omega (arith, is, kept.settled, kept.stored);
+        stored = omega (arith, is);
+        opened = kept.opened;
+        sound = kept.sound;
+        each = λ h. hold_at (images next) f.opening f.seat stored (omega (arith, is, kept.marked, kept.settled, kept.stored)) (omega (arith, is)) (stand h);
+        under = kept.under;
+        stopped = kept.stopped;
+        running = λ _. record {
+          stands = stand;
+          broker = run.broker;
+          batch = subst (λ (l : List CommandValue). IsBatch l) (sym (from_end f.seat stored is)) no_batch;
+          waiting = run.waiting;
+        };
+      }
 
   -- the broker counts what is settled
   pub count_at : (f : Flushed D) → IsFlusher honest images f → (state_at f.opening f.seat f.settled).count ≡ f.settled
   count_at f kept =
-    let most : f.settled - f.seat.base ≤ length f.seat.taken = omega (arith, kept.settled, kept.stored) in
-    omega (arith, count_after (take (f.settled - f.seat.base) f.seat.taken) f.opening, kept.opened, length-take-le (f.settled - f.seat.base) f.seat.taken most, kept.begun, kept.marked)
+      let most : f.settled - f.seat.base ≤ length f.seat.taken = omega (arith, kept.settled, kept.stored) in
+      omega (arith, count_after (take (f.settled - f.seat.base) f.seat.taken) f.opening, kept.opened, length-take-le (f.settled - f.seat.base) f.seat.taken most, kept.begun, kept.marked)
 
   pub settled_state : (f : Flushed D) → f.broken ≡ false → IsFlusher honest images f → state_after f.broker.state (unsettled f) ≡ state_at f.opening f.seat f.stored
   settled_state f whole kept =
-    let state : f.broker.state ≡ state_at f.opening f.seat f.settled = ap (λ (b : BrokerValue). b.state) (kept.running whole).broker in
-    ap (λ (s : State). state_after s (unsettled f)) state ∙ at_between f.opening f.seat f.settled f.stored (omega (arith, kept.begun, kept.marked)) kept.settled
+      let state : f.broker.state ≡ state_at f.opening f.seat f.settled = ap (λ (b : BrokerValue). b.state) (kept.running whole).broker in
+      ap (λ (s : State). state_after s (unsettled f)) state ∙ at_between f.opening f.seat f.settled f.stored (omega (arith, kept.begun, kept.marked)) kept.settled
 
   -- the numbers that are carried out are counted in 62 bits
   pub counts : {B : Type 0} (f : Flushed D) (done : List (EntryValue B)) → f.broken ≡ false → IsFlusher honest images f → commands done ≡ unsettled f → f.stored ≤ 2 ^ 62 → f.broker.state.count + length done ≤ 2 ^ 62
   counts f done whole kept is few =
-    let begun : f.seat.base ≤ f.settled = omega (arith, kept.begun, kept.marked) in
-    let state = ap (λ (b : BrokerValue). b.state.count) (kept.running whole).broker in
-    omega (arith, state, count_at f kept, length_commands done, ap (λ (l : List CommandValue). length l) is, length_between f.seat f.settled f.stored begun kept.settled kept.stored, kept.settled, few)
+      let begun : f.seat.base ≤ f.settled = omega (arith, kept.begun, kept.marked) in
+      let state = ap (λ (b : BrokerValue). b.state.count) (kept.running whole).broker in
+      omega (arith, state, count_at f kept, length_commands done, ap (λ (l : List CommandValue). length l) is, length_between f.seat f.settled f.stored begun kept.settled kept.stored, kept.settled, few)
 
   pub settling_is : (f : Flushed D) (broker : BrokerValue) (waiting left : List OutValue) → f.broken ≡ false → IsFlusher honest images f
       → broker ≡ record { state = state_after f.broker.state (unsettled f); broken = false } → waiting ≡ f.waiting ++ outs_of f.broker.state (unsettled f) → left ≡ f.left
       → record f { settled = f.stored; broker = broker; waiting = waiting; left = left } ≡ settling f (unsettled f)
   settling_is f broker waiting left whole kept is outs same =
-    let all : broker ≡ record { state = state_at f.opening f.seat f.stored; broken = false } = is ∙ ap (λ (s : State). record { state = s; broken = false }) (settled_state f whole kept) in
-    λ i. record f { settled = f.stored; broker = all i; waiting = outs i; left = same i }
+      let all : broker ≡ record { state = state_at f.opening f.seat f.stored; broken = false } = is ∙ ap (λ (s : State). record { state = s; broken = false }) (settled_state f whole kept) in
+      λ i. record f { settled = f.stored; broker = all i; waiting = outs i; left = same i }
 
   -- all that is stored is carried out
   pub settles : (f : Flushed D) (broker : BrokerValue) (waiting left : List OutValue)
       → broker ≡ record { state = state_after f.broker.state (unsettled f); broken = false } → waiting ≡ f.waiting ++ outs_of f.broker.state (unsettled f) → left ≡ f.left → f.broken ≡ false
       → IsFlusher honest images f → IsFlusher honest images (record f { settled = f.stored; broker = broker; waiting = waiting; left = left })
   settles f broker waiting left is outs same whole kept =
-    let run = kept.running whole in
-    let begun : f.seat.base ≤ f.settled = omega (arith, kept.begun, kept.marked) in
-    let state : f.broker.state ≡ state_at f.opening f.seat f.settled = ap (λ (b : BrokerValue). b.state) run.broker in
-    let all = settled_state f whole kept in
-    let sound : IsSound f.broker.state = subst (λ (s : State). IsSound s) (sym state) (sound_after (take (f.settled - f.seat.base) f.seat.taken) f.opening kept.sound) in
-    let counted : f.broker.state.count ≡ f.settled = ap (λ (s : State). s.count) state ∙ count_at f kept in
-    let new : AreUnder f.stored (outs_of f.broker.state (unsettled f)) = outs_under (unsettled f) f.broker.state f.stored sound (omega (arith, counted, length_between f.seat f.settled f.stored begun kept.settled kept.stored, kept.settled)) in
-    record {
-      begun = kept.begun;
-      marked = omega (arith, kept.marked, kept.settled);
-      settled = omega arith;
-      stored = kept.stored;
-      opened = kept.opened;
-      sound = kept.sound;
-      each = kept.each;
-      under = subst (λ (l : List OutValue). AreUnder f.seat.published l) (sym same) kept.under;
-      stopped = kept.stopped;
-      running = λ _. record {
-        stands = run.stands;
-        broker = is ∙ ap (λ (s : State). record { state = s; broken = false }) all;
-        batch = run.batch;
-        waiting = subst (λ (l : List OutValue). AreUnder f.stored l) (sym outs) (all_append (λ (out : OutValue). out.number < f.stored) f.waiting (outs_of f.broker.state (unsettled f)) (under_more f.settled f.stored f.waiting kept.settled run.waiting) new);
-      };
-    }
+      let run = kept.running whole in
+      let begun : f.seat.base ≤ f.settled = omega (arith, kept.begun, kept.marked) in
+      let state : f.broker.state ≡ state_at f.opening f.seat f.settled = ap (λ (b : BrokerValue). b.state) run.broker in
+      let all = settled_state f whole kept in
+      let sound : IsSound f.broker.state = subst (λ (s : State). IsSound s) (sym state) (sound_after (take (f.settled - f.seat.base) f.seat.taken) f.opening kept.sound) in
+      let counted : f.broker.state.count ≡ f.settled = ap (λ (s : State). s.count) state ∙ count_at f kept in
+      let new : AreUnder f.stored (outs_of f.broker.state (unsettled f)) = outs_under (unsettled f) f.broker.state f.stored sound (omega (arith, counted, length_between f.seat f.settled f.stored begun kept.settled kept.stored, kept.settled)) in
+      record {
+        begun = kept.begun;
+        marked = omega (arith, kept.marked, kept.settled);
+        settled = omega arith;
+        stored = kept.stored;
+        opened = kept.opened;
+        sound = kept.sound;
+        each = kept.each;
+        under = subst (λ (l : List OutValue). AreUnder f.seat.published l) (sym same) kept.under;
+        stopped = kept.stopped;
+        running = λ _. record {
+          stands = run.stands;
+          broker = is ∙ ap (λ (s : State). record { state = s; broken = false }) all;
+          batch = run.batch;
+          waiting = subst (λ (l : List OutValue). AreUnder f.stored l) (sym outs) (all_append (λ (out : OutValue). out.number < f.stored) f.waiting (outs_of f.broker.state (unsettled f)) (under_more f.settled f.stored f.waiting kept.settled run.waiting) new);
+        };
+      }
 
   -- all that is stored is published
   pub publishes : (f : Flushed D) (seat : FlushSeatValue) (waiting left : List OutValue) → seat ≡ with_mark f.seat f.stored → waiting ≡ [] → left ≡ f.left ++ f.waiting → f.settled ≡ f.stored → f.broken ≡ false

@@ -1,7 +1,6 @@
 -- The commands taken, cut at numbers, and the states after them.
-use Rattle.std.proofs.Common.{◌≡◌, ◌<◌, ◌≤◌, ◌+◌, ◌-◌, ◌++◌, ℕ, List, [], ◌∷◌, length, take, drop, refl, sym, ◌∙◌, ap, subst, arith}
+use Rattle.std.proofs.Common.{◌≡◌, ◌<◌, ◌≤◌, ◌+◌, ◌-◌, ◌++◌, ℕ, List, [], ◌∷◌, length, take, drop, refl, sym, ◌∙◌, ap, arith}
 use Rattle.std.proofs.lemmas.List.{drop-append-le, drop-take, drop_all, append-nil, append_assoc, length-drop, length-map, length-take-le, take-append-drop, take-append-le, take-take, take_all}
-use Rattle.std.specs.List.{AllByRecursion}
 use Rattle.frame_core.proofs.Lists.{all_append, all_weaker}
 use Rattle.area_core.specs.Areas.{commands}
 use Rattle.command_core.specs.Commands.{CommandValue}

@@ -1,5 +1,5 @@
 -- A turn: what a stop within it leaves.
-use Rattle.std.proofs.Common.{◌≡◌, inl, inr, ⊎_elim, Bool, true, false, ℕ, List, Ok, Err, refl, sym, ◌∙◌, ap, subst, arith}
+use Rattle.std.proofs.Common.{◌≡◌, inl, false, ℕ, List, Err, sym, ◌∙◌, ap, subst, arith}
 use Rattle.disk_core.specs.declared.disk.Disk.{Ghosts}
 use Rattle.disk_core.specs.Moments.{LeavesOnly}
 use Rattle.broker_core.specs.States.{State}
@@ -43,9 +43,9 @@ module _ {D : Type 0} (disk : Ghosts D) where
       → LeavesOnly disk.moment disk.images_since f.disk last (StandsForEither (state_at f.opening f.seat f.stored) (state_taken opening seat))
   stored f g more next last opening seat kept whole is leaves same opened taken honest =
       let here : disk.honest f.disk → f.broken ≡ false → LeavesOnly disk.moment disk.images_since f.disk next (StandsForEither (state_at f.opening (with_more f.seat more) f.stored) (state_taken f.opening (with_more f.seat more))) =
-          subst (λ (g : Flushed D). disk.honest g.disk → g.broken ≡ false → LeavesOnly disk.moment disk.images_since g.disk next (StandsForEither (state_at g.opening g.seat g.stored) (state_taken g.opening g.seat))) is leaves in
+      subst (λ (g : Flushed D). disk.honest g.disk → g.broken ≡ false → LeavesOnly disk.moment disk.images_since g.disk next (StandsForEither (state_at g.opening g.seat g.stored) (state_taken g.opening g.seat))) is leaves in
       let all : state_taken f.opening (with_more f.seat more) ≡ state_taken opening seat =
-          sym ((λ i. state_after (opened i) (taken i)) ∙ ap (λ (h : Flushed D). state_taken h.opening h.seat) is) in
+      sym ((λ i. state_after (opened i) (taken i)) ∙ ap (λ (h : Flushed D). state_taken h.opening h.seat) is) in
       subst (λ (d : D). LeavesOnly disk.moment disk.images_since f.disk d (StandsForEither (state_at f.opening f.seat f.stored) (state_taken opening seat))) (sym same)
       (subst (λ (t : State). LeavesOnly disk.moment disk.images_since f.disk next (StandsForEither (state_at f.opening f.seat f.stored) t)) all
       (subst (λ (s : State). LeavesOnly disk.moment disk.images_since f.disk next (StandsForEither s (state_taken f.opening (with_more f.seat more)))) (at_more f.opening f.seat more f.stored kept.stored)

@@ -1,5 +1,5 @@
 -- Commands taken from the ring, and batches of them.
-use Rattle.std.specs.Prelude.{◌≡◌, ◌≤◌, ◌<◌, ◌+◌, ◌-◌, ◌++◌, ℕ, List, Bool, length, take, drop}
+use Rattle.std.specs.Prelude.{◌≤◌, ◌<◌, ◌-◌, ◌++◌, ℕ, List, length, take, drop}
 use Rattle.command_core.specs.Commands.{CommandValue}
 use Rattle.area_core.specs.Areas.{records}
 use Rattle.claim_core.specs.Seats.{FlushSeatValue, flushing}

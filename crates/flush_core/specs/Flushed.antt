@@ -1,5 +1,5 @@
 -- What contracts see of a flusher, and what it keeps.
-use Rattle.std.specs.Prelude.{◌≡◌, ◌≤◌, ◌<◌, ◌+◌, ◌-◌, ◌^◌, ◌++◌, ℕ, List, Bool, true, false, length, take, drop}
+use Rattle.std.specs.Prelude.{◌≡◌, ◌≤◌, ◌<◌, ◌+◌, ◌^◌, ℕ, List, Bool, true, false, length}
 use Rattle.std.specs.List.{AllByRecursion}
 use Rattle.disk_core.specs.declared.disk.Disk.{Ghosts}
 use Rattle.command_core.specs.Commands.{CommandValue}
@@ -8,7 +8,6 @@ use Rattle.command_core.specs.Outs.{OutValue}
 use Rattle.area_core.specs.Areas.{commands, records}
 use Rattle.broker_core.specs.Sound.{IsSound}
 use Rattle.broker_core.specs.States.{State, BrokerValue}
-use Rattle.broker_core.specs.Steps.{state_after}
 use Rattle.claim_core.specs.Seats.{FlushSeatValue, next_ticket}
 use Rattle.recover_core.specs.declared.store.Store.{Store}
 use Rattle.recover_core.specs.Standing.{Stands, StandFor}

@@ -1,5 +1,5 @@
 -- What calls of a flusher leave.
-use Rattle.std.specs.Prelude.{◌≡◌, ◌≤◌, ◌++◌, ℕ, List, [], Bool, true, false, length, Result, Ok, Err}
+use Rattle.std.specs.Prelude.{◌≡◌, ◌++◌, ℕ, List, [], true, false, Result, Ok, Err}
 use Rattle.command_core.specs.Commands.{CommandValue}
 use Rattle.broker_core.specs.Steps.{outs_of}
 use Rattle.claim_core.specs.Seats.{when_stopped, with_mark, next_ticket}

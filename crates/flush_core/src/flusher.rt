@@ -51,7 +51,7 @@ impl<D: Disk> Model for Flusher<D> {
 
     ghost invariant = { λ a. IsFlusher D.honest D.images (flushed a.journal a.seat a.opening.value.state a.stored a.settled a.broker a.waiting.items a.left.items a.broken)
         × (a.broken ≡ false → IsHeld a.seat a.stored a.settled (is_broken a.journal) a.batch.items a.done.items a.bytes
-            (length a.left.items) (length a.waiting.items) (vec_capacity a.left)) };
+        (length a.left.items) (length a.waiting.items) (vec_capacity a.left)) };
 }
 
 impl<D: Disk> Flusher<D> {

@@ -1,7 +1,8 @@
 //! One turn of the flusher.
 
-ghost use Rattle.std.specs.Prelude.{◌≡◌, ◌++◌, List, IfOk, IsErrOf, OnErr, true, false, length};
+ghost use Rattle.std.specs.Prelude.{◌≡◌, ◌<◌, ◌+◌, ◌++◌, List, IfOk, IsErrOf, OnErr, true, false, length};
 ghost use Rattle.command_core.specs.Commands.{CommandValue};
+ghost use Rattle.area_core.specs.Areas.{records};
 ghost use Rattle.disk_core.specs.Moments.{LeavesOnly};
 ghost use Rattle.recover_core.specs.Standing.{StandFor, StandsForEither};
 ghost use Rattle.flush_core.specs.Batches.{IsBatch, from_on, state_at, state_taken};
@@ -29,6 +30,8 @@ impl<D: Disk> Flusher<D> {
             IfOk result (λ count. StandFor (D.images self.new.disk) (state_taken self.new.opening self.new.seat)) }
         ensures turned { IfOk result (λ count. (more : List CommandValue) × (length more ≡ count) × IsTurned self.old self.new more) }
         ensures batch { IfOk result (λ count. IsBatch (from_on self.new.seat self.old.stored)) }
+        ensures full { IsErrOf result FlushFault.Full →
+            self.old.size < self.old.used + 9 + length (records (from_on self.new.seat self.old.stored)) }
         ensures outcome { IsTurn self.old self.new result }
         ensures stops { OnErr result ((self.new.broken ≡ true) × (self.new.seat.stopped ≡ true)) }
         ensures cause { IsFlushCaused (D.failures self.old.disk) (D.failures self.new.disk) result }

@@ -1,6 +1,5 @@
-use Rattle.std.proofs.Common.{rules, arith, ap, refl, sym, subst, ◌∙◌, ◌+◌, ◌<◌, ◌++◌, ◌∷◌, ◌≡◌, List, ℕ, [], false, length, map}
-use mathlib.Core.List.{map-id}
-use Rattle.std.proofs.lemmas.Iterator.Consumers.{YieldsList-end, YieldsList-turn}
+use Rattle.std.proofs.Common.{rules, arith, ap, sym, ◌∙◌, ◌++◌, ◌∷◌, ◌≡◌, List, []}
+use Rattle.std.proofs.lemmas.Iterator.Consumers.{YieldsList-turn}
 use Rattle.std.proofs.lemmas.List.{append_assoc}
 use Rattle.std.proofs.lemmas.Iterator.Adapters.{YieldsList-from_vec}
 use Rattle.area_core.specs.Areas.{commands}
@@ -24,7 +23,7 @@ loop-entry-preserved c =
     let before = c.args.broker.now.state in
     let command = c.into_parts-command.result.0 in
     let is : commands (c.loop-entry.yielded ++ c.in-Some.entry ∷ []) ≡ commands c.loop-entry.yielded ++ command ∷ [] =
-        commands_more c.loop-entry.yielded c.in-Some.entry ∙ ap (λ (x : CommandValue). commands c.loop-entry.yielded ++ x ∷ []) (ap (λ e. e.command) c.into_parts-command.ensures) in
+    commands_more c.loop-entry.yielded c.in-Some.entry ∙ ap (λ (x : CommandValue). commands c.loop-entry.yielded ++ x ∷ []) (ap (λ e. e.command) c.into_parts-command.ensures) in
     let so_far = commands c.loop-entry.yielded in
     let was : c.loop-entry.broker.state ≡ state_after before so_far = ap (λ (b : BrokerValue). b.state) c.loop-entry.invariant.broker in
     let state = c.in_ok-given.ensures.state ∙ (ap (λ (s : State). step s command) was ∙ (sym (state_commands so_far before command) ∙ ap (λ (l : List CommandValue). state_after before l) (sym is))) in

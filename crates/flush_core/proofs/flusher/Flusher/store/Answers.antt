@@ -1,4 +1,4 @@
-use Rattle.std.proofs.Common.{rules, arith, ap, length, refl, sym, subst, ◌∙◌, ◌+◌, ◌++◌, ◌≡◌, ◌<◌, ◌≤◌, List, ℕ, [], false, true}
+use Rattle.std.proofs.Common.{rules, arith, ap, subst, ◌∙◌, ◌≡◌, List, false}
 use Rattle.disk_core.specs.Moments.{LeavesOnly}
 use Rattle.area_core.specs.Areas.{commands}
 use Rattle.broker_core.specs.States.{State}
@@ -17,14 +17,15 @@ invariant_of-self g c =
     let f = flushed it.journal it.seat it.opening.value.state it.stored it.settled it.broker it.waiting.items it.left.items it.broken in
     let opening = it.opening.value.state in
     let kept = c.self.invariant.0 in
-    let is : commands c.deref.result.now ≡ from_on it.seat it.stored = ap (λ l. commands l) c.deref.ensures.value ∙ (c.self.invariant.1 c.if-self.false).batch_is in
-    (stores g.D.Disk.honest g.D.Disk.images f c.append.new.self.disk _ _ c.next-self-inside.result c.next-self-inside.ensures.next c.if-self.false
-      (λ h. let was = c.append.ensures.was_honest h in
-        subst (λ (s : State). StandFor (g.D.Disk.images c.append.new.self.disk) s)
-        (ap (λ (l : List CommandValue). state_after (state_at opening it.seat it.stored) l) is ∙ at_rest opening it.seat it.stored)
-        (c.in-Ok.ensures.after was (state_at opening it.seat it.stored) ((kept.running c.if-self.false).stands was))) kept,
-    λ w. held_stored it.seat it.stored c.next-self-inside.result it.settled _ _ it.batch.items it.done.items c.swap.new.x.items c.swap.new.y.items it.bytes _ _ _
-    (λ i. (c.swap.ensures.x_after i).items) (λ i. (c.swap.ensures.y_after i).items) c.next-self-inside.ensures.next c.next-self-inside.ensures.most c.in-Ok.ensures.ok (search rules) (omega (arith, kept.begun, kept.marked, kept.settled)) (c.self.invariant.1 w))
+    let is : commands c.deref.result.now ≡ from_on it.seat it.stored = ap (λ l. commands l) c.deref.ensures.value ∙ (c.self.invariant.1 c.if-self.false).batch_is in (
+      stores g.D.Disk.honest g.D.Disk.images f c.append.new.self.disk _ _ c.next-self-inside.result c.next-self-inside.ensures.next c.if-self.false
+          (λ h. let was = c.append.ensures.was_honest h in
+          subst (λ (s : State). StandFor (g.D.Disk.images c.append.new.self.disk) s)
+          (ap (λ (l : List CommandValue). state_after (state_at opening it.seat it.stored) l) is ∙ at_rest opening it.seat it.stored)
+          (c.in-Ok.ensures.after was (state_at opening it.seat it.stored) ((kept.running c.if-self.false).stands was))) kept,
+      λ w. held_stored it.seat it.stored c.next-self-inside.result it.settled _ _ it.batch.items it.done.items c.swap.new.x.items c.swap.new.y.items it.bytes _ _ _
+          (λ i. (c.swap.ensures.x_after i).items) (λ i. (c.swap.ensures.y_after i).items) c.next-self-inside.ensures.next c.next-self-inside.ensures.most c.in-Ok.ensures.ok (search rules) (omega (arith, kept.begun, kept.marked, kept.settled)) (c.self.invariant.1 w),
+    )
 
 pub invariant_of-self-in-Err : goal.invariant_of-self-in-Err
 invariant_of-self-in-Err g c =
@@ -33,15 +34,16 @@ invariant_of-self-in-Err g c =
     let opening = it.opening.value.state in
     let kept = c.self.invariant.0 in
     let s = state_at opening it.seat it.stored in
-    let is : commands c.deref.result.now ≡ from_on it.seat it.stored = ap (λ l. commands l) c.deref.ensures.value ∙ (c.self.invariant.1 c.if-self.false).batch_is in
-    (store_fails g.D.Disk.honest g.D.Disk.images f c.stop.new.seat c.append.new.self.disk _ _ c.stop.ensures
-      (λ h. let was = c.append.ensures.was_honest h in
-        let leaves = c.append.ensures.any_moment was s ((kept.running c.if-self.false).stands was) in
-        hold_either (g.D.Disk.images c.append.new.self.disk) opening it.seat it.stored (omega (arith, kept.marked, kept.settled)) kept.stored
-        (λ image among. subst (λ (t : State). StandsForEither s t image)
+    let is : commands c.deref.result.now ≡ from_on it.seat it.stored = ap (λ l. commands l) c.deref.ensures.value ∙ (c.self.invariant.1 c.if-self.false).batch_is in (
+      store_fails g.D.Disk.honest g.D.Disk.images f c.stop.new.seat c.append.new.self.disk _ _ c.stop.ensures
+          (λ h. let was = c.append.ensures.was_honest h in
+          let leaves = c.append.ensures.any_moment was s ((kept.running c.if-self.false).stands was) in
+          hold_either (g.D.Disk.images c.append.new.self.disk) opening it.seat it.stored (omega (arith, kept.marked, kept.settled)) kept.stored
+          (λ image among. subst (λ (t : State). StandsForEither s t image)
           (ap (λ (l : List CommandValue). state_after s l) is ∙ at_rest opening it.seat it.stored)
           (leaves.each image (g.met.D.Disk.counts_now c.append.new.self.disk (g.D.Disk.moment it.journal.disk) image leaves.later among)))) kept,
-    λ w. absurd (cc w))
+      λ w. absurd (cc w),
+    )
 
 pub returns-in-Ok-clause-any_moment : goal.returns-in-Ok-clause-any_moment
 returns-in-Ok-clause-any_moment g c =

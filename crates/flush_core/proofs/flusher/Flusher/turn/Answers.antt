@@ -1,5 +1,4 @@
-use Rattle.std.proofs.Common.{◌≡◌, ◌∙◌, ap, refl}
-use Rattle.claim_core.specs.Seats.{FlushSeatValue}
+use Rattle.std.proofs.Common.{◌∙◌, ap, refl}
 use Rattle.flush_core.specs.Flushed.{Flushed}
 use Rattle.flush_core.proofs.Turns.{failed_keeps, stored, unstored}
 use Rattle.flush_core.proofs.flusher.Flusher.turn.Goals as goal
