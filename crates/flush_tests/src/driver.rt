@@ -12,7 +12,7 @@ use disk_core::{Disk, MemDisk};
 use flush_core::Flusher;
 use frame_core::write_frame;
 use recover_core::{Store, open};
-use std::alloc::Global;
+use std::alloc::{AllocError, Global};
 use std::test::Fail;
 
 /// The size of a disk with two areas of 4,096 bytes, and that of such an area.
@@ -37,21 +37,45 @@ pub(crate) fn sending(alloc: Global, body: u32) -> Result<Vec<u8>, Fail> {
 /// A ring, its seats and its flusher.
 pub(crate) type Started = (BrokerRing<()>, Vec<BrokerSeat<()>>, Flusher<MemDisk>);
 
-// An empty journal, opened, with its broker.
-fn opened(alloc: Global, sizes: (u64, u64)) -> Result<(Store<MemDisk>, Broker), Fail>
+// The journal on the disk, opened, and its broker.
+fn opened<D: Disk + Drop>(alloc: Global, disk: D) -> Result<(Store<D>, Broker), Fail>
     ensures whole { IfOk result (λ made. (is_broken made.0 ≡ false) × (made.1.broken ≡ false)) }
     ensures small { IfOk result (λ made. made.1.state.count ≤ 2 ^ 61) }
-    ensures stands { IfOk result (λ made. StandFor (MemDisk.images (disk_of made.0)) made.1.state) }
+    ensures stands { IfOk result (λ made. D.honest (disk_of made.0) → StandFor (D.images (disk_of made.0)) made.1.state) }
 {
-    let mut disk = MemDisk::new(alloc, sizes.0)?;
-    format(alloc, &mut disk, sizes.1)?;
     match open(alloc, disk) {
         Ok(mut store) => match store.broker() {
             Some(broker) => Ok((store, broker)),
             None => Err(Fail::from("no broker")),
         },
-        Err((_, fault)) => Err(Fail::from(fault)),
+        Err((_disk, fault)) => Err(Fail::from(fault)),
     }
+}
+
+// A flusher of it, and its ring.
+fn started_on<D: Disk + Drop>(
+    alloc: Global,
+    store: Store<D>,
+    broker: Broker,
+) -> Result<(BrokerRing<()>, Vec<BrokerSeat<()>>, Flusher<D>), AllocError>
+    requires whole { (is_broken store ≡ false) × (broker.broken ≡ false) }
+    requires small { broker.state.count ≤ 2 ^ 61 }
+    requires stands { D.honest (disk_of store) → StandFor (D.images (disk_of store)) broker.state }
+    ensures ring { IfOk result (λ made. made.2.seat.ring ≡ made.0) }
+    ensures seats { IfOk result (λ made. All (λ seat. seat.ring ≡ made.0) made.1.items) }
+    ensures settled { IfOk result (λ made. (made.2.settled ≡ made.2.stored) × (made.2.broken ≡ false)) }
+{
+    match Ring::new(alloc, broker.count()) {
+        Ok((ring, seats, seat)) => Ok((ring, seats, Flusher::new(alloc, store, broker, seat))),
+        Err(refused) => Err(refused),
+    }
+}
+
+// An empty journal.
+fn formatted(alloc: Global, sizes: (u64, u64)) -> Result<MemDisk, Fail> {
+    let mut disk = MemDisk::new(alloc, sizes.0)?;
+    format(alloc, &mut disk, sizes.1)?;
+    Ok(disk)
 }
 
 /// The flusher of an empty journal on a disk of that size, with areas of that size, and its ring.
@@ -60,11 +84,9 @@ pub(crate) fn started(alloc: Global, sizes: (u64, u64)) -> Result<Started, Fail>
     ensures seats { IfOk result (λ made. All (λ seat. seat.ring ≡ made.0) made.1.items) }
     ensures settled { IfOk result (λ made. (made.2.settled ≡ made.2.stored) × (made.2.broken ≡ false)) }
 {
-    let (store, broker) = opened(alloc, sizes)?;
-    match Ring::new(alloc, broker.count()) {
-        Ok((ring, seats, seat)) => Ok((ring, seats, Flusher::new(alloc, store, broker, seat))),
-        Err(refused) => Err(Fail::from(refused)),
-    }
+    let disk = formatted(alloc, sizes)?;
+    let (store, broker) = opened(alloc, disk)?;
+    Ok(started_on(alloc, store, broker)?)
 }
 
 /// What an append answered.
@@ -142,13 +164,18 @@ pub(crate) fn leave<D: Disk>(
     Ok((numbers, bytes, back))
 }
 
+// How many commands the broker of the store counts.
+fn counted(alloc: Global, store: &mut Store<MemDisk>) -> Result<String, Fail> {
+    match store.broker() {
+        Some(broker) => Ok(format!(in alloc; "{}", broker.count())?),
+        None => Ok(String::new(alloc)),
+    }
+}
+
 /// What opening the disk tells: how many commands it stands for, or the fault.
 pub(crate) fn told(alloc: Global, disk: MemDisk) -> Result<String, Fail> {
-    Ok(match open(alloc, disk) {
-        Ok(mut store) => match store.broker() {
-            Some(broker) => format!(in alloc; "{}", broker.count())?,
-            None => String::new(alloc),
-        },
-        Err((_, fault)) => format!(in alloc; "{fault}")?,
-    })
+    match open(alloc, disk) {
+        Ok(mut store) => counted(alloc, &mut store),
+        Err((_disk, fault)) => Ok(format!(in alloc; "{fault}")?),
+    }
 }
