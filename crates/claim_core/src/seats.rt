@@ -156,6 +156,7 @@ impl<B> FlushSeat<B> {
     pub fn next(&self) -> u64
         ensures next { result ≡ next_ticket self.now }
         ensures mark { self.now.published ≤ result }
+        ensures most { result ≤ 2 ^ 62 }
     {
         self.next
     }

@@ -1,0 +1,304 @@
+-- What a flusher keeps, from call to call.
+use Rattle.std.proofs.Common.{◌≡◌, ◌<◌, ◌≤◌, ◌+◌, ◌-◌, ◌^◌, ◌++◌, ⊎_elim, ℕ, Bool, true, false, List, [], ◌∷◌, length, length-append, take, refl, sym, ◌∙◌, ap, subst, arith}
+use Rattle.std.proofs.Math.Logic.{∥∥₁_map}
+use Rattle.std.proofs.lemmas.List.{length-take-le}
+use Rattle.frame_core.proofs.Lists.{all_append}
+use Rattle.command_core.specs.Commands.{CommandValue}
+use Rattle.area_core.specs.Areas.{commands, records}
+use Rattle.command_core.specs.Entries.{EntryValue}
+use Rattle.command_core.specs.Outs.{OutValue}
+use Rattle.broker_core.specs.Sound.{IsSound}
+use Rattle.broker_core.specs.States.{BrokerValue, State}
+use Rattle.broker_core.specs.Steps.{outs_of, state_after}
+use Rattle.claim_core.specs.Seats.{FlushSeatValue, next_ticket, when_stopped, with_mark}
+use Rattle.recover_core.specs.Standing.{StandFor, Stands, StandsForEither}
+use Rattle.flush_core.specs.Batches.{IsBatch, between, from_on, state_at, state_taken, with_more}
+use Rattle.flush_core.specs.Flushed.{AfterSome, AreUnder, Flushed, HoldBetween, IsFlusher, IsHeld, unsettled}
+use Rattle.flush_core.specs.Outcomes.{settling}
+use Rattle.flush_core.proofs.Taken.{all_at, at_between, at_more, at_start, between_all, between_more, between_none, count_after, from_end, length_between, length_commands, outs_under, sound_after, under_more}
+
+-- each image stands for the state at one number
+pub hold_at : (images : List ℕ → Type 0) (opening : State) (seat : FlushSeatValue) (n : ℕ) → seat.published ≤ n → n ≤ next_ticket seat → StandFor images (state_at opening seat n) → HoldBetween images opening seat
+hold_at images opening seat n marked taken stand c image = ∣ record { number = n; marked = marked; taken = taken; stands = stand c image } ∣₁
+
+-- each image stands for the state at one number, or after all that was taken
+pub hold_either : (images : List ℕ → Type 0) (opening : State) (seat : FlushSeatValue) (n : ℕ) → seat.published ≤ n → n ≤ next_ticket seat
+    → ((c : List ℕ) → images c → StandsForEither (state_at opening seat n) (state_taken opening seat) c) → HoldBetween images opening seat
+hold_either images opening seat n marked taken either c image =
+    ∥∥₁_map (either c image) (⊎_elim before after)
+  where
+    before : Stands c (state_at opening seat n) → AfterSome opening seat c
+    before st = record { number = n; marked = marked; taken = taken; stands = st }
+
+    after : Stands c (state_taken opening seat) → AfterSome opening seat c
+    after st = record {
+      number = next_ticket seat;
+      marked = omega (arith, marked, taken);
+      taken = omega arith;
+      stands = subst (λ (s : State). Stands c s) (sym (all_at opening seat (next_ticket seat) refl)) st;
+    }
+
+-- the ring is stopped
+pub hold_stopped : (images : List ℕ → Type 0) (opening : State) (seat : FlushSeatValue) → HoldBetween images opening seat → HoldBetween images opening (when_stopped seat)
+hold_stopped images opening seat hold c image =
+    ∥∥₁_map (hold c image) (λ (h : AfterSome opening seat c). record { number = h.number; marked = h.marked; taken = h.taken; stands = h.stands })
+
+pub hold_more : (images : List ℕ → Type 0) (opening : State) (seat : FlushSeatValue) (more : List CommandValue) → HoldBetween images opening seat → HoldBetween images opening (with_more seat more)
+hold_more images opening seat more hold c image =
+    ∥∥₁_map (hold c image) (λ (h : AfterSome opening seat c). record {
+      number = h.number;
+      marked = h.marked;
+      taken = omega (arith, h.taken, length-append seat.taken more);
+      stands = subst (λ (s : State). Stands c s) (sym (at_more opening seat more h.number h.taken)) h.stands;
+    })
+
+-- the entries stand for the same where the mark is raised
+pub held_marked : {B : Type 0} (seat marked : FlushSeatValue) (n stored settled : ℕ) (journal : Bool) (batch done : List (EntryValue B)) (bytes left waiting room l w r : ℕ) → marked ≡ with_mark seat n → (0 < l → l + w ≤ r)
+    → IsHeld seat stored settled journal batch done bytes left waiting room → IsHeld marked stored settled journal batch done bytes l w r
+held_marked seat marked n stored settled journal batch done bytes left waiting room l w r is fits held =
+    subst (λ (s : FlushSeatValue). IsHeld s stored settled journal batch done bytes l w r) (sym is)
+    (record { whole = held.whole; batch_is = held.batch_is; bytes_is = held.bytes_is; done_is = held.done_is; few = held.few; room_is = fits })
+
+-- more waits to be stored
+pub held_more : {B : Type 0} (seat next : FlushSeatValue) (more : List CommandValue) (stored settled : ℕ) (journal : Bool) (batch done next_batch : List (EntryValue B)) (bytes now left waiting room : ℕ)
+    → next ≡ with_more seat more → commands next_batch ≡ from_on next stored → now ≡ length (records (commands next_batch))
+    → settled ≤ stored → stored ≤ next_ticket seat → seat.base ≤ settled
+    → IsHeld seat stored settled journal batch done bytes left waiting room → IsHeld next stored settled journal next_batch done now left waiting room
+held_more seat next more stored settled journal batch done next_batch bytes now left waiting room is batch_is bytes_is rises few begun held = record {
+  whole = held.whole;
+  batch_is = batch_is;
+  bytes_is = bytes_is;
+  done_is = held.done_is ∙ (sym (between_more seat more settled stored begun rises few) ∙ ap (λ (s : FlushSeatValue). between s settled stored) (sym is));
+  few = held.few;
+  room_is = held.room_is;
+}
+
+-- what waited to be stored waits to be carried out
+pub held_stored : {B : Type 0} (seat : FlushSeatValue) (stored next settled : ℕ) (journal now : Bool) (batch done next_batch next_done : List (EntryValue B)) (bytes left waiting room : ℕ)
+    → next_batch ≡ done → next_done ≡ batch → next ≡ next_ticket seat → next ≤ 2 ^ 62 → now ≡ false → settled ≡ stored → seat.base ≤ stored
+    → IsHeld seat stored settled journal batch done bytes left waiting room → IsHeld seat next settled now next_batch next_done 0 left waiting room
+held_stored {B} seat stored next settled journal now batch done next_batch next_done bytes left waiting room batch_is done_is next_is most whole same begun held =
+    let empty : commands next_batch ≡ [] = ap (λ (l : List (EntryValue B)). commands l) batch_is ∙ (held.done_is ∙ (ap (λ (n : ℕ). between seat n stored) same ∙ between_none seat stored)) in
+    record {
+      whole = whole;
+      batch_is = empty ∙ sym (from_end seat next next_is);
+      bytes_is = ap (λ (l : List CommandValue). length (records l)) (sym empty);
+      done_is = ap (λ (l : List (EntryValue B)). commands l) done_is ∙ (held.batch_is ∙ (sym (between_all seat stored next next_is begun) ∙ ap (λ (n : ℕ). between seat n next) (sym same)));
+      few = most;
+      room_is = held.room_is;
+    }
+
+-- nothing waits to be carried out
+pub held_settled : {B : Type 0} (seat : FlushSeatValue) (stored settled : ℕ) (journal : Bool) (batch done next_done : List (EntryValue B)) (bytes left waiting room l w r : ℕ)
+    → next_done ≡ [] → (0 < l → l + w ≤ r) → IsHeld seat stored settled journal batch done bytes left waiting room → IsHeld seat stored stored journal batch next_done bytes l w r
+held_settled {B} seat stored settled journal batch done next_done bytes left waiting room l w r none fits held = record {
+  whole = held.whole;
+  batch_is = held.batch_is;
+  bytes_is = held.bytes_is;
+  done_is = ap (λ (l : List (EntryValue B)). commands l) none ∙ sym (between_none seat stored);
+  few = held.few;
+  room_is = fits;
+}
+
+pub nothing : {X : Type 0} (l : List X) → length l ≡ 0 → l ≡ []
+nothing [] none = refl
+nothing (x ∷ l) none = absurd (omega (arith, none))
+
+-- the batch of none
+pub no_batch : IsBatch []
+no_batch = record { few = omega arith; small = omega arith }
+
+module _ {D : Type 0} (honest : D → Type 0) (images : D → List ℕ → Type 0) where
+  pub starts : (f : Flushed D) → f.seat.taken ≡ [] → f.seat.published ≡ f.seat.base → f.stored ≡ f.seat.base → f.settled ≡ f.seat.base
+      → f.broker ≡ record { state = f.opening; broken = false } → f.opening.count ≡ f.seat.base → IsSound f.opening
+      → (honest f.disk → StandFor (images f.disk) f.opening) → f.waiting ≡ [] → f.left ≡ [] → f.broken ≡ false → IsFlusher honest images f
+  starts f none published stored settled broker count sound stand waiting left whole =
+      let same : (n : ℕ) → state_at f.opening f.seat n ≡ f.opening = λ n. at_start f.opening f.seat n none in
+      let at : (n : ℕ) → honest f.disk → StandFor (images f.disk) (state_at f.opening f.seat n) = λ n h. subst (λ (s : State). StandFor (images f.disk) s) (sym (same n)) (stand h) in
+      record {
+        begun = omega (arith, published);
+        marked = omega (arith, published, settled);
+        settled = omega (arith, settled, stored);
+        stored = omega (arith, stored);
+        opened = count;
+        sound = sound;
+        each = λ h. hold_at (images f.disk) f.opening f.seat f.seat.base (omega (arith, published)) (omega arith) (at f.seat.base h);
+        under = subst (λ (l : List OutValue). AreUnder f.seat.published l) (sym left) tt;
+        stopped = λ broken. absurd (cc (broken, whole));
+        running = λ _. record {
+          stands = at f.stored;
+          broker = broker ∙ ap (λ (s : State). record { state = s; broken = false }) (sym (same f.settled));
+          batch = subst (λ (l : List CommandValue). IsBatch l) (sym (from_end f.seat f.stored (omega (arith, stored, ap (λ (l : List CommandValue). length l) none)))) no_batch;
+          waiting = subst (λ (l : List OutValue). AreUnder f.settled l) (sym waiting) tt;
+        };
+      }
+
+  -- more is taken
+  pub takes : (f : Flushed D) (seat : FlushSeatValue) (more : List CommandValue) → seat ≡ with_more f.seat more → IsBatch (from_on seat f.stored) → f.broken ≡ false → IsFlusher honest images f → IsFlusher honest images (record f { seat = seat })
+  takes f seat more is batch whole kept = subst (λ (s : FlushSeatValue). IsFlusher honest images (record f { seat = s })) (sym is) (record {
+    begun = kept.begun;
+    marked = kept.marked;
+    settled = kept.settled;
+    stored = omega (arith, kept.stored, length-append f.seat.taken more);
+    opened = kept.opened;
+    sound = kept.sound;
+    each = λ h. hold_more (images f.disk) f.opening f.seat more (kept.each h);
+    under = kept.under;
+    stopped = kept.stopped;
+    running = λ _.
+        let run = kept.running whole in
+        let settled : f.settled ≤ next_ticket f.seat = omega (arith, kept.settled, kept.stored) in
+        record {
+          stands = λ h. subst (λ (s : State). StandFor (images f.disk) s) (sym (at_more f.opening f.seat more f.stored kept.stored)) (run.stands h);
+          broker = run.broker ∙ ap (λ (s : State). record { state = s; broken = false }) (sym (at_more f.opening f.seat more f.settled settled));
+          batch = subst (λ (s : FlushSeatValue). IsBatch (from_on s f.stored)) is batch;
+          waiting = run.waiting;
+        };
+  })
+
+  -- a step fails that reaches no disk
+  pub fails : (f : Flushed D) (seat : FlushSeatValue) (broker : BrokerValue) (waiting left : List OutValue) → seat ≡ when_stopped f.seat → left ≡ f.left → IsFlusher honest images f
+      → IsFlusher honest images (record f { seat = seat; broker = broker; waiting = waiting; left = left; broken = true })
+  fails f seat broker waiting left is same kept = subst (λ (s : FlushSeatValue). IsFlusher honest images (record f { seat = s; broker = broker; waiting = waiting; left = left; broken = true })) (sym is) (record {
+    begun = kept.begun;
+    marked = kept.marked;
+    settled = kept.settled;
+    stored = kept.stored;
+    opened = kept.opened;
+    sound = kept.sound;
+    each = λ h. hold_stopped (images f.disk) f.opening f.seat (kept.each h);
+    under = subst (λ (l : List OutValue). AreUnder f.seat.published l) (sym same) kept.under;
+    stopped = λ _. refl;
+    running = λ whole. absurd (cc whole);
+  })
+
+  -- the store fails
+  pub store_fails : (f : Flushed D) (seat : FlushSeatValue) (next : D) (size used : ℕ) → seat ≡ when_stopped f.seat
+      → (honest next → HoldBetween (images next) f.opening f.seat) → IsFlusher honest images f
+      → IsFlusher honest images (record f { disk = next; size = size; used = used; seat = seat; broken = true })
+  store_fails f seat next size used is each kept = subst (λ (s : FlushSeatValue). IsFlusher honest images (record f { disk = next; size = size; used = used; seat = s; broken = true })) (sym is) (record {
+    begun = kept.begun;
+    marked = kept.marked;
+    settled = kept.settled;
+    stored = kept.stored;
+    opened = kept.opened;
+    sound = kept.sound;
+    each = λ h. hold_stopped (images next) f.opening f.seat (each h);
+    under = kept.under;
+    stopped = λ _. refl;
+    running = λ whole. absurd (cc whole);
+  })
+
+  -- all that was taken is stored
+  pub stores : (f : Flushed D) (next : D) (size used stored : ℕ) → stored ≡ next_ticket f.seat → f.broken ≡ false
+      → (honest next → StandFor (images next) (state_taken f.opening f.seat)) → IsFlusher honest images f
+      → IsFlusher honest images (record f { disk = next; size = size; used = used; stored = stored })
+  stores f next size used stored is whole after kept =
+      let stand : honest next → StandFor (images next) (state_at f.opening f.seat stored) = λ h. subst (λ (s : State). StandFor (images next) s) (sym (all_at f.opening f.seat stored is)) (after h) in
+      let run = kept.running whole in
+      record {
+        begun = kept.begun;
+        marked = kept.marked;
+        settled = omega (arith, is, kept.settled, kept.stored);
+        stored = omega (arith, is);
+        opened = kept.opened;
+        sound = kept.sound;
+        each = λ h. hold_at (images next) f.opening f.seat stored (omega (arith, is, kept.marked, kept.settled, kept.stored)) (omega (arith, is)) (stand h);
+        under = kept.under;
+        stopped = kept.stopped;
+        running = λ _. record {
+          stands = stand;
+          broker = run.broker;
+          batch = subst (λ (l : List CommandValue). IsBatch l) (sym (from_end f.seat stored is)) no_batch;
+          waiting = run.waiting;
+        };
+      }
+
+  -- the broker counts what is settled
+  pub count_at : (f : Flushed D) → IsFlusher honest images f → (state_at f.opening f.seat f.settled).count ≡ f.settled
+  count_at f kept =
+      let most : f.settled - f.seat.base ≤ length f.seat.taken = omega (arith, kept.settled, kept.stored) in
+      omega (arith, count_after (take (f.settled - f.seat.base) f.seat.taken) f.opening, kept.opened, length-take-le (f.settled - f.seat.base) f.seat.taken most, kept.begun, kept.marked)
+
+  pub settled_state : (f : Flushed D) → f.broken ≡ false → IsFlusher honest images f → state_after f.broker.state (unsettled f) ≡ state_at f.opening f.seat f.stored
+  settled_state f whole kept =
+      let state : f.broker.state ≡ state_at f.opening f.seat f.settled = ap (λ (b : BrokerValue). b.state) (kept.running whole).broker in
+      ap (λ (s : State). state_after s (unsettled f)) state ∙ at_between f.opening f.seat f.settled f.stored (omega (arith, kept.begun, kept.marked)) kept.settled
+
+  -- the numbers that are carried out are counted in 62 bits
+  pub counts : {B : Type 0} (f : Flushed D) (done : List (EntryValue B)) → f.broken ≡ false → IsFlusher honest images f → commands done ≡ unsettled f → f.stored ≤ 2 ^ 62 → f.broker.state.count + length done ≤ 2 ^ 62
+  counts f done whole kept is few =
+      let begun : f.seat.base ≤ f.settled = omega (arith, kept.begun, kept.marked) in
+      let state = ap (λ (b : BrokerValue). b.state.count) (kept.running whole).broker in
+      omega (arith, state, count_at f kept, length_commands done, ap (λ (l : List CommandValue). length l) is, length_between f.seat f.settled f.stored begun kept.settled kept.stored, kept.settled, few)
+
+  pub settling_is : (f : Flushed D) (broker : BrokerValue) (waiting left : List OutValue) → f.broken ≡ false → IsFlusher honest images f
+      → broker ≡ record { state = state_after f.broker.state (unsettled f); broken = false } → waiting ≡ f.waiting ++ outs_of f.broker.state (unsettled f) → left ≡ f.left
+      → record f { settled = f.stored; broker = broker; waiting = waiting; left = left } ≡ settling f (unsettled f)
+  settling_is f broker waiting left whole kept is outs same =
+      let all : broker ≡ record { state = state_at f.opening f.seat f.stored; broken = false } = is ∙ ap (λ (s : State). record { state = s; broken = false }) (settled_state f whole kept) in
+      λ i. record f { settled = f.stored; broker = all i; waiting = outs i; left = same i }
+
+  -- all that is stored is carried out
+  pub settles : (f : Flushed D) (broker : BrokerValue) (waiting left : List OutValue)
+      → broker ≡ record { state = state_after f.broker.state (unsettled f); broken = false } → waiting ≡ f.waiting ++ outs_of f.broker.state (unsettled f) → left ≡ f.left → f.broken ≡ false
+      → IsFlusher honest images f → IsFlusher honest images (record f { settled = f.stored; broker = broker; waiting = waiting; left = left })
+  settles f broker waiting left is outs same whole kept =
+      let run = kept.running whole in
+      let begun : f.seat.base ≤ f.settled = omega (arith, kept.begun, kept.marked) in
+      let state : f.broker.state ≡ state_at f.opening f.seat f.settled = ap (λ (b : BrokerValue). b.state) run.broker in
+      let all = settled_state f whole kept in
+      let sound : IsSound f.broker.state = subst (λ (s : State). IsSound s) (sym state) (sound_after (take (f.settled - f.seat.base) f.seat.taken) f.opening kept.sound) in
+      let counted : f.broker.state.count ≡ f.settled = ap (λ (s : State). s.count) state ∙ count_at f kept in
+      let new : AreUnder f.stored (outs_of f.broker.state (unsettled f)) = outs_under (unsettled f) f.broker.state f.stored sound (omega (arith, counted, length_between f.seat f.settled f.stored begun kept.settled kept.stored, kept.settled)) in
+      record {
+        begun = kept.begun;
+        marked = omega (arith, kept.marked, kept.settled);
+        settled = omega arith;
+        stored = kept.stored;
+        opened = kept.opened;
+        sound = kept.sound;
+        each = kept.each;
+        under = subst (λ (l : List OutValue). AreUnder f.seat.published l) (sym same) kept.under;
+        stopped = kept.stopped;
+        running = λ _. record {
+          stands = run.stands;
+          broker = is ∙ ap (λ (s : State). record { state = s; broken = false }) all;
+          batch = run.batch;
+          waiting = subst (λ (l : List OutValue). AreUnder f.stored l) (sym outs) (all_append (λ (out : OutValue). out.number < f.stored) f.waiting (outs_of f.broker.state (unsettled f)) (under_more f.settled f.stored f.waiting kept.settled run.waiting) new);
+        };
+      }
+
+  -- all that is stored is published
+  pub publishes : (f : Flushed D) (seat : FlushSeatValue) (waiting left : List OutValue) → seat ≡ with_mark f.seat f.stored → waiting ≡ [] → left ≡ f.left ++ f.waiting → f.settled ≡ f.stored → f.broken ≡ false
+      → IsFlusher honest images f → IsFlusher honest images (record f { seat = seat; waiting = waiting; left = left })
+  publishes f seat waiting left is none outs settled whole kept = subst (λ (s : FlushSeatValue). IsFlusher honest images (record f { seat = s; waiting = waiting; left = left })) (sym is)
+      (let run = kept.running whole in record {
+        begun = omega (arith, kept.begun, kept.marked, kept.settled);
+        marked = omega (arith, settled);
+        settled = kept.settled;
+        stored = kept.stored;
+        opened = kept.opened;
+        sound = kept.sound;
+        each = λ h. hold_at (images f.disk) f.opening (with_mark f.seat f.stored) f.stored (omega arith) kept.stored (run.stands h);
+        under = subst (λ (l : List OutValue). AreUnder f.stored l) (sym outs) (all_append (λ (out : OutValue). out.number < f.stored) f.left f.waiting
+            (under_more f.seat.published f.stored f.left (omega (arith, kept.marked, kept.settled)) kept.under)
+            (under_more f.settled f.stored f.waiting kept.settled run.waiting));
+        stopped = kept.stopped;
+        running = λ _. record { stands = run.stands; broker = run.broker; batch = run.batch; waiting = subst (λ (l : List OutValue). AreUnder f.settled l) (sym none) tt };
+      })
+
+  -- the outputs are handed out
+  pub hands_out : (f : Flushed D) → IsFlusher honest images f → IsFlusher honest images (record f { left = [] })
+  hands_out f kept = record {
+    begun = kept.begun;
+    marked = kept.marked;
+    settled = kept.settled;
+    stored = kept.stored;
+    opened = kept.opened;
+    sound = kept.sound;
+    each = kept.each;
+    under = tt;
+    stopped = kept.stopped;
+    running = λ whole. let run = kept.running whole in record { stands = run.stands; broker = run.broker; batch = run.batch; waiting = run.waiting };
+  }

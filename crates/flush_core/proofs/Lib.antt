@@ -1,0 +1,3 @@
+pub mod Keeping
+pub mod Taken
+pub mod Turns

@@ -1,0 +1,33 @@
+use Rattle.std.proofs.Common.{◌∙◌, ap, refl}
+use Rattle.flush_core.specs.Flushed.{Flushed}
+use Rattle.flush_core.proofs.Turns.{failed_keeps, stored, unstored}
+use Rattle.flush_core.proofs.flusher.Flusher.turn.Goals as goal
+
+pub returns-in_err-count-clause-any_moment : goal.returns-in_err-count-clause-any_moment
+returns-in_err-count-clause-any_moment g c honest whole =
+    unstored g.D.Disk c.args.self.now c.gather.new.self.disk _ c.is_broken.ensures.kept whole (g.met.D.Disk.only_now c.args.self.now.disk) c.in_err-count.ensures.untouched.0 honest
+
+pub returns-in_err-store-clause-any_moment : goal.returns-in_err-store-clause-any_moment
+returns-in_err-store-clause-any_moment g c honest whole =
+    let took = c.in_ok-count.ensures.taken in
+    let same = failed_keeps c.gather.new.self c.store.new.self _ c.in_err-store.ensures.outcome in
+    stored g.D.Disk c.args.self.now c.gather.new.self took.0 c.store.new.self.disk c.store.new.self.disk c.store.new.self.opening c.store.new.self.seat c.is_broken.ensures.kept whole took.2 c.store.ensures.any_moment refl same.0 same.1 honest
+
+pub returns-in_err-settle-clause-any_moment : goal.returns-in_err-settle-clause-any_moment
+returns-in_err-settle-clause-any_moment g c honest whole =
+    let took = c.in_ok-count.ensures.taken in
+    let did = c.in_ok-store.ensures.stored in
+    let same = failed_keeps c.store.new.self c.settle.new.self _ c.in_err-settle.ensures.outcome in
+    stored g.D.Disk c.args.self.now c.gather.new.self took.0 c.store.new.self.disk c.settle.new.self.disk c.settle.new.self.opening c.settle.new.self.seat c.is_broken.ensures.kept whole took.2 c.store.ensures.any_moment c.settle.ensures.untouched
+    (same.0 ∙ ap (λ (f : Flushed g.row.D.Denot). f.opening) did) (same.1 ∙ ap (λ (f : Flushed g.row.D.Denot). f.seat.taken) did) honest
+
+pub returns-clause-any_moment : goal.returns-clause-any_moment
+returns-clause-any_moment g c honest whole =
+    let took = c.in_ok-count.ensures.taken in
+    let did = c.in_ok-store.ensures.stored in
+    let settled = c.in_ok-settle.ensures.settled in
+    let published = c.publish.ensures.published in
+    stored g.D.Disk c.args.self.now c.gather.new.self took.0 c.store.new.self.disk c.publish.new.self.disk c.publish.new.self.opening c.publish.new.self.seat c.is_broken.ensures.kept whole took.2 c.store.ensures.any_moment
+    (ap (λ (f : Flushed g.row.D.Denot). f.disk) published ∙ c.settle.ensures.untouched)
+    (ap (λ (f : Flushed g.row.D.Denot). f.opening) published ∙ (ap (λ (f : Flushed g.row.D.Denot). f.opening) settled ∙ ap (λ (f : Flushed g.row.D.Denot). f.opening) did))
+    (ap (λ (f : Flushed g.row.D.Denot). f.seat.taken) published ∙ (ap (λ (f : Flushed g.row.D.Denot). f.seat.taken) settled ∙ ap (λ (f : Flushed g.row.D.Denot). f.seat.taken) did)) honest

@@ -1,0 +1,10 @@
+use Rattle.std.proofs.Common.{◌≡◌, ◌++◌, false}
+use Rattle.area_core.specs.Areas.{commands}
+use Rattle.broker_core.specs.Steps.{outs_of, state_after}
+use Rattle.flush_core.proofs.settling.carry_out.Given as goal
+
+abbrev pub invariant-loop-entry : goal.invariant-loop-entry
+invariant-loop-entry l = record {
+  broker : l.broker ≡ record { state = state_after l.fn.broker.state (commands l.yielded); broken = false };
+  outs : l.outs.items ≡ l.fn.outs.items ++ outs_of l.fn.broker.state (commands l.yielded);
+}

@@ -1,0 +1,32 @@
+-- Commands taken from the ring, and batches of them.
+use Rattle.std.specs.Prelude.{◌≤◌, ◌<◌, ◌-◌, ◌++◌, ℕ, List, length, take, drop}
+use Rattle.command_core.specs.Commands.{CommandValue}
+use Rattle.area_core.specs.Areas.{records}
+use Rattle.claim_core.specs.Seats.{FlushSeatValue, flushing}
+use Rattle.broker_core.specs.States.{State}
+use Rattle.broker_core.specs.Steps.{state_after}
+
+-- the seat with more commands taken
+abbrev pub with_more : FlushSeatValue → List CommandValue → FlushSeatValue
+with_more seat more = flushing seat.ring seat.base (seat.taken ++ more) seat.published seat.stopped seat.seats
+
+-- of the commands taken those whose numbers are low or over it
+abbrev pub from_on : FlushSeatValue → ℕ → List CommandValue
+from_on seat low = drop (low - seat.base) seat.taken
+
+-- and of these those whose numbers are under high
+abbrev pub between : FlushSeatValue → ℕ → ℕ → List CommandValue
+between seat low high = take (high - low) (from_on seat low)
+
+-- the state after all commands taken whose numbers are under n
+abbrev pub state_at : State → FlushSeatValue → ℕ → State
+state_at opening seat n = state_after opening (take (n - seat.base) seat.taken)
+
+-- the state after all commands taken
+abbrev pub state_taken : State → FlushSeatValue → State
+state_taken opening seat = state_after opening seat.taken
+
+-- A batch: at most 32 commands, and all but the last have records of fewer than 262,144 bytes.
+pub record IsBatch (cs : List CommandValue) : Type 0 where
+  pub few : length cs ≤ 32
+  pub small : length (records (take (length cs - 1) cs)) < 262144

@@ -1,0 +1,45 @@
+-- The flusher's faults, by the faults of what it stands on.
+use Rattle.std.specs.Prelude.{Result, Ok, Err, ℕ, ◌≡◌}
+use Rattle.disk_core.specs.Faults.{IsOneMore}
+use Rattle.area_core.specs.declared.faults.AreaFault.{AreaFault}
+use Rattle.area_core.specs.declared.faults.AreaFault.TheVariants as area
+use Rattle.broker_core.specs.declared.fault.BrokerFault.{BrokerFault}
+use Rattle.broker_core.specs.declared.fault.BrokerFault.TheVariants as broker
+use Rattle.flush_core.specs.declared.faults.FlushFault.{FlushFault}
+use Rattle.flush_core.specs.declared.faults.FlushFault.TheVariants.{Device, Full, Broken, Memory}
+
+-- what the store's fault is told as
+abbrev pub of_area : AreaFault → FlushFault
+of_area area.Device = Device
+of_area area.Full = Full
+of_area area.Broken = Broken
+of_area (area.Memory refused) = Memory refused
+
+-- what the broker's fault is told as
+abbrev pub of_broker : BrokerFault → FlushFault
+of_broker (broker.Memory refused) = Memory refused
+of_broker broker.Broken = Broken
+
+-- the disk failed just where that is the answer
+abbrev pub IsFlushCaused : {T : Type 0} → ℕ → ℕ → Result T FlushFault → Type 0
+IsFlushCaused before now (Ok _) = now ≡ before
+IsFlushCaused before now (Err Device) = IsOneMore before now
+IsFlushCaused before now (Err Full) = now ≡ before
+IsFlushCaused before now (Err Broken) = now ≡ before
+IsFlushCaused before now (Err (Memory _)) = now ≡ before
+
+-- a step that reaches no disk fails for want of memory, or as it failed before
+abbrev pub NeedsNoDisk : {T : Type 0} → Result T FlushFault → Type 0
+NeedsNoDisk (Ok _) = Unit {0}
+NeedsNoDisk (Err Device) = ⊥
+NeedsNoDisk (Err Full) = ⊥
+NeedsNoDisk (Err Broken) = Unit {0}
+NeedsNoDisk (Err (Memory _)) = Unit {0}
+
+-- a step fails for want of memory alone
+abbrev pub IsMemory : {T : Type 0} → Result T FlushFault → Type 0
+IsMemory (Ok _) = Unit {0}
+IsMemory (Err Device) = ⊥
+IsMemory (Err Full) = ⊥
+IsMemory (Err Broken) = ⊥
+IsMemory (Err (Memory _)) = Unit {0}

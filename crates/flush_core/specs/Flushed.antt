@@ -1,0 +1,102 @@
+-- What contracts see of a flusher, and what it keeps.
+use Rattle.std.specs.Prelude.{◌≡◌, ◌≤◌, ◌<◌, ◌+◌, ◌^◌, ℕ, List, Bool, true, false, length}
+use Rattle.std.specs.List.{AllByRecursion}
+use Rattle.disk_core.specs.declared.disk.Disk.{Ghosts}
+use Rattle.command_core.specs.Commands.{CommandValue}
+use Rattle.command_core.specs.Entries.{EntryValue}
+use Rattle.command_core.specs.Outs.{OutValue}
+use Rattle.area_core.specs.Areas.{commands, records}
+use Rattle.broker_core.specs.Sound.{IsSound}
+use Rattle.broker_core.specs.States.{State, BrokerValue}
+use Rattle.claim_core.specs.Seats.{FlushSeatValue, next_ticket}
+use Rattle.recover_core.specs.declared.store.Store.{Store}
+use Rattle.recover_core.specs.Standing.{Stands, StandFor}
+use Rattle.recover_core.specs.Stores.{disk_of, size_of, used_of}
+use Rattle.flush_core.specs.Batches.{IsBatch, between, from_on, state_at}
+
+-- A flusher: its disk, the bytes of an area of the journal and those used; its seat at the ring, with the commands taken
+-- and the mark; the state that the journal stood for when the flusher was made; the first number that is not stored, and
+-- the first that the broker has not carried out; the broker; the outputs that wait for the mark, and those that are under
+-- it; and whether a step failed.
+pub record Flushed (D : Type 0) : Type 0 where
+  pub disk : D
+  pub size : ℕ
+  pub used : ℕ
+  pub seat : FlushSeatValue
+  pub opening : State
+  pub stored : ℕ
+  pub settled : ℕ
+  pub broker : BrokerValue
+  pub waiting : List OutValue
+  pub left : List OutValue
+  pub broken : Bool
+
+abbrev pub flushed : {D : Type 0} {disk : Ghosts D} → Store D disk → FlushSeatValue → State → ℕ → ℕ → BrokerValue → List OutValue → List OutValue → Bool → Flushed D
+flushed store seat opening stored settled broker waiting left broken =
+    record { disk = disk_of store; size = size_of store; used = used_of store; seat = seat; opening = opening; stored = stored; settled = settled; broker = broker; waiting = waiting; left = left; broken = broken }
+
+-- the commands that wait to be stored
+abbrev pub gathered : {D : Type 0} → Flushed D → List CommandValue
+gathered f = from_on f.seat f.stored
+
+-- the commands that are stored and not carried out
+abbrev pub unsettled : {D : Type 0} → Flushed D → List CommandValue
+unsettled f = between f.seat f.settled f.stored
+
+-- the outputs are of commands whose numbers are under n
+abbrev pub AreUnder : ℕ → List OutValue → Type 0
+AreUnder n outs = AllByRecursion (λ out. out.number < n) outs
+
+-- the image stands for the state after some of the commands taken: all those under the mark, and perhaps more
+pub record AfterSome (opening : State) (seat : FlushSeatValue) (image : List ℕ) : Type 0 where
+  pub number : ℕ
+  pub marked : seat.published ≤ number
+  pub taken : number ≤ next_ticket seat
+  pub stands : Stands image (state_at opening seat number)
+
+-- each image does
+abbrev pub HoldBetween : (List ℕ → Type 0) → State → FlushSeatValue → Type 0
+HoldBetween images opening seat = (c : List ℕ) → images c → ∥ AfterSome opening seat c ∥₁
+
+-- While no step has failed: each image stands for the state after all that is stored, the broker has that after all that
+-- is settled, what waits to be stored is one batch, and no output waits that is not settled.
+pub record IsRunning {D : Type 0} (honest : D → Type 0) (images : D → List ℕ → Type 0) (f : Flushed D) : Type 0 where
+  pub stands : honest f.disk → StandFor (images f.disk) (state_at f.opening f.seat f.stored)
+  pub broker : f.broker ≡ record { state = state_at f.opening f.seat f.settled; broken = false }
+  pub batch : IsBatch (gathered f)
+  pub waiting : AreUnder f.settled f.waiting
+
+-- What a flusher keeps, after a fault too: the mark is at most what is stored, and that at most what was taken; each image
+-- stands for the state after the commands taken up to some number from the mark on; no output is handed out over the mark.
+pub record IsFlusher {D : Type 0} (honest : D → Type 0) (images : D → List ℕ → Type 0) (f : Flushed D) : Type 0 where
+  pub begun : f.seat.base ≤ f.seat.published
+  pub marked : f.seat.published ≤ f.settled
+  pub settled : f.settled ≤ f.stored
+  pub stored : f.stored ≤ next_ticket f.seat
+  pub opened : f.opening.count ≡ f.seat.base
+  pub sound : IsSound f.opening
+  pub each : honest f.disk → HoldBetween (images f.disk) f.opening f.seat
+  pub under : AreUnder f.seat.published f.left
+  pub stopped : f.broken ≡ true → f.seat.stopped ≡ true
+  pub running : f.broken ≡ false → IsRunning honest images f
+
+-- two flushers are the same but for their disks
+pub record IsSame {C D : Type 0} (one : Flushed C) (other : Flushed D) : Type 0 where
+  pub seat : other.seat ≡ one.seat
+  pub opening : other.opening ≡ one.opening
+  pub stored : other.stored ≡ one.stored
+  pub settled : other.settled ≡ one.settled
+  pub broker : other.broker ≡ one.broker
+  pub waiting : other.waiting ≡ one.waiting
+  pub left : other.left ≡ one.left
+  pub broken : other.broken ≡ one.broken
+
+-- How the fields show it while no step has failed: the journal is whole, entries stand for the commands that wait to be
+-- stored and for those that wait to be carried out, and there is room for the outputs that wait.
+pub record IsHeld {B : Type 0} (seat : FlushSeatValue) (stored settled : ℕ) (journal : Bool) (batch done : List (EntryValue B)) (bytes left waiting room : ℕ) : Type 0 where
+  pub whole : journal ≡ false
+  pub batch_is : commands batch ≡ from_on seat stored
+  pub bytes_is : bytes ≡ length (records (commands batch))
+  pub done_is : commands done ≡ between seat settled stored
+  pub few : stored ≤ 2 ^ 62
+  pub room_is : 0 < left → left + waiting ≤ room

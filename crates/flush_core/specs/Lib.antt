@@ -1,0 +1,4 @@
+pub mod Batches
+pub mod Faults
+pub mod Flushed
+pub mod Outcomes

@@ -1,0 +1,130 @@
+//! The flusher, and what it keeps.
+
+ghost use Rattle.std.specs.Prelude.{◌≡◌, ◌≤◌, [], false};
+ghost use Rattle.disk_core.specs.Fuse.{calls_left, fused};
+ghost use Rattle.recover_core.specs.Standing.{StandFor};
+ghost use Rattle.recover_core.specs.Stores.{disk_of, is_broken};
+ghost use Rattle.flush_core.specs.Flushed.{HoldBetween, IsFlusher, IsSame, flushed};
+
+use broker_core::Broker;
+use claim_core::FlushSeat;
+use command_core::{Entry, Out};
+use disk_core::{Disk, FuseDisk};
+use recover_core::Store;
+use std::alloc::Global;
+use std::marker::Model;
+use std::snapshot::Snapshot;
+
+/// The one that takes commands from a ring, makes them durable, carries them out and publishes them.
+///
+/// Each image of its disk stands for the state after the commands taken up to some number from the mark on, also once a
+/// step has failed. No output is handed out but under the mark.
+#[derive(Drop)]
+pub struct Flusher<D: Disk> {
+    pub(crate) journal: Store<D>,
+    pub(crate) broker: Broker,
+    pub(crate) seat: FlushSeat<()>,
+    // The broker as it was when the flusher was made.
+    pub(crate) opening: Snapshot<Broker>,
+    // What waits to be stored, and how many bytes its records have.
+    pub(crate) batch: Vec<Entry<()>>,
+    pub(crate) bytes: u64,
+    // What is stored and waits to be carried out.
+    pub(crate) done: Vec<Entry<()>>,
+    // The first numbers that are not stored, and not carried out.
+    pub(crate) stored: u64,
+    pub(crate) settled: u64,
+    // The outputs that wait for the mark, and those under it.
+    pub(crate) waiting: Vec<Out>,
+    pub(crate) left: Vec<Out>,
+    pub(crate) broken: bool,
+}
+
+impl<D: Disk> Model for Flusher<D> {
+    ghost use Rattle.std.specs.Prelude.{◌≡◌, false, length, vec_capacity};
+    ghost use Rattle.recover_core.specs.Stores.{is_broken};
+    ghost use Rattle.flush_core.specs.Flushed.{Flushed, IsFlusher, IsHeld, flushed};
+
+    ghost Value = { Flushed D };
+
+    ghost view = { λ a. flushed a.journal a.seat a.opening.value.state a.stored a.settled a.broker a.waiting.items a.left.items a.broken };
+
+    ghost invariant = { λ a. IsFlusher D.honest D.images (flushed a.journal a.seat a.opening.value.state a.stored a.settled a.broker a.waiting.items a.left.items a.broken)
+        × (a.broken ≡ false → IsHeld a.seat a.stored a.settled (is_broken a.journal) a.batch.items a.done.items a.bytes
+        (length a.left.items) (length a.waiting.items) (vec_capacity a.left)) };
+}
+
+impl<D: Disk> Flusher<D> {
+    /// A flusher of a journal, the broker of the state that the journal stands for, and the flusher's seat at a ring whose
+    /// first ticket is the broker's count. No memory is taken.
+    pub fn new(alloc: Global, journal: Store<D>, broker: Broker, seat: FlushSeat<()>) -> Flusher<D>
+        requires whole { (is_broken journal ≡ false) × (broker.broken ≡ false) }
+        requires stands { D.honest (disk_of journal) → StandFor (D.images (disk_of journal)) broker.state }
+        requires fresh { (seat.taken ≡ []) × (seat.published ≡ seat.base) }
+        requires count { broker.state.count ≡ seat.base }
+        ensures { result ≡ flushed journal seat broker.state seat.base seat.base broker [] [] false }
+    {
+        let next = seat.next();
+        let broken = broker.is_broken();
+        Flusher {
+            opening: Snapshot::of(&broker),
+            journal,
+            broker,
+            seat,
+            batch: Vec::new(alloc),
+            bytes: 0,
+            done: Vec::new(alloc),
+            stored: next,
+            settled: next,
+            waiting: Vec::new(alloc),
+            left: Vec::new(alloc),
+            broken,
+        }
+    }
+
+    /// Whether a step failed. What a flusher keeps is known with that.
+    pub fn is_broken(&self) -> bool
+        ensures value { result ≡ self.now.broken }
+        ensures kept { IsFlusher D.honest D.images self.now }
+    {
+        self.broken
+    }
+
+    /// The disk and the seat, as they are. Outputs that wait are let go.
+    pub fn into_parts(self) -> (D, FlushSeat<()>)
+        ensures parts { (result.0 ≡ self.disk) × (result.1 ≡ self.seat) }
+        ensures kept { IsFlusher D.honest D.images self }
+    {
+        (self.journal.into_disk(), self.seat)
+    }
+
+    /// The disk, as it is. The seat and the outputs that wait are let go.
+    pub fn into_disk(self) -> D
+        ensures disk { result ≡ self.disk }
+        ensures held { D.honest result → HoldBetween (D.images result) self.opening self.seat }
+    {
+        self.journal.into_disk()
+    }
+
+    /// The same flusher over a disk that passes so many more calls and then fails.
+    pub fn fuse(self, calls: u64) -> Flusher<FuseDisk<D>>
+        ensures disk { fused result.disk ≡ self.disk }
+        ensures calls { calls_left result.disk ≡ calls }
+        ensures same { IsSame self result }
+    {
+        Flusher {
+            journal: self.journal.fuse(calls),
+            broker: self.broker,
+            seat: self.seat,
+            opening: self.opening,
+            batch: self.batch,
+            bytes: self.bytes,
+            done: self.done,
+            stored: self.stored,
+            settled: self.settled,
+            waiting: self.waiting,
+            left: self.left,
+            broken: self.broken,
+        }
+    }
+}

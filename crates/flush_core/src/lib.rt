@@ -1,0 +1,15 @@
+//! The flusher: it takes commands from the ring, makes them durable in one block, carries them out, and publishes them.
+
+#![tactic(auto)]
+
+mod faults;
+mod flusher;
+mod gathering;
+mod publishing;
+mod settling;
+mod storing;
+mod turning;
+
+pub use faults::FlushFault;
+pub use flusher::Flusher;
+pub use gathering::{BATCH_BYTES, BATCH_ENTRIES};

@@ -1,0 +1,62 @@
+//! Making the commands durable.
+
+ghost use Rattle.std.specs.Prelude.{◌≡◌, ◌<◌, ◌+◌, [], OnErr, OnOk, IsErrOf, IsOk, true, false, length};
+ghost use Rattle.disk_core.specs.Moments.{LeavesOnly};
+ghost use Rattle.area_core.specs.Areas.{records};
+ghost use Rattle.recover_core.specs.Standing.{StandFor, StandsForEither};
+ghost use Rattle.flush_core.specs.Batches.{state_at, state_taken};
+ghost use Rattle.flush_core.specs.Faults.{IsFlushCaused};
+ghost use Rattle.flush_core.specs.Flushed.{gathered};
+ghost use Rattle.flush_core.specs.Outcomes.{IsOutcome, storing};
+
+use crate::FlushFault;
+use crate::flusher::Flusher;
+use claim_core::BrokerRing;
+use disk_core::Disk;
+use std::alloc::Global;
+use std::mem::swap;
+
+impl<D: Disk> Flusher<D> {
+    /// Makes the gathered batch durable in one block. Where nothing is gathered it calls no disk and changes nothing.
+    ///
+    /// At each moment of the call an image of the disk stands for the state after what was stored before, or after all that
+    /// was taken, and for none between; after it, for the latter alone. `Full` where the block doesn't fit.
+    pub fn store(&mut self, alloc: Global, ring: &BrokerRing<()>) -> Result<(), FlushFault>
+        requires ring { self.old.seat.ring ≡ ring.now }
+        requires settled { self.old.broken ≡ false → self.old.settled ≡ self.old.stored }
+        ensures any_moment { D.honest self.old.disk → self.old.broken ≡ false →
+            LeavesOnly D.moment D.images_since self.old.disk self.new.disk
+            (StandsForEither (state_at self.old.opening self.old.seat self.old.stored) (state_taken self.old.opening self.old.seat)) }
+        ensures after { D.honest self.old.disk →
+            OnOk result (StandFor (D.images self.new.disk) (state_taken self.old.opening self.old.seat)) }
+        ensures stored { OnOk result (self.new ≡ storing self.old self.new.disk self.new.size self.new.used) }
+        ensures nothing { self.old.broken ≡ false → gathered self.old ≡ [] → IsOk result × (self.new ≡ self.old) }
+        ensures full { IsErrOf result FlushFault.Full →
+            (self.old.size < self.old.used + 9 + length (records (gathered self.old))) × (self.new.disk ≡ self.old.disk) }
+        ensures outcome { IsOutcome self.old self.new result }
+        ensures stops { OnErr result ((self.new.broken ≡ true) × (self.new.seat.stopped ≡ true)) }
+        ensures cause { IsFlushCaused (D.failures self.old.disk) (D.failures self.new.disk) result }
+        ensures honest { D.honest self.old.disk → D.honest self.new.disk }
+        ensures was_honest { D.honest self.new.disk → D.honest self.old.disk }
+    {
+        if self.broken {
+            return Err(FlushFault::Broken);
+        }
+        if self.batch.is_empty() {
+            return Ok(());
+        }
+        match self.journal.append(alloc, &self.batch) {
+            Ok(()) => {
+                swap(&mut self.batch, &mut self.done);
+                self.bytes = 0;
+                self.stored = self.seat.next();
+                Ok(())
+            }
+            Err(fault) => {
+                self.broken = true;
+                ring.stop(&mut self.seat);
+                Err(FlushFault::from(fault))
+            }
+        }
+    }
+}

@@ -1,0 +1,50 @@
+//! One turn of the flusher.
+
+ghost use Rattle.std.specs.Prelude.{◌≡◌, ◌<◌, ◌+◌, ◌++◌, List, IfOk, IsErrOf, OnErr, true, false, length};
+ghost use Rattle.command_core.specs.Commands.{CommandValue};
+ghost use Rattle.area_core.specs.Areas.{records};
+ghost use Rattle.disk_core.specs.Moments.{LeavesOnly};
+ghost use Rattle.recover_core.specs.Standing.{StandFor, StandsForEither};
+ghost use Rattle.flush_core.specs.Batches.{IsBatch, from_on, state_at, state_taken};
+ghost use Rattle.flush_core.specs.Faults.{IsFlushCaused};
+ghost use Rattle.flush_core.specs.Outcomes.{IsTurn, IsTurned};
+
+use crate::FlushFault;
+use crate::flusher::Flusher;
+use claim_core::BrokerRing;
+use disk_core::Disk;
+use std::alloc::Global;
+
+impl<D: Disk> Flusher<D> {
+    /// Takes what is ready, makes it durable in one block, carries it out and publishes it. Answers how many commands it took.
+    ///
+    /// At each moment of the call an image of the disk stands for the state after what was stored before, or after all that
+    /// is taken at the end, and for none between; after it, for the latter alone.
+    pub fn turn(&mut self, alloc: Global, ring: &BrokerRing<()>) -> Result<u64, FlushFault>
+        requires ring { self.old.seat.ring ≡ ring.now }
+        requires settled { self.old.broken ≡ false → self.old.settled ≡ self.old.stored }
+        ensures any_moment { D.honest self.old.disk → self.old.broken ≡ false →
+            LeavesOnly D.moment D.images_since self.old.disk self.new.disk
+            (StandsForEither (state_at self.old.opening self.old.seat self.old.stored) (state_taken self.new.opening self.new.seat)) }
+        ensures after { D.honest self.old.disk →
+            IfOk result (λ count. StandFor (D.images self.new.disk) (state_taken self.new.opening self.new.seat)) }
+        ensures turned { IfOk result (λ count. (more : List CommandValue) × (length more ≡ count) × IsTurned self.old self.new more) }
+        ensures batch { IfOk result (λ count. IsBatch (from_on self.new.seat self.old.stored)) }
+        ensures full { IsErrOf result FlushFault.Full →
+            self.old.size < self.old.used + 9 + length (records (from_on self.new.seat self.old.stored)) }
+        ensures outcome { IsTurn self.old self.new result }
+        ensures stops { OnErr result ((self.new.broken ≡ true) × (self.new.seat.stopped ≡ true)) }
+        ensures cause { IsFlushCaused (D.failures self.old.disk) (D.failures self.new.disk) result }
+        ensures honest { D.honest self.old.disk → D.honest self.new.disk }
+        ensures was_honest { D.honest self.new.disk → D.honest self.old.disk }
+    {
+        if self.is_broken() {
+            return Err(FlushFault::Broken);
+        }
+        let count = self.gather(ring)?;
+        self.store(alloc, ring)?;
+        self.settle(alloc, ring)?;
+        self.publish(ring);
+        Ok(count)
+    }
+}
