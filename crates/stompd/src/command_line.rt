@@ -52,10 +52,16 @@ fn is_script<S: AsStr>(words: &[S]) -> bool
 
 /// What the words mean to the program's commands.
 fn matches_of<'a, S: AsStr>(alloc: Global, words: &'a [S]) -> Result<ArgMatches<'a>, Error> {
-    let file = Arg::new(alloc, "FILE").required(true).action(ArgAction::Set);
-    let bytes = Arg::new(alloc, "BYTES").required(true).action(ArgAction::Set);
+    let file = Arg::new(alloc, "FILE")
+        .required(true)
+        .action(ArgAction::Set);
+    let bytes = Arg::new(alloc, "BYTES")
+        .required(true)
+        .action(ArgAction::Set);
     let format = Command::new(alloc, "format").arg(file)?.arg(bytes)?;
-    let shown = Arg::new(alloc, "FILE").required(true).action(ArgAction::Set);
+    let shown = Arg::new(alloc, "FILE")
+        .required(true)
+        .action(ArgAction::Set);
     let show = Command::new(alloc, "show").arg(shown)?;
     let command = Command::new(alloc, "stompd")
         .subcommand_required(true)

@@ -3,13 +3,13 @@ use std::alloc::Global;
 use std::process::Abort;
 use std::test::Fail;
 
-const CON: &str = "CONNECT%0Aaccept-version:1.2~";
+const CON_0: &str = "0 CONNECT%0Aaccept-version:1.2~";
 
-const SENDS: [&str; 3] = [
-    "0 SEND%0Adestination:/queue/q%0A%0Ax%00",
-    "0 SEND%0Adestination:/queue/q%0A%0Ay%00",
-    "0 SEND%0Adestination:/queue/q%0A%0Az%00",
-];
+const SEND_X: &str = "0 SEND%0Adestination:/queue/q%0A%0Ax%00";
+
+const SEND_Y: &str = "0 SEND%0Adestination:/queue/q%0A%0Ay%00";
+
+const SEND_Z: &str = "0 SEND%0Adestination:/queue/q%0A%0Az%00";
 
 const IN_TRANSACTION: &str = "0 SEND%0Adestination:/queue/q%0Atransaction:t%0A%0Ax%00";
 
@@ -33,19 +33,18 @@ fn transaction_then(alloc: Global, lines: &[&str]) -> Result<String, Fail> {
 #[test]
 fn an_opened_journal_has_what_was_flushed(rt: HostRuntime) -> Result<(), Fail> {
     let alloc = rt.alloc();
-    let con = format!(in alloc; "0 {CON}")?;
     let connected = "0 CONNECTED%0Aversion:1.2%0Asession:0%0Aheart-beat:0,0~";
     expect_lines(
         &rt,
         alloc,
-        &[&con, "0 SEND%0Adest", "lost 0", "flush", "open"],
+        &[CON_0, "0 SEND%0Adest", "lost 0", "flush", "open"],
         &[connected, "open 2 0"],
     )?;
     expect_lines(
         &rt,
         alloc,
         &[
-            &con,
+            CON_0,
             "0 BEGIN%0Atransaction:t~",
             IN_TRANSACTION,
             "0 ACK%0Aid:7%0Atransaction:t~",
@@ -64,7 +63,7 @@ fn an_opened_journal_has_what_was_flushed(rt: HostRuntime) -> Result<(), Fail> {
         &rt,
         alloc,
         &[
-            &con, "flush", SENDS[0], "open", SENDS[0], "open", &con, "flush",
+            CON_0, "flush", SEND_X, "open", SEND_X, "open", CON_0, "flush",
         ],
         &[
             connected,
@@ -79,16 +78,15 @@ fn an_opened_journal_has_what_was_flushed(rt: HostRuntime) -> Result<(), Fail> {
 #[test]
 fn messages_that_were_not_acknowledged_are_kept(rt: HostRuntime) -> Result<(), Fail> {
     let alloc = rt.alloc();
-    let con = format!(in alloc; "0 {CON}")?;
     expect_lines(
         &rt,
         alloc,
         &[
-            &con,
+            CON_0,
             "0 SUBSCRIBE%0Aid:s%0Adestination:/queue/q%0Aack:client~",
-            SENDS[0],
-            SENDS[1],
-            SENDS[2],
+            SEND_X,
+            SEND_Y,
+            SEND_Z,
             "flush",
             "0 ACK%0Aid:1~",
             "0 ACK%0Aid:1%0Areceipt:r9~",

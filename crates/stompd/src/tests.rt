@@ -1,12 +1,11 @@
 use crate::tool::tool;
 use std::alloc::Global;
-use std::fs;
 use std::fs::File;
-use std::io;
 use std::io::{ErrorKind, Read, Write};
 use std::process::Abort;
 use std::rt::Files;
 use std::test::Fail;
+use std::{fs, io};
 
 const CONNECT: &str = "0 CONNECT%0Aaccept-version:1.2%0A%0A%00\n";
 
@@ -340,7 +339,10 @@ fn words_that_ask_for_nothing_are_refused(rt: HostRuntime) -> Result<(), Fail> {
         let mut reader = FLUSH.as_bytes();
         let mut written = Vec::new(alloc);
         let mut told = Vec::new(alloc);
-        assert_eq!(rt; tool(&rt, alloc, words, &mut reader, &mut written, &mut told), 2);
+        assert_eq!(rt;
+            tool(&rt, alloc, words, &mut reader, &mut written, &mut told),
+            2
+        );
         assert!(rt; written.is_empty() && reader.len() == FLUSH.len() && !told.is_empty());
         if words.last() == Some(&"serve") {
             assert_eq!(rt; String::from_utf8(told)?.as_str(), unknown);
@@ -381,7 +383,12 @@ fn a_journal_file_is_made_and_shown(rt: HostRuntime) -> Result<(), Fail> {
     for bytes in ["", "+8224", "8224 ", "18446744073709551616"] {
         expect_of(&rt, alloc, &["stompd", "format", path, bytes], (2, "", ""))?;
     }
-    expect_of(&rt, alloc, &["stompd", "format", path, "08224"], (0, "", ""))?;
+    expect_of(
+        &rt,
+        alloc,
+        &["stompd", "format", path, "08224"],
+        (0, "", ""),
+    )?;
     expect_of(&rt, alloc, &["stompd", "show", path], shown)?;
     expect_of(&rt, alloc, &["stompd", "format", path, "8224"], closed)?;
     expect_of(&rt, alloc, &["stompd", "show", path], shown)?;
