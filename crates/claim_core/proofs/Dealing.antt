@@ -1,5 +1,5 @@
 -- The owner deals seats and takes them back.
-use Rattle.std.proofs.Common.{◌≡◌, ℕ, ◌+◌, ◌<◌, ◌≤◌, ◌≢◌, List, [], ◌∷◌, ◌++◌, false, length, get_or, set, sym, refl, ap, ◌∙◌, subst, ⊎_elim, arith, length-append}
+use Rattle.std.proofs.Common.{◌≡◌, ℕ, suc, ◌+◌, ◌<◌, ◌≤◌, ◌≢◌, List, [], ◌∷◌, ◌++◌, false, length, get_or, set, sym, refl, ap, ◌∙◌, subst, ⊎_elim, arith, length-append}
 use Rattle.std.proofs.lemmas.Bool.{false≢true}
 use mathlib.Core.Option.{some, none, some-ne-none}
 use lib.ListN.{get_elem?}
@@ -14,7 +14,7 @@ use Rattle.claim_core.specs.declared.views.View.{View}
 use Rattle.claim_core.specs.declared.views.View.TheVariants.{Owns, Claims, Spent}
 use Rattle.claim_core.specs.Counts.{sum_of, times, pends, times_of, pends_of, heads}
 use Rattle.claim_core.specs.Rule.{ClaimerOk, Fits, Stands, RingRule}
-use Rattle.claim_core.specs.Steps.{claimer, owning, Sat, Ended, ended, dealt, fresh, joined_to}
+use Rattle.claim_core.specs.Steps.{claimer, owning, Sat, Ended, ended, dealt, fresh, joined_to, without_first, first_of, handed_back, came_back, nobody}
 use Rattle.claim_core.proofs.Sums.{sum_set, sum_at, sum_le, sum_zero, sum_snoc}
 use Rattle.claim_core.proofs.Moves.{none_not_some, get_below}
 use Rattle.claim_core.proofs.Claiming.{St}
@@ -53,6 +53,76 @@ module _ {B : Type 0} (key : Limits) (s : St B) (r : RingRule key s) where
             (λ (new : Claims c ≡ v). subst (Fits key.base key.window o.published o.stopped T r.log j) new record { pairs = λ k p q. absurd (some-ne-none p (sym q)); rising = tt; window_kept = omega arith; seen_low = omega (arith, r.base_is, r.low); stop_seen = λ q. absurd (false≢true q); few_far = omega arith; pending_own = λ t q. absurd (none_not_some t q) })
             (at_snoc (set s.views 0 (Owns o')) (Claims c) v j e);
         places = λ t a b h. subst (λ p. Stands (length s.homes) s.words s.homes key.base r.log p t) (sym (omega (arith, all (pends_of t) refl))) (r.places t a b h);
+        held = r.held;
+      }
+
+  -- a seat that knows nothing is split off
+  stands_in_at : RingRule key record { words = s.words; homes = s.homes; views = set s.views 0 (Owns r.owner) ++ Spent ∷ [] }
+  stands_in_at = let o : Owner = r.owner in let at = r.at_owner in
+      let all : (f : View → ℕ) → f Spent ≡ 0 → sum_of f (set s.views 0 (Owns o) ++ Spent ∷ []) ≡ sum_of f s.views = λ f z. omega (arith, sum_snoc f (set s.views 0 (Owns o)) Spent, sum_set f s.views 0 (Owns o) (Owns o) at, z) in
+      record {
+        log = r.log;
+        owner = o;
+        base_low = r.base_low;
+        roomy = r.roomy;
+        some_place = r.some_place;
+        small = r.small;
+        wide = r.wide;
+        tail_is = r.tail_is;
+        mark_is = r.mark_is;
+        stop_is = r.stop_is;
+        at_owner = at_longer (set s.views 0 (Owns o)) (Spent ∷ []) 0 (Owns o) (set_here s.views 0 (Owns o) (get_below s.views 0 (Owns o) at));
+        base_is = r.base_is;
+        low = r.low;
+        published_low = r.published_low;
+        prefix = r.prefix;
+        counted = all heads refl ∙ r.counted;
+        few = r.few;
+        once = λ i l. all (times_of (key.base + i)) refl ∙ r.once i l;
+        each_view = λ j v e. ⊎_elim
+            (λ (old : get_elem? (set s.views 0 (Owns o)) j ≡ some v). ⊎_elim (λ (x : (j ≡ 0) × (Owns o ≡ v)). subst (Fits key.base key.window o.published o.stopped T r.log j) x.1 (subst (λ i. Fits key.base key.window o.published o.stopped T r.log i (Owns o)) (sym x.0) (r.each_view 0 (Owns o) at)))
+            (λ (x : (j ≢ 0) × (get_elem? s.views j ≡ some v)). r.each_view j v x.1) (at_set s.views 0 j (Owns o) v old))
+            (λ (new : Spent ≡ v). subst (Fits key.base key.window o.published o.stopped T r.log j) new tt)
+            (at_snoc (set s.views 0 (Owns o)) Spent v j e);
+        places = λ t a b h. subst (λ p. Stands (length s.homes) s.words s.homes key.base r.log p t) (sym (all (pends_of t) refl)) (r.places t a b h);
+        held = r.held;
+      }
+
+  -- a seat that was taken back is handed out again
+  hands_at : (c : Claimer) (cs : List Claimer) → r.owner.joined ≡ c ∷ cs → RingRule key record { words = s.words; homes = s.homes; views = set s.views 0 (handed_back (Owns r.owner)) ++ came_back (Owns r.owner) ∷ [] }
+  hands_at c cs is = let o : Owner = r.owner in let o' : Owner = owning o.base o.taken o.held o.published o.stopped o.count cs in let at = r.at_owner in
+      let fit : Fits key.base key.window o.published o.stopped T r.log 0 (Owns o) = r.each_view 0 (Owns o) at in
+      let fit' : (k : ℕ) (d : Claimer) → get_elem? (c ∷ cs) k ≡ some d → (d.pending ≡ None) × ClaimerOk key.base key.window o.published o.stopped T r.log d = subst (λ (l : List Claimer). (k : ℕ) (d : Claimer) → get_elem? l k ≡ some d → (d.pending ≡ None) × ClaimerOk key.base key.window o.published o.stopped T r.log d) is fit.1 in
+      let mine = fit' 0 c refl in
+      let all : (f : View → ℕ) → f (Owns o') + f (Claims c) ≡ f (Owns o) → sum_of f (set s.views 0 (Owns o') ++ Claims c ∷ []) ≡ sum_of f s.views = λ f e. omega (arith, sum_snoc f (set s.views 0 (Owns o')) (Claims c), sum_set f s.views 0 (Owns o) (Owns o') at, e) in
+      let all_times : (t : ℕ) → sum_of (times_of t) (set s.views 0 (Owns o') ++ Claims c ∷ []) ≡ sum_of (times_of t) s.views = λ t. all (times_of t) (omega (arith, ap (sum_of (λ (d : Claimer). times t d.own)) is)) in
+      let all_pends : (t : ℕ) → sum_of (pends_of t) (set s.views 0 (Owns o') ++ Claims c ∷ []) ≡ sum_of (pends_of t) s.views = λ t. all (pends_of t) (omega (arith, ap (pends t) mine.0)) in
+      subst (λ (l : List Claimer). RingRule key record { words = s.words; homes = s.homes; views = set s.views 0 (Owns (owning o.base o.taken o.held o.published o.stopped o.count (without_first l))) ++ first_of l ∷ [] }) (sym is)
+      record {
+        log = r.log;
+        owner = o';
+        base_low = r.base_low;
+        roomy = r.roomy;
+        some_place = r.some_place;
+        small = r.small;
+        wide = r.wide;
+        tail_is = r.tail_is;
+        mark_is = r.mark_is;
+        stop_is = r.stop_is;
+        at_owner = at_longer (set s.views 0 (Owns o')) (Claims c ∷ []) 0 (Owns o') (set_here s.views 0 (Owns o') (get_below s.views 0 (Owns o) at));
+        base_is = r.base_is;
+        low = r.low;
+        published_low = r.published_low;
+        prefix = r.prefix;
+        counted = all heads (omega (arith, ap length is)) ∙ r.counted;
+        few = r.few;
+        once = λ i l. all_times (key.base + i) ∙ r.once i l;
+        each_view = λ j v e. ⊎_elim
+            (λ (old : get_elem? (set s.views 0 (Owns o')) j ≡ some v). ⊎_elim (λ (x : (j ≡ 0) × (Owns o' ≡ v)). subst (Fits key.base key.window o.published o.stopped T r.log j) x.1 (x.0, λ k d q. fit' (suc k) d q))
+            (λ (x : (j ≢ 0) × (get_elem? s.views j ≡ some v)). r.each_view j v x.1) (at_set s.views 0 j (Owns o') v old))
+            (λ (new : Claims c ≡ v). subst (Fits key.base key.window o.published o.stopped T r.log j) new mine.1)
+            (at_snoc (set s.views 0 (Owns o')) (Claims c) v j e);
+        places = λ t a b h. subst (λ p. Stands (length s.homes) s.words s.homes key.base r.log p t) (sym (all_pends t)) (r.places t a b h);
         held = r.held;
       }
 
@@ -101,6 +171,14 @@ module _ {B : Type 0} (key : Limits) where
   pub deals : (id : ℕ) (v : View) (o : Owner) → v ≡ Owns o → o.count < key.seats → Splits (RingRule {B = B} key) id v (dealt v) (fresh v)
   deals id v o is few s r at = let who = is_owner key s r id o (at ∙ ap some is) in
       subst (λ (z : ℕ × View). RingRule key record { words = s.words; homes = s.homes; views = set s.views z.0 (dealt z.1) ++ fresh z.1 ∷ [] }) (λ i. (sym who.0 i, (sym (is ∙ ap Owns who.1)) i)) (deals_at key s r (subst (λ (z : Owner). z.count < key.seats) who.1 few))
+
+  pub stands_in : (id : ℕ) (v : View) (o : Owner) → v ≡ Owns o → Splits (RingRule {B = B} key) id v v (nobody v)
+  stands_in id v o is s r at = let who = is_owner key s r id o (at ∙ ap some is) in
+      subst (λ (z : ℕ × View). RingRule key record { words = s.words; homes = s.homes; views = set s.views z.0 z.1 ++ Spent ∷ [] }) (λ i. (sym who.0 i, (sym (is ∙ ap Owns who.1)) i)) (stands_in_at key s r)
+
+  pub hands : (id : ℕ) (v : View) (o : Owner) (c : Claimer) (cs : List Claimer) → v ≡ Owns o → o.joined ≡ c ∷ cs → Splits (RingRule {B = B} key) id v (handed_back v) (came_back v)
+  hands id v o c cs is has s r at = let who = is_owner key s r id o (at ∙ ap some is) in
+      subst (λ (z : ℕ × View). RingRule key record { words = s.words; homes = s.homes; views = set s.views z.0 (handed_back z.1) ++ came_back z.1 ∷ [] }) (λ i. (sym who.0 i, (sym (is ∙ ap Owns who.1)) i)) (hands_at key s r c cs (sym (ap (λ (z : Owner). z.joined) who.1) ∙ has))
 
   pub gathers : (id other : ℕ) (v w : View) (o : Owner) (c : Claimer) → v ≡ Owns o → w ≡ Claims c → c.pending ≡ None → Joins (RingRule {B = B} key) id v other w (joined_to v w) Spent
   gathers id other v w o c is isc idle s r at ne at' = let who = is_owner key s r id o (at ∙ ap some is) in

@@ -16,6 +16,11 @@ pub record Matches (flush : FlushSeatValue) (log : List CommandValue) (seat : Se
   pub seen : seat.seen ≤ flush.published
   pub stop : seat.stopped ≡ true → flush.stopped ≡ true
 
+-- A session's seat and the flusher's know of one history: what the flusher took begins it, and the seat's own commands
+-- stand in it at their tickets.
+abbrev pub Agree : SessionSeatValue → FlushSeatValue → Type 0
+Agree seat flush = (log : List CommandValue) × ((rest : List CommandValue) × (log ≡ flush.taken ++ rest)) × Matches flush log seat
+
 -- There was one history, the commands of all tickets from the base on. What the flusher took begins it, and the mark
 -- lies between the base and what was taken. Each ticket is in one seat's own commands, once.
 pub record Ends (seats : List SessionSeatValue) (flush : FlushSeatValue) (log : List CommandValue) (end : RingEnd) : Type 0 where

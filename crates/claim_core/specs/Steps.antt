@@ -45,6 +45,29 @@ joined_to (Owns o) w = joined_with o w
 joined_to (Claims c) w = Claims c
 joined_to Spent w = Spent
 
+-- of the seats that the owner has taken back, it hands the first out again as it came
+abbrev pub without_first : List Claimer → List Claimer
+without_first [] = []
+without_first (c ∷ cs) = cs
+
+abbrev pub first_of : List Claimer → View
+first_of [] = Spent
+first_of (c ∷ cs) = Claims c
+
+abbrev pub handed_back : View → View
+handed_back (Owns o) = Owns (owning o.base o.taken o.held o.published o.stopped o.count (without_first o.joined))
+handed_back (Claims c) = Claims c
+handed_back Spent = Spent
+
+abbrev pub came_back : View → View
+came_back (Owns o) = first_of o.joined
+came_back (Claims c) = Spent
+came_back Spent = Spent
+
+-- the owner splits off a seat that knows nothing
+abbrev pub nobody : View → View
+nobody v = Spent
+
 -- the seat is at that table, which has three words before those of its places
 abbrev pub IsAt : TableId → TableId → Type 0
 IsAt seat board = (seat ≡ board) × (board.words ≡ board.slots + 3)

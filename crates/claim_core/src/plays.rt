@@ -1,7 +1,7 @@
 //! What each step tells the seat that makes it. These types are for the proofs alone.
 
 ghost use Rattle.claim_core.specs.declared.views.View.TheVariants.{Spent};
-ghost use Rattle.claim_core.specs.Steps.{saw_mark, saw_stop, claimed_for, readied, took, freed, raised, stopped, ended, dealt, fresh, joined_to};
+ghost use Rattle.claim_core.specs.Steps.{saw_mark, saw_stop, claimed_for, readied, took, freed, raised, stopped, ended, dealt, fresh, joined_to, handed_back, came_back, nobody};
 
 use crate::views::{Told, View};
 use atomic_table::{Join, Play, Split};
@@ -74,6 +74,24 @@ impl Join<View> for Gather {
     ghost both = { joined_to };
 
     ghost spent = { Spent };
+}
+
+// The owner splits off a seat that knows nothing.
+pub struct StandIn;
+
+impl Split<View> for StandIn {
+    ghost left = { λ v. v };
+
+    ghost right = { nobody };
+}
+
+// The owner hands the first seat that it has taken back out again.
+pub struct HandBack;
+
+impl Split<View> for HandBack {
+    ghost left = { handed_back };
+
+    ghost right = { came_back };
 }
 
 pub struct End;

@@ -2,6 +2,7 @@
 
 ghost use Rattle.std.specs.Prelude.{◌≡◌, ◌<◌, ◌≤◌, MatchOption, IfOk, IfErr};
 ghost use Rattle.claim_core.specs.Appends.{Appends, Refuses};
+ghost use Rattle.claim_core.specs.Endings.{Agree};
 ghost use Rattle.claim_core.specs.Seats.{with_seen, with_taken, with_mark, when_stopped, next_ticket};
 
 use crate::refusals::{NotYet, Refused};
@@ -112,6 +113,19 @@ impl<B, const SEATS: usize, const WINDOW: usize, const PLACES: usize> Ring<
         ensures { seat.new ≡ with_mark seat.old mark }
     {
         seat.raise_to(&self.table.shared, mark);
+    }
+
+    /// Brings a session's seat beside the flusher's, for one who has both: they stay as they are, and contracts know then
+    /// that both speak of one history. Where the flusher has taken a ticket of the seat's own, it took the command that
+    /// the seat has there.
+    pub fn beside(&self, seat: &mut SessionSeat<B, WINDOW>, flush: &mut FlushSeat<B>)
+        requires flush { flush.old.ring ≡ self.now }
+        requires seat { seat.old.ring ≡ self.now }
+        ensures seat { seat.new ≡ seat.old }
+        ensures flush { flush.new ≡ flush.old }
+        ensures agree { Agree seat.old flush.old }
+    {
+        flush.compare(&self.table.shared, seat);
     }
 
     /// From now on `append` refuses, for good.

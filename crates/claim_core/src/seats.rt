@@ -3,18 +3,20 @@
 ghost use Rattle.std.specs.Prelude.{◌≡◌, ◌+◌, ◌<◌, ◌≤◌, ◌^◌, false, List, [], length, nat_lt, vec_capacity, All, MatchOption};
 ghost use Rattle.command_core.specs.Commands.{CommandValue};
 ghost use Rattle.claim_core.specs.declared.views.View.TheVariants.{Owns, Claims};
-ghost use Rattle.claim_core.specs.Endings.{Ends};
+ghost use Rattle.claim_core.specs.Endings.{Agree, Ends};
 ghost use Rattle.claim_core.specs.Rule.{far};
 ghost use Rattle.claim_core.specs.Steps.{IsAt, IsLast, owning};
 ghost use Rattle.claim_core.specs.Seats.{waiting, with_seen, with_stop, with_own, next_ticket, with_taken, with_mark, when_stopped, with_seat, new_session, new_flushing, claimer_from};
 
 use crate::ending::RingEnd;
 use crate::steps::{
-    claim, deal, free, gather, hold, load_mark, load_stop, load_tail, raise, ready, stop,
+    claim, deal, free, gather, hand_back, hold, load_mark, load_stop, load_tail, raise, ready,
+    stand_in, stop,
 };
 use crate::views::{Board, Place};
 use command_core::Entry;
 use std::marker::Model;
+use std::mem;
 
 /// The seat of one session at a ring. It takes no memory after it was made. Contracts see its ring, its number, its own
 /// commands with their tickets, the mark that it read last, and whether its last append found the ring stopped.
@@ -200,6 +202,25 @@ impl<B> FlushSeat<B> {
         ensures { self.new ≡ when_stopped self.old }
     {
         stop(board, &mut self.place);
+    }
+
+    // Takes a session's seat back, learns what is known of both, and hands it out again.
+    pub(crate) fn compare<const WINDOW: usize>(
+        &mut self,
+        board: &Board<B>,
+        seat: &mut SessionSeat<B, WINDOW>,
+    )
+        requires fits { IsAt self.old.ring board.now.table_id }
+        requires seat { seat.old.ring ≡ board.now.table_id }
+        ensures seat { seat.new ≡ seat.old }
+        ensures flush { self.new ≡ self.old }
+        ensures agree { Agree seat.old self.old }
+    {
+        let nobody = stand_in(board, &mut self.place);
+        let place = mem::replace(&mut seat.place, nobody);
+        gather(board, &mut self.place, place);
+        let _tail = load_tail(board, &mut self.place);
+        seat.place = hand_back(board, &mut self.place);
     }
 
     // Takes all sessions' seats back and reads the next ticket.

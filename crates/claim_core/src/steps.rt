@@ -1,14 +1,16 @@
 //! The steps on the ring's words. Each keeps the rule of the ring.
 
-ghost use Rattle.std.specs.Prelude.{◌≡◌, ◌+◌, ◌*◌, ◌<◌, ◌≤◌, ◌^◌, [], None, Some, false};
+ghost use Rattle.std.specs.Prelude.{◌≡◌, ◌+◌, ◌*◌, ◌<◌, ◌≤◌, ◌^◌, List, [], ◌∷◌, None, Some, false};
 ghost use mathlib.Core.Option.{none};
 ghost use Rattle.atomic_table.specs.Table.{step};
 ghost use Rattle.claim_core.specs.declared.views.Claimer.{Claimer};
 ghost use Rattle.claim_core.specs.declared.views.Owner.{Owner};
 ghost use Rattle.claim_core.specs.declared.views.View.TheVariants.{Owns, Claims, Spent};
-ghost use Rattle.claim_core.specs.Steps.{saw_mark, saw_stop, claimed, readied, took, freed, raised, stopped, ended, dealt, fresh, joined_to, next_of, MayClaim, MayFill, MayFree, MayRaise, IsAt, IsPlaceOf};
+ghost use Rattle.claim_core.specs.Steps.{saw_mark, saw_stop, claimed, readied, took, freed, raised, stopped, ended, dealt, fresh, joined_to, handed_back, came_back, nobody, next_of, MayClaim, MayFill, MayFree, MayRaise, IsAt, IsPlaceOf};
 
-use crate::plays::{Claim, Deal, End, Free, Gather, Raise, Ready, SeeMark, SeeStop, Stop, Take};
+use crate::plays::{
+    Claim, Deal, End, Free, Gather, HandBack, Raise, Ready, SeeMark, SeeStop, StandIn, Stop, Take,
+};
 use crate::views::{Board, Place, Told};
 use command_core::Entry;
 use std::marker::Brand;
@@ -141,7 +143,29 @@ pub fn gather<B>(board: &Board<B>, seat: &mut Place<B>, other: Place<B>)
     board.join_seat::<Gather>(seat, other);
 }
 
-// The owner loads the next ticket, at the end.
+// The owner splits off a seat that knows nothing, to stand in another's place.
+pub fn stand_in<B>(board: &Board<B>, seat: &mut Place<B>) -> Place<B>
+    requires fits { IsAt seat.old.table_id board.now.table_id }
+    requires owner { (o : Owner) × (seat.old.me.0 ≡ Owns o) }
+    ensures ring { seat.new.table_id ≡ seat.old.table_id }
+    ensures told { seat.new.me ≡ (seat.old.me.0, seat.old.me.1) }
+    ensures new { (result.table_id ≡ seat.old.table_id) × (result.me ≡ (nobody seat.old.me.0, [])) }
+{
+    board.split_seat::<StandIn>(seat)
+}
+
+// The owner hands the first seat that it has taken back out again, as it came.
+pub fn hand_back<B>(board: &Board<B>, seat: &mut Place<B>) -> Place<B>
+    requires fits { IsAt seat.old.table_id board.now.table_id }
+    requires owner { (o : Owner) × (c : Claimer) × (cs : List Claimer) × (seat.old.me.0 ≡ Owns o) × (o.joined ≡ c ∷ cs) }
+    ensures ring { seat.new.table_id ≡ seat.old.table_id }
+    ensures told { seat.new.me ≡ (handed_back seat.old.me.0, seat.old.me.1) }
+    ensures new { (result.table_id ≡ seat.old.table_id) × (result.me ≡ (came_back seat.old.me.0, [])) }
+{
+    board.split_seat::<HandBack>(seat)
+}
+
+// The owner loads the next ticket, and learns what is known of the seats that it has taken back.
 pub fn load_tail<B>(board: &Board<B>, seat: &mut Place<B>) -> u64
     requires fits { IsAt seat.old.table_id board.now.table_id }
     requires owner { (o : Owner) × (seat.old.me.0 ≡ Owns o) }

@@ -1,5 +1,5 @@
 -- A number of calls in a line.
-use Rattle.std.proofs.Common.{◌≡◌, ◌-◌, ◌++◌, ◌<◌, ◌^◌, List, ℕ, Option, Some, None, Result, Ok, Err, arith, codes, drop, take, true, length, length-append, sym, ◌∙◌, ap, subst}
+use Rattle.std.proofs.Common.{◌≡◌, ◌-◌, ◌++◌, List, ℕ, Some, None, Result, Ok, Err, arith, codes, drop, take, true, length, length-append, sym, ◌∙◌, ap, subst}
 use Rattle.std.proofs.Transfers.{drop-appended}
 use Rattle.std.proofs.lemmas.List.{take-append-drop}
 use Rattle.std.proofs.lemmas.Slice.Eq.{bytes_eq-Decides}
@@ -8,7 +8,7 @@ use Rattle.std.specs.Str.{IsUtf8, bytes_eq}
 use Rattle.std.specs.Str.Parse.{ParsesUnsigned}
 use Rattle.std.proofs.lemmas.Fmt.{IsAscii-decimal, parse-decimal}
 use Rattle.std.proofs.lemmas.Str.{IsUtf8-from_ascii}
-use Rattle.engine_core.specs.ScriptLines.{IsCountAndFill, IsCrash, IsNoCount, IsNoCountAndFill, IsNoCrash}
+use Rattle.engine_core.specs.ScriptLines.{IsCountAndFill, IsNoCount, IsNoCountAndFill, IsNoCrash}
 
 pub of_no_text : (text : List ℕ) → (IsUtf8 text → ⊥) → IsNoCount text
 of_no_text text bad k small e = bad (subst IsUtf8 (sym e) (IsUtf8-from_ascii (decimal k) (IsAscii-decimal k small)))

@@ -1,10 +1,6 @@
 pub mod Connections
 pub mod Counts
 pub mod Encodings
-pub mod Carrying
-pub mod Batching
-pub mod Crashing
-pub mod Recording
 pub mod Performing
 pub mod Receiving
 pub mod Counting

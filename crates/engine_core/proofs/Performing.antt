@@ -1,5 +1,5 @@
 -- What a line does that was read.
-use Rattle.std.proofs.Common.{◌≡◌, ◌≢◌, ◌+◌, ◌<◌, List, [], ◌∷◌, ◌++◌, ℕ, Option, Some, None, MatchOption, codes, refl, ap, sym, ◌∙◌, arith, inl, inr, length, subst}
+use Rattle.std.proofs.Common.{◌≡◌, ◌≢◌, ◌<◌, List, [], ◌∷◌, ◌++◌, ℕ, Option, Some, None, MatchOption, codes, refl, sym, ◌∙◌, arith, inl, inr, subst}
 use Rattle.std.specs.Fmt.{decimal}
 use Rattle.std.proofs.lemmas.Bool.{cases_lt}
 use Rattle.engine_core.specs.ScriptLines.{IsOfNoForm, IsLoss, IsCrash}

@@ -7,13 +7,12 @@ use Rattle.recover_core.specs.Told.{IsOpenTold}
 use Rattle.broker_core.specs.States.{State}
 use Rattle.engine_core.specs.Running.{beginning}
 use Rattle.engine_core.specs.Scripts.{Takes, IsLine, IsScript, Tries, text_of_lines}
-use Rattle.engine_core.specs.Runs.{Goes, Halts, StopsIn, Turned, Stopped, EndsWithin, Begins, Stops, StopsAtOnce, StopsOver, IsToldAtOnce}
+use Rattle.engine_core.specs.Runs.{Goes, Halts, StopsIn, Turned, Stopped, EndsWithin, Begins, Stops, StopsOver, IsToldAtOnce}
 use Rattle.engine_core.specs.declared.script.Script.{Script}
 use Rattle.engine_core.specs.declared.script.Script.TheVariants.{Running}
 use Rattle.engine_core.specs.declared.run.Run.{Run}
 use Rattle.engine_core.specs.declared.fault.ScriptFault.{ScriptFault}
 use Rattle.engine_core.specs.declared.fault.ScriptFault.TheVariants.{Memory, NotUnderstood, CountTooLarge, Opening, Storing, Input, Output}
-use Rattle.engine_core.proofs.LineByLine.{takes_nothing, appends_nothing}
 use Rattle.engine_core.proofs.Pieces.{goes_nothing, goes_append, stops_later}
 
 pub consumes_nothing : (unread : Option (List ℕ)) → Consumes unread unread []

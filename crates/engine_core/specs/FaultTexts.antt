@@ -4,12 +4,21 @@ use Rattle.area_core.specs.declared.faults.AreaFault.{AreaFault}
 use Rattle.area_core.specs.declared.faults.AreaFault.TheVariants as areas
 use Rattle.area_core.specs.declared.faults.ReadFault.{ReadFault}
 use Rattle.area_core.specs.declared.faults.ReadFault.TheVariants as reads
+use Rattle.flush_core.specs.declared.faults.FlushFault.{FlushFault}
+use Rattle.flush_core.specs.declared.faults.FlushFault.TheVariants as flushes
 use Rattle.recover_core.specs.declared.faults.OpenFault.{OpenFault}
 use Rattle.recover_core.specs.declared.faults.OpenFault.TheVariants as opens
 use Rattle.engine_core.specs.declared.fault.ScriptFault.{ScriptFault}
 use Rattle.engine_core.specs.declared.fault.ScriptFault.TheVariants.{Memory, NotUnderstood, CountTooLarge, Opening, Storing, Input, Output}
 
--- what is told of a journal that took nothing
+-- what is told of commands that were not stored
+abbrev pub storing_text : FlushFault → List ℕ
+storing_text flushes.Device = codes "J3 device failed"
+storing_text flushes.Full = codes "J4 journal full"
+storing_text flushes.Broken = codes "J6 store broken"
+storing_text (flushes.Memory refused) = codes "no memory"
+
+-- what is told of an area that was not written
 abbrev pub area_text : AreaFault → List ℕ
 area_text areas.Device = codes "J3 device failed"
 area_text areas.Full = codes "J4 journal full"
@@ -42,6 +51,6 @@ fault_text (Memory refused) = codes "no memory"
 fault_text (NotUnderstood k) = codes "line " ++ decimal k ++ codes " not understood"
 fault_text CountTooLarge = codes "J5 count too large"
 fault_text (Opening fault) = open_fault_text fault
-fault_text (Storing fault) = area_text fault
+fault_text (Storing fault) = storing_text fault
 fault_text Input = codes "input or output failed"
 fault_text Output = codes "input or output failed"

@@ -1,8 +1,6 @@
 pub mod ScriptLines
 pub mod PercentTexts
 pub mod Queues
-pub mod Batches
-pub mod Journals
 pub mod Running
 pub mod Scripts
 pub mod Connections

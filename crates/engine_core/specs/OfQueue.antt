@@ -14,8 +14,3 @@ of_queue (queue.Storing fault) = Storing fault
 abbrev pub IsMemory : QueueFault → Type 0
 IsMemory (queue.Memory refused) = Unit {0}
 IsMemory _ = ⊥
-
--- a batch was not stored
-abbrev pub IsStoring : QueueFault → Type 0
-IsStoring (queue.Storing fault) = Unit {0}
-IsStoring _ = ⊥

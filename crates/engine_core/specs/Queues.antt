@@ -1,4 +1,4 @@
-use Rattle.std.specs.Prelude.{◌≡◌, ◌≤◌, ◌^◌, ◌+◌, List, [], ◌∷◌, ◌++◌, ℕ, Bool, Option, Some, None, cond, length, nat_le, nat_eq, map, flat_map, unwrap_or, count_by}
+use Rattle.std.specs.Prelude.{◌≡◌, ◌≤◌, ◌^◌, ◌+◌, List, [], ◌∷◌, ◌++◌, ℕ, Bool, Option, Some, None, cond, length, nat_le, nat_eq, flat_map, unwrap_or, count_by}
 use Rattle.std.specs.BTreeMap.{insert_entry, is_at}
 use Rattle.std.specs.Fmt.{decimal}
 use Rattle.std.specs.List.{fold}
@@ -13,7 +13,8 @@ use Rattle.command_core.specs.Outs.{OutValue}
 use Rattle.broker_core.specs.States.{State}
 use Rattle.broker_core.specs.Steps.{state_after, outs_of}
 use Rattle.engine_core.specs.PercentTexts.{encoded}
-use Rattle.engine_core.specs.declared.command_queue.Waiting.{Waiting}
+use Rattle.script_journal.specs.declared.waiting.Waiting.{Waiting}
+use Rattle.script_journal.specs.Placed.{commands_of}
 use Rattle.session_core.specs.declared.act.Act.{Act}
 use Rattle.session_core.specs.declared.act.Act.TheVariants.{Do, Direct, Close}
 
@@ -37,10 +38,6 @@ opener_of openers session = unwrap_or (lookup (is_at (nat_cmp session)) openers)
 -- the line that is printed for an output: it goes to the connection that opened the session
 abbrev pub line_of_out : List (ℕ × ℕ) → OutValue → List ℕ
 line_of_out openers out = line_for (opener_of openers out.session) out.frame
-
--- the waiting commands
-abbrev pub commands_of : List Waiting → List CommandValue
-commands_of waiting = map (λ w. w.command) waiting
 
 -- what a flush prints: the outputs of the waiting commands, in order
 abbrev pub flush_text : QueueValue → List ℕ

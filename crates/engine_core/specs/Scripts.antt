@@ -1,15 +1,16 @@
 -- What the lines of a script print.
-use Rattle.std.specs.Prelude.{◌≡◌, ◌≢◌, ◌⊎◌, ◌<◌, ◌≤◌, List, [], ◌∷◌, ◌++◌, ℕ, Option, codes, length, take, flat_map}
+use Rattle.std.specs.Prelude.{◌≡◌, ◌≢◌, ◌⊎◌, ◌<◌, ◌≤◌, List, [], ◌∷◌, ◌++◌, ℕ, Option, codes, length, flat_map}
 use Rattle.std.specs.Fmt.{decimal}
 use Rattle.std.specs.List.{AllByRecursion}
 use Rattle.disk_core.specs.Memory.{Memory}
 use Rattle.broker_core.specs.Operations.{restarted}
 use Rattle.broker_core.specs.States.{State, held_messages}
-use Rattle.broker_core.specs.Steps.{state_after}
 use Rattle.recover_core.specs.Standing.{Stands}
+use Rattle.script_journal.specs.Journals.{StandsAfterFront}
+use Rattle.script_journal.specs.Placed.{commands_of}
 use Rattle.engine_core.specs.PercentTexts.{decoded}
 use Rattle.engine_core.specs.ScriptLines.{IsOfNoForm, IsLoss, IsCrash}
-use Rattle.engine_core.specs.Queues.{QueueValue, commands_of, flush_text, flushed}
+use Rattle.engine_core.specs.Queues.{QueueValue, flush_text, flushed}
 use Rattle.engine_core.specs.Running.{ScriptValue, beginning, Loses, LosesTooFar, Receives, ReceivesTooFar}
 use Rattle.engine_core.specs.declared.script.Script.{Script}
 use Rattle.engine_core.specs.declared.script.Script.TheVariants.{Running, Stopped, Over}
@@ -18,10 +19,9 @@ use Rattle.engine_core.specs.declared.script.Script.TheVariants.{Running, Stoppe
 abbrev pub BeginsWith : List ℕ → State → Type 0
 BeginsWith content start = (s : State) → Stands content s → start ≡ restarted s
 
--- the image stands for the state after the first n of the waiting commands
-pub record StandsWithin (queue : QueueValue) (image : List ℕ) : Type 0 where
-  pub n : ℕ
-  pub stands : Stands image (state_after queue.state (take n (commands_of queue.waiting)))
+-- the image stands for the state after the first so many of the waiting commands
+abbrev pub StandsWithin : QueueValue → List ℕ → Type 0
+StandsWithin queue image = StandsAfterFront queue.state (commands_of queue.waiting) image
 
 -- the disk does not run
 abbrev pub IsStopped : Script → Type 0

@@ -1,32 +1,22 @@
 //! The queue between the connections and the broker: what waits for the next flush, and what a flush prints.
 
 ghost use Rattle.std.specs.Prelude.{◌≡◌, ◌≢◌, ◌++◌, ◌<◌, ◌≤◌, ◌^◌, OnOk, IfOk, IfErr, IfSome, string_bytes, nat_eq, count_by, ◌+◌, length};
-ghost use Rattle.std.specs.List.{AllByRecursion, flat_map};
 ghost use Rattle.frame_core.specs.Writable.{Writable};
 ghost use Rattle.command_core.specs.Commands.{Fits};
 ghost use Rattle.command_core.specs.Operations.{IsOp};
-ghost use Rattle.broker_core.specs.Steps.{state_after, outs_of};
-ghost use Rattle.recover_core.specs.Standing.{Stands, joined};
-ghost use Rattle.engine_core.specs.Batches.{HasSome};
-ghost use Rattle.engine_core.specs.Queues.{line_of_out, commands_of};
+ghost use Rattle.recover_core.specs.Standing.{Stands};
 ghost use Rattle.engine_core.specs.Scripts.{StandsWithin};
 
-use crate::batches::{Batch, batches_of};
 use crate::fault::QueueFault;
-use crate::journal::Journal;
+use crate::printing::print_outs;
 use command_core::{Command, HeaderText, Op};
 use disk_core::MemDisk;
+use flush_core::FlushFault;
+use script_journal::{Journal, Waiting};
 use std::alloc::Global;
 use std::collections::BTreeMap;
 use std::marker::Model;
 use std::mem;
-
-/// A command that waits for the next flush, and the connection that it came from.
-#[derive(Debug, Drop)]
-pub struct Waiting {
-    pub connection: u8,
-    pub command: Command,
-}
 
 /// The queue. Contracts see the commands that wait, which connection opened which session, and the broker's state as it
 /// was last flushed.
@@ -38,14 +28,14 @@ pub struct CommandQueue {
 }
 
 impl Model for CommandQueue {
-    ghost use Rattle.std.specs.Prelude.{◌+◌, ◌≤◌, ◌^◌, length};
+    ghost use Rattle.std.specs.Prelude.{◌≡◌, ◌+◌, ◌≤◌, ◌^◌, length, true};
     ghost use Rattle.engine_core.specs.Queues.{QueueValue};
 
     ghost Value = { QueueValue };
 
     ghost view = { λ a. record { waiting = a.waiting.items; openers = a.openers.entries; state = a.journal.state; durable = a.journal.durable } };
 
-    ghost invariant = { λ a. a.journal.state.count + length a.waiting.items ≤ 2 ^ 62 };
+    ghost invariant = { λ a. a.journal.durable ≡ true → a.journal.state.count + length a.waiting.items ≤ 2 ^ 62 };
 }
 
 /// How many commands of a connection may wait.
@@ -77,8 +67,8 @@ impl CommandQueue {
         ensures err { IfErr result (λ fault. fault ≢ QueueFault.CountTooLarge) }
     {
         let waiting = mem::replace(&mut self.waiting, Vec::new(alloc));
-        let batches = batches_of(alloc, waiting)?;
-        record_all(alloc, &mut self.journal, &self.openers, batches, text)
+        let outs = self.journal.record(alloc, waiting)?;
+        print_outs(alloc, &mut self.journal, &self.openers, outs, text)
     }
 
     /// Makes what waits durable while so many calls of the disk pass. The disk then stops, and has the fill in what was not
@@ -92,8 +82,10 @@ impl CommandQueue {
             journal,
             ..
         } = self;
-        let batches = batches_of(alloc, waiting)?;
-        journal.crash(alloc, batches.as_slice(), calls, fill)
+        match journal.crash(alloc, waiting, calls, fill) {
+            Ok(disk) => Ok(disk),
+            Err(fault) => Err(QueueFault::Storing(fault)),
+        }
     }
 
     /// The disk, unless the journal failed. What waits is dropped.
@@ -131,6 +123,9 @@ impl CommandQueue {
         if self.is_full(connection) {
             self.flush(alloc, text)?;
         }
+        if !self.journal.is_durable() {
+            return Err(QueueFault::Storing(FlushFault::Broken));
+        }
         if self.journal.count() >= LAST_COUNT {
             return Err(QueueFault::CountTooLarge);
         }
@@ -165,26 +160,4 @@ fn count_of(waiting: &[Waiting], connection: u8) -> usize
         .iter()
         .filter(|w| w.connection == connection)
         .count()
-}
-
-/// Makes batches durable one after another, has the broker carry out each once it is, and adds a line for each output to the
-/// text.
-fn record_all(
-    alloc: Global,
-    journal: &mut Journal,
-    openers: &BTreeMap<u64, u8>,
-    batches: Vec<Batch>,
-    text: &mut String,
-) -> Result<(), QueueFault>
-    requires some { AllByRecursion HasSome batches.items }
-    requires room { journal.old.state.count + length (joined batches.items) ≤ 2 ^ 62 }
-    ensures state { OnOk result (journal.new ≡ record { state = state_after journal.old.state (joined batches.items); durable = journal.old.durable }) }
-    ensures text { OnOk result (string_bytes text.new ≡ string_bytes text.old ++ flat_map (line_of_out openers.now.entries) (outs_of journal.old.state (joined batches.items))) }
-    ensures count { journal.new.state.count ≤ 2 ^ 62 }
-    ensures err { IfErr result (λ fault. fault ≢ QueueFault.CountTooLarge) }
-{
-    for batch in batches {
-        journal.record(alloc, openers, batch, text)?;
-    }
-    Ok(())
 }

@@ -1,10 +1,11 @@
 //! Why a script does not run to its end.
 
 ghost use Rattle.std.specs.Prelude.{◌≡◌};
-ghost use Rattle.engine_core.specs.FaultTexts.{IsNotDamaged, area_text, read_text};
+ghost use Rattle.engine_core.specs.FaultTexts.{IsNotDamaged, area_text, storing_text, read_text};
 
 use area_core::{AreaFault, ReadFault};
 use broker_core::BrokerFault;
+use flush_core::FlushFault;
 use recover_core::OpenFault;
 use session_core::SessionFault;
 use std::alloc::{AllocError, AllocFailed};
@@ -23,9 +24,9 @@ pub enum QueueFault {
     /// The disk was not opened.
     #[error("{0}")]
     Opening(OpenFault),
-    /// A batch was not stored, or the journal failed before.
+    /// Commands were not stored and carried out, or the journal failed before.
     #[error("{0}")]
-    Storing(AreaFault),
+    Storing(FlushFault),
 }
 
 impl From<AllocError> for QueueFault {
@@ -49,19 +50,6 @@ impl<Lost: Drop> From<AllocFailed<Lost>> for QueueFault {
     }
 }
 
-impl From<BrokerFault> for QueueFault {
-    ghost use Rattle.engine_core.specs.OfQueue.{IsMemory};
-
-    ghost from_gives = { λ _ r. IsMemory r };
-
-    fn from(fault: BrokerFault) -> QueueFault {
-        match fault {
-            BrokerFault::Memory(refused) => QueueFault::Memory(refused),
-            BrokerFault::Broken => QueueFault::Memory(AllocError),
-        }
-    }
-}
-
 impl From<OpenFault> for QueueFault {
     ghost use Rattle.std.specs.Prelude.{◌≡◌};
     ghost use Rattle.engine_core.specs.declared.fault.QueueFault.TheVariants as faults;
@@ -73,13 +61,13 @@ impl From<OpenFault> for QueueFault {
     }
 }
 
-impl From<AreaFault> for QueueFault {
+impl From<FlushFault> for QueueFault {
     ghost use Rattle.std.specs.Prelude.{◌≡◌};
     ghost use Rattle.engine_core.specs.declared.fault.QueueFault.TheVariants as faults;
 
     ghost from_gives = { λ fault r. r ≡ faults.Storing fault };
 
-    fn from(fault: AreaFault) -> QueueFault {
+    fn from(fault: FlushFault) -> QueueFault {
         QueueFault::Storing(fault)
     }
 }
@@ -107,7 +95,7 @@ pub enum ScriptFault {
     /// The disk was not opened, at the start or by a line.
     Opening(OpenFault),
     /// Commands were not stored: they do not fit, the disk failed, or memory was refused.
-    Storing(AreaFault),
+    Storing(FlushFault),
     /// The script can't be read, or was read 4,294,967,296 times.
     Input,
     /// What it prints can't be written.
@@ -132,9 +120,8 @@ impl fmt::Display for ScriptFault {
                 write!(f, "J2 damaged at {place}")
             }
             ScriptFault::Opening(OpenFault::Read(fault)) => f.write_str(read_text(fault)),
-            ScriptFault::Opening(OpenFault::Area(fault)) | ScriptFault::Storing(fault) => {
-                f.write_str(area_text(fault))
-            }
+            ScriptFault::Opening(OpenFault::Area(fault)) => f.write_str(area_text(fault)),
+            ScriptFault::Storing(fault) => f.write_str(storing_text(fault)),
             ScriptFault::Input | ScriptFault::Output => f.write_str("input or output failed"),
         }
     }
@@ -157,7 +144,19 @@ fn read_text(fault: &ReadFault) -> &'static str
     }
 }
 
-// What is told of a journal that took nothing.
+// What is told of commands that were not stored.
+fn storing_text(fault: &FlushFault) -> &'static str
+    ensures { result.now ≡ storing_text fault.now }
+{
+    match fault {
+        FlushFault::Device => "J3 device failed",
+        FlushFault::Full => "J4 journal full",
+        FlushFault::Broken => "J6 store broken",
+        FlushFault::Memory(_) => "no memory",
+    }
+}
+
+// What is told of an area that was not written.
 fn area_text(fault: &AreaFault) -> &'static str
     ensures { result.now ≡ area_text fault.now }
 {

@@ -2,10 +2,8 @@
 
 #![tactic(auto)]
 
-mod batches;
 mod command_queue;
 mod fault;
-mod journal;
 mod percent;
 mod printing;
 mod run;

@@ -1,13 +1,15 @@
 //! What a script prints for the frames that go to its connections.
 
-ghost use Rattle.std.specs.Prelude.{◌≡◌, ◌++◌, OnOk, string_bytes};
+ghost use Rattle.std.specs.Prelude.{◌≡◌, ◌≢◌, ◌++◌, IfErr, OnOk, string_bytes};
 ghost use Rattle.std.specs.List.{flat_map};
 ghost use Rattle.frame_core.specs.Writable.{Writable};
 ghost use Rattle.engine_core.specs.Queues.{line_for, line_of_out};
 
+use crate::fault::QueueFault;
 use crate::percent::encode_text;
 use command_core::Out;
 use frame_core::{Frame, write_frame};
+use script_journal::Journal;
 use std::alloc::{AllocError, Global};
 use std::collections::BTreeMap;
 
@@ -29,21 +31,41 @@ pub fn print_frame(
     Ok(())
 }
 
-/// Adds a line for each output to the text: it goes to the connection that opened the session.
+/// Lets outputs leave, each by the seat of the connection that opened its session, and adds a line for each to the text.
 pub fn print_outs(
     alloc: Global,
-    text: &mut String,
+    journal: &mut Journal,
     openers: &BTreeMap<u64, u8>,
-    outs: &[Out],
-) -> Result<(), AllocError>
-    ensures { OnOk result (string_bytes text.new ≡ string_bytes text.old ++ flat_map (line_of_out openers.now.entries) outs.now) }
+    outs: Vec<Out>,
+    text: &mut String,
+) -> Result<(), QueueFault>
+    ensures same { journal.new ≡ journal.old }
+    ensures text { OnOk result (string_bytes text.new ≡ string_bytes text.old ++ flat_map (line_of_out openers.now.entries) outs.items) }
+    ensures err { IfErr result (λ fault. fault ≢ QueueFault.CountTooLarge) }
 {
     for out in outs {
-        let connection = match openers.get(&out.session()) {
-            Some(connection) => *connection,
-            None => 0,
-        };
-        print_frame(alloc, text, connection, out.frame())?;
+        print_out(alloc, journal, openers, out, text)?;
     }
+    Ok(())
+}
+
+// Lets one output leave, and adds its line.
+fn print_out(
+    alloc: Global,
+    journal: &mut Journal,
+    openers: &BTreeMap<u64, u8>,
+    out: Out,
+    text: &mut String,
+) -> Result<(), QueueFault>
+    ensures same { journal.new ≡ journal.old }
+    ensures text { OnOk result (string_bytes text.new ≡ string_bytes text.old ++ line_of_out openers.now.entries out) }
+    ensures err { IfErr result (λ fault. fault ≢ QueueFault.CountTooLarge) }
+{
+    let connection = match openers.get(&out.session()) {
+        Some(connection) => *connection,
+        None => 0,
+    };
+    let released = journal.release(connection, out)?;
+    print_frame(alloc, text, connection, released.frame())?;
     Ok(())
 }

@@ -11,10 +11,10 @@ ghost use Rattle.engine_core.specs.Queues.{Progress, acted, IsTooFar, GoTooFar};
 
 use crate::command_queue::CommandQueue;
 use crate::fault::QueueFault;
-use crate::journal::Journal;
 use crate::percent::decode_text;
 use crate::printing::print_frame;
 use disk_core::MemDisk;
+use script_journal::Journal;
 use session_core::{Act, Session};
 use std::alloc::Global;
 use std::collections::BTreeMap;

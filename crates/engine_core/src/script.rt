@@ -1,15 +1,15 @@
 //! A script as far as it has run, line by line.
 
-ghost use Rattle.std.specs.Prelude.{◌≡◌, ◌≢◌, ◌≤◌, ◌^◌, ◌++◌, IfErr, IfOk, IfSome, MatchOption, true, string_bytes};
+ghost use Rattle.std.specs.Prelude.{◌≡◌, ◌≢◌, ◌≤◌, ◌^◌, ◌++◌, IfErr, IfOk, IfSome, MatchOption, OnOk, true, string_bytes};
 ghost use Rattle.engine_core.specs.Scripts.{BeginsWith, HasDisk, open_text};
 
 use crate::fault::QueueFault;
-use crate::journal::Journal;
 use crate::percent::decode_text;
 use crate::running_script::RunningScript;
 use crate::script_line::{ScriptLine, read_line};
-use area_core::AreaFault;
 use disk_core::MemDisk;
+use flush_core::FlushFault;
+use script_journal::Journal;
 use std::alloc::Global;
 use std::mem;
 
@@ -54,7 +54,7 @@ impl Script {
         ensures err { IfErr result (λ fault. fault ≢ QueueFault.CountTooLarge) }
     {
         let Some(disk) = into_disk(mem::replace(self, Script::Over)) else {
-            return Err(QueueFault::Storing(AreaFault::Broken));
+            return Err(QueueFault::Storing(FlushFault::Broken));
         };
         let mut text = String::new(alloc);
         let journal = open_journal(alloc, disk, &mut text)?;
@@ -145,6 +145,22 @@ fn open_journal(alloc: Global, disk: MemDisk, text: &mut String) -> Result<Journ
     ensures err { IfErr result (λ fault. fault ≢ QueueFault.CountTooLarge) }
 {
     let journal = Journal::open(alloc, disk)?;
-    journal.tell(alloc, text)?;
-    Ok(journal)
+    match tell(alloc, &journal, text) {
+        Ok(()) => Ok(journal),
+        Err(fault) => Err(fault),
+    }
+}
+
+// Adds the line that tells of a journal to the text: how many commands it counts, and how many messages it holds.
+fn tell(alloc: Global, journal: &Journal, text: &mut String) -> Result<(), QueueFault>
+    ensures ok { OnOk result (string_bytes text.new ≡ string_bytes text.old ++ open_text journal.now.state) }
+    ensures err { IfErr result (λ fault. fault ≢ QueueFault.CountTooLarge) }
+{
+    let Some(held) = journal.held() else {
+        return Err(QueueFault::Storing(FlushFault::Broken));
+    };
+    let count = journal.count();
+    let line = format!(in alloc; "open {count} {held}\n")?;
+    text.push_str(line.as_str())?;
+    Ok(())
 }

@@ -1,7 +1,7 @@
 -- What a flusher keeps, from call to call.
-use Rattle.std.proofs.Common.{◌≡◌, ◌<◌, ◌≤◌, ◌+◌, ◌-◌, ◌^◌, ◌++◌, ⊎_elim, ℕ, Bool, true, false, List, [], ◌∷◌, length, length-append, take, refl, sym, ◌∙◌, ap, subst, arith}
+use Rattle.std.proofs.Common.{◌≡◌, ◌<◌, ◌≤◌, ◌+◌, ◌-◌, ◌^◌, ◌++◌, ⊎_elim, ℕ, Bool, true, false, List, [], ◌∷◌, cond, drop, length, length-append, take, refl, sym, ◌∙◌, ap, subst, arith}
 use Rattle.std.proofs.Math.Logic.{∥∥₁_map}
-use Rattle.std.proofs.lemmas.List.{length-take-le}
+use Rattle.std.proofs.lemmas.List.{length-drop, length-take-le}
 use Rattle.frame_core.proofs.Lists.{all_append}
 use Rattle.command_core.specs.Commands.{CommandValue}
 use Rattle.area_core.specs.Areas.{commands, records}
@@ -14,8 +14,15 @@ use Rattle.claim_core.specs.Seats.{FlushSeatValue, next_ticket, when_stopped, wi
 use Rattle.recover_core.specs.Standing.{StandFor, Stands, StandsForEither}
 use Rattle.flush_core.specs.Batches.{IsBatch, between, from_on, state_at, state_taken, with_more}
 use Rattle.flush_core.specs.Flushed.{AfterSome, AreUnder, Flushed, HoldBetween, IsFlusher, IsHeld, unsettled}
-use Rattle.flush_core.specs.Outcomes.{settling}
-use Rattle.flush_core.proofs.Taken.{all_at, at_between, at_more, at_start, between_all, between_more, between_none, count_after, from_end, length_between, length_commands, outs_under, sound_after, under_more}
+use Rattle.flush_core.specs.Outcomes.{settling, stored_entries}
+use Rattle.flush_core.specs.Sessions.{boxes_after, ended_of}
+use Rattle.outbox_core.specs.Boxes.{SenderValue}
+use Rattle.boxes_core.specs.Giving.{Kept}
+use Rattle.std.specs.Prelude.{filter}
+use Rattle.flush_core.proofs.Sessions.{commands_both, no_entries}
+use Rattle.std.proofs.lemmas.List.{append-nil}
+use Rattle.std.proofs.Math.Seq.{drop-append_seam, take-append_seam}
+use Rattle.flush_core.proofs.Taken.{all_at, at_between, at_more, at_start, between_all, between_from, between_more, between_none, count_after, from_end, length_between, length_commands, outs_under, sound_after, under_more}
 
 -- each image stands for the state at one number
 pub hold_at : (images : List ℕ → Type 0) (opening : State) (seat : FlushSeatValue) (n : ℕ) → seat.published ≤ n → n ≤ next_ticket seat → StandFor images (state_at opening seat n) → HoldBetween images opening seat
@@ -100,6 +107,44 @@ held_settled {B} seat stored settled journal batch done next_done bytes left wai
   room_is = fits;
 }
 
+-- the entries that are stored or gathered are those of the commands from the settled number on
+pub all_brought : {B : Type 0} (seat : FlushSeatValue) (stored settled : ℕ) (journal : Bool) (batch done : List (EntryValue B)) (bytes left waiting room : ℕ) → seat.base ≤ settled → settled ≤ stored
+    → IsHeld seat stored settled journal batch done bytes left waiting room → commands (done ++ batch) ≡ from_on seat settled
+all_brought seat stored settled journal batch done bytes left waiting room begun rises held =
+    commands_both done batch ∙ ((λ i. held.done_is i ++ held.batch_is i) ∙ between_from seat settled stored begun rises)
+
+-- where nothing is gathered all that was taken is stored
+pub all_stored : {B : Type 0} (seat : FlushSeatValue) (stored settled : ℕ) (journal : Bool) (batch done : List (EntryValue B)) (bytes left waiting room : ℕ) → length batch ≡ 0 → seat.base ≤ stored → stored ≤ next_ticket seat
+    → IsHeld seat stored settled journal batch done bytes left waiting room → stored ≡ next_ticket seat
+all_stored seat stored settled journal batch done bytes left waiting room none begun few held =
+    omega (arith, none, begun, few, length_commands batch, ap (λ (l : List CommandValue). length l) held.batch_is, length-drop (stored - seat.base) seat.taken)
+
+-- what was gathered and is stored stays brought
+pub stored_brought : {B : Type 0} (seat : FlushSeatValue) (stored settled : ℕ) (journal : Bool) (batch done next_batch next_done : List (EntryValue B)) (bytes left waiting room : ℕ) → next_batch ≡ done → next_done ≡ batch
+    → settled ≡ stored → IsHeld seat stored settled journal batch done bytes left waiting room → next_done ++ next_batch ≡ done ++ batch
+stored_brought {B} seat stored settled journal batch done next_batch next_done bytes left waiting room batch_is done_is same held =
+    let none : done ≡ [] = no_entries done (held.done_is ∙ (ap (λ (n : ℕ). between seat n stored) same ∙ between_none seat stored)) in
+    (λ i. done_is i ++ (batch_is ∙ none) i) ∙ (append-nil batch ∙ ap (λ (l : List (EntryValue B)). l ++ batch) (sym none))
+
+-- of what was brought the stored entries come first, and then the gathered ones
+pub settled_entries : {B : Type 0} (seat : FlushSeatValue) (stored settled : ℕ) (journal : Bool) (batch done : List (EntryValue B)) (bytes left waiting room : ℕ) → seat.base ≤ settled → settled ≤ stored → stored ≤ next_ticket seat
+    → IsHeld seat stored settled journal batch done bytes left waiting room → (take (stored - settled) (done ++ batch) ≡ done) × (drop (stored - settled) (done ++ batch) ≡ batch)
+settled_entries seat stored settled journal batch done bytes left waiting room begun rises few held =
+    let long : stored - settled ≡ length done =
+    omega (arith, length_commands done, ap (λ (l : List CommandValue). length l) held.done_is, length_between seat settled stored begun rises few) in (
+      ap (λ (n : ℕ). take n (done ++ batch)) long ∙ take-append_seam done batch,
+      ap (λ (n : ℕ). drop n (done ++ batch)) long ∙ drop-append_seam done batch,
+    )
+
+-- what a filter keeps is under the mark too
+pub under_kept : (n : ℕ) (p : OutValue → Bool) (outs : List OutValue) → AreUnder n outs → AreUnder n (filter p outs)
+under_kept n p [] under = tt
+under_kept n p (out ∷ outs) under = by (p out) (under_kept n p outs under.1)
+  where
+    by : (b : Bool) → AreUnder n (filter p outs) → AreUnder n (cond b (out ∷ filter p outs) (filter p outs))
+    by true rest = (under.0, rest)
+    by false rest = rest
+
 pub nothing : {X : Type 0} (l : List X) → length l ≡ 0 → l ≡ []
 nothing [] none = refl
 nothing (x ∷ l) none = absurd (omega (arith, none))
@@ -111,8 +156,8 @@ no_batch = record { few = omega arith; small = omega arith }
 module _ {D : Type 0} (honest : D → Type 0) (images : D → List ℕ → Type 0) where
   pub starts : (f : Flushed D) → f.seat.taken ≡ [] → f.seat.published ≡ f.seat.base → f.stored ≡ f.seat.base → f.settled ≡ f.seat.base
       → f.broker ≡ record { state = f.opening; broken = false } → f.opening.count ≡ f.seat.base → IsSound f.opening
-      → (honest f.disk → StandFor (images f.disk) f.opening) → f.waiting ≡ [] → f.left ≡ [] → f.broken ≡ false → IsFlusher honest images f
-  starts f none published stored settled broker count sound stand waiting left whole =
+      → (honest f.disk → StandFor (images f.disk) f.opening) → f.brought ≡ [] → f.waiting ≡ [] → f.left ≡ [] → f.broken ≡ false → IsFlusher honest images f
+  starts f none published stored settled broker count sound stand brought waiting left whole =
       let same : (n : ℕ) → state_at f.opening f.seat n ≡ f.opening = λ n. at_start f.opening f.seat n none in
       let at : (n : ℕ) → honest f.disk → StandFor (images f.disk) (state_at f.opening f.seat n) = λ n h. subst (λ (s : State). StandFor (images f.disk) s) (sym (same n)) (stand h) in
       record {
@@ -129,13 +174,15 @@ module _ {D : Type 0} (honest : D → Type 0) (images : D → List ℕ → Type 
           stands = at f.stored;
           broker = broker ∙ ap (λ (s : State). record { state = s; broken = false }) (sym (same f.settled));
           batch = subst (λ (l : List CommandValue). IsBatch l) (sym (from_end f.seat f.stored (omega (arith, stored, ap (λ (l : List CommandValue). length l) none)))) no_batch;
+          brought = ap (λ (l : List (EntryValue SenderValue)). commands l) brought ∙ sym (from_end f.seat f.settled (omega (arith, settled, ap (λ (l : List CommandValue). length l) none)));
           waiting = subst (λ (l : List OutValue). AreUnder f.settled l) (sym waiting) tt;
         };
       }
 
   -- more is taken
-  pub takes : (f : Flushed D) (seat : FlushSeatValue) (more : List CommandValue) → seat ≡ with_more f.seat more → IsBatch (from_on seat f.stored) → f.broken ≡ false → IsFlusher honest images f → IsFlusher honest images (record f { seat = seat })
-  takes f seat more is batch whole kept = subst (λ (s : FlushSeatValue). IsFlusher honest images (record f { seat = s })) (sym is) (record {
+  pub takes : (f : Flushed D) (seat : FlushSeatValue) (more : List CommandValue) (brought : List (EntryValue SenderValue)) → seat ≡ with_more f.seat more → IsBatch (from_on seat f.stored) → commands brought ≡ from_on seat f.settled → f.broken ≡ false
+      → IsFlusher honest images f → IsFlusher honest images (record f { seat = seat; brought = brought })
+  takes f seat more brought is batch entries whole kept = subst (λ (s : FlushSeatValue). IsFlusher honest images (record f { seat = s; brought = brought })) (sym is) (record {
     begun = kept.begun;
     marked = kept.marked;
     settled = kept.settled;
@@ -152,25 +199,27 @@ module _ {D : Type 0} (honest : D → Type 0) (images : D → List ℕ → Type 
           stands = λ h. subst (λ (s : State). StandFor (images f.disk) s) (sym (at_more f.opening f.seat more f.stored kept.stored)) (run.stands h);
           broker = run.broker ∙ ap (λ (s : State). record { state = s; broken = false }) (sym (at_more f.opening f.seat more f.settled settled));
           batch = subst (λ (s : FlushSeatValue). IsBatch (from_on s f.stored)) is batch;
+          brought = subst (λ (s : FlushSeatValue). commands brought ≡ from_on s f.settled) is entries;
           waiting = run.waiting;
         };
   })
 
   -- a step fails that reaches no disk
-  pub fails : (f : Flushed D) (seat : FlushSeatValue) (broker : BrokerValue) (waiting left : List OutValue) → seat ≡ when_stopped f.seat → left ≡ f.left → IsFlusher honest images f
-      → IsFlusher honest images (record f { seat = seat; broker = broker; waiting = waiting; left = left; broken = true })
-  fails f seat broker waiting left is same kept = subst (λ (s : FlushSeatValue). IsFlusher honest images (record f { seat = s; broker = broker; waiting = waiting; left = left; broken = true })) (sym is) (record {
-    begun = kept.begun;
-    marked = kept.marked;
-    settled = kept.settled;
-    stored = kept.stored;
-    opened = kept.opened;
-    sound = kept.sound;
-    each = λ h. hold_stopped (images f.disk) f.opening f.seat (kept.each h);
-    under = subst (λ (l : List OutValue). AreUnder f.seat.published l) (sym same) kept.under;
-    stopped = λ _. refl;
-    running = λ whole. absurd (cc whole);
-  })
+  pub fails : (f : Flushed D) (seat : FlushSeatValue) (brought : List (EntryValue SenderValue)) (broker : BrokerValue) (boxes : Kept) (ended : List ℕ) (waiting left : List OutValue) → seat ≡ when_stopped f.seat → left ≡ f.left
+      → IsFlusher honest images f → IsFlusher honest images (record f { seat = seat; brought = brought; broker = broker; boxes = boxes; ended = ended; waiting = waiting; left = left; broken = true })
+  fails f seat brought broker boxes ended waiting left is same kept =
+      subst (λ (s : FlushSeatValue). IsFlusher honest images (record f { seat = s; brought = brought; broker = broker; boxes = boxes; ended = ended; waiting = waiting; left = left; broken = true })) (sym is) (record {
+        begun = kept.begun;
+        marked = kept.marked;
+        settled = kept.settled;
+        stored = kept.stored;
+        opened = kept.opened;
+        sound = kept.sound;
+        each = λ h. hold_stopped (images f.disk) f.opening f.seat (kept.each h);
+        under = subst (λ (l : List OutValue). AreUnder f.seat.published l) (sym same) kept.under;
+        stopped = λ _. refl;
+        running = λ whole. absurd (cc whole);
+      })
 
   -- the store fails
   pub store_fails : (f : Flushed D) (seat : FlushSeatValue) (next : D) (size used : ℕ) → seat ≡ when_stopped f.seat
@@ -190,10 +239,10 @@ module _ {D : Type 0} (honest : D → Type 0) (images : D → List ℕ → Type 
   })
 
   -- all that was taken is stored
-  pub stores : (f : Flushed D) (next : D) (size used stored : ℕ) → stored ≡ next_ticket f.seat → f.broken ≡ false
-      → (honest next → StandFor (images next) (state_taken f.opening f.seat)) → IsFlusher honest images f
-      → IsFlusher honest images (record f { disk = next; size = size; used = used; stored = stored })
-  stores f next size used stored is whole after kept =
+  pub stores : (f : Flushed D) (next : D) (size used stored : ℕ) (brought : List (EntryValue SenderValue)) → stored ≡ next_ticket f.seat → f.broken ≡ false
+      → (honest next → StandFor (images next) (state_taken f.opening f.seat)) → brought ≡ f.brought → IsFlusher honest images f
+      → IsFlusher honest images (record f { disk = next; size = size; used = used; stored = stored; brought = brought })
+  stores f next size used stored brought is whole after same kept =
       let stand : honest next → StandFor (images next) (state_at f.opening f.seat stored) = λ h. subst (λ (s : State). StandFor (images next) s) (sym (all_at f.opening f.seat stored is)) (after h) in
       let run = kept.running whole in
       record {
@@ -210,6 +259,7 @@ module _ {D : Type 0} (honest : D → Type 0) (images : D → List ℕ → Type 
           stands = stand;
           broker = run.broker;
           batch = subst (λ (l : List CommandValue). IsBatch l) (sym (from_end f.seat stored is)) no_batch;
+          brought = ap (λ (l : List (EntryValue SenderValue)). commands l) same ∙ run.brought;
           waiting = run.waiting;
         };
       }
@@ -219,6 +269,9 @@ module _ {D : Type 0} (honest : D → Type 0) (images : D → List ℕ → Type 
   count_at f kept =
       let most : f.settled - f.seat.base ≤ length f.seat.taken = omega (arith, kept.settled, kept.stored) in
       omega (arith, count_after (take (f.settled - f.seat.base) f.seat.taken) f.opening, kept.opened, length-take-le (f.settled - f.seat.base) f.seat.taken most, kept.begun, kept.marked)
+
+  pub broker_count : (f : Flushed D) → f.broken ≡ false → IsFlusher honest images f → f.broker.state.count ≡ f.settled
+  broker_count f whole kept = ap (λ (b : BrokerValue). b.state.count) (kept.running whole).broker ∙ count_at f kept
 
   pub settled_state : (f : Flushed D) → f.broken ≡ false → IsFlusher honest images f → state_after f.broker.state (unsettled f) ≡ state_at f.opening f.seat f.stored
   settled_state f whole kept =
@@ -232,18 +285,19 @@ module _ {D : Type 0} (honest : D → Type 0) (images : D → List ℕ → Type 
       let state = ap (λ (b : BrokerValue). b.state.count) (kept.running whole).broker in
       omega (arith, state, count_at f kept, length_commands done, ap (λ (l : List CommandValue). length l) is, length_between f.seat f.settled f.stored begun kept.settled kept.stored, kept.settled, few)
 
-  pub settling_is : (f : Flushed D) (broker : BrokerValue) (waiting left : List OutValue) → f.broken ≡ false → IsFlusher honest images f
+  pub settling_is : (f : Flushed D) (brought : List (EntryValue SenderValue)) (broker : BrokerValue) (boxes : Kept) (ended : List ℕ) (waiting left : List OutValue) → f.broken ≡ false → IsFlusher honest images f
+      → brought ≡ drop (f.stored - f.settled) f.brought → boxes ≡ boxes_after f.settled f.boxes (stored_entries f) → ended ≡ f.ended ++ ended_of f.broker.state (unsettled f)
       → broker ≡ record { state = state_after f.broker.state (unsettled f); broken = false } → waiting ≡ f.waiting ++ outs_of f.broker.state (unsettled f) → left ≡ f.left
-      → record f { settled = f.stored; broker = broker; waiting = waiting; left = left } ≡ settling f (unsettled f)
-  settling_is f broker waiting left whole kept is outs same =
+      → record f { settled = f.stored; brought = brought; broker = broker; boxes = boxes; ended = ended; waiting = waiting; left = left } ≡ settling f
+  settling_is f brought broker boxes ended waiting left whole kept entries given ends is outs same =
       let all : broker ≡ record { state = state_at f.opening f.seat f.stored; broken = false } = is ∙ ap (λ (s : State). record { state = s; broken = false }) (settled_state f whole kept) in
-      λ i. record f { settled = f.stored; broker = all i; waiting = outs i; left = same i }
+      λ i. record f { settled = f.stored; brought = entries i; broker = all i; boxes = given i; ended = ends i; waiting = outs i; left = same i }
 
   -- all that is stored is carried out
-  pub settles : (f : Flushed D) (broker : BrokerValue) (waiting left : List OutValue)
+  pub settles : (f : Flushed D) (brought : List (EntryValue SenderValue)) (broker : BrokerValue) (boxes : Kept) (ended : List ℕ) (waiting left : List OutValue) → commands brought ≡ from_on f.seat f.stored
       → broker ≡ record { state = state_after f.broker.state (unsettled f); broken = false } → waiting ≡ f.waiting ++ outs_of f.broker.state (unsettled f) → left ≡ f.left → f.broken ≡ false
-      → IsFlusher honest images f → IsFlusher honest images (record f { settled = f.stored; broker = broker; waiting = waiting; left = left })
-  settles f broker waiting left is outs same whole kept =
+      → IsFlusher honest images f → IsFlusher honest images (record f { settled = f.stored; brought = brought; broker = broker; boxes = boxes; ended = ended; waiting = waiting; left = left })
+  settles f brought broker boxes ended waiting left entries is outs same whole kept =
       let run = kept.running whole in
       let begun : f.seat.base ≤ f.settled = omega (arith, kept.begun, kept.marked) in
       let state : f.broker.state ≡ state_at f.opening f.seat f.settled = ap (λ (b : BrokerValue). b.state) run.broker in
@@ -265,14 +319,15 @@ module _ {D : Type 0} (honest : D → Type 0) (images : D → List ℕ → Type 
           stands = run.stands;
           broker = is ∙ ap (λ (s : State). record { state = s; broken = false }) all;
           batch = run.batch;
+          brought = entries;
           waiting = subst (λ (l : List OutValue). AreUnder f.stored l) (sym outs) (all_append (λ (out : OutValue). out.number < f.stored) f.waiting (outs_of f.broker.state (unsettled f)) (under_more f.settled f.stored f.waiting kept.settled run.waiting) new);
         };
       }
 
   -- all that is stored is published
-  pub publishes : (f : Flushed D) (seat : FlushSeatValue) (waiting left : List OutValue) → seat ≡ with_mark f.seat f.stored → waiting ≡ [] → left ≡ f.left ++ f.waiting → f.settled ≡ f.stored → f.broken ≡ false
-      → IsFlusher honest images f → IsFlusher honest images (record f { seat = seat; waiting = waiting; left = left })
-  publishes f seat waiting left is none outs settled whole kept = subst (λ (s : FlushSeatValue). IsFlusher honest images (record f { seat = s; waiting = waiting; left = left })) (sym is)
+  pub publishes : (f : Flushed D) (seat : FlushSeatValue) (boxes : Kept) (ended past : List ℕ) (p : OutValue → Bool) (waiting left : List OutValue) → seat ≡ with_mark f.seat f.stored → waiting ≡ [] → left ≡ f.left ++ filter p f.waiting → f.settled ≡ f.stored → f.broken ≡ false
+      → IsFlusher honest images f → IsFlusher honest images (record f { seat = seat; boxes = boxes; ended = ended; past = past; waiting = waiting; left = left })
+  publishes f seat boxes ended past p waiting left is none outs settled whole kept = subst (λ (s : FlushSeatValue). IsFlusher honest images (record f { seat = s; boxes = boxes; ended = ended; past = past; waiting = waiting; left = left })) (sym is)
       (let run = kept.running whole in record {
         begun = omega (arith, kept.begun, kept.marked, kept.settled);
         marked = omega (arith, settled);
@@ -281,11 +336,11 @@ module _ {D : Type 0} (honest : D → Type 0) (images : D → List ℕ → Type 
         opened = kept.opened;
         sound = kept.sound;
         each = λ h. hold_at (images f.disk) f.opening (with_mark f.seat f.stored) f.stored (omega arith) kept.stored (run.stands h);
-        under = subst (λ (l : List OutValue). AreUnder f.stored l) (sym outs) (all_append (λ (out : OutValue). out.number < f.stored) f.left f.waiting
+        under = subst (λ (l : List OutValue). AreUnder f.stored l) (sym outs) (all_append (λ (out : OutValue). out.number < f.stored) f.left (filter p f.waiting)
             (under_more f.seat.published f.stored f.left (omega (arith, kept.marked, kept.settled)) kept.under)
-            (under_more f.settled f.stored f.waiting kept.settled run.waiting));
+            (under_kept f.stored p f.waiting (under_more f.settled f.stored f.waiting kept.settled run.waiting)));
         stopped = kept.stopped;
-        running = λ _. record { stands = run.stands; broker = run.broker; batch = run.batch; waiting = subst (λ (l : List OutValue). AreUnder f.settled l) (sym none) tt };
+        running = λ _. record { stands = run.stands; broker = run.broker; batch = run.batch; brought = run.brought; waiting = subst (λ (l : List OutValue). AreUnder f.settled l) (sym none) tt };
       })
 
   -- the outputs are handed out
@@ -300,5 +355,5 @@ module _ {D : Type 0} (honest : D → Type 0) (images : D → List ℕ → Type 
     each = kept.each;
     under = tt;
     stopped = kept.stopped;
-    running = λ whole. let run = kept.running whole in record { stands = run.stands; broker = run.broker; batch = run.batch; waiting = run.waiting };
+    running = λ whole. let run = kept.running whole in record { stands = run.stands; broker = run.broker; batch = run.batch; brought = run.brought; waiting = run.waiting };
   }

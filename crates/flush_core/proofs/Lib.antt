@@ -1,3 +1,5 @@
+pub mod StoreFaults
 pub mod Keeping
+pub mod Sessions
 pub mod Taken
 pub mod Turns

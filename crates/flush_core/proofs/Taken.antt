@@ -1,6 +1,6 @@
 -- The commands taken, cut at numbers, and the states after them.
 use Rattle.std.proofs.Common.{◌≡◌, ◌<◌, ◌≤◌, ◌+◌, ◌-◌, ◌++◌, ℕ, List, [], ◌∷◌, length, take, drop, refl, sym, ◌∙◌, ap, arith}
-use Rattle.std.proofs.lemmas.List.{drop-append-le, drop-take, drop_all, append-nil, append_assoc, length-drop, length-map, length-take-le, take-append-drop, take-append-le, take-take, take_all}
+use Rattle.std.proofs.lemmas.List.{drop-append-le, drop-drop, drop-take, drop_all, append-nil, append_assoc, length-drop, length-map, length-take-le, take-append-drop, take-append-le, take-take, take_all}
 use Rattle.frame_core.proofs.Lists.{all_append, all_weaker}
 use Rattle.area_core.specs.Areas.{commands}
 use Rattle.command_core.specs.Commands.{CommandValue}
@@ -59,6 +59,13 @@ module _ (seat : FlushSeatValue) where
 
   pub between_all : (low high : ℕ) → high ≡ next_ticket seat → seat.base ≤ low → between seat low high ≡ from_on seat low
   between_all low high is begun = take_all (high - low) (from_on seat low) (omega (arith, is, begun, length-drop (low - seat.base) seat.taken))
+
+  -- those from low on are those up to high, and those from high on
+  pub between_from : (low high : ℕ) → seat.base ≤ low → low ≤ high → between seat low high ++ from_on seat high ≡ from_on seat low
+  between_from low high begun rises =
+      let sum : high - seat.base ≡ (low - seat.base) + (high - low) = omega (arith, begun, rises) in
+      ap (λ (l : List CommandValue). between seat low high ++ l) (ap (λ (n : ℕ). drop n seat.taken) sum ∙ sym (drop-drop (high - low) (low - seat.base) seat.taken))
+      ∙ take-append-drop (high - low) (from_on seat low)
 
   pub between_none : (n : ℕ) → between seat n n ≡ []
   between_none n =

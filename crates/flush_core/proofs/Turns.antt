@@ -1,18 +1,25 @@
 -- A turn: what a stop within it leaves.
-use Rattle.std.proofs.Common.{◌≡◌, inl, false, ℕ, List, Err, sym, ◌∙◌, ap, subst, arith}
+use Rattle.std.proofs.Common.{◌≤◌, ◌-◌, ◌++◌, length, length-append, refl, ◌≡◌, inl, false, ℕ, List, Err, sym, ◌∙◌, ap, subst, arith}
 use Rattle.disk_core.specs.declared.disk.Disk.{Ghosts}
 use Rattle.disk_core.specs.Moments.{LeavesOnly}
 use Rattle.broker_core.specs.States.{State}
-use Rattle.broker_core.specs.Steps.{state_after}
-use Rattle.command_core.specs.Commands.{CommandValue}
-use Rattle.claim_core.specs.Seats.{FlushSeatValue}
+use Rattle.broker_core.specs.Steps.{outs_of, state_after}
+use Rattle.area_core.specs.Areas.{commands}
+use Rattle.command_core.specs.Entries.{EntryValue}
+use Rattle.outbox_core.specs.Boxes.{SenderValue}
+use Rattle.claim_core.specs.Seats.{FlushSeatValue, next_ticket, with_mark}
 use Rattle.recover_core.specs.Standing.{StandsForEither}
 use Rattle.flush_core.specs.declared.faults.FlushFault.{FlushFault}
 use Rattle.flush_core.specs.declared.faults.FlushFault.TheVariants.{Device, Full, Broken, Memory}
-use Rattle.flush_core.specs.Batches.{state_at, state_taken, with_more}
-use Rattle.flush_core.specs.Flushed.{Flushed, IsFlusher}
-use Rattle.flush_core.specs.Outcomes.{Falls, IsOutcome, taking}
-use Rattle.flush_core.proofs.Taken.{at_more}
+use Rattle.flush_core.specs.Batches.{from_on, state_at, state_taken, with_more}
+use Rattle.flush_core.specs.Flushed.{Flushed, IsFlusher, unsettled}
+use Rattle.flush_core.specs.Outcomes.{Falls, IsOutcome, IsTurned, publishing, settling, standing, stored_entries, storing, taking, turned_boxes, turned_outs}
+use Rattle.flush_core.specs.Sessions.{boxes_after, ended_of}
+use Rattle.boxes_core.specs.Giving.{AreGiven, Kept, unboxed, without}
+use Rattle.command_core.specs.Commands.{CommandValue}
+use Rattle.command_core.specs.Outs.{OutValue}
+use Rattle.std.proofs.lemmas.List.{length-drop, take_all}
+use Rattle.flush_core.proofs.Taken.{all_at, at_more, between_all, length_commands}
 
 -- a step that fails keeps what was taken
 fallen : {D : Type 0} (old new : Flushed D) → Falls old new → (new.opening ≡ old.opening) × (new.seat.taken ≡ old.seat.taken)
@@ -37,11 +44,12 @@ module _ {D : Type 0} (disk : Ghosts D) where
       })
 
   -- what was taken was stored, or its storing failed
-  pub stored : (f g : Flushed D) (more : List CommandValue) (next last : D) (opening : State) (seat : FlushSeatValue) → IsFlusher disk.honest disk.images f → f.broken ≡ false → g ≡ taking f more
+  pub stored : (f g : Flushed D) (entries : List (EntryValue SenderValue)) (next last : D) (opening : State) (seat : FlushSeatValue) → IsFlusher disk.honest disk.images f → f.broken ≡ false → g ≡ taking f entries
       → (disk.honest g.disk → g.broken ≡ false → LeavesOnly disk.moment disk.images_since g.disk next (StandsForEither (state_at g.opening g.seat g.stored) (state_taken g.opening g.seat)))
       → last ≡ next → opening ≡ g.opening → seat.taken ≡ g.seat.taken → disk.honest f.disk
       → LeavesOnly disk.moment disk.images_since f.disk last (StandsForEither (state_at f.opening f.seat f.stored) (state_taken opening seat))
-  stored f g more next last opening seat kept whole is leaves same opened taken honest =
+  stored f g entries next last opening seat kept whole is leaves same opened taken honest =
+      let more = commands entries in
       let here : disk.honest f.disk → f.broken ≡ false → LeavesOnly disk.moment disk.images_since f.disk next (StandsForEither (state_at f.opening (with_more f.seat more) f.stored) (state_taken f.opening (with_more f.seat more))) =
       subst (λ (g : Flushed D). disk.honest g.disk → g.broken ≡ false → LeavesOnly disk.moment disk.images_since g.disk next (StandsForEither (state_at g.opening g.seat g.stored) (state_taken g.opening g.seat))) is leaves in
       let all : state_taken f.opening (with_more f.seat more) ≡ state_taken opening seat =
@@ -50,3 +58,51 @@ module _ {D : Type 0} (disk : Ghosts D) where
       (subst (λ (t : State). LeavesOnly disk.moment disk.images_since f.disk next (StandsForEither (state_at f.opening f.seat f.stored) t)) all
       (subst (λ (s : State). LeavesOnly disk.moment disk.images_since f.disk next (StandsForEither s (state_taken f.opening (with_more f.seat more)))) (at_more f.opening f.seat more f.stored kept.stored)
       (here honest whole)))
+
+  -- a turn of the four steps
+  pub turned : (old took did left new : Flushed D) (entries : List (EntryValue SenderValue)) (next : D) (size used : ℕ) → IsFlusher disk.honest disk.images old → old.broken ≡ false → old.settled ≡ old.stored
+      → took ≡ taking old entries → did ≡ storing took next size used → left ≡ settling did → new ≡ publishing left new.boxes → AreGiven left.waiting (standing left) new.boxes → IsTurned old new entries
+  turned old took did left new entries next size used kept whole settled took_is did_is left_is new_is given =
+      let stored = storing (taking old entries) next size used in
+      let all = settling stored in
+      let is : left ≡ all = left_is ∙ ap (λ (f : Flushed D). settling f) (did_is ∙ ap (λ (f : Flushed D). storing f next size used) took_is) in
+      let end : new ≡ publishing all new.boxes = new_is ∙ ap (λ (f : Flushed D). publishing f new.boxes) is in
+      let more = commands entries in
+      let seat : new.seat ≡ with_mark (with_more old.seat more) (next_ticket (with_more old.seat more)) = ap (λ (f : Flushed D). f.seat) end in
+      let begun : old.seat.base ≤ old.settled = omega (arith, kept.begun, kept.marked) in
+      let cs : unsettled stored ≡ from_on new.seat old.stored =
+      between_all (with_more old.seat more) old.settled (next_ticket (with_more old.seat more)) refl begun
+      ∙ ((λ i. from_on (with_more old.seat more) (settled i)) ∙ ap (λ (s : FlushSeatValue). from_on s old.stored) (sym seat)) in
+      let few : length (old.brought ++ entries) ≤ next_ticket (with_more old.seat more) - old.settled =
+      omega (
+        arith,
+        length-append old.brought entries,
+        length_commands old.brought,
+        length_commands entries,
+        ap (λ (l : List CommandValue). length l) (kept.running whole).brought,
+        length-drop (old.settled - old.seat.base) old.seat.taken,
+        length-append old.seat.taken more,
+        begun,
+        kept.settled,
+        kept.stored,
+      ) in
+      let es : stored_entries stored ≡ old.brought ++ entries = take_all (next_ticket (with_more old.seat more) - old.settled) (old.brought ++ entries) few in
+      let outs : all.waiting ≡ turned_outs old new = ap (λ (l : List CommandValue). old.waiting ++ outs_of old.broker.state l) cs in
+      let stands : standing all ≡ turned_boxes old entries = ap (λ (l : List (EntryValue SenderValue)). without (boxes_after old.settled old.boxes l) old.past) es in
+      let opening : new.opening ≡ old.opening = ap (λ (f : Flushed D). f.opening) end in
+      record {
+        seat = seat;
+        stored = ap (λ (f : Flushed D). f.stored) end ∙ ap (λ (s : FlushSeatValue). next_ticket s) (sym seat);
+        settled = ap (λ (f : Flushed D). f.settled) end ∙ ap (λ (s : FlushSeatValue). next_ticket s) (sym seat);
+        opening = opening;
+        broker = ap (λ (f : Flushed D). f.broker) end
+            ∙ ap (λ (s : State). record { state = s; broken = false })
+            (all_at old.opening (with_more old.seat more) (next_ticket (with_more old.seat more)) refl ∙ sym (λ i. state_after (opening i) (seat i).taken));
+        given = subst (λ (l : List OutValue). AreGiven l (turned_boxes old entries) new.boxes) outs
+            (subst (λ (b : Kept). AreGiven all.waiting b new.boxes) stands
+            (subst (λ (f : Flushed D). AreGiven f.waiting (standing f) new.boxes) is given));
+        past = ap (λ (f : Flushed D). f.past) end ∙ ap (λ (l : List CommandValue). old.ended ++ ended_of old.broker.state l) cs;
+        ended = ap (λ (f : Flushed D). f.ended) end;
+        waiting = ap (λ (f : Flushed D). f.waiting) end;
+        left = ap (λ (f : Flushed D). f.left) end ∙ (λ i. old.left ++ unboxed (stands i) (outs i));
+      }

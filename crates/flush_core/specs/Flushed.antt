@@ -5,6 +5,8 @@ use Rattle.disk_core.specs.declared.disk.Disk.{Ghosts}
 use Rattle.command_core.specs.Commands.{CommandValue}
 use Rattle.command_core.specs.Entries.{EntryValue}
 use Rattle.command_core.specs.Outs.{OutValue}
+use Rattle.outbox_core.specs.Boxes.{SenderValue}
+use Rattle.boxes_core.specs.Giving.{Kept}
 use Rattle.area_core.specs.Areas.{commands, records}
 use Rattle.broker_core.specs.Sound.{IsSound}
 use Rattle.broker_core.specs.States.{State, BrokerValue}
@@ -16,8 +18,9 @@ use Rattle.flush_core.specs.Batches.{IsBatch, between, from_on, state_at}
 
 -- A flusher: its disk, the bytes of an area of the journal and those used; its seat at the ring, with the commands taken
 -- and the mark; the state that the journal stood for when the flusher was made; the first number that is not stored, and
--- the first that the broker has not carried out; the broker; the outputs that wait for the mark, and those that are under
--- it; and whether a step failed.
+-- the first that the broker has not carried out; the entries that are taken and not carried out; the broker; the outboxes of
+-- sessions; the sessions that ended and whose last outputs wait for the mark, and those whose last outputs are given; the
+-- outputs that wait for the mark, and those under it that went to no box; and whether a step failed.
 pub record Flushed (D : Type 0) : Type 0 where
   pub disk : D
   pub size : ℕ
@@ -26,14 +29,18 @@ pub record Flushed (D : Type 0) : Type 0 where
   pub opening : State
   pub stored : ℕ
   pub settled : ℕ
+  pub brought : List (EntryValue SenderValue)
   pub broker : BrokerValue
+  pub boxes : Kept
+  pub ended : List ℕ
+  pub past : List ℕ
   pub waiting : List OutValue
   pub left : List OutValue
   pub broken : Bool
 
-abbrev pub flushed : {D : Type 0} {disk : Ghosts D} → Store D disk → FlushSeatValue → State → ℕ → ℕ → BrokerValue → List OutValue → List OutValue → Bool → Flushed D
-flushed store seat opening stored settled broker waiting left broken =
-    record { disk = disk_of store; size = size_of store; used = used_of store; seat = seat; opening = opening; stored = stored; settled = settled; broker = broker; waiting = waiting; left = left; broken = broken }
+abbrev pub flushed : {D : Type 0} {disk : Ghosts D} → Store D disk → FlushSeatValue → State → ℕ → ℕ → List (EntryValue SenderValue) → BrokerValue → Kept → List ℕ → List ℕ → List OutValue → List OutValue → Bool → Flushed D
+flushed store seat opening stored settled brought broker boxes ended past waiting left broken =
+    record { disk = disk_of store; size = size_of store; used = used_of store; seat = seat; opening = opening; stored = stored; settled = settled; brought = brought; broker = broker; boxes = boxes; ended = ended; past = past; waiting = waiting; left = left; broken = broken }
 
 -- the commands that wait to be stored
 abbrev pub gathered : {D : Type 0} → Flushed D → List CommandValue
@@ -59,11 +66,13 @@ abbrev pub HoldBetween : (List ℕ → Type 0) → State → FlushSeatValue → 
 HoldBetween images opening seat = (c : List ℕ) → images c → ∥ AfterSome opening seat c ∥₁
 
 -- While no step has failed: each image stands for the state after all that is stored, the broker has that after all that
--- is settled, what waits to be stored is one batch, and no output waits that is not settled.
+-- is settled, what waits to be stored is one batch, what was brought are the entries of the commands from the settled number
+-- on, and no output waits that is not settled.
 pub record IsRunning {D : Type 0} (honest : D → Type 0) (images : D → List ℕ → Type 0) (f : Flushed D) : Type 0 where
   pub stands : honest f.disk → StandFor (images f.disk) (state_at f.opening f.seat f.stored)
   pub broker : f.broker ≡ record { state = state_at f.opening f.seat f.settled; broken = false }
   pub batch : IsBatch (gathered f)
+  pub brought : commands f.brought ≡ from_on f.seat f.settled
   pub waiting : AreUnder f.settled f.waiting
 
 -- What a flusher keeps, after a fault too: the mark is at most what is stored, and that at most what was taken; each image
@@ -86,7 +95,11 @@ pub record IsSame {C D : Type 0} (one : Flushed C) (other : Flushed D) : Type 0 
   pub opening : other.opening ≡ one.opening
   pub stored : other.stored ≡ one.stored
   pub settled : other.settled ≡ one.settled
+  pub brought : other.brought ≡ one.brought
   pub broker : other.broker ≡ one.broker
+  pub boxes : other.boxes ≡ one.boxes
+  pub ended : other.ended ≡ one.ended
+  pub past : other.past ≡ one.past
   pub waiting : other.waiting ≡ one.waiting
   pub left : other.left ≡ one.left
   pub broken : other.broken ≡ one.broken
@@ -100,3 +113,8 @@ pub record IsHeld {B : Type 0} (seat : FlushSeatValue) (stored settled : ℕ) (j
   pub done_is : commands done ≡ between seat settled stored
   pub few : stored ≤ 2 ^ 62
   pub room_is : 0 < left → left + waiting ≤ room
+
+-- And there is room for those outputs that go to no box.
+pub record IsSpare (spare waiting room : ℕ) : Type 0 where
+  pub none : spare ≡ 0
+  pub room_is : waiting ≤ room

@@ -2,3 +2,4 @@ pub mod Batches
 pub mod Faults
 pub mod Flushed
 pub mod Outcomes
+pub mod Sessions

@@ -1,12 +1,18 @@
 -- What calls of a flusher leave.
-use Rattle.std.specs.Prelude.{◌≡◌, ◌++◌, ℕ, List, [], true, false, Result, Ok, Err}
+use Rattle.std.specs.Prelude.{◌≡◌, ◌-◌, ◌++◌, drop, take, ℕ, List, [], true, false, Result, Ok, Err}
 use Rattle.command_core.specs.Commands.{CommandValue}
+use Rattle.command_core.specs.Outs.{OutValue}
 use Rattle.broker_core.specs.Steps.{outs_of}
+use Rattle.area_core.specs.Areas.{commands}
+use Rattle.command_core.specs.Entries.{EntryValue}
+use Rattle.outbox_core.specs.Boxes.{SenderValue}
+use Rattle.boxes_core.specs.Giving.{AreGiven, Kept, unboxed, without}
 use Rattle.claim_core.specs.Seats.{when_stopped, with_mark, next_ticket}
 use Rattle.flush_core.specs.declared.faults.FlushFault.{FlushFault}
 use Rattle.flush_core.specs.declared.faults.FlushFault.TheVariants.{Device, Full, Broken, Memory}
 use Rattle.flush_core.specs.Batches.{with_more, from_on, state_at, state_taken}
-use Rattle.flush_core.specs.Flushed.{Flushed}
+use Rattle.flush_core.specs.Flushed.{Flushed, unsettled}
+use Rattle.flush_core.specs.Sessions.{boxes_after, ended_of}
 
 -- A step has failed: the flusher is broken, its ring is stopped, and what was taken, stored, published and may be handed
 -- out stays.
@@ -27,31 +33,66 @@ IsOutcome old new (Err Full) = Falls old new
 IsOutcome old new (Err (Memory _)) = Falls old new
 
 -- more commands are taken, and nothing else changes
-abbrev pub taking : {D : Type 0} → Flushed D → List CommandValue → Flushed D
-taking f more = record f { seat = with_more f.seat more }
+abbrev pub taking : {D : Type 0} → Flushed D → List (EntryValue SenderValue) → Flushed D
+taking f more = record f { seat = with_more f.seat (commands more); brought = f.brought ++ more }
 
 -- all that was taken is stored, on this disk
 abbrev pub storing : {D : Type 0} → Flushed D → D → ℕ → ℕ → Flushed D
 storing f disk size used = record f { disk = disk; size = size; used = used; stored = next_ticket f.seat }
 
--- all that is stored is carried out, and the outputs of that wait behind the others
-abbrev pub settling : {D : Type 0} → Flushed D → List CommandValue → Flushed D
-settling f done = record f { settled = f.stored; broker = record { state = state_at f.opening f.seat f.stored; broken = false }; waiting = f.waiting ++ outs_of f.broker.state done }
+-- the entries of what is stored and not carried out
+abbrev pub stored_entries : {D : Type 0} → Flushed D → List (EntryValue SenderValue)
+stored_entries f = take (f.stored - f.settled) f.brought
 
--- all that is stored is published, and its outputs may be handed out
-abbrev pub publishing : {D : Type 0} → Flushed D → Flushed D
-publishing f = record f { seat = with_mark f.seat f.stored; waiting = []; left = f.left ++ f.waiting }
+-- All that is stored is carried out: the outputs of that wait behind the others, the boxes that came with Opens are kept, and
+-- the sessions that ended are noted.
+abbrev pub settling : {D : Type 0} → Flushed D → Flushed D
+settling f = record f {
+  settled = f.stored;
+  brought = drop (f.stored - f.settled) f.brought;
+  broker = record { state = state_at f.opening f.seat f.stored; broken = false };
+  boxes = boxes_after f.settled f.boxes (stored_entries f);
+  ended = f.ended ++ ended_of f.broker.state (unsettled f);
+  waiting = f.waiting ++ outs_of f.broker.state (unsettled f);
+}
 
--- A turn has taken these commands, and all that was taken is stored, carried out and published; the outputs of all that was
--- not published may be handed out, behind those that might be already.
-pub record IsTurned {D : Type 0} (old new : Flushed D) (more : List CommandValue) : Type 0 where
-  pub seat : new.seat ≡ with_mark (with_more old.seat more) (next_ticket (with_more old.seat more))
+-- the boxes to which outputs are given: those of sessions that ended and got their last outputs are let go first
+abbrev pub standing : {D : Type 0} → Flushed D → Kept
+standing f = without f.boxes f.past
+
+-- All that is stored is published. What waited goes to the boxes of its sessions, which then are these; of it, what goes to
+-- sessions without a box may be handed out, behind what might be already.
+abbrev pub publishing : {D : Type 0} → Flushed D → Kept → Flushed D
+publishing f boxes = record f {
+  seat = with_mark f.seat f.stored;
+  boxes = boxes;
+  ended = [];
+  past = f.ended;
+  waiting = [];
+  left = f.left ++ unboxed (standing f) f.waiting;
+}
+
+-- the outputs that a turn publishes
+abbrev pub turned_outs : {D : Type 0} → Flushed D → Flushed D → List OutValue
+turned_outs old new = old.waiting ++ outs_of old.broker.state (from_on new.seat old.stored)
+
+-- the boxes that stand when a turn that took these entries publishes
+abbrev pub turned_boxes : {D : Type 0} → Flushed D → List (EntryValue SenderValue) → Kept
+turned_boxes old more = without (boxes_after old.settled old.boxes (old.brought ++ more)) old.past
+
+-- A turn has taken these entries, and all that was taken is stored, carried out and published: the outputs of all that was not
+-- published were given to the boxes of their sessions, or may be handed out, behind those that might be already.
+pub record IsTurned {D : Type 0} (old new : Flushed D) (more : List (EntryValue SenderValue)) : Type 0 where
+  pub seat : new.seat ≡ with_mark (with_more old.seat (commands more)) (next_ticket (with_more old.seat (commands more)))
   pub stored : new.stored ≡ next_ticket new.seat
   pub settled : new.settled ≡ next_ticket new.seat
   pub opening : new.opening ≡ old.opening
   pub broker : new.broker ≡ record { state = state_taken new.opening new.seat; broken = false }
+  pub given : AreGiven (turned_outs old new) (turned_boxes old more) new.boxes
+  pub past : new.past ≡ old.ended ++ ended_of old.broker.state (from_on new.seat old.stored)
+  pub ended : new.ended ≡ []
   pub waiting : new.waiting ≡ []
-  pub left : new.left ≡ old.left ++ (old.waiting ++ outs_of old.broker.state (from_on new.seat old.stored))
+  pub left : new.left ≡ old.left ++ unboxed (turned_boxes old more) (turned_outs old new)
 
 -- A turn has failed: the flusher is broken and its ring is stopped. It may have taken and stored commands, but has
 -- published none, and what may be handed out stays.

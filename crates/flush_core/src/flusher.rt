@@ -1,15 +1,19 @@
 //! The flusher, and what it keeps.
 
-ghost use Rattle.std.specs.Prelude.{◌≡◌, ◌≤◌, [], false};
+ghost use Rattle.std.specs.Prelude.{◌≡◌, ◌≤◌, ◌==◌, ◌^◌, [], false, length};
 ghost use Rattle.disk_core.specs.Fuse.{calls_left, fused};
 ghost use Rattle.recover_core.specs.Standing.{StandFor};
 ghost use Rattle.recover_core.specs.Stores.{disk_of, is_broken};
+ghost use Rattle.claim_core.specs.Endings.{Agree};
+ghost use Rattle.claim_core.specs.Seats.{next_ticket};
 ghost use Rattle.flush_core.specs.Flushed.{HoldBetween, IsFlusher, IsSame, flushed};
 
+use boxes_core::Boxes;
 use broker_core::Broker;
-use claim_core::FlushSeat;
+use claim_core::{BrokerRing, BrokerSeat, FlushSeat};
 use command_core::{Entry, Out};
 use disk_core::{Disk, FuseDisk};
+use outbox_core::{Bell, OutSender};
 use recover_core::Store;
 use std::alloc::Global;
 use std::marker::Model;
@@ -20,49 +24,62 @@ use std::snapshot::Snapshot;
 /// Each image of its disk stands for the state after the commands taken up to some number from the mark on, also once a
 /// step has failed. No output is handed out but under the mark.
 #[derive(Drop)]
-pub struct Flusher<D: Disk> {
+pub struct Flusher<D: Disk, B: Bell> {
     pub(crate) journal: Store<D>,
     pub(crate) broker: Broker,
-    pub(crate) seat: FlushSeat<()>,
+    pub(crate) seat: FlushSeat<OutSender<B>>,
     // The broker as it was when the flusher was made.
     pub(crate) opening: Snapshot<Broker>,
     // What waits to be stored, and how many bytes its records have.
-    pub(crate) batch: Vec<Entry<()>>,
+    pub(crate) batch: Vec<Entry<OutSender<B>>>,
     pub(crate) bytes: u64,
     // What is stored and waits to be carried out.
-    pub(crate) done: Vec<Entry<()>>,
+    pub(crate) done: Vec<Entry<OutSender<B>>>,
     // The first numbers that are not stored, and not carried out.
     pub(crate) stored: u64,
     pub(crate) settled: u64,
-    // The outputs that wait for the mark, and those under it.
+    // The outboxes of sessions; the sessions that ended and whose last outputs wait for the mark; and those whose last
+    // outputs are given, so that their boxes can go.
+    pub(crate) boxes: Boxes<B>,
+    pub(crate) ended: Vec<u64>,
+    pub(crate) past: Vec<u64>,
+    // The outputs that wait for the mark, and those under it that went to no box.
     pub(crate) waiting: Vec<Out>,
     pub(crate) left: Vec<Out>,
+    // Room for what goes to no box, for as long as a call of `publish` lasts.
+    pub(crate) spare: Vec<Out>,
     pub(crate) broken: bool,
 }
 
-impl<D: Disk> Model for Flusher<D> {
-    ghost use Rattle.std.specs.Prelude.{◌≡◌, false, length, vec_capacity};
+impl<D: Disk, B: Bell> Model for Flusher<D, B> {
+    ghost use Rattle.std.specs.Prelude.{◌≡◌, ◌++◌, false, length, vec_capacity};
     ghost use Rattle.recover_core.specs.Stores.{is_broken};
-    ghost use Rattle.flush_core.specs.Flushed.{Flushed, IsFlusher, IsHeld, flushed};
+    ghost use Rattle.flush_core.specs.Flushed.{Flushed, IsFlusher, IsHeld, IsSpare, flushed};
 
     ghost Value = { Flushed D };
 
-    ghost view = { λ a. flushed a.journal a.seat a.opening.value.state a.stored a.settled a.broker a.waiting.items a.left.items a.broken };
+    ghost view = { λ a. flushed a.journal a.seat a.opening.value.state a.stored a.settled (a.done.items ++ a.batch.items) a.broker a.boxes a.ended.items a.past.items a.waiting.items a.left.items a.broken };
 
-    ghost invariant = { λ a. IsFlusher D.honest D.images (flushed a.journal a.seat a.opening.value.state a.stored a.settled a.broker a.waiting.items a.left.items a.broken)
+    ghost invariant = { λ a. IsFlusher D.honest D.images (flushed a.journal a.seat a.opening.value.state a.stored a.settled (a.done.items ++ a.batch.items) a.broker a.boxes a.ended.items a.past.items a.waiting.items a.left.items a.broken)
         × (a.broken ≡ false → IsHeld a.seat a.stored a.settled (is_broken a.journal) a.batch.items a.done.items a.bytes
-        (length a.left.items) (length a.waiting.items) (vec_capacity a.left)) };
+        (length a.left.items) (length a.waiting.items) (vec_capacity a.left))
+        × (a.broken ≡ false → IsSpare (length a.spare.items) (length a.waiting.items) (vec_capacity a.spare)) };
 }
 
-impl<D: Disk> Flusher<D> {
+impl<D: Disk, B: Bell> Flusher<D, B> {
     /// A flusher of a journal, the broker of the state that the journal stands for, and the flusher's seat at a ring whose
     /// first ticket is the broker's count. No memory is taken.
-    pub fn new(alloc: Global, journal: Store<D>, broker: Broker, seat: FlushSeat<()>) -> Flusher<D>
+    pub fn new(
+        alloc: Global,
+        journal: Store<D>,
+        broker: Broker,
+        seat: FlushSeat<OutSender<B>>,
+    ) -> Flusher<D, B>
         requires whole { (is_broken journal ≡ false) × (broker.broken ≡ false) }
         requires stands { D.honest (disk_of journal) → StandFor (D.images (disk_of journal)) broker.state }
         requires fresh { (seat.taken ≡ []) × (seat.published ≡ seat.base) }
         requires count { broker.state.count ≡ seat.base }
-        ensures { result ≡ flushed journal seat broker.state seat.base seat.base broker [] [] false }
+        ensures { result ≡ flushed journal seat broker.state seat.base seat.base [] broker [] [] [] [] [] false }
     {
         let next = seat.next();
         let broken = broker.is_broken();
@@ -78,6 +95,10 @@ impl<D: Disk> Flusher<D> {
             settled: next,
             waiting: Vec::new(alloc),
             left: Vec::new(alloc),
+            boxes: Boxes::new(alloc),
+            ended: Vec::new(alloc),
+            past: Vec::new(alloc),
+            spare: Vec::new(alloc),
             broken,
         }
     }
@@ -90,15 +111,50 @@ impl<D: Disk> Flusher<D> {
         self.broken
     }
 
-    /// The disk and the seat, as they are. Outputs that wait are let go.
-    pub fn into_parts(self) -> (D, FlushSeat<()>)
+    /// The broker after the commands that are carried out.
+    pub fn broker(&self) -> &Broker
+        ensures { result.now ≡ self.now.broker }
+    {
+        &self.broker
+    }
+
+    /// Whether no session has a box.
+    pub fn has_no_box(&self) -> bool
+        ensures { result ≡ (length self.now.boxes == 0) }
+    {
+        self.boxes.is_empty()
+    }
+
+    /// The number of the command that is taken next.
+    pub fn next(&self) -> u64
+        ensures next { result ≡ next_ticket self.now.seat }
+        ensures most { result ≤ 2 ^ 62 }
+        ensures kept { IsFlusher D.honest D.images self.now }
+    {
+        self.seat.next()
+    }
+
+    /// Brings a session's seat beside the flusher's, as `Ring::beside` does: nothing changes, and both are known to speak of
+    /// one history.
+    pub fn beside(&mut self, ring: &BrokerRing<OutSender<B>>, seat: &mut BrokerSeat<OutSender<B>>)
+        requires flush { self.old.seat.ring ≡ ring.now }
+        requires seat { seat.old.ring ≡ ring.now }
+        ensures same { self.new ≡ self.old }
+        ensures seat { seat.new ≡ seat.old }
+        ensures agree { Agree seat.old self.old.seat }
+    {
+        ring.beside(seat, &mut self.seat);
+    }
+
+    /// The disk and the seat, as they are. Outputs that wait are let go, and so are the boxes.
+    pub fn into_parts(self) -> (D, FlushSeat<OutSender<B>>)
         ensures parts { (result.0 ≡ self.disk) × (result.1 ≡ self.seat) }
         ensures kept { IsFlusher D.honest D.images self }
     {
         (self.journal.into_disk(), self.seat)
     }
 
-    /// The disk, as it is. The seat and the outputs that wait are let go.
+    /// The disk, as it is. The seat, the boxes and the outputs that wait are let go.
     pub fn into_disk(self) -> D
         ensures disk { result ≡ self.disk }
         ensures held { D.honest result → HoldBetween (D.images result) self.opening self.seat }
@@ -107,7 +163,7 @@ impl<D: Disk> Flusher<D> {
     }
 
     /// The same flusher over a disk that passes so many more calls and then fails.
-    pub fn fuse(self, calls: u64) -> Flusher<FuseDisk<D>>
+    pub fn fuse(self, calls: u64) -> Flusher<FuseDisk<D>, B>
         ensures disk { fused result.disk ≡ self.disk }
         ensures calls { calls_left result.disk ≡ calls }
         ensures same { IsSame self result }
@@ -122,8 +178,12 @@ impl<D: Disk> Flusher<D> {
             done: self.done,
             stored: self.stored,
             settled: self.settled,
+            boxes: self.boxes,
+            ended: self.ended,
+            past: self.past,
             waiting: self.waiting,
             left: self.left,
+            spare: self.spare,
             broken: self.broken,
         }
     }

@@ -1,7 +1,8 @@
 //! Taking commands from the ring.
 
 ghost use Rattle.std.specs.Prelude.{◌≡◌, ◌<◌, ◌≤◌, ◌++◌, List, IfOk, IfErr, OnErr, true, length, vec_capacity};
-ghost use Rattle.command_core.specs.Commands.{CommandValue};
+ghost use Rattle.command_core.specs.Entries.{EntryValue};
+ghost use Rattle.outbox_core.specs.Boxes.{SenderValue};
 ghost use Rattle.area_core.specs.Areas.{commands, records};
 ghost use Rattle.flush_core.specs.Batches.{IsBatch, with_more};
 ghost use Rattle.flush_core.specs.Faults.{NeedsNoDisk};
@@ -13,6 +14,7 @@ use crate::flusher::Flusher;
 use claim_core::{BrokerRing, FlushSeat};
 use command_core::Entry;
 use disk_core::Disk;
+use outbox_core::{Bell, OutSender};
 use std::alloc::AllocError;
 
 /// How many commands a batch may have.
@@ -22,18 +24,18 @@ pub const BATCH_ENTRIES: usize = 32;
 pub const BATCH_BYTES: u64 = 262_144;
 
 // Takes the entries that are ready, one after another, until the batch is full, and answers how many.
-fn take_ready(
-    ring: &BrokerRing<()>,
-    seat: &mut FlushSeat<()>,
-    batch: &mut Vec<Entry<()>>,
+fn take_ready<B: Bell>(
+    ring: &BrokerRing<OutSender<B>>,
+    seat: &mut FlushSeat<OutSender<B>>,
+    batch: &mut Vec<Entry<OutSender<B>>>,
     bytes: &mut u64,
 ) -> u64
     requires ring { seat.old.ring ≡ ring.now }
     requires room { 32 ≤ vec_capacity batch.old }
     requires bytes { bytes.old ≡ length (records (commands batch.old.items)) }
     requires batch { IsBatch (commands batch.old.items) }
-    ensures taken { (more : List CommandValue) × (length more ≡ result) × (seat.new ≡ with_more seat.old more)
-        × (commands batch.new.items ≡ commands batch.old.items ++ more) }
+    ensures taken { (more : List (EntryValue SenderValue)) × (length more ≡ result) × (seat.new ≡ with_more seat.old (commands more))
+        × (batch.new.items ≡ batch.old.items ++ more) }
     ensures bytes { bytes.new ≡ length (records (commands batch.new.items)) }
     ensures batch { IsBatch (commands batch.new.items) }
 {
@@ -50,17 +52,17 @@ fn take_ready(
 }
 
 // Makes room for a whole batch before the first entry is taken, so that none is lost.
-fn fill(
-    ring: &BrokerRing<()>,
-    seat: &mut FlushSeat<()>,
-    batch: &mut Vec<Entry<()>>,
+fn fill<B: Bell>(
+    ring: &BrokerRing<OutSender<B>>,
+    seat: &mut FlushSeat<OutSender<B>>,
+    batch: &mut Vec<Entry<OutSender<B>>>,
     bytes: &mut u64,
 ) -> Result<u64, AllocError>
     requires ring { seat.old.ring ≡ ring.now }
     requires bytes { bytes.old ≡ length (records (commands batch.old.items)) }
     requires batch { IsBatch (commands batch.old.items) }
-    ensures taken { IfOk result (λ count. (more : List CommandValue) × (length more ≡ count) × (seat.new ≡ with_more seat.old more)
-        × (commands batch.new.items ≡ commands batch.old.items ++ more)) }
+    ensures taken { IfOk result (λ count. (more : List (EntryValue SenderValue)) × (length more ≡ count) × (seat.new ≡ with_more seat.old (commands more))
+        × (batch.new.items ≡ batch.old.items ++ more)) }
     ensures bytes { bytes.new ≡ length (records (commands batch.new.items)) }
     ensures batch { IsBatch (commands batch.new.items) }
     ensures refused { OnErr result (seat.new ≡ seat.old) }
@@ -69,14 +71,14 @@ fn fill(
     Ok(take_ready(ring, seat, batch, bytes))
 }
 
-impl<D: Disk> Flusher<D> {
+impl<D: Disk, B: Bell> Flusher<D, B> {
     /// Takes the next commands in order from the ring, for as long as they are ready, fewer than 32 wait to be stored, and
     /// the records of these have fewer than 262,144 bytes. Answers how many it took.
     ///
     /// `Memory` comes before anything is taken.
-    pub fn gather(&mut self, ring: &BrokerRing<()>) -> Result<u64, FlushFault>
+    pub fn gather(&mut self, ring: &BrokerRing<OutSender<B>>) -> Result<u64, FlushFault>
         requires ring { self.old.seat.ring ≡ ring.now }
-        ensures taken { IfOk result (λ count. (more : List CommandValue) × (length more ≡ count) × (self.new ≡ taking self.old more)) }
+        ensures taken { IfOk result (λ count. (more : List (EntryValue SenderValue)) × (length more ≡ count) × (self.new ≡ taking self.old more)) }
         ensures batch { IfOk result (λ count. IsBatch (gathered self.new)) }
         ensures untouched { OnErr result ((self.new.disk ≡ self.old.disk) × (self.new.seat.taken ≡ self.old.seat.taken)) }
         ensures outcome { IsOutcome self.old self.new result }

@@ -5,6 +5,7 @@
 mod faults;
 mod flusher;
 mod gathering;
+mod marking;
 mod publishing;
 mod settling;
 mod storing;

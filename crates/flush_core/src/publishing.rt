@@ -2,36 +2,48 @@
 
 ghost use Rattle.std.specs.Prelude.{◌≡◌, ◌≤◌, [], false};
 ghost use Rattle.recover_core.specs.Standing.{StandFor};
+ghost use Rattle.boxes_core.specs.Giving.{AreGiven};
 ghost use Rattle.flush_core.specs.Batches.{state_at};
 ghost use Rattle.flush_core.specs.Flushed.{AreUnder};
-ghost use Rattle.flush_core.specs.Outcomes.{publishing};
+ghost use Rattle.flush_core.specs.Outcomes.{publishing, standing};
 
 use crate::flusher::Flusher;
 use claim_core::BrokerRing;
 use command_core::Out;
 use disk_core::Disk;
+use outbox_core::{Bell, OutSender};
 use std::mem::{replace, swap};
 
-impl<D: Disk> Flusher<D> {
-    /// Raises the mark to all that is stored, which each image of the disk holds, and lets the outputs of it be handed out.
-    /// No memory is taken.
-    pub fn publish(&mut self, ring: &BrokerRing<()>)
+impl<D: Disk, B: Bell> Flusher<D, B> {
+    /// Raises the mark to all that is stored, which each image of the disk holds, and then gives each outbox the outputs of its
+    /// session, in order, until the box is cut. What goes to a session without a box stays for `take_left`. No memory is
+    /// taken.
+    ///
+    /// The box of a session that has ended stays until the next call, which lets it go before anything is given.
+    pub fn publish(&mut self, ring: &BrokerRing<OutSender<B>>)
         requires ring { self.old.seat.ring ≡ ring.now }
         requires whole { self.old.broken ≡ false }
         requires settled { self.old.settled ≡ self.old.stored }
-        ensures published { self.new ≡ publishing self.old }
+        ensures published { self.new ≡ publishing self.old self.new.boxes }
+        ensures given { AreGiven self.old.waiting (standing self.old) self.new.boxes }
         ensures held { D.honest self.new.disk → StandFor (D.images self.new.disk) (state_at self.new.opening self.new.seat self.new.seat.published) }
     {
         ring.raise(&mut self.seat, self.stored);
+        self.boxes.let_go(&self.past);
+        self.past.clear();
+        swap(&mut self.past, &mut self.ended);
+        let alloc = *self.waiting.allocator();
+        let outs = replace(&mut self.waiting, Vec::new(alloc));
+        self.boxes.give_all(outs, &mut self.spare);
         if self.left.is_empty() {
-            swap(&mut self.left, &mut self.waiting);
+            swap(&mut self.left, &mut self.spare);
         } else {
-            let _ = self.left.append(&mut self.waiting);
+            let _ = self.left.append(&mut self.spare);
         }
     }
 
-    /// Hands out the outputs that are published, in the order of their commands: the number of each is under the mark.
-    /// No memory is taken.
+    /// Hands out the outputs that are published and went to no box, in the order of their commands: the number of each is under
+    /// the mark. No memory is taken.
     pub fn take_left(&mut self) -> Vec<Out>
         ensures outs { result.items ≡ self.old.left }
         ensures under { AreUnder self.old.seat.published result.items }

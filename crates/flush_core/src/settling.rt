@@ -1,73 +1,152 @@
 //! Carrying the commands out.
 
-ghost use Rattle.std.specs.Prelude.{◌≡◌, ◌<◌, ◌≤◌, ◌+◌, ◌++◌, ◌^◌, [], OnErr, OnOk, true, false, length, vec_capacity};
+ghost use Rattle.std.specs.Prelude.{◌≡◌, ◌<◌, ◌≤◌, ◌+◌, ◌++◌, ◌&&◌, ◌^◌, [], ◌∷◌, OnErr, OnOk, true, false, not, if◌then◌else◌, length, vec_capacity};
 ghost use Rattle.area_core.specs.Areas.{commands};
-ghost use Rattle.broker_core.specs.Steps.{outs_of, state_after};
+ghost use Rattle.broker_state.specs.States.{is_open};
+ghost use Rattle.broker_core.specs.Steps.{outs, outs_of, state_after, step};
 ghost use Rattle.flush_core.specs.Faults.{IsMemory, NeedsNoDisk};
-ghost use Rattle.flush_core.specs.Flushed.{unsettled};
 ghost use Rattle.flush_core.specs.Outcomes.{IsOutcome, settling};
+ghost use Rattle.flush_core.specs.Sessions.{boxes_after, ended_by, ended_of, opened};
 
 use crate::FlushFault;
 use crate::flusher::Flusher;
+use boxes_core::Boxes;
 use broker_core::Broker;
 use claim_core::BrokerRing;
-use command_core::{Entry, Out};
+use command_core::{Command, Entry, Op, Out};
 use disk_core::Disk;
-use std::alloc::Global;
+use outbox_core::{Bell, OutSender};
+use std::alloc::{AllocError, Global};
 use std::mem::replace;
 
-// Carries the commands out in turn, and puts their outputs behind those that wait.
-fn carry_out(
+// Keeps the box that comes with a command of that number, where the command opens the session of that number.
+fn keep_box<B: Bell>(
+    boxes: &mut Boxes<B>,
+    number: u64,
+    command: &Command,
+    outbox: Option<OutSender<B>>,
+) -> Result<(), AllocError>
+    ensures { OnOk result (boxes.new ≡ opened boxes.old number (record { command = command.now; outbox = outbox })) }
+{
+    let Op::Open { .. } = command.op() else {
+        return Ok(());
+    };
+    match outbox {
+        Some(sender) => boxes.keep(number, sender),
+        None => Ok(()),
+    }
+}
+
+// Notes a session that was open and is no more.
+fn note_end(
+    broker: &Broker,
+    was_open: bool,
+    session: u64,
+    ended: &mut Vec<u64>,
+) -> Result<(), AllocError>
+    ensures { OnOk result (ended.new.items ≡ ended.old.items ++ (if was_open && not (is_open broker.now.state session) then session ∷ [] else [])) }
+{
+    if was_open && !broker.sessions().contains_key(&session) {
+        ended.push(session)?;
+    }
+    Ok(())
+}
+
+// Carries one command out: its outputs wait behind those that wait, the box that comes with an Open is kept, and the session
+// that it ends is noted.
+fn carry_out_one<B: Bell>(
     alloc: Global,
     broker: &mut Broker,
-    batch: Vec<Entry<()>>,
-    outs: &mut Vec<Out>,
+    entry: Entry<OutSender<B>>,
+    waiting: &mut Vec<Out>,
+    boxes: &mut Boxes<B>,
+    ended: &mut Vec<u64>,
+) -> Result<(), FlushFault>
+    requires whole { broker.old.broken ≡ false }
+    requires count { broker.old.state.count < 2 ^ 62 }
+    ensures state { OnOk result (broker.new ≡ record { state = step broker.old.state entry.command; broken = false }) }
+    ensures outs { OnOk result (waiting.new.items ≡ waiting.old.items ++ outs broker.old.state entry.command) }
+    ensures boxes { OnOk result (boxes.new ≡ opened boxes.old broker.old.state.count entry) }
+    ensures ended { OnOk result (ended.new.items ≡ ended.old.items ++ ended_by broker.old.state entry.command) }
+    ensures fault { IsMemory result }
+{
+    let number = broker.count();
+    let (command, outbox) = entry.into_parts();
+    let session = command.session();
+    let was_open = broker.sessions().contains_key(&session);
+    keep_box(boxes, number, &command, outbox)?;
+    let mut given = broker.step(alloc, command)?;
+    waiting.append(&mut given)?;
+    note_end(broker, was_open, session, ended)?;
+    Ok(())
+}
+
+// The same of commands in turn.
+fn carry_out<B: Bell>(
+    alloc: Global,
+    broker: &mut Broker,
+    batch: Vec<Entry<OutSender<B>>>,
+    waiting: &mut Vec<Out>,
+    boxes: &mut Boxes<B>,
+    ended: &mut Vec<u64>,
 ) -> Result<(), FlushFault>
     requires whole { broker.old.broken ≡ false }
     requires count { broker.old.state.count + length batch.items ≤ 2 ^ 62 }
     ensures state { OnOk result (broker.new ≡ record { state = state_after broker.old.state (commands batch.items); broken = false }) }
-    ensures outs { OnOk result (outs.new.items ≡ outs.old.items ++ outs_of broker.old.state (commands batch.items)) }
+    ensures outs { OnOk result (waiting.new.items ≡ waiting.old.items ++ outs_of broker.old.state (commands batch.items)) }
+    ensures boxes { OnOk result (boxes.new ≡ boxes_after broker.old.state.count boxes.old batch.items) }
+    ensures ended { OnOk result (ended.new.items ≡ ended.old.items ++ ended_of broker.old.state (commands batch.items)) }
     ensures fault { IsMemory result }
 {
     for entry in batch {
-        let (command, _outbox) = entry.into_parts();
-        let mut given = broker.step(alloc, command)?;
-        outs.append(&mut given)?;
+        carry_out_one(alloc, broker, entry, waiting, boxes, ended)?;
     }
     Ok(())
 }
 
 // The same of all that is stored; then makes the room that publishing needs.
-fn carry_all_out(
+fn carry_all_out<B: Bell>(
     alloc: Global,
     broker: &mut Broker,
-    done: &mut Vec<Entry<()>>,
+    done: &mut Vec<Entry<OutSender<B>>>,
     waiting: &mut Vec<Out>,
+    boxes: &mut Boxes<B>,
+    ended: &mut Vec<u64>,
     left: &mut Vec<Out>,
+    spare: &mut Vec<Out>,
 ) -> Result<(), FlushFault>
     requires whole { broker.old.broken ≡ false }
     requires count { broker.old.state.count + length done.old.items ≤ 2 ^ 62 }
+    requires none { length spare.old.items ≡ 0 }
     ensures state { OnOk result (broker.new ≡ record { state = state_after broker.old.state (commands done.old.items); broken = false }) }
     ensures outs { OnOk result (waiting.new.items ≡ waiting.old.items ++ outs_of broker.old.state (commands done.old.items)) }
+    ensures boxes { OnOk result (boxes.new ≡ boxes_after broker.old.state.count boxes.old done.old.items) }
+    ensures ended { OnOk result (ended.new.items ≡ ended.old.items ++ ended_of broker.old.state (commands done.old.items)) }
     ensures done { OnOk result (done.new.items ≡ []) }
     ensures left { left.new.items ≡ left.old.items }
     ensures room { OnOk result (0 < length left.new.items → length left.new.items + length waiting.new.items ≤ vec_capacity left.new) }
+    ensures spare { OnOk result ((length spare.new.items ≡ 0) × (length waiting.new.items ≤ vec_capacity spare.new)) }
     ensures fault { IsMemory result }
 {
     let batch = replace(done, Vec::new(alloc));
-    carry_out(alloc, broker, batch, waiting)?;
+    carry_out(alloc, broker, batch, waiting, boxes, ended)?;
+    spare.reserve(waiting.len())?;
     if !left.is_empty() {
         left.reserve(waiting.len())?;
     }
     Ok(())
 }
 
-impl<D: Disk> Flusher<D> {
+impl<D: Disk, B: Bell> Flusher<D, B> {
     /// Carries out what is stored: the broker's state is then the one after all that is stored, and the outputs wait behind
     /// those that wait already, in the order of their commands. The room is made that `publish` needs.
-    pub fn settle(&mut self, alloc: Global, ring: &BrokerRing<()>) -> Result<(), FlushFault>
+    pub fn settle(
+        &mut self,
+        alloc: Global,
+        ring: &BrokerRing<OutSender<B>>,
+    ) -> Result<(), FlushFault>
         requires ring { self.old.seat.ring ≡ ring.now }
-        ensures settled { OnOk result (self.new ≡ settling self.old (unsettled self.old)) }
+        ensures settled { OnOk result (self.new ≡ settling self.old) }
         ensures untouched { self.new.disk ≡ self.old.disk }
         ensures outcome { IsOutcome self.old self.new result }
         ensures stops { OnErr result ((self.new.broken ≡ true) × (self.new.seat.stopped ≡ true)) }
@@ -81,7 +160,10 @@ impl<D: Disk> Flusher<D> {
             &mut self.broker,
             &mut self.done,
             &mut self.waiting,
+            &mut self.boxes,
+            &mut self.ended,
             &mut self.left,
+            &mut self.spare,
         ) {
             Ok(()) => {
                 self.settled = self.stored;

@@ -13,15 +13,20 @@ use crate::FlushFault;
 use crate::flusher::Flusher;
 use claim_core::BrokerRing;
 use disk_core::Disk;
+use outbox_core::{Bell, OutSender};
 use std::alloc::Global;
 use std::mem::swap;
 
-impl<D: Disk> Flusher<D> {
+impl<D: Disk, B: Bell> Flusher<D, B> {
     /// Makes the gathered batch durable in one block. Where nothing is gathered it calls no disk and changes nothing.
     ///
     /// At each moment of the call an image of the disk stands for the state after what was stored before, or after all that
     /// was taken, and for none between; after it, for the latter alone. `Full` where the block doesn't fit.
-    pub fn store(&mut self, alloc: Global, ring: &BrokerRing<()>) -> Result<(), FlushFault>
+    pub fn store(
+        &mut self,
+        alloc: Global,
+        ring: &BrokerRing<OutSender<B>>,
+    ) -> Result<(), FlushFault>
         requires ring { self.old.seat.ring ≡ ring.now }
         requires settled { self.old.broken ≡ false → self.old.settled ≡ self.old.stored }
         ensures any_moment { D.honest self.old.disk → self.old.broken ≡ false →

@@ -1,7 +1,8 @@
 //! One turn of the flusher.
 
 ghost use Rattle.std.specs.Prelude.{◌≡◌, ◌<◌, ◌+◌, ◌++◌, List, IfOk, IsErrOf, OnErr, true, false, length};
-ghost use Rattle.command_core.specs.Commands.{CommandValue};
+ghost use Rattle.command_core.specs.Entries.{EntryValue};
+ghost use Rattle.outbox_core.specs.Boxes.{SenderValue};
 ghost use Rattle.area_core.specs.Areas.{records};
 ghost use Rattle.disk_core.specs.Moments.{LeavesOnly};
 ghost use Rattle.recover_core.specs.Standing.{StandFor, StandsForEither};
@@ -13,14 +14,19 @@ use crate::FlushFault;
 use crate::flusher::Flusher;
 use claim_core::BrokerRing;
 use disk_core::Disk;
+use outbox_core::{Bell, OutSender};
 use std::alloc::Global;
 
-impl<D: Disk> Flusher<D> {
+impl<D: Disk, B: Bell> Flusher<D, B> {
     /// Takes what is ready, makes it durable in one block, carries it out and publishes it. Answers how many commands it took.
     ///
     /// At each moment of the call an image of the disk stands for the state after what was stored before, or after all that
     /// is taken at the end, and for none between; after it, for the latter alone.
-    pub fn turn(&mut self, alloc: Global, ring: &BrokerRing<()>) -> Result<u64, FlushFault>
+    pub fn turn(
+        &mut self,
+        alloc: Global,
+        ring: &BrokerRing<OutSender<B>>,
+    ) -> Result<u64, FlushFault>
         requires ring { self.old.seat.ring ≡ ring.now }
         requires settled { self.old.broken ≡ false → self.old.settled ≡ self.old.stored }
         ensures any_moment { D.honest self.old.disk → self.old.broken ≡ false →
@@ -28,7 +34,7 @@ impl<D: Disk> Flusher<D> {
             (StandsForEither (state_at self.old.opening self.old.seat self.old.stored) (state_taken self.new.opening self.new.seat)) }
         ensures after { D.honest self.old.disk →
             IfOk result (λ count. StandFor (D.images self.new.disk) (state_taken self.new.opening self.new.seat)) }
-        ensures turned { IfOk result (λ count. (more : List CommandValue) × (length more ≡ count) × IsTurned self.old self.new more) }
+        ensures turned { IfOk result (λ count. (more : List (EntryValue SenderValue)) × (length more ≡ count) × IsTurned self.old self.new more) }
         ensures batch { IfOk result (λ count. IsBatch (from_on self.new.seat self.old.stored)) }
         ensures full { IsErrOf result FlushFault.Full →
             self.old.size < self.old.used + 9 + length (records (from_on self.new.seat self.old.stored)) }

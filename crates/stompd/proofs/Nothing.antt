@@ -15,12 +15,13 @@ use Rattle.engine_core.specs.declared.fault.ScriptFault.TheVariants.{Memory, Not
 use Rattle.engine_core.specs.Runs.{IsToldAtOnce, Stops, StopsOver}
 use Rattle.stompd.specs.Failures.{RunsToEnd, IsAtOnce, IsBeforehand, StopsBy, Tells}
 use Rattle.stompd.specs.declared.tool.Failure.{Failure}
-use Rattle.stompd.specs.declared.tool.Failure.TheVariants.{CommandLine, Number, Script, Format, File}
+use Rattle.stompd.specs.declared.tool.Failure.TheVariants.{CommandLine, Number, Script, Format, File, Server}
 
 pub stops_before : (error : Error) (failure : Failure) (unread held : Option (List ℕ)) → Tells error failure → StopsBy failure unread unread held held
 stops_before error (CommandLine other) unread held told = (refl, refl)
 stops_before error (Format fault) unread held told = absurd told
 stops_before error (File fault) unread held told = absurd told
+stops_before error (Server fault) unread held told = absurd told
 stops_before error Number unread held told = absurd told
 stops_before error (Script (Memory refused)) unread held told = inl (tt, (refl, refl))
 stops_before error (Script (NotUnderstood k)) unread held told = absurd told
@@ -34,6 +35,7 @@ pub stops_beforehand : (failure : Failure) (unread held : Option (List ℕ)) →
 stops_beforehand (CommandLine other) unread held is = absurd is
 stops_beforehand (Format fault) unread held is = (refl, refl)
 stops_beforehand (File fault) unread held is = absurd is
+stops_beforehand (Server fault) unread held is = absurd is
 stops_beforehand Number unread held is = absurd is
 stops_beforehand (Script (Memory refused)) unread held is = inl (tt, (refl, refl))
 stops_beforehand (Script (NotUnderstood k)) unread held is = absurd is

@@ -12,7 +12,7 @@ use Rattle.engine_core.specs.declared.fault.ScriptFault.TheVariants.{Memory, Ope
 use Rattle.journal_files.specs.JournalFiles.{Shows}
 use Rattle.journal_files.specs.declared.journal_files.FileFault.TheVariants.{Output}
 use Rattle.stompd.specs.declared.tool.Failure.{Failure}
-use Rattle.stompd.specs.declared.tool.Failure.TheVariants.{CommandLine, Number, Script, Format, File}
+use Rattle.stompd.specs.declared.tool.Failure.TheVariants.{CommandLine, Number, Script, Format, File, Server}
 
 -- a script was read to its end, and what was written is what it prints from an empty journal on
 pub record RunsToEnd (unread left before after : Option (List ℕ)) : Type 0 where
@@ -34,6 +34,7 @@ status_of (CommandLine error) = 2
 status_of (Script fault) = 1
 status_of (Format fault) = 1
 status_of (File fault) = 1
+status_of (Server fault) = 1
 status_of Number = 2
 
 -- memory was refused, or the disk was not opened, before the script was read
@@ -53,6 +54,7 @@ IsBeforehand (Script (Memory refused)) = Unit {0}
 IsBeforehand (Script _) = ⊥
 IsBeforehand (Format fault) = Unit {0}
 IsBeforehand (File fault) = ⊥
+IsBeforehand (Server fault) = ⊥
 IsBeforehand Number = ⊥
 
 -- the failure is the script's, which a fault stops, at once or once it began with an empty journal; or nothing was read, and
@@ -62,6 +64,7 @@ StopsBy (CommandLine error) unread left before after = Untouched unread left bef
 StopsBy (Script fault) unread left before after = (IsAtOnce fault × Untouched unread left before after) ⊎ Stops empty_state fault unread left before after
 StopsBy (Format fault) unread left before after = Untouched unread left before after
 StopsBy (File fault) unread left before after = (left ≡ unread) × (fault ≢ Output → after ≡ before)
+StopsBy (Server fault) unread left before after = Untouched unread left before after
 StopsBy Number unread left before after = Untouched unread left before after
 
 -- a script's fault is told in one line
@@ -69,6 +72,7 @@ abbrev pub IsTold : Failure → Option (List ℕ) → Option (List ℕ) → Type
 IsTold (CommandLine error) before after = Unit {0}
 IsTold (Format fault) before after = Unit {0}
 IsTold (File fault) before after = Unit {0}
+IsTold (Server fault) before after = Unit {0}
 IsTold Number before after = after ≡ before
 IsTold (Script fault) before after = Appends before after (codes "stompd: " ++ fault_text fault ++ 10 ∷ [])
 
@@ -79,4 +83,5 @@ Tells error (Script (Memory refused)) = kind_of error ≡ OutOfMemory
 Tells error (Script _) = ⊥
 Tells error (Format fault) = ⊥
 Tells error (File fault) = ⊥
+Tells error (Server fault) = ⊥
 Tells error Number = ⊥

@@ -9,6 +9,7 @@ use std::alloc::Global;
 use std::convert::AsStr;
 
 /// A subcommand that the program has.
+#[derive(Drop)]
 pub enum Subcommand<'a> {
     /// Runs a script from standard input.
     Script,
@@ -16,13 +17,16 @@ pub enum Subcommand<'a> {
     Format { file: &'a str, bytes: u64 },
     /// Shows what the journal in a file shows of itself.
     Show { file: &'a str },
+    /// Serves the broker of the journal in a file at a port.
+    Serve { file: &'a str, port: u16 },
 }
 
 /// Why the words ask for nothing that the program does.
+#[derive(Drop)]
 pub enum Refused {
     /// A mistake in the words, the help that they ask for, or want of memory. It holds the text for the user.
     Words(Error),
-    /// A number of bytes that is none: it has other than decimal digits, or is 2^64 or more.
+    /// A number that is none: it has other than decimal digits, or is too large; a port may not be 0 either.
     Number,
 }
 
@@ -63,11 +67,19 @@ fn matches_of<'a, S: AsStr>(alloc: Global, words: &'a [S]) -> Result<ArgMatches<
         .required(true)
         .action(ArgAction::Set);
     let show = Command::new(alloc, "show").arg(shown)?;
+    let served = Arg::new(alloc, "FILE")
+        .required(true)
+        .action(ArgAction::Set);
+    let port = Arg::new(alloc, "PORT")
+        .required(true)
+        .action(ArgAction::Set);
+    let serve = Command::new(alloc, "serve").arg(served)?.arg(port)?;
     let command = Command::new(alloc, "stompd")
         .subcommand_required(true)
         .subcommand(Command::new(alloc, "script"))?
         .subcommand(format)?
-        .subcommand(show)?;
+        .subcommand(show)?
+        .subcommand(serve)?;
     command.try_get_matches_from(words)
 }
 
@@ -84,7 +96,22 @@ fn asked_of<'a>(matches: &ArgMatches<'a>) -> Result<Subcommand<'a>, Refused> {
         Some(("show", under)) => Ok(Subcommand::Show {
             file: under.get_str("FILE").unwrap_or(""),
         }),
+        Some(("serve", under)) => {
+            let file = under.get_str("FILE").unwrap_or("");
+            match port_of(under.get_str("PORT").unwrap_or("")) {
+                Some(port) => Ok(Subcommand::Serve { file, port }),
+                None => Err(Refused::Number),
+            }
+        }
         _ => Ok(Subcommand::Script),
+    }
+}
+
+/// The port that a text of decimal digits means: from 1 to 65,535.
+fn port_of(text: &str) -> Option<u16> {
+    match number_of(text) {
+        Some(number) if number > 0 => u16::try_from(number).ok(),
+        _ => None,
     }
 }
 

@@ -325,11 +325,13 @@ fn a_stream_that_fails_is_told(rt: HostRuntime) -> Result<(), Fail> {
 fn words_that_ask_for_nothing_are_refused(rt: HostRuntime) -> Result<(), Fail> {
     let alloc = rt.alloc();
     let unknown =
-        "error: unrecognized subcommand 'serve'\n\nUsage: stompd <COMMAND>\n\nFor more information, try '--help'.\n";
-    let cases: [&[&str]; 7] = [
+        "error: unrecognized subcommand 'relay'\n\nUsage: stompd <COMMAND>\n\nFor more information, try '--help'.\n";
+    let cases: [&[&str]; 9] = [
         &["stompd", "format", "file"],
         &["stompd", "show"],
+        &["stompd", "relay"],
         &["stompd", "serve"],
+        &["stompd", "serve", "file"],
         &["stompd"],
         &["stompd", "--help"],
         &["stompd", "script", "more"],
@@ -344,11 +346,24 @@ fn words_that_ask_for_nothing_are_refused(rt: HostRuntime) -> Result<(), Fail> {
             2
         );
         assert!(rt; written.is_empty() && reader.len() == FLUSH.len() && !told.is_empty());
-        if words.last() == Some(&"serve") {
+        if words.last() == Some(&"relay") {
             assert_eq!(rt; String::from_utf8(told)?.as_str(), unknown);
         }
     }
     Ok(())
+}
+
+/// A port is a number from 1 to 65,535, and a size one below 2^64, in decimal digits alone; of another nothing is told.
+#[test]
+fn words_with_a_number_that_is_none_are_refused(rt: HostRuntime) -> Result<(), Fail> {
+    let alloc = rt.alloc();
+    let silent = (2, "", "");
+    expect_of(&rt, alloc, &["stompd", "serve", "file", "0"], silent)?;
+    expect_of(&rt, alloc, &["stompd", "serve", "file", "65536"], silent)?;
+    expect_of(&rt, alloc, &["stompd", "serve", "file", "+1"], silent)?;
+    expect_of(&rt, alloc, &["stompd", "serve", "file", "1x"], silent)?;
+    let large = "18446744073709551616";
+    expect_of(&rt, alloc, &["stompd", "format", "file", large], silent)
 }
 
 /// Runs the program on the words, with nothing to read.

@@ -12,6 +12,7 @@ use clap::error::ErrorKind;
 use disk_core::MemDisk;
 use engine_core::{ScriptFault, run_script};
 use journal_files::{FileFault, format_file, show_file};
+use server_core::ServeFault;
 use std::alloc::{AllocError, Global};
 use std::convert::AsStr;
 use std::fs::File;
@@ -47,6 +48,8 @@ pub enum Failure {
     Format(FormatFault),
     /// A journal file was not made, or not shown.
     File(FileFault),
+    /// A server was not started, or has ended.
+    Server(ServeFault),
 }
 
 impl Failure {
@@ -56,7 +59,8 @@ impl Failure {
     {
         match self {
             Failure::CommandLine(_) | Failure::Number => BAD_COMMAND_LINE,
-            Failure::Script(_) | Failure::Format(_) | Failure::File(_) => FAILED,
+            Failure::Script(_) | Failure::Format(_) | Failure::File(_) | Failure::Server(_) =>
+                FAILED,
         }
     }
 
@@ -70,12 +74,13 @@ impl Failure {
             Failure::Script(fault) => writeln!(errors, "stompd: {fault}"),
             Failure::Format(fault) => writeln!(errors, "stompd: {fault}"),
             Failure::File(fault) => writeln!(errors, "stompd: {fault}"),
+            Failure::Server(fault) => writeln!(errors, "stompd: {fault}"),
         }
     }
 }
 
-/// Does what the words ask for, of which the first is the program's name, and answers the status to end with: 0 where it
-/// is done, 1 on a fault, 2 on a bad command line. A fault and a bad command line are told on `errors`; where that cannot
+/// Does what the words ask for, of which the first is the program's name, unless that is a server; answers the status to end
+/// with: 0 where it is done, 1 on a fault, 2 on a bad command line. A fault and a bad command line are told on `errors`; where that cannot
 /// be written, it is left out.
 pub fn tool<T: Files<File = File>, S: AsStr, R: Read, W: Write, E: Write>(
     rt: &T,
@@ -132,6 +137,8 @@ pub fn run<T: Files<File = File>, S: AsStr, R: Read, W: Write>(
             Ok(()) => Ok(()),
             Err(fault) => Err(Failure::File(fault)),
         },
+        // A server has threads, which `main` alone starts.
+        Ok(Subcommand::Serve { .. }) => Err(Failure::Server(ServeFault::Threads)),
         Err(Refused::Words(error)) => Err(refusal(error)),
         Err(Refused::Number) => Err(Failure::Number),
     }

@@ -7,6 +7,7 @@ ghost use Rattle.ws_core.specs.Sending.{with_message};
 
 use crate::closing::CloseReason;
 use crate::fault::LinkFault;
+use claim_core::Released;
 use frame_core::{Frame, Verb};
 use std::alloc::Global;
 
@@ -24,7 +25,7 @@ pub enum Received {
 /// A connection to one client, which carries one STOMP stream each way. Each frame goes out as one message.
 ///
 /// A link may tell what was sent: then contracts see a list of the messages, to which only a send that answers Ok adds
-/// one. The call that sends what the journal has made stable is still to come.
+/// one.
 pub trait Link {
     /// The messages that were sent, where the link tells them.
     ghost sent: { Self → Option (List (List ℕ)) } = { λ _. None };
@@ -32,6 +33,13 @@ pub trait Link {
     /// Reads one message, or as much of it as there is. A link that is over answers `Closed`.
     fn receive(&mut self, alloc: Global) -> Received
         ensures { sent self.new ≡ sent self.old };
+
+    /// Sends what may leave, as one message. `Memory` leaves the link as it was, and the call may be made again; `Gone` says
+    /// that the link was over or now is.
+    fn send(&mut self, alloc: Global, released: &Released) -> Result<(), LinkFault>
+        ensures told { OnOk result (sent self.new ≡ with_message (written released.now.frame) (sent self.old)) }
+        ensures untold { OnErr result (sent self.new ≡ sent self.old) }
+        ensures memory { IfErr result (λ fault. fault ≡ LinkFault.Memory → self.new ≡ self.old) };
 
     /// Sends an ERROR that doesn't wait for the broker, as one message. `Memory` leaves the link as it was, and the call
     /// may be made again; `Gone` says that the link was over or now is.

@@ -8,6 +8,7 @@ use crate::fault::LinkFault;
 use crate::handshake::shake_hands;
 use crate::link::{Link, Received};
 use crate::messages::{hear, hear_close, message_of, say_close};
+use claim_core::Released;
 use frame_core::{Frame, Verb, write_frame};
 use std::alloc::Global;
 use std::io::{Read, Write};
@@ -120,6 +121,13 @@ impl<S: Read + Write + Drop> Link for WsLink<S> {
         let received = hear(alloc, &mut self.socket);
         self.over = matches!(received, Received::Closed);
         received
+    }
+
+    fn send(&mut self, alloc: Global, released: &Released) -> Result<(), LinkFault>
+        ensures sends { OnOk result (Sends S.contents self.old self.new (written released.now.frame)) }
+        ensures refuses { IfErr result (Refuses self.old self.new) }
+    {
+        self.send_frame(alloc, released.frame())
     }
 
     fn send_direct(&mut self, alloc: Global, frame: &Frame) -> Result<(), LinkFault>

@@ -1,7 +1,10 @@
-use Rattle.std.proofs.Common.{◌≡◌, ◌++◌, string_bytes, take}
+use Rattle.std.proofs.Common.{◌≡◌, ◌++◌, string_bytes}
 use Rattle.std.specs.List.{flat_map}
 use Rattle.engine_core.specs.Queues.{line_of_out}
 use Rattle.engine_core.proofs.printing.print_outs.Given as goal
 
 abbrev pub invariant-loop-out : goal.invariant-loop-out
-invariant-loop-out l = string_bytes l.text ≡ string_bytes l.fn.text ++ flat_map (line_of_out l.openers.entries) (take l.out-index l.outs)
+invariant-loop-out l = record {
+  same : l.journal ≡ l.fn.journal;
+  text : string_bytes l.text ≡ string_bytes l.fn.text ++ flat_map (line_of_out l.openers.entries) l.yielded;
+}

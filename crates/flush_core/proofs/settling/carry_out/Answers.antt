@@ -1,4 +1,4 @@
-use Rattle.std.proofs.Common.{rules, arith, ap, sym, ◌∙◌, ◌++◌, ◌∷◌, ◌≡◌, List, []}
+use Rattle.std.proofs.Common.{rules, arith, false, ap, sym, ◌∙◌, ◌+◌, ◌++◌, ◌∷◌, ◌≡◌, ℕ, List, [], length}
 use Rattle.std.proofs.lemmas.Iterator.Consumers.{YieldsList-turn}
 use Rattle.std.proofs.lemmas.List.{append_assoc}
 use Rattle.std.proofs.lemmas.Iterator.Adapters.{YieldsList-from_vec}
@@ -7,11 +7,13 @@ use Rattle.broker_core.specs.States.{BrokerValue, State}
 use Rattle.command_core.specs.Commands.{CommandValue}
 use Rattle.command_core.specs.Outs.{OutValue}
 use Rattle.broker_core.specs.Steps.{outs, outs_of, state_after, step}
+use Rattle.flush_core.specs.Sessions.{ended_by, ended_of, opened}
+use Rattle.flush_core.proofs.Sessions.{boxes_entries, ended_commands}
 use Rattle.flush_core.proofs.Taken.{commands_more, count_after, length_commands, outs_commands, state_commands}
 use Rattle.flush_core.proofs.settling.carry_out.Goals as goal
 
-pub step-requires : goal.step-requires
-step-requires c =
+pub carry_out_one-requires-clause-count : goal.carry_out_one-requires-clause-count
+carry_out_one-requires-clause-count g c =
     let h = c.into_iter-entry-iterator.ensures.into_iter_gives in
     let t = YieldsList-turn (YieldsList-from_vec {s = c.into_iter-entry-iterator.result} c.args.batch.items h.0 (search rules)) c.loop-entry.yielded c.loop-entry.entry-iterator c.loop-entry.yielded_by c.next.result c.next.new.self c.in-Some.entry c.in-Some.is c.next.ensures.steps in
     let counted = count_after (commands c.loop-entry.yielded) c.args.broker.now.state in
@@ -19,19 +21,27 @@ step-requires c =
     omega (arith, is, counted, length_commands c.loop-entry.yielded, t.0, c.requires.count)
 
 pub loop-entry-preserved : goal.loop-entry-preserved
-loop-entry-preserved c =
+loop-entry-preserved g c =
     let before = c.args.broker.now.state in
-    let command = c.into_parts-command.result.0 in
-    let is : commands (c.loop-entry.yielded ++ c.in-Some.entry ∷ []) ≡ commands c.loop-entry.yielded ++ command ∷ [] =
-    commands_more c.loop-entry.yielded c.in-Some.entry ∙ ap (λ (x : CommandValue). commands c.loop-entry.yielded ++ x ∷ []) (ap (λ e. e.command) c.into_parts-command.ensures) in
     let so_far = commands c.loop-entry.yielded in
+    let entry = c.in-Some.entry in
+    let command = entry.command in
+    let is : commands (c.loop-entry.yielded ++ entry ∷ []) ≡ so_far ++ command ∷ [] = commands_more c.loop-entry.yielded entry in
     let was : c.loop-entry.broker.state ≡ state_after before so_far = ap (λ (b : BrokerValue). b.state) c.loop-entry.invariant.broker in
-    let state = c.in_ok-given.ensures.state ∙ (ap (λ (s : State). step s command) was ∙ (sym (state_commands so_far before command) ∙ ap (λ (l : List CommandValue). state_after before l) (sym is))) in
-    let given = c.in_ok-given.ensures.outs ∙ ap (λ (s : State). outs s command) was in
+    let counted : c.loop-entry.broker.state.count ≡ before.count + length c.loop-entry.yielded =
+    omega (arith, ap (λ (s : State). s.count) was, count_after so_far before, length_commands c.loop-entry.yielded) in
+    let did = c.in_ok-carry_out_one.ensures in
     record {
-      broker = λ i. record { state = state i; broken = c.in_ok-given.ensures.outcome.1 i };
-      outs = c.in_ok-append.ensures.items
-          ∙ ((λ i. c.loop-entry.invariant.outs i ++ given i)
-          ∙ (append_assoc c.args.outs.now.items (outs_of before so_far) (outs (state_after before so_far) command)
-          ∙ ap (λ (l : List OutValue). c.args.outs.now.items ++ l) (sym (outs_commands so_far before command) ∙ ap (λ (l : List CommandValue). outs_of before l) (sym is))));
+      broker = did.state ∙ ap (λ (s : State). record { state = s; broken = false }) (ap (λ (s : State). step s command) was ∙ (sym (state_commands so_far before command) ∙ ap (λ (l : List CommandValue). state_after before l) (sym is)));
+      outs = did.outs
+          ∙ ((λ i. c.loop-entry.invariant.outs i ++ outs (was i) command)
+          ∙ (append_assoc c.args.waiting.now.items (outs_of before so_far) (outs (state_after before so_far) command)
+          ∙ ap (λ (l : List OutValue). c.args.waiting.now.items ++ l) (sym (outs_commands so_far before command) ∙ ap (λ (l : List CommandValue). outs_of before l) (sym is))));
+      boxes = did.boxes
+          ∙ ((λ i. opened (c.loop-entry.invariant.boxes i) (counted i) entry)
+          ∙ sym (boxes_entries c.loop-entry.yielded entry before.count c.args.boxes.now));
+      ended = did.ended
+          ∙ ((λ i. c.loop-entry.invariant.ended i ++ ended_by (was i) command)
+          ∙ (append_assoc c.args.ended.now.items (ended_of before so_far) (ended_by (state_after before so_far) command)
+          ∙ ap (λ (l : List ℕ). c.args.ended.now.items ++ l) (sym (ended_commands so_far before command) ∙ ap (λ (l : List CommandValue). ended_of before l) (sym is))));
     }

@@ -1,4 +1,4 @@
-use Rattle.std.proofs.Common.{arith, ap, length, sym, subst, ◌∙◌, ◌≡◌, List}
+use Rattle.std.proofs.Common.{arith, ap, length, sym, subst, ◌∙◌, ◌++◌, ◌≡◌, List}
 use Rattle.broker_core.specs.States.{BrokerValue, State}
 use Rattle.broker_core.specs.Sound.{IsSound}
 use Rattle.area_core.specs.Areas.{commands, records}
@@ -22,7 +22,7 @@ invariant_of-result g c =
           (ap (λ (s : State). s.count) opening ∙ c.requires.count)
           (subst (λ (s : State). IsSound s) (sym opening) (c.is_broken-broken.ensures.sound c.requires.whole.1))
           (λ h. subst (λ (s : State). StandFor (g.D.Disk.images c.args.journal.disk) s) (sym opening) (c.requires.stands h))
-          c.new-3.ensures.items c.new-4.ensures.items whole,
+          (λ i. c.new-2.ensures.items i ++ c.new.ensures.items i) c.new-3.ensures.items c.new-4.ensures.items whole,
       λ _. record {
         whole = c.requires.whole.0;
         batch_is = ap (λ l. commands l) c.new.ensures.items ∙ sym (from_end seat c.next-next.result c.next-next.ensures.next);
@@ -31,4 +31,5 @@ invariant_of-result g c =
         few = c.next-next.ensures.most;
         room_is = λ some. omega (arith, some, ap (λ (l : List OutValue). length l) c.new-4.ensures.items);
       },
+      λ _. record { none = ap (λ (l : List OutValue). length l) c.new-8.ensures.items; room_is = omega (arith, ap (λ (l : List OutValue). length l) c.new-3.ensures.items) },
     )

@@ -1,36 +1,51 @@
-use Rattle.std.proofs.Common.{rules, arith, ap, subst, ◌∙◌, ◌≡◌, List, false}
+use Rattle.std.proofs.Common.{rules, Result, Err, true, ◌+◌, arith, ap, ◌++◌, subst, sym, refl, length, [], ◌<◌, ◌∙◌, ◌≡◌, List, false}
 use Rattle.disk_core.specs.Moments.{LeavesOnly}
-use Rattle.area_core.specs.Areas.{commands}
+use Rattle.area_core.specs.Areas.{commands, records}
+use Rattle.area_core.specs.Steps.{IsCaused}
+use Rattle.area_core.specs.declared.faults.AreaFault.{AreaFault}
+use Rattle.area_core.specs.declared.faults.AreaFault.TheVariants as area
+use Rattle.claim_core.specs.Seats.{when_stopped}
+use Rattle.flush_core.specs.declared.faults.FlushFault.{FlushFault}
+use Rattle.flush_core.specs.declared.faults.FlushFault.TheVariants.{Full}
+use Rattle.flush_core.specs.Faults.{IsFlushCaused}
+use Rattle.flush_core.proofs.StoreFaults.{caused_so, fell_so, only_full, same_fault}
 use Rattle.broker_core.specs.States.{State}
 use Rattle.broker_core.specs.Steps.{state_after}
 use Rattle.command_core.specs.Commands.{CommandValue}
 use Rattle.recover_core.specs.Standing.{StandFor, StandsForEither}
 use Rattle.flush_core.specs.Batches.{from_on, state_at, state_taken}
-use Rattle.flush_core.specs.Flushed.{Flushed, flushed}
-use Rattle.flush_core.proofs.Keeping.{hold_either, held_stored, store_fails, stores}
-use Rattle.flush_core.proofs.Taken.{at_rest}
+use Rattle.recover_core.specs.Stores.{disk_of, size_of, used_of}
+use Rattle.flush_core.specs.Flushed.{Flushed, flushed, gathered}
+use Rattle.flush_core.specs.Outcomes.{IsOutcome, storing}
+use Rattle.flush_core.proofs.Turns.{unstored}
+use Rattle.flush_core.proofs.Keeping.{all_stored, hold_either, held_stored, store_fails, stored_brought, stores}
+use Rattle.flush_core.proofs.Taken.{all_at, at_rest, length_commands}
 use Rattle.flush_core.proofs.flusher.Flusher.store.Goals as goal
 
 pub invariant_of-self : goal.invariant_of-self
 invariant_of-self g c =
     let it = c.self.inside in
-    let f = flushed it.journal it.seat it.opening.value.state it.stored it.settled it.broker it.waiting.items it.left.items it.broken in
+    let f = flushed it.journal it.seat it.opening.value.state it.stored it.settled (it.done.items ++ it.batch.items) it.broker it.boxes it.ended.items it.past.items it.waiting.items it.left.items it.broken in
     let opening = it.opening.value.state in
     let kept = c.self.invariant.0 in
+    let settled : it.settled ≡ it.stored = search rules in
+    let same : c.swap.new.y.items ++ c.swap.new.x.items ≡ it.done.items ++ it.batch.items =
+    stored_brought it.seat it.stored it.settled _ it.batch.items it.done.items _ _ _ _ _ _ (λ i. (c.swap.ensures.x_after i).items) (λ i. (c.swap.ensures.y_after i).items) settled (c.self.invariant.1 c.if-self.false) in
     let is : commands c.deref.result.now ≡ from_on it.seat it.stored = ap (λ l. commands l) c.deref.ensures.value ∙ (c.self.invariant.1 c.if-self.false).batch_is in (
-      stores g.D.Disk.honest g.D.Disk.images f c.append.new.self.disk _ _ c.next-self-inside.result c.next-self-inside.ensures.next c.if-self.false
+      stores g.D.Disk.honest g.D.Disk.images f c.append.new.self.disk _ _ c.next-self-inside.result (c.swap.new.y.items ++ c.swap.new.x.items) c.next-self-inside.ensures.next c.if-self.false
           (λ h. let was = c.append.ensures.was_honest h in
           subst (λ (s : State). StandFor (g.D.Disk.images c.append.new.self.disk) s)
           (ap (λ (l : List CommandValue). state_after (state_at opening it.seat it.stored) l) is ∙ at_rest opening it.seat it.stored)
-          (c.in-Ok.ensures.after was (state_at opening it.seat it.stored) ((kept.running c.if-self.false).stands was))) kept,
+          (c.in-Ok.ensures.after was (state_at opening it.seat it.stored) ((kept.running c.if-self.false).stands was))) same kept,
       λ w. held_stored it.seat it.stored c.next-self-inside.result it.settled _ _ it.batch.items it.done.items c.swap.new.x.items c.swap.new.y.items it.bytes _ _ _
-          (λ i. (c.swap.ensures.x_after i).items) (λ i. (c.swap.ensures.y_after i).items) c.next-self-inside.ensures.next c.next-self-inside.ensures.most c.in-Ok.ensures.ok (search rules) (omega (arith, kept.begun, kept.marked, kept.settled)) (c.self.invariant.1 w),
+          (λ i. (c.swap.ensures.x_after i).items) (λ i. (c.swap.ensures.y_after i).items) c.next-self-inside.ensures.next c.next-self-inside.ensures.most c.in-Ok.ensures.ok settled (omega (arith, kept.begun, kept.marked, kept.settled)) (c.self.invariant.1 w),
+      c.self.invariant.2,
     )
 
 pub invariant_of-self-in-Err : goal.invariant_of-self-in-Err
 invariant_of-self-in-Err g c =
     let it = c.self.inside in
-    let f = flushed it.journal it.seat it.opening.value.state it.stored it.settled it.broker it.waiting.items it.left.items it.broken in
+    let f = flushed it.journal it.seat it.opening.value.state it.stored it.settled (it.done.items ++ it.batch.items) it.broker it.boxes it.ended.items it.past.items it.waiting.items it.left.items it.broken in
     let opening = it.opening.value.state in
     let kept = c.self.invariant.0 in
     let s = state_at opening it.seat it.stored in
@@ -42,6 +57,7 @@ invariant_of-self-in-Err g c =
           (λ image among. subst (λ (t : State). StandsForEither s t image)
           (ap (λ (l : List CommandValue). state_after s l) is ∙ at_rest opening it.seat it.stored)
           (leaves.each image (g.met.D.Disk.counts_now c.append.new.self.disk (g.D.Disk.moment it.journal.disk) image leaves.later among)))) kept,
+      λ w. absurd (cc w),
       λ w. absurd (cc w),
     )
 
@@ -77,3 +93,84 @@ returns-in-Err-clause-any_moment g c =
     (λ h w. subst (λ (t : State). LeavesOnly g.D.Disk.moment g.D.Disk.images_since it.journal.disk c.append.new.self.disk (StandsForEither s t))
     (ap (λ (l : List CommandValue). state_after s l) is ∙ at_rest opening it.seat it.stored)
     (c.append.ensures.any_moment h s ((c.self.invariant.0.running w).stands h)))
+
+pub returns-then-is_empty-clause-any_moment : goal.returns-then-is_empty-clause-any_moment
+returns-then-is_empty-clause-any_moment g c =
+    let it = c.self.inside in
+    let f = flushed it.journal it.seat it.opening.value.state it.stored it.settled (it.done.items ++ it.batch.items) it.broker it.boxes it.ended.items it.past.items it.waiting.items it.left.items it.broken in
+    subst (λ (f : Flushed g.row.D.Denot). g.D.Disk.honest f.disk → f.broken ≡ false → LeavesOnly g.D.Disk.moment g.D.Disk.images_since f.disk f.disk (StandsForEither (state_at f.opening f.seat f.stored) (state_taken f.opening f.seat))) c.self.view_is
+    (λ h w. unstored g.D.Disk f it.journal.disk _ c.self.invariant.0 w (g.met.D.Disk.only_now it.journal.disk) refl h)
+
+pub returns-then-is_empty-clause-after : goal.returns-then-is_empty-clause-after
+returns-then-is_empty-clause-after g c =
+    let it = c.self.inside in
+    let zero : it.batch.len ≡ 0 = search rules in
+    let is = all_stored it.seat it.stored it.settled _ it.batch.items it.done.items _ _ _ _ (omega (arith, zero, it.batch.ok.0)) (omega (arith, c.self.invariant.0.begun, c.self.invariant.0.marked, c.self.invariant.0.settled)) c.self.invariant.0.stored (c.self.invariant.1 c.if-self.false) in
+    subst (λ (f : Flushed g.row.D.Denot). g.D.Disk.honest f.disk → StandFor (g.D.Disk.images f.disk) (state_taken f.opening f.seat)) c.self.view_is
+    (λ h. subst (λ (s : State). StandFor (g.D.Disk.images it.journal.disk) s) (all_at it.opening.value.state it.seat it.stored is) ((c.self.invariant.0.running c.if-self.false).stands h))
+
+pub returns-then-is_empty-clause-stored : goal.returns-then-is_empty-clause-stored
+returns-then-is_empty-clause-stored g c =
+    let it = c.self.inside in
+    let f = flushed it.journal it.seat it.opening.value.state it.stored it.settled (it.done.items ++ it.batch.items) it.broker it.boxes it.ended.items it.past.items it.waiting.items it.left.items it.broken in
+    let zero : it.batch.len ≡ 0 = search rules in
+    let is = all_stored it.seat it.stored it.settled _ it.batch.items it.done.items _ _ _ _ (omega (arith, zero, it.batch.ok.0)) (omega (arith, c.self.invariant.0.begun, c.self.invariant.0.marked, c.self.invariant.0.settled)) c.self.invariant.0.stored (c.self.invariant.1 c.if-self.false) in
+    subst (λ (f : Flushed g.row.D.Denot). f ≡ storing f f.disk f.size f.used) c.self.view_is (λ i. record f { stored = is i })
+
+pub returns-in-Ok-clause-stored : goal.returns-in-Ok-clause-stored
+returns-in-Ok-clause-stored g c =
+    let it = c.self.inside in
+    let f = flushed it.journal it.seat it.opening.value.state it.stored it.settled (it.done.items ++ it.batch.items) it.broker it.boxes it.ended.items it.past.items it.waiting.items it.left.items it.broken in
+    let settled : it.settled ≡ it.stored = subst (λ (f : Flushed g.row.D.Denot). f.settled ≡ f.stored) (sym c.self.view_is) (c.requires.settled (ap (λ (f : Flushed g.row.D.Denot). f.broken) (sym c.self.view_is) ∙ c.if-self.false)) in
+    let same : c.swap.new.y.items ++ c.swap.new.x.items ≡ it.done.items ++ it.batch.items =
+    stored_brought it.seat it.stored it.settled _ it.batch.items it.done.items _ _ _ _ _ _ (λ i. (c.swap.ensures.x_after i).items) (λ i. (c.swap.ensures.y_after i).items) settled (c.self.invariant.1 c.if-self.false) in
+    (λ i. record f { disk = disk_of c.append.new.self; size = size_of c.append.new.self; used = used_of c.append.new.self; stored = c.next-self-inside.ensures.next i; brought = same i })
+    ∙ ap (λ (f : Flushed g.row.D.Denot). storing f (disk_of c.append.new.self) (size_of c.append.new.self) (used_of c.append.new.self)) c.self.view_is
+
+pub returns-in-Ok-clause-nothing : goal.returns-in-Ok-clause-nothing
+returns-in-Ok-clause-nothing g c w none =
+    let it = c.self.inside in
+    let some : 0 < it.batch.len = search rules in
+    let empty : from_on it.seat it.stored ≡ [] = subst (λ (f : Flushed g.row.D.Denot). gathered f ≡ []) (sym c.self.view_is) none in
+    absurd (omega (arith, some, it.batch.ok.0, length_commands it.batch.items, ap (λ (l : List CommandValue). length l) (c.self.invariant.1 c.if-self.false).batch_is, ap (λ (l : List CommandValue). length l) empty))
+
+pub returns-in-Err-clause-nothing : goal.returns-in-Err-clause-nothing
+returns-in-Err-clause-nothing g c w none =
+    let it = c.self.inside in
+    let some : 0 < it.batch.len = search rules in
+    let empty : from_on it.seat it.stored ≡ [] = subst (λ (f : Flushed g.row.D.Denot). gathered f ≡ []) (sym c.self.view_is) none in
+    absurd (omega (arith, some, it.batch.ok.0, length_commands it.batch.items, ap (λ (l : List CommandValue). length l) (c.self.invariant.1 c.if-self.false).batch_is, ap (λ (l : List CommandValue). length l) empty))
+
+pub returns-in-Err-clause-full : goal.returns-in-Err-clause-full
+returns-in-Err-clause-full g c is =
+    let it = c.self.inside in
+    let full = only_full c.in-Err.fault (sym c.from.ensures ∙ same_fault c.from.result Full is) in
+    let told = c.append.ensures.full (c.in-Err.is ∙ ap (λ (fault : AreaFault). Err fault) full) in
+    let batch : commands c.deref.result.now ≡ from_on it.seat it.stored = ap (λ l. commands l) c.deref.ensures.value ∙ (c.self.invariant.1 c.if-self.false).batch_is in
+    subst (λ (f : Flushed g.row.D.Denot). (f.size < f.used + 9 + length (records (gathered f))) × (c.append.new.self.disk ≡ f.disk)) c.self.view_is
+    (subst (λ (l : List CommandValue). size_of it.journal < used_of it.journal + 9 + length (records l)) batch told.0, told.1)
+
+pub returns-in-Err-clause-outcome : goal.returns-in-Err-clause-outcome
+returns-in-Err-clause-outcome g c =
+    let it = c.self.inside in
+    let now = c.args.self.now in
+    let new = flushed c.append.new.self c.stop.new.seat it.opening.value.state it.stored it.settled (it.done.items ++ it.batch.items) it.broker it.boxes it.ended.items it.past.items it.waiting.items it.left.items true in
+    let whole : c.in-Err.fault ≡ area.Broken → ⊥ = λ is. absurd (cc (c.append.ensures.sound (c.in-Err.is ∙ ap (λ (fault : AreaFault). Err fault) is), (c.self.invariant.1 c.if-self.false).whole)) in
+    subst (λ (fault : FlushFault). IsOutcome {X = Unit {0}} now new (Err fault)) (sym c.from.ensures)
+    (fell_so c.in-Err.fault now new whole (record {
+      was = ap (λ (f : Flushed g.row.D.Denot). f.broken) (sym c.self.view_is) ∙ c.if-self.false;
+      now = refl;
+      seat = c.stop.ensures ∙ ap (λ (f : Flushed g.row.D.Denot). when_stopped f.seat) c.self.view_is;
+      stored = ap (λ (f : Flushed g.row.D.Denot). f.stored) c.self.view_is;
+      opening = ap (λ (f : Flushed g.row.D.Denot). f.opening) c.self.view_is;
+      left = ap (λ (f : Flushed g.row.D.Denot). f.left) c.self.view_is;
+    }))
+
+pub returns-in-Err-clause-cause : goal.returns-in-Err-clause-cause
+returns-in-Err-clause-cause g c =
+    let it = c.self.inside in
+    let before = g.D.Disk.failures it.journal.disk in
+    let after = g.D.Disk.failures c.append.new.self.disk in
+    subst (λ (f : Flushed g.row.D.Denot). IsFlushCaused {T = Unit {0}} (g.D.Disk.failures f.disk) after (Err c.from.result)) c.self.view_is
+    (subst (λ (fault : FlushFault). IsFlushCaused {T = Unit {0}} before after (Err fault)) (sym c.from.ensures)
+    (caused_so c.in-Err.fault before after (subst (λ (r : Result (Unit {0}) AreaFault). IsCaused {T = Unit {0}} before after r) c.in-Err.is c.append.ensures.cause)))

@@ -1,6 +1,6 @@
 use Rattle.std.proofs.Common.{◌∙◌, ap, refl}
 use Rattle.flush_core.specs.Flushed.{Flushed}
-use Rattle.flush_core.proofs.Turns.{failed_keeps, stored, unstored}
+use Rattle.flush_core.proofs.Turns.{failed_keeps, stored, turned, unstored}
 use Rattle.flush_core.proofs.flusher.Flusher.turn.Goals as goal
 
 pub returns-in_err-count-clause-any_moment : goal.returns-in_err-count-clause-any_moment
@@ -31,3 +31,13 @@ returns-clause-any_moment g c honest whole =
     (ap (λ (f : Flushed g.row.D.Denot). f.disk) published ∙ c.settle.ensures.untouched)
     (ap (λ (f : Flushed g.row.D.Denot). f.opening) published ∙ (ap (λ (f : Flushed g.row.D.Denot). f.opening) settled ∙ ap (λ (f : Flushed g.row.D.Denot). f.opening) did))
     (ap (λ (f : Flushed g.row.D.Denot). f.seat.taken) published ∙ (ap (λ (f : Flushed g.row.D.Denot). f.seat.taken) settled ∙ ap (λ (f : Flushed g.row.D.Denot). f.seat.taken) did)) honest
+
+pub returns-clause-turned : goal.returns-clause-turned
+returns-clause-turned g c =
+    let took = c.in_ok-count.ensures.taken in
+    let whole = c.in_ok-count.ensures.outcome.0 in (
+      took.0,
+      took.1,
+      turned g.D.Disk c.args.self.now c.gather.new.self c.store.new.self c.settle.new.self c.publish.new.self took.0 c.store.new.self.disk c.store.new.self.size c.store.new.self.used
+          c.is_broken.ensures.kept whole (c.requires.settled whole) took.2 c.in_ok-store.ensures.stored c.in_ok-settle.ensures.settled c.publish.ensures.published c.publish.ensures.given,
+    )

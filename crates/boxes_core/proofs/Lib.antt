@@ -1,0 +1,2 @@
+pub mod Gifts
+pub mod Sessions

@@ -1,0 +1,20 @@
+use Rattle.std.proofs.Common.{rules, ◌≡◌, ℕ, [], ◌∷◌, Some, None, cond, sym, subst}
+use Rattle.std.specs.BTreeMap.{is_at}
+use Rattle.std.specs.Ordering.{nat_cmp}
+use Rattle.boxes_core.specs.Giving.{AreGiven, Kept, box_of}
+use Rattle.boxes_core.proofs.Gifts.{answered}
+use Rattle.boxes_core.proofs.Sessions.{box_given, none_given}
+use Rattle.boxes_core.proofs.boxes.Boxes.give.Goals as goal
+
+pub returns-in_default-clause-given : goal.returns-in_default-clause-given
+returns-in_default-clause-given g c =
+    let none : box_of c.args.out.session c.args.self.now ≡ None = search rules in
+    let same : c.get_mut.follows.lender-at-none.entries ≡ c.args.self.now = search rules in
+    subst (λ (b : Kept). AreGiven (c.args.out ∷ []) c.args.self.now b) (sym same) (none_given c.args.out c.args.self.now none)
+
+pub returns-clause-given : goal.returns-clause-given
+returns-clause-given g c =
+    let found : box_of c.args.out.session c.args.self.now ≡ Some c.in-Some.sender.now = search rules in
+    let updates : (q : ℕ) → box_of q (c.get_mut.follows.lender c.give.new.self).entries ≡ cond (is_at (nat_cmp c.args.out.session) q) (Some c.give.new.self) (box_of q c.args.self.now) = search rules in
+    let given = answered c.give.result c.in-Some.sender.now c.give.new.self c.args.out c.give.ensures.given c.give.ensures.full c.give.ensures.back in
+    box_given c.args.out c.args.self.now (c.get_mut.follows.lender c.give.new.self).entries c.in-Some.sender.now c.give.new.self found updates given

@@ -1,0 +1,36 @@
+-- The flusher's faults by the store's.
+use Rattle.std.proofs.Common.{◌≡◌, ℕ, Result, Ok, Err, refl, ap}
+use Rattle.std.specs.Prelude.{IsErrOf}
+use Rattle.area_core.specs.Steps.{IsCaused}
+use Rattle.area_core.specs.declared.faults.AreaFault.{AreaFault}
+use Rattle.area_core.specs.declared.faults.AreaFault.TheVariants as area
+use Rattle.flush_core.specs.Faults.{IsFlushCaused, of_area}
+use Rattle.flush_core.specs.Flushed.{Flushed}
+use Rattle.flush_core.specs.Outcomes.{Falls, IsOutcome}
+use Rattle.flush_core.specs.declared.faults.FlushFault.{FlushFault}
+use Rattle.flush_core.specs.declared.faults.FlushFault.TheVariants.{Full, Broken}
+
+abbrev fault_of : Result (Unit {0}) FlushFault → FlushFault
+fault_of (Ok _) = Broken
+fault_of (Err fault) = fault
+
+pub same_fault : (one other : FlushFault) → IsErrOf {T = Unit {0}} (Err one) other → one ≡ other
+same_fault one other is = ap fault_of is
+
+pub only_full : (fault : AreaFault) → of_area fault ≡ Full → fault ≡ area.Full
+only_full area.Device is = absurd (cc is)
+only_full area.Full is = refl
+only_full area.Broken is = absurd (cc is)
+only_full (area.Memory refused) is = absurd (cc is)
+
+pub caused_so : (fault : AreaFault) (before now : ℕ) → IsCaused {T = Unit {0}} before now (Err fault) → IsFlushCaused {T = Unit {0}} before now (Err (of_area fault))
+caused_so area.Device before now is = is
+caused_so area.Full before now is = is
+caused_so area.Broken before now is = is
+caused_so (area.Memory refused) before now is = is
+
+pub fell_so : {D : Type 0} (fault : AreaFault) (old new : Flushed D) → (fault ≡ area.Broken → ⊥) → Falls old new → IsOutcome {X = Unit {0}} old new (Err (of_area fault))
+fell_so area.Device old new whole fell = fell
+fell_so area.Full old new whole fell = fell
+fell_so area.Broken old new whole fell = absurd (whole refl)
+fell_so (area.Memory refused) old new whole fell = fell

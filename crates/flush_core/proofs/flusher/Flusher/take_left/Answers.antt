@@ -1,0 +1,16 @@
+use Rattle.std.proofs.Common.{arith, ap, length, refl, sym, subst, ◌∙◌, ◌++◌, ◌≡◌, List, []}
+use Rattle.command_core.specs.Outs.{OutValue}
+use Rattle.flush_core.specs.Flushed.{IsFlusher, flushed}
+use Rattle.flush_core.proofs.Keeping.{hands_out, held_marked}
+use Rattle.flush_core.proofs.flusher.Flusher.take_left.Goals as goal
+
+pub invariant_of-self : goal.invariant_of-self
+invariant_of-self g c =
+    let it = c.self.inside in
+    let f = flushed it.journal it.seat it.opening.value.state it.stored it.settled (it.done.items ++ it.batch.items) it.broker it.boxes it.ended.items it.past.items it.waiting.items it.left.items it.broken in
+    let none : c.replace.new.dest.items ≡ [] = (λ i. (c.replace.ensures.after i).items) ∙ c.new.ensures.items in (
+      subst (λ (l : List OutValue). IsFlusher g.D.Disk.honest g.D.Disk.images (record f { left = l })) (sym none) (hands_out g.D.Disk.honest g.D.Disk.images f c.self.invariant.0),
+      λ w. held_marked it.seat it.seat it.seat.published it.stored it.settled _ it.batch.items it.done.items it.bytes _ _ _ _ _ _ refl
+          (λ some. omega (arith, some, ap (λ (l : List OutValue). length l) none)) (c.self.invariant.1 w),
+      c.self.invariant.2,
+    )

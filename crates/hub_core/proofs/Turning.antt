@@ -1,0 +1,79 @@
+-- How turns of the flusher follow one another.
+use Rattle.std.proofs.Common.{◌≡◌, ◌≤◌, ◌++◌, ◌+◌, ℕ, List, [], Bool, true, false, Result, Ok, Err, refl, sym, ap, ◌∙◌, append_assoc, append-nil, arith, length, length-append, subst}
+use Rattle.command_core.specs.Commands.{CommandValue}
+use Rattle.command_core.specs.Entries.{EntryValue}
+use Rattle.outbox_core.specs.Boxes.{SenderValue}
+use Rattle.area_core.specs.Areas.{commands}
+use Rattle.claim_core.specs.Seats.{FlushSeatValue, next_ticket}
+use Rattle.flush_core.specs.Batches.{with_more}
+use Rattle.flush_core.specs.Flushed.{Flushed, IsFlusher}
+use Rattle.flush_core.specs.Outcomes.{IsTurned, IsTurn, TurnFalls}
+use Rattle.flush_core.specs.declared.faults.FlushFault.{FlushFault}
+use Rattle.flush_core.specs.declared.faults.FlushFault.TheVariants.{Device, Full, Broken, Memory}
+use Rattle.hub_core.specs.Flushes.{Flushes}
+
+pub none : {D : Type 0} (f : Flushed D) → Flushes f f
+none f = record {
+  ring = refl;
+  taken = ([], sym (append-nil f.seat.taken));
+  raised = omega arith;
+  opening = refl;
+  broken = λ e. e;
+  settled = λ e. e;
+  caught_up = λ e b. e;
+}
+
+pub more : {D : Type 0} (f g h : Flushed D) → Flushes f g → Flushes g h → Flushes f h
+more f g h a b = record {
+  ring = b.ring ∙ a.ring;
+  taken = (a.taken.0 ++ b.taken.0, b.taken.1 ∙ ap (λ l. l ++ b.taken.0) a.taken.1 ∙ append_assoc f.seat.taken a.taken.0 b.taken.0);
+  raised = omega (arith, a.raised, b.raised);
+  opening = b.opening ∙ a.opening;
+  broken = λ e. b.broken (a.broken e);
+  settled = λ e. b.settled (a.settled e);
+  caught_up = λ e whole. b.caught_up (a.caught_up e (was_whole g.broken h.broken b.broken whole)) whole;
+}
+  where
+    was_whole : (x y : Bool) → (x ≡ true → y ≡ true) → y ≡ false → x ≡ false
+    was_whole false y e w = refl
+    was_whole true y e w = let k = e refl in cc
+
+-- a turn, whose outputs are then taken away
+pub turned : {D : Type 0} (honest : D → Type 0) (images : D → List ℕ → Type 0) (old mid : Flushed D) (cs : List (EntryValue SenderValue))
+    → IsFlusher honest images old → old.broken ≡ false → IsTurned old mid cs → Flushes old (record mid { left = [] })
+turned honest images old mid cs kept whole t =
+    let At : FlushSeatValue → Type 0 = λ s. next_ticket s ≡ s.published in
+    let published : mid.seat.published ≡ next_ticket (with_more old.seat (commands cs)) = ap (λ (s : FlushSeatValue). s.published) t.seat in
+    record {
+      ring = ap (λ (s : FlushSeatValue). s.ring) t.seat;
+      taken = (commands cs, ap (λ (s : FlushSeatValue). s.taken) t.seat);
+      raised = omega (arith, published, length-append old.seat.taken (commands cs), kept.marked, kept.settled, kept.stored);
+      opening = t.opening;
+      broken = λ e. cc;
+      settled = λ e b. t.settled ∙ sym t.stored;
+      caught_up = λ e b. subst At (sym t.seat) refl;
+    }
+
+falls : {D : Type 0} (old new : Flushed D) → TurnFalls old new → Flushes old new
+falls old new t = record {
+  ring = t.ring;
+  taken = t.taken;
+  raised = omega (arith, t.published);
+  opening = t.opening;
+  broken = λ e. t.now;
+  settled = λ e b. let n = t.now in cc;
+  caught_up = λ e b. let n = t.now in cc;
+}
+
+-- a turn that failed
+pub failed : {D : Type 0} (X : Type 0) (old new : Flushed D) (fault : FlushFault) → IsTurn {X = X} old new (Err fault) → Flushes old new
+failed X old new Broken t = let At : Flushed _ → Type 0 = λ f. Flushes old f in subst At (sym t.1) (none old)
+failed X old new Device t = falls old new t
+failed X old new Full t = falls old new t
+failed X old new (Memory refused) t = falls old new t
+
+-- the same, as a turn's clauses have it
+pub passed : {D : Type 0} (honest : D → Type 0) (images : D → List ℕ → Type 0) (old mid new : Flushed D) (cs : List (EntryValue SenderValue))
+    → IsFlusher honest images old → old.broken ≡ false → IsTurned old mid cs → new ≡ record mid { left = [] } → Flushes old new
+passed honest images old mid new cs kept whole t taken =
+    let At : Flushed _ → Type 0 = λ f. Flushes old f in subst At (sym taken) (turned honest images old mid cs kept whole t)

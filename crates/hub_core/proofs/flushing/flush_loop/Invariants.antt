@@ -1,0 +1,5 @@
+use Rattle.hub_core.specs.Flushes.{Flushes}
+use Rattle.hub_core.proofs.flushing.flush_loop.Given as goal
+
+abbrev pub invariant-loop-turn : goal.invariant-loop-turn
+invariant-loop-turn g l = Flushes l.fn.flusher l.flusher

@@ -1,0 +1,5 @@
+pub mod Conversations
+pub mod Flushes
+pub mod Hubs
+pub mod Relays
+pub mod Tasks

@@ -1,0 +1,59 @@
+//! What the flusher's thread does.
+
+ghost use Rattle.std.specs.Prelude.{◌≡◌, IfOk, OnErr, true, false};
+ghost use Rattle.hub_core.specs.Flushes.{Flushes};
+
+use crate::gate::Gate;
+use claim_core::BrokerRing;
+use disk_core::Disk;
+use flush_core::{FlushFault, Flusher};
+use outbox_core::{Bell, OutSender};
+use std::alloc::Global;
+
+// What the flusher is to its gate.
+const FLUSHER: u32 = u32::MAX;
+
+/// Makes so many turns of the flusher, those that its gate held up counted, and answers the mark then. Outputs of sessions
+/// that have no outbox are dropped. A fault ends it at once.
+pub fn flush_loop<D: Disk, B: Bell, G: Gate>(
+    alloc: Global,
+    ring: &BrokerRing<OutSender<B>>,
+    flusher: &mut Flusher<D, B>,
+    gate: &G,
+    turns: u64,
+) -> Result<u64, FlushFault>
+    requires ring { flusher.old.seat.ring ≡ ring.now }
+    requires settled { flusher.old.broken ≡ false → flusher.old.settled ≡ flusher.old.stored }
+    ensures mark { IfOk result (λ mark. mark ≡ flusher.new.seat.published) }
+    ensures flushes { Flushes flusher.old flusher.new }
+    ensures stops { OnErr result ((flusher.new.broken ≡ true) × (flusher.new.seat.stopped ≡ true)) }
+{
+    for turn in 0..turns {
+        if gate.pass(FLUSHER, turn) {
+            flush(alloc, ring, flusher, gate)?;
+        }
+    }
+    Ok(flusher.mark())
+}
+
+// One turn.
+fn flush<D: Disk, B: Bell, G: Gate>(
+    alloc: Global,
+    ring: &BrokerRing<OutSender<B>>,
+    flusher: &mut Flusher<D, B>,
+    gate: &G,
+) -> Result<(), FlushFault>
+    requires ring { flusher.old.seat.ring ≡ ring.now }
+    requires settled { flusher.old.broken ≡ false → flusher.old.settled ≡ flusher.old.stored }
+    ensures flushes { Flushes flusher.old flusher.new }
+    ensures stops { OnErr result ((flusher.new.broken ≡ true) × (flusher.new.seat.stopped ≡ true)) }
+{
+    let before = flusher.mark();
+    flusher.turn(alloc, ring)?;
+    drop(flusher.take_left());
+    let mark = flusher.mark();
+    if before < mark {
+        gate.published(mark);
+    }
+    Ok(())
+}

@@ -1,0 +1,19 @@
+//! Who is asked before each turn.
+
+/// What is asked before each turn of a worker and of the flusher, and hears of what they did. The last three calls need
+/// not be written; they are for a gate by which threads wait for each other.
+pub trait Gate {
+    /// Whether a turn is taken; one whose gate answers false does nothing. A worker goes by the number of its seat, the
+    /// flusher by `u32::MAX`; turns are counted from 0.
+    fn pass(&self, worker: u32, turn: u64) -> bool;
+
+    /// The worker has put commands into the ring.
+    fn appended(&self, _worker: u32) {}
+
+    /// The worker's window is full at this mark. It tries again once this returns, so it may be kept here until the mark is
+    /// over it.
+    fn is_full(&self, _worker: u32, _mark: u64) {}
+
+    /// The flusher has published every number under this mark.
+    fn published(&self, _mark: u64) {}
+}

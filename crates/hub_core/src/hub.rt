@@ -1,0 +1,141 @@
+//! The hub: an opened journal, and the ring before it.
+
+ghost use Rattle.std.specs.Prelude.{◌≡◌, ◌≤◌, ◌^◌, ◌∷◌, [], None, Some, IfSome, IsSome, IfOk, IfErr, MatchOption, false};
+ghost use Rattle.broker_core.specs.Operations.{restarted};
+ghost use Rattle.broker_core.specs.States.{State};
+ghost use Rattle.claim_core.specs.Seats.{new_session};
+ghost use Rattle.disk_core.specs.Moments.{LeavesOnly};
+ghost use Rattle.flush_core.specs.Flushed.{Flushed};
+ghost use Rattle.recover_core.specs.Opens.{KeepsRestart};
+ghost use Rattle.recover_core.specs.Standing.{Stands, StandFor};
+ghost use Rattle.recover_core.specs.Stores.{disk_of, is_broken, opened_by};
+ghost use Rattle.recover_core.specs.Told.{IsOpenTold, IsCausedBy};
+ghost use Rattle.hub_core.specs.Hubs.{AreNew, Begins, IsWhole, IsFirst, IsWant, hub};
+
+use claim_core::{BrokerRing, BrokerSeat, Ring};
+use disk_core::Disk;
+use flush_core::Flusher;
+use outbox_core::{Bell, OutSender};
+use recover_core::{OpenFault, Store};
+use std::alloc::Global;
+use std::collections::VecDeque;
+use std::marker::Model;
+
+/// An opened journal with a ring before it: the seats of 32 sessions, and the flusher, each to be handed out once.
+/// Contracts see which ring it is, its first ticket, and what was not handed out.
+#[derive(Drop)]
+pub struct Hub<D: Disk, B: Bell> {
+    ring: BrokerRing<OutSender<B>>,
+    base: u64,
+    seats: VecDeque<BrokerSeat<OutSender<B>>>,
+    flusher: Option<Flusher<D, B>>,
+}
+
+impl<D: Disk, B: Bell> Model for Hub<D, B> {
+    ghost use Rattle.hub_core.specs.Hubs.{HubValue, IsHub, hub};
+
+    ghost Value = { HubValue D };
+
+    ghost view = { λ a. hub a.ring a.base a.seats.items a.flusher };
+
+    ghost invariant = { λ a. IsHub (hub a.ring a.base a.seats.items a.flusher) };
+}
+
+impl<D: Disk, B: Bell> Hub<D, B> {
+    /// Opens the journal of a disk, and makes a ring whose first ticket is the number of commands that it counts.
+    ///
+    /// A refusal hands the disk back, and it may be opened again: those of opening a journal, and want of memory for the ring.
+    pub fn open(alloc: Global, disk: D) -> Result<Hub<D, B>, (D, OpenFault)>
+        ensures whole { IfOk result (λ hub. (f : Flushed D) × IsWhole hub f) }
+        ensures any_moment { D.honest disk → IfOk result (λ hub. IfSome hub.flusher (λ f.
+            LeavesOnly D.moment D.images_since disk f.disk (KeepsRestart (D.images disk)))) }
+        ensures any_moment_err { D.honest disk → IfErr result (λ back.
+            LeavesOnly D.moment D.images_since disk back.0 (KeepsRestart (D.images disk))) }
+        ensures state { D.honest disk → IfOk result (λ hub. IfSome hub.flusher (λ f.
+            (s : State) → Stands (D.content disk) s → f.opening ≡ restarted s)) }
+        ensures refused { D.honest disk → IfErr result (λ back. IsOpenTold back.1 (D.content disk)) }
+        ensures cause { IfOk result (λ hub. IfSome hub.flusher (λ f. D.failures f.disk ≡ D.failures disk)) }
+        ensures cause_err { IfErr result (λ back. IsCausedBy back.1 (D.failures disk) (D.failures back.0)) }
+        ensures honest { IfOk result (λ hub. IfSome hub.flusher (λ f. D.honest disk → D.honest f.disk)) }
+        ensures honest_err { IfErr result (λ back. D.honest disk → D.honest back.0) }
+    {
+        match recover_core::open(alloc, disk) {
+            Ok(store) => Hub::begin(alloc, store),
+            Err(back) => Err(back),
+        }
+    }
+
+    // The hub of a journal that was just opened.
+    fn begin(alloc: Global, store: Store<D>) -> Result<Hub<D, B>, (D, OpenFault)>
+        requires whole { is_broken store ≡ false }
+        requires opened { IsSome (opened_by store) }
+        requires small { IfSome (opened_by store) (λ broker. (broker.state.count ≤ 2 ^ 61) × (broker.broken ≡ false)) }
+        requires stands { D.honest (disk_of store) → IfSome (opened_by store) (λ broker. StandFor (D.images (disk_of store)) broker.state) }
+        ensures ok { IfOk result (λ hub. Begins hub (disk_of store) (opened_by store)) }
+        ensures err { IfErr result (λ back. (back.0 ≡ disk_of store) × IsWant back.1) }
+    {
+        let mut store = store;
+        let broker = store.broker().unwrap();
+        let base = broker.count();
+        match Ring::new(alloc, base) {
+            Ok((ring, seats, seat)) => {
+                let flusher = Flusher::new(alloc, store, broker, seat);
+                Ok(Hub::of(ring, base, seats, flusher))
+            }
+            Err(refused) => Err((store.into_disk(), OpenFault::from(refused))),
+        }
+    }
+
+    // The hub of a new ring.
+    fn of(
+        ring: BrokerRing<OutSender<B>>,
+        base: u64,
+        seats: Vec<BrokerSeat<OutSender<B>>>,
+        flusher: Flusher<D, B>,
+    ) -> Hub<D, B>
+        requires seats { AreNew ring base seats.items }
+        requires flusher { IsFirst ring base flusher }
+        ensures { result ≡ hub ring base seats.items (Some flusher) }
+    {
+        Hub {
+            ring,
+            base,
+            seats: VecDeque::from(seats),
+            flusher: Some(flusher),
+        }
+    }
+
+    /// The ring, at which sessions and the flusher meet.
+    pub fn ring(&self) -> &BrokerRing<OutSender<B>>
+        ensures { result.now ≡ self.now.ring }
+    {
+        &self.ring
+    }
+
+    /// The next session's seat, in the order of their numbers. No memory is taken.
+    pub fn seat(&mut self) -> Option<BrokerSeat<OutSender<B>>>
+        ensures next { MatchOption result ((self.old.seats ≡ []) × (self.new ≡ self.old))
+            (λ seat. (self.old.seats ≡ seat ∷ self.new.seats) × (self.new ≡ record self.old { seats = self.new.seats })) }
+        ensures new { IfSome result (λ seat. seat ≡ new_session self.old.ring self.old.base seat.number) }
+    {
+        self.seats.pop_front()
+    }
+
+    /// The flusher; the first call hands it out. No memory is taken.
+    pub fn flusher(&mut self) -> Option<Flusher<D, B>>
+        ensures flusher { result ≡ self.old.flusher }
+        ensures rest { self.new ≡ record self.old { flusher = None } }
+        ensures first { IfSome result (IsFirst self.old.ring self.old.base) }
+    {
+        self.flusher.take()
+    }
+}
+
+impl<D: Disk + Drop, B: Bell> Hub<D, B> {
+    /// The ring alone, to be shared by threads. What was not handed out is let go.
+    pub fn into_ring(self) -> BrokerRing<OutSender<B>>
+        ensures { result ≡ self.ring }
+    {
+        self.ring
+    }
+}

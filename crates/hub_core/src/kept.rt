@@ -1,0 +1,28 @@
+//! What becomes of outputs on their way from an outbox to a link.
+
+use claim_core::Released;
+use command_core::Out;
+use frame_core::Verb;
+
+/// The output that was taken out of an outbox and is not sent yet.
+#[derive(Debug, Drop)]
+pub enum Kept {
+    Nothing,
+    /// Its number was not under the mark when that was last read.
+    Waits(Out),
+    /// It may leave, and the link has not sent it yet.
+    Unsent(Released),
+}
+
+/// What one call of `relay` did.
+#[derive(Clone, Copy, Debug, PartialEq, Eq)]
+pub enum Relayed {
+    /// The output of that command was sent, a frame of that verb.
+    Sent { number: u64, verb: Verb },
+    /// The next output is not under the mark yet, and is kept.
+    Waits,
+    /// There is no output.
+    Empty,
+    /// There is no output, and none will come.
+    Cut,
+}

@@ -1,0 +1,27 @@
+//! The hub: sessions' seats, the flusher and the ring between them; and the loops that run them in threads.
+
+#![tactic(auto)]
+
+mod acts;
+mod appending;
+mod connection;
+mod ended;
+mod flushing;
+mod gate;
+mod hub;
+mod kept;
+mod progress;
+mod relaying;
+mod ringers;
+mod sending;
+mod speaking;
+mod working;
+
+pub use ended::Ended;
+pub use flushing::flush_loop;
+pub use gate::Gate;
+pub use hub::Hub;
+pub use kept::{Kept, Relayed};
+pub use relaying::relay;
+pub use ringers::Ringers;
+pub use working::worker;

@@ -1,0 +1,73 @@
+//! How far the conversation of one connection with the broker has come.
+
+ghost use Rattle.std.specs.Prelude.{◌≡◌, IsTrue};
+ghost use Rattle.hub_core.specs.Conversations.{IsNext, after, role_of};
+
+use command_core::{Command, Op};
+
+/// What a command is to its session.
+#[derive(Clone, Copy, Debug, PartialEq, Eq)]
+pub enum Role {
+    Opens,
+    Talks,
+    Ends,
+}
+
+impl Role {
+    pub fn of(op: &Op) -> Role
+        ensures { result ≡ role_of op.now }
+    {
+        match op {
+            Op::Open { .. } => Role::Opens,
+            Op::End(_) => Role::Ends,
+            _ => Role::Talks,
+        }
+    }
+}
+
+/// Which commands of a connection's session were appended.
+#[derive(Clone, Copy, Debug, PartialEq, Eq)]
+pub enum Progress {
+    /// None.
+    New,
+    /// The Open with that ticket, which is the session's number, and no End.
+    Open(u64),
+    /// Nothing more is appended: the session has ended, or its client was told an ERROR.
+    Over,
+}
+
+impl Progress {
+    // The session's number, as a command of that role has it: an Open has none yet.
+    pub fn session(self, role: Role) -> u64
+        ensures { role ≡ Role.Opens → result ≡ 0 }
+    {
+        match (self, role) {
+            (_, Role::Opens) => 0,
+            (Progress::Open(number), _) => number,
+            (_, _) => 0,
+        }
+    }
+
+    // Whether the command may be the next. A session's acts come in this order; here it is made sure of.
+    pub fn admits(self, command: &Command) -> bool
+        ensures { IsTrue result → IsNext self command.now }
+    {
+        let role = Role::of(command.op());
+        match self {
+            Progress::New => role == Role::Opens,
+            Progress::Open(number) => command.session() == number && role != Role::Opens,
+            Progress::Over => false,
+        }
+    }
+
+    // How far it has come with a command of that role and ticket.
+    pub fn after(self, role: Role, ticket: u64) -> Progress
+        ensures { result ≡ after self role ticket }
+    {
+        match role {
+            Role::Opens => Progress::Open(ticket),
+            Role::Talks => self,
+            Role::Ends => Progress::Over,
+        }
+    }
+}

@@ -1,0 +1,77 @@
+//! Outputs on their way from an outbox to a link.
+
+ghost use Rattle.std.specs.Prelude.{◌≡◌, ℕ, ◌≤◌, List, Option, IfOk, IfErr};
+ghost use Rattle.claim_core.specs.Seats.{with_seen};
+ghost use Rattle.hub_core.specs.Relays.{passage, Relays, IsRefused, Finds};
+
+use crate::kept::{Kept, Relayed};
+use claim_core::{BrokerRing, BrokerSeat, Released};
+use outbox_core::{OutTaker, Taken};
+use std::alloc::Global;
+use std::mem;
+use ws_core::{Link, LinkFault};
+
+/// Handles one output, the one that is kept or else the next in the outbox: sends it where its number is under the mark.
+///
+/// Where it isn't sent it is kept, and the next call handles it again. No memory is taken but what sending takes: after
+/// `Memory` the call may be made again, after `Gone` the link is over.
+pub fn relay<B, L: Link>(
+    alloc: Global,
+    ring: &BrokerRing<B>,
+    seat: &mut BrokerSeat<B>,
+    taker: &mut OutTaker,
+    kept: &mut Kept,
+    link: &mut L,
+) -> Result<Relayed, LinkFault>
+    requires { seat.old.ring ≡ ring.now }
+    ensures seen { seat.new ≡ with_seen seat.old seat.new.seen }
+    ensures no_less { seat.old.seen ≤ seat.new.seen }
+    ensures relays { IfOk result (Relays (passage taker.old kept.old (L.sent link.old)) (passage taker.new kept.new (L.sent link.new)) seat.new.seen) }
+    ensures refused { IfErr result (λ fault. IsRefused (passage taker.old kept.old (L.sent link.old)) (passage taker.new kept.new (L.sent link.new)) seat.new.seen) }
+{
+    let released = match find(ring, seat, taker, kept) {
+        Ok(released) => released,
+        Err(relayed) => return Ok(relayed),
+    };
+    match link.send(alloc, &released) {
+        Ok(()) => Ok(Relayed::Sent {
+            number: released.number(),
+            verb: released.frame().verb,
+        }),
+        Err(fault) => {
+            *kept = Kept::Unsent(released);
+            Err(fault)
+        }
+    }
+}
+
+// The next output that may leave, or what is the matter where there is none.
+fn find<B>(
+    ring: &BrokerRing<B>,
+    seat: &mut BrokerSeat<B>,
+    taker: &mut OutTaker,
+    kept: &mut Kept,
+) -> Result<Released, Relayed>
+    requires { seat.old.ring ≡ ring.now }
+    ensures seen { seat.new ≡ with_seen seat.old seat.new.seen }
+    ensures no_less { seat.old.seen ≤ seat.new.seen }
+    ensures found { IfOk result (Finds kept.old kept.new taker.old taker.new seat.new.seen) }
+    ensures none { IfErr result (λ relayed. (sent : Option (List (List ℕ))) → Relays (passage taker.old kept.old sent) (passage taker.new kept.new sent) seat.new.seen relayed) }
+{
+    let out = match mem::replace(kept, Kept::Nothing) {
+        Kept::Unsent(released) => return Ok(released),
+        Kept::Waits(out) => out,
+        Kept::Nothing => match taker.next() {
+            Taken::Item(out) => out,
+            Taken::Empty => return Err(Relayed::Empty),
+            Taken::Cut => return Err(Relayed::Cut),
+        },
+    };
+    match ring.release(seat, out) {
+        Ok(released) => Ok(released),
+        Err((out, _)) => {
+            *kept = Kept::Waits(out);
+            Err(Relayed::Waits)
+        }
+    }
+}

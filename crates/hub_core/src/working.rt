@@ -1,0 +1,122 @@
+//! What a worker does for one connection.
+
+ghost use Rattle.std.specs.Prelude.{◌≡◌, ◌++◌, List};
+ghost use Rattle.claim_core.specs.Counts.{Pair};
+ghost use Rattle.hub_core.specs.Conversations.{Continues, IsConversation};
+
+use crate::connection::{Connection, Stage};
+use crate::ended::Ended;
+use crate::gate::Gate;
+use crate::ringers::Ringers;
+use claim_core::{BrokerRing, BrokerSeat};
+use outbox_core::{Bell, OutSender};
+use std::alloc::Global;
+use ws_core::{Link, LinkFault};
+
+/// Serves one connection to its end, or for so many turns, those that its gate held up counted.
+///
+/// A turn does what waits to be done, or else reads once and does what the bytes ask for; then it sends what may leave. An
+/// entry, an outbox or a message that memory refuses is tried again in the next turn.
+///
+/// What it appends is one conversation: an Open, then commands of the session whose number is the Open's ticket, and
+/// last, where it comes to that, the session's End.
+pub fn worker<B: Bell, M: Ringers<B>, L: Link, G: Gate>(
+    alloc: Global,
+    ring: &BrokerRing<OutSender<B>>,
+    seat: &mut BrokerSeat<OutSender<B>>,
+    link: &mut L,
+    ringers: &M,
+    gate: &G,
+    turns: u64,
+) -> Ended
+    requires { seat.old.ring ≡ ring.now }
+    ensures seat { (seat.new.ring ≡ seat.old.ring) × (seat.new.number ≡ seat.old.number) }
+    ensures asked { (more : List Pair) × (seat.new.own ≡ seat.old.own ++ more) × IsConversation more }
+{
+    let mut connection = Connection::new(alloc);
+    connection.run(alloc, ring, seat, link, ringers, gate, turns)
+}
+
+impl<B: Bell> Connection<B> {
+    fn run<M: Ringers<B>, L: Link, G: Gate>(
+        &mut self,
+        alloc: Global,
+        ring: &BrokerRing<OutSender<B>>,
+        seat: &mut BrokerSeat<OutSender<B>>,
+        link: &mut L,
+        ringers: &M,
+        gate: &G,
+        turns: u64,
+    ) -> Ended
+        requires { seat.old.ring ≡ ring.now }
+        ensures { Continues self.old.progress seat.old self.new.progress seat.new }
+    {
+        for turn in 0..turns {
+            self.turn(alloc, ring, seat, link, ringers, gate, turn);
+            if let Stage::Over(ended) = self.stage {
+                return ended;
+            }
+        }
+        Ended::Turns
+    }
+
+    fn turn<M: Ringers<B>, L: Link, G: Gate>(
+        &mut self,
+        alloc: Global,
+        ring: &BrokerRing<OutSender<B>>,
+        seat: &mut BrokerSeat<OutSender<B>>,
+        link: &mut L,
+        ringers: &M,
+        gate: &G,
+        turn: u64,
+    )
+        requires { seat.old.ring ≡ ring.now }
+        ensures { Continues self.old.progress seat.old self.new.progress seat.new }
+    {
+        let number = seat.number();
+        if !gate.pass(number, turn) {
+            return;
+        }
+        self.read(alloc, link);
+        let carried = self.carry_out(alloc, ring, seat, link, ringers);
+        if carried.appended {
+            gate.appended(number);
+        }
+        self.pass_on(alloc, ring, seat, link);
+        self.close_link(link);
+        self.wait(gate, number, carried.full);
+    }
+
+    // Reads where nothing else is to be done first.
+    fn read<L: Link>(&mut self, alloc: Global, link: &mut L)
+        ensures { self.new.progress ≡ self.old.progress }
+    {
+        if self.stage == Stage::Running && !self.has_work() {
+            self.hear(alloc, link);
+        }
+    }
+
+    // Closes the link where that is to be done; where memory is refused, in the next turn.
+    fn close_link<L: Link>(&mut self, link: &mut L)
+        ensures { self.new.progress ≡ self.old.progress }
+    {
+        let Stage::Closing(ended) = self.stage else {
+            return;
+        };
+        self.stage = match (link.end(ended.reason()), ended) {
+            (Err(LinkFault::Memory), _) => return,
+            (_, Ended::Lost) => Stage::Leaving,
+            (Err(LinkFault::Gone), Ended::Bye | Ended::Bad) => Stage::Over(Ended::Lost),
+            (_, ended) => Stage::Over(ended),
+        };
+    }
+
+    // Leaves it to the gate when to try again, where the window was found full.
+    fn wait<G: Gate>(&self, gate: &G, worker: u32, full: Option<u64>) {
+        if let Some(mark) = full
+            && self.stage.carries_out()
+        {
+            gate.is_full(worker, mark);
+        }
+    }
+}

@@ -1,0 +1,15 @@
+//! Tests of the hub in threads, by its public face: workers over links in memory, and one flusher. They are a crate of their
+//! own, since a crate that has tests is proved twice.
+
+#![tactic(auto)]
+
+#[cfg(test)]
+mod gates;
+#[cfg(test)]
+mod hubs;
+#[cfg(test)]
+mod many_commands_tests;
+#[cfg(test)]
+mod script_tests;
+#[cfg(test)]
+mod two_sessions_tests;

@@ -1,0 +1,45 @@
+-- What contracts see of an outbox's two ends.
+use Rattle.std.specs.Prelude.{◌≡◌, ◌⊎◌, List, [], ◌∷◌, ◌++◌, Bool, true}
+use denote.RawPtr.{Ptr, null_ptr}
+use Rattle.command_core.specs.Outs.{OutValue}
+use Rattle.rtrb.specs.Shared.{Names}
+
+-- which box it is: where it lies, and its name
+pub record BoxId : Type 0 where
+  pub words : Ptr
+  pub slots : Ptr
+  pub names : Names
+
+-- The sending end: which box it is of; all that was given, in order; and whether the box is cut, which it then is for good.
+-- Of a box whose taker was gone when it was cut nothing more is known.
+pub record SenderValue : Type 0 where
+  pub box : BoxId
+  pub given : List OutValue
+  pub cut : Bool
+
+-- The taking end: which box it is of; all that was taken, in order; and what was seen to wait, which comes next.
+pub record TakerValue : Type 0 where
+  pub box : BoxId
+  pub taken : List OutValue
+  pub seen : List OutValue
+
+-- A sending end that has finished: which box it was of, and all that was given.
+pub record FinishedValue : Type 0 where
+  pub box : BoxId
+  pub given : List OutValue
+
+-- one output more is given
+abbrev pub with_given : SenderValue → OutValue → SenderValue
+with_given s out = record s { given = s.given ++ out ∷ [] }
+
+-- the box is cut
+abbrev pub when_cut : SenderValue → SenderValue
+when_cut s = record s { cut = true }
+
+-- a box that is cut and whose taker is gone
+abbrev pub gone : SenderValue
+gone = record { box = record { words = null_ptr; slots = null_ptr; names = (0, (0, 0)) }; given = []; cut = true }
+
+-- a box is cut, or was
+abbrev pub CutsOff : SenderValue → SenderValue → Type 0
+CutsOff old new = (new ≡ when_cut old) ⊎ (new ≡ gone)

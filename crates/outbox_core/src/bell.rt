@@ -1,0 +1,15 @@
+//! How a taker that waits elsewhere is told to look.
+
+/// Rung when something was put into a box, and when the sending end went: cut, finished or dropped. So a taker that waits
+/// elsewhere can be told to look. What ringing does is its maker's, and no clause speaks of it.
+pub trait Bell: Drop {
+    fn ring(&self);
+}
+
+/// A bell that does nothing, for a taker that looks by itself.
+#[derive(Clone, Copy, Debug)]
+pub struct Silent;
+
+impl Bell for Silent {
+    fn ring(&self) {}
+}

@@ -1,0 +1,15 @@
+//! Outboxes: what the flusher gives to a session goes through a box of a fixed size, in order, and nobody waits.
+
+#![tactic(auto)]
+
+mod bell;
+mod finished;
+mod opening;
+mod sender;
+mod taker;
+
+pub use bell::{Bell, Silent};
+pub use finished::Finished;
+pub use opening::outbox;
+pub use sender::{OUTBOX_OUTPUTS, OutSender};
+pub use taker::{OutTaker, Taken};

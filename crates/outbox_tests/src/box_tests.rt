@@ -1,0 +1,136 @@
+ghost use Rattle.std.specs.Prelude.{◌≡◌, IfOk};
+
+use command_core::{Out, connected_reply};
+use outbox_core::{Bell, OUTBOX_OUTPUTS, OutSender, OutTaker, Silent, Taken, outbox};
+use std::alloc::{AllocError, Global};
+use std::sync::Arc;
+use std::sync::atomic::{AtomicU64, Ordering};
+use std::test::Fail;
+
+// What a taker got, an item by its number.
+#[derive(Clone, Copy, Debug, PartialEq, Eq)]
+enum Got {
+    Item(u64),
+    Empty,
+    Cut,
+}
+
+// A CONNECTED that the command of that number gives.
+fn output(alloc: Global, number: u64) -> Result<Out, AllocError> {
+    let frame = connected_reply(alloc, 3)?;
+    Ok(Out::new(number, 3, frame))
+}
+
+// Gives outputs with the numbers from 0 on, and answers how many of 512 the box took.
+pub fn fill<B: Bell>(alloc: Global, sender: &mut OutSender<B>) -> Result<u64, AllocError>
+    ensures { IfOk result (λ count. count ≡ 512 → sender.new.box ≡ sender.old.box) }
+{
+    for number in 0..512u64 {
+        let out = output(alloc, number)?;
+        if sender.give(out).is_err() {
+            return Ok(number);
+        }
+    }
+    Ok(512)
+}
+
+// The number of an output that comes back.
+fn back<B: Bell>(
+    alloc: Global,
+    sender: &mut OutSender<B>,
+    number: u64,
+) -> Result<Option<u64>, AllocError> {
+    let out = output(alloc, number)?;
+    match sender.give(out) {
+        Ok(()) => Ok(None),
+        Err(out) => Ok(Some(out.number())),
+    }
+}
+
+fn look(taker: &mut OutTaker) -> Got {
+    match taker.next() {
+        Taken::Item(out) => Got::Item(out.number()),
+        Taken::Empty => Got::Empty,
+        Taken::Cut => Got::Cut,
+    }
+}
+
+// Whether the next outputs have the numbers from 0 to 511.
+fn takes_all(taker: &mut OutTaker) -> bool {
+    for number in 0..512u64 {
+        if look(taker) != Got::Item(number) {
+            return false;
+        }
+    }
+    true
+}
+
+#[test]
+fn the_513th_output_comes_back_and_cuts_the_box(rt: HostRuntime) -> Result<(), Fail> {
+    let alloc = rt.alloc();
+    let (mut sender, mut taker) = outbox(alloc, Silent)?;
+    assert_eq!(rt; OUTBOX_OUTPUTS, 512);
+    assert_eq!(rt; fill(alloc, &mut sender)?, 512);
+    assert_eq!(rt; back(alloc, &mut sender, 512)?, Some(512));
+    assert_eq!(rt; back(alloc, &mut sender, 513)?, Some(513));
+    assert!(rt; takes_all(&mut taker));
+    assert_eq!(rt; look(&mut taker), Got::Cut);
+    assert_eq!(rt; back(alloc, &mut sender, 514)?, Some(514));
+    assert!(rt; sender.finish().is_none());
+    Ok(())
+}
+
+#[test]
+fn a_full_box_has_room_once_an_output_is_taken(rt: HostRuntime) -> Result<(), Fail> {
+    let alloc = rt.alloc();
+    let (mut sender, mut taker) = outbox(alloc, Silent)?;
+    assert_eq!(rt; fill(alloc, &mut sender)?, 512);
+    assert_eq!(rt; look(&mut taker), Got::Item(0));
+    assert_eq!(rt; back(alloc, &mut sender, 512)?, None);
+    assert_eq!(rt; look(&mut taker), Got::Item(1));
+    Ok(())
+}
+
+#[test]
+fn an_open_box_is_empty_and_a_finished_one_is_cut(rt: HostRuntime) -> Result<(), Fail> {
+    let alloc = rt.alloc();
+    let (mut sender, mut taker) = outbox(alloc, Silent)?;
+    assert_eq!(rt; look(&mut taker), Got::Empty);
+    assert_eq!(rt; back(alloc, &mut sender, 0)?, None);
+    assert_eq!(rt; back(alloc, &mut sender, 1)?, None);
+    assert_eq!(rt; look(&mut taker), Got::Item(0));
+    assert!(rt; sender.finish().is_some());
+    assert_eq!(rt; look(&mut taker), Got::Item(1));
+    assert_eq!(rt; look(&mut taker), Got::Cut);
+    assert_eq!(rt; look(&mut taker), Got::Cut);
+    Ok(())
+}
+
+// Counts how often it rings.
+#[derive(Drop)]
+struct Counted {
+    rings: Arc<AtomicU64, Global>,
+}
+
+impl Bell for Counted {
+    fn ring(&self) {
+        self.rings.fetch_add(1, Ordering::SeqCst);
+    }
+}
+
+#[test]
+fn a_box_rings_when_it_is_given_something_cut_or_dropped(rt: HostRuntime) -> Result<(), Fail> {
+    let alloc = rt.alloc();
+    let rings = Arc::new(alloc, AtomicU64::new(0))?;
+    let theirs = Arc::try_clone(&rings)?;
+    let (mut sender, _taker) = outbox(alloc, Counted { rings: theirs })?;
+    assert_eq!(rt; fill(alloc, &mut sender)?, 512);
+    assert_eq!(rt; rings.load(Ordering::SeqCst), 512);
+    assert_eq!(rt; back(alloc, &mut sender, 512)?, Some(512));
+    assert_eq!(rt; rings.load(Ordering::SeqCst), 513);
+    assert_eq!(rt; back(alloc, &mut sender, 513)?, Some(513));
+    assert_eq!(rt; rings.load(Ordering::SeqCst), 513);
+    drop(sender);
+    assert_eq!(rt; rings.load(Ordering::SeqCst), 514);
+    Ok(())
+}

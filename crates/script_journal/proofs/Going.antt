@@ -1,0 +1,145 @@
+-- How far a flusher has gone.
+use Rattle.std.proofs.Common.{ne_eqb, ◌≡◌, ◌==◌, suc, ◌+◌, ◌-◌, ◌≤◌, ◌++◌, ℕ, List, [], ◌∷◌, false, Err, length, take, refl, sym, ap, ◌∙◌, subst, arith, length-append, true, Option, Some, None, is_none, is_some, if◌then◌else◌}
+use Rattle.std.proofs.lemmas.List.{append-nil, append_assoc, take_all}
+use Rattle.std.proofs.lemmas.Bool.{false≢true}
+use Rattle.command_core.specs.Commands.{CommandValue}
+use Rattle.command_core.specs.Entries.{EntryValue}
+use Rattle.command_core.specs.Outs.{OutValue}
+use Rattle.area_core.specs.Areas.{commands}
+use Rattle.outbox_core.specs.Boxes.{SenderValue}
+use Rattle.boxes_core.specs.Giving.{AreGiven, GivesTo, Kept, box_of, to_session, unboxed}
+use Rattle.broker_core.specs.States.{State, BrokerValue}
+use Rattle.broker_core.specs.Steps.{outs, outs_of, state_after, step}
+use Rattle.claim_core.specs.Seats.{FlushSeatValue, SessionSeatValue, flushing, next_ticket, with_mark}
+use Rattle.recover_core.proofs.Stores.{after-append}
+use Rattle.flush_core.specs.declared.faults.FlushFault.{FlushFault}
+use Rattle.flush_core.specs.declared.faults.FlushFault.TheVariants.{Device, Full, Broken, Memory}
+use Rattle.flush_core.specs.Batches.{from_on, state_taken, with_more}
+use Rattle.flush_core.specs.Flushed.{Flushed}
+use Rattle.flush_core.specs.Outcomes.{IsTurn, IsTurned, TurnFalls, turned_boxes, turned_outs}
+use Rattle.flush_core.proofs.Taken.{from_end, from_more}
+use Rattle.script_journal.specs.Going.{HasGone, HasGoneFront, HasGoneSomeWay, IsIdle}
+use Rattle.script_journal.specs.Placed.{AgreeAll, ArePlaced}
+use Rattle.script_journal.proofs.Fronts.{took_front}
+
+outs_append : (xs : List CommandValue) (s : State) (ys : List CommandValue) → outs_of s (xs ++ ys) ≡ outs_of s xs ++ outs_of (state_after s xs) ys
+outs_append [] s ys = refl
+outs_append (x ∷ xs) s ys = ap (λ (l : List OutValue). outs s x ++ l) (outs_append xs (step s x) ys) ∙ sym (append_assoc (outs s x) (outs_of (step s x) xs) (outs_of (state_after (step s x) xs) ys))
+
+-- where no box is left, there was none
+none_boxed : (outs : List OutValue) (boxes : Kept) → AreGiven outs boxes [] → (session : ℕ) → is_none (box_of session boxes) ≡ true
+none_boxed outs boxes given session = none_there (to_session session outs) (box_of session boxes) (given session)
+  where
+    none_there : (mine : List OutValue) (box : Option SenderValue) → GivesTo mine box None → is_none box ≡ true
+    none_there mine None gives = refl
+    none_there mine (Some old) gives = absurd (false≢true (ap is_some gives.1))
+
+all_unboxed : (boxes : Kept) (outs : List OutValue) → ((session : ℕ) → is_none (box_of session boxes) ≡ true) → unboxed boxes outs ≡ outs
+all_unboxed boxes [] none = refl
+all_unboxed boxes (out ∷ outs) none =
+    ap (λ b. if b then out ∷ unboxed boxes outs else unboxed boxes outs) (none out.session) ∙ ap (λ (l : List OutValue). out ∷ l) (all_unboxed boxes outs none)
+
+pub no_boxes : (boxes : Kept) → (length boxes == 0) ≡ true → boxes ≡ []
+no_boxes [] none = refl
+no_boxes (b ∷ boxes) none = absurd (false≢true (sym (ne_eqb (length (b ∷ boxes)) 0 (λ e. omega (arith, e))) ∙ none))
+
+pub commands_count : (entries : List (EntryValue SenderValue)) → length (commands entries) ≡ length entries
+commands_count [] = refl
+commands_count (e ∷ entries) = ap suc (commands_count entries)
+
+-- the seat with more taken, all of it published
+abbrev gone_by : FlushSeatValue → List CommandValue → FlushSeatValue
+gone_by seat more = with_mark (with_more seat more) (next_ticket (with_more seat more))
+
+module _ {D : Type 0} where
+  pub gone_none : (f : Flushed D) → IsIdle f → HasGone f f []
+  gone_none f idle =
+      let same : f.seat.taken ≡ f.seat.taken ++ [] = sym (append-nil f.seat.taken) in
+      let mark : f.seat.published ≡ f.seat.base + length (f.seat.taken ++ []) = idle.marked ∙ ap (λ (l : List CommandValue). f.seat.base + length l) same in
+      record {
+        idle = idle;
+        seat = λ i. flushing f.seat.ring f.seat.base (same i) (mark i) f.seat.stopped f.seat.seats;
+        opening = refl;
+        state = refl;
+        left = sym (append-nil f.left);
+      }
+
+  pub gone_turn : (f g : Flushed D) (more : List (EntryValue SenderValue)) → IsIdle f → g.broken ≡ false → g.boxes ≡ [] → IsTurned f g more → HasGone f g (commands more)
+  gone_turn f g more idle whole boxless turned =
+      let cs : List CommandValue = commands more in
+      let rest : from_on g.seat f.stored ≡ cs = ap (λ (s : FlushSeatValue). from_on s f.stored) turned.seat
+      ∙ (from_more f.seat cs f.stored (omega (arith, idle.stored)) ∙ ap (λ (l : List CommandValue). l ++ cs) (from_end f.seat f.stored idle.stored)) in
+      let state : g.broker.state ≡ state_taken g.opening g.seat = ap (λ (b : BrokerValue). b.state) turned.broker in
+      let outs_are : turned_outs f g ≡ outs_of f.broker.state cs = λ i. idle.waiting i ++ outs_of f.broker.state (rest i) in
+      let all_left : unboxed (turned_boxes f more) (turned_outs f g) ≡ turned_outs f g =
+      all_unboxed (turned_boxes f more) (turned_outs f g) (none_boxed (turned_outs f g) (turned_boxes f more) (subst (AreGiven (turned_outs f g) (turned_boxes f more)) boxless turned.given)) in
+      record {
+        idle = record { whole = whole; stored = turned.stored; settled = turned.settled; marked = ap (λ (s : FlushSeatValue). s.published) turned.seat ∙ sym (ap next_ticket turned.seat); waiting = turned.waiting; state = state };
+        seat = turned.seat;
+        opening = turned.opening;
+        state = state ∙ ((λ i. state_after (turned.opening i) ((turned.seat i).taken)) ∙ (after-append f.seat.taken f.opening cs ∙ ap (λ (s : State). state_after s cs) (sym idle.state)));
+        left = turned.left ∙ ap (λ (l : List OutValue). f.left ++ l) (all_left ∙ outs_are);
+      }
+
+  pub gone_on : (f g h : Flushed D) (one two : List CommandValue) → HasGone f g one → HasGone g h two → HasGone f h (one ++ two)
+  gone_on f g h one two before after =
+      let assoc : (f.seat.taken ++ one) ++ two ≡ f.seat.taken ++ (one ++ two) = append_assoc f.seat.taken one two in
+      record {
+        idle = after.idle;
+        seat = after.seat ∙ (ap (λ (s : FlushSeatValue). gone_by s two) before.seat ∙ (λ i. flushing f.seat.ring f.seat.base (assoc i) (f.seat.base + length (assoc i)) f.seat.stopped f.seat.seats));
+        opening = after.opening ∙ before.opening;
+        state = after.state ∙ (ap (λ (s : State). state_after s two) before.state ∙ sym (after-append one f.broker.state two));
+        left = after.left ∙ ((λ i. before.left i ++ outs_of (before.state i) two) ∙ (append_assoc f.left (outs_of f.broker.state one) (outs_of (state_after f.broker.state one) two) ∙ ap (λ (l : List OutValue). f.left ++ l) (sym (outs_append one f.broker.state two))));
+      }
+
+  pub some_way : (f g : Flushed D) (more : List CommandValue) → IsIdle f → HasGone f g more → HasGoneSomeWay f g
+  some_way f g more idle gone = record {
+    ring = ap (λ (s : FlushSeatValue). s.ring) gone.seat;
+    opening = gone.opening;
+    more = more;
+    taken = ap (λ (s : FlushSeatValue). s.taken) gone.seat;
+    published = omega (arith, idle.marked, ap (λ (s : FlushSeatValue). s.published) gone.seat, length-append f.seat.taken more);
+  }
+
+  falls_some_way : (f g h : Flushed D) (more : List CommandValue) → IsIdle f → HasGone f g more → TurnFalls g h → HasGoneSomeWay f h
+  unfolding some_way
+  falls_some_way f g h more idle gone fell =
+      let way = some_way f g more idle gone in
+      record {
+        ring = fell.ring ∙ way.ring;
+        opening = fell.opening ∙ way.opening;
+        more = more ++ fell.taken.0;
+        taken = fell.taken.1 ∙ (ap (λ (l : List CommandValue). l ++ fell.taken.0) way.taken ∙ append_assoc f.seat.taken more fell.taken.0);
+        published = omega (arith, way.published, fell.published);
+      }
+
+  pub failed_some_way : (X : Type 0) (f g h : Flushed D) (more : List CommandValue) (fault : FlushFault) → IsIdle f → HasGone f g more → IsTurn {X = X} g h (Err fault) → HasGoneSomeWay f h
+  failed_some_way X f g h more Device idle gone fell = falls_some_way f g h more idle gone fell
+  failed_some_way X f g h more Full idle gone fell = falls_some_way f g h more idle gone fell
+  failed_some_way X f g h more Broken idle gone was = absurd (false≢true (sym gone.idle.whole ∙ was.0))
+  failed_some_way X f g h more (Memory refused) idle gone fell = falls_some_way f g h more idle gone fell
+
+  -- what has gone is what the seats have there
+  pub gone_all : (f g : Flushed D) (first : ℕ) (seats : List SessionSeatValue) (more cs : List CommandValue) → first ≡ next_ticket f.seat → HasGone f g more → length more ≡ length cs
+      → ArePlaced first seats cs → AgreeAll g.seat seats → HasGone f g cs
+  gone_all f g first seats more cs begins gone many placed agree =
+      let begun : g.seat.base + length f.seat.taken ≡ first = ap (λ (s : FlushSeatValue). s.base + length f.seat.taken) gone.seat ∙ sym begins in
+      let front : more ≡ take (length more) cs = took_front first seats g.seat f.seat.taken more cs begun (ap (λ (s : FlushSeatValue). s.taken) gone.seat) placed agree (omega (arith, many)) in
+      subst (HasGone f g) (front ∙ take_all (length more) cs (omega (arith, many))) gone
+
+  pub gone_front : (f g : Flushed D) (first last count : ℕ) (seats : List SessionSeatValue) (cs : List CommandValue) → first ≡ next_ticket f.seat → last ≡ next_ticket g.seat → last - first ≤ count → count ≡ length cs
+      → f.opening.count ≡ f.seat.base → g.opening.count ≡ g.seat.base → HasGoneSomeWay f g → ArePlaced first seats cs → AgreeAll g.seat seats → HasGoneFront f g cs
+  gone_front f g first last count seats cs begins ends few many opened opened' way placed agree =
+      let base : g.seat.base ≡ f.seat.base = sym opened' ∙ (ap (λ (s : State). s.count) way.opening ∙ opened) in
+      let long : length g.seat.taken ≡ length f.seat.taken + length way.more = ap length way.taken ∙ length-append f.seat.taken way.more in
+      let fits : length way.more ≤ length cs = omega (arith, begins, ends, few, many, base, long) in
+      let front : way.more ≡ take (length way.more) cs = took_front first seats g.seat f.seat.taken way.more cs (omega (arith, begins, base)) way.taken placed agree fits in
+      record {
+        ring = way.ring;
+        base = base;
+        opening = way.opening;
+        n = length way.more;
+        few = fits;
+        taken = way.taken ∙ ap (λ (l : List CommandValue). f.seat.taken ++ l) front;
+        published = way.published;
+      }

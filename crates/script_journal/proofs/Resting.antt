@@ -1,0 +1,94 @@
+-- What a journal keeps at rest, and what is left of it where its disk stops.
+use Rattle.std.proofs.Common.{◌≡◌, ◌+◌, ◌-◌, ◌≤◌, ◌++◌, ℕ, zero, suc, List, [], ◌∷◌, false, true, length, take, set, slice_index_or, All, Option, Some, None, IsSome, IfSome, IfOk, Result, Ok, Err, sym, ap, ◌∙◌, subst, arith, length-append}
+use mathlib.Core.Option.{some, some-injective, some-ne-none}
+use Rattle.std.proofs.Math.Logic.{∥∥₁_map}
+use lib.ListN.{get_elem?}
+use Rattle.std.proofs.lemmas.List.{length-take-le, take-take}
+use Rattle.std.proofs.lemmas.Bool.{false≢true}
+use Rattle.atomic_table.specs.Seated.{TableId}
+use Rattle.command_core.specs.Commands.{CommandValue}
+use Rattle.broker_core.specs.Operations.{restarted}
+use Rattle.broker_core.specs.States.{State, BrokerValue}
+use Rattle.broker_core.specs.Steps.{state_after}
+use Rattle.claim_core.specs.Seats.{FlushSeatValue, SessionSeatValue, new_flushing, new_session, next_ticket}
+use Rattle.recover_core.specs.Standing.{Stands}
+use Rattle.recover_core.specs.declared.faults.OpenFault.{OpenFault}
+use Rattle.recover_core.proofs.Stores.{after-append}
+use Rattle.flush_core.specs.Flushed.{AfterSome, Flushed, IsSame}
+use Rattle.flush_core.specs.Batches.{state_at, state_taken}
+use Rattle.script_journal.specs.Going.{HasGoneFront, IsIdle}
+use Rattle.script_journal.specs.Journals.{IsAtRest, JournalValue, StandsAfterFront}
+use Rattle.script_journal.specs.Placed.{AreSeatsOf}
+use Rattle.script_journal.proofs.Placing.{below, still_ring}
+
+at_or : {A : Type 0} (l : List A) (i : ℕ) (a d : A) → get_elem? l i ≡ some a → slice_index_or l i d ≡ a
+at_or [] i a d e = absurd (some-ne-none a (sym e))
+at_or (x ∷ xs) zero a d e = some-injective x a e
+at_or (x ∷ xs) (suc i) a d e = at_or xs i a d e
+
+pub new_seats : (ring : TableId) (base : ℕ) (seats : List SessionSeatValue) → All (λ seat. seat ≡ new_session ring base seat.number) seats → AreSeatsOf ring seats
+new_seats ring base seats all j seat at =
+    ap (λ (s : SessionSeatValue). s.ring) (subst (λ (s : SessionSeatValue). s ≡ new_session ring base s.number) (at_or seats j seat seat at) (all j seat (below seats j seat at)))
+
+pub new_rest : {D : Type 0} (ring : TableId) (seats : List SessionSeatValue) (f : Flushed D) (base n : ℕ) → AreSeatsOf ring seats → f.seat ≡ new_flushing ring base n → f.broken ≡ false
+    → f.stored ≡ f.seat.base → f.settled ≡ f.seat.base → f.waiting ≡ [] → f.left ≡ [] → f.opening ≡ f.broker.state → IsAtRest ring seats f
+new_rest ring seats f base n all is whole stored settled none none_left opening =
+    let start : f.seat.base ≡ base = ap (λ (s : FlushSeatValue). s.base) is in
+    let next : next_ticket f.seat ≡ base = ap next_ticket is ∙ omega arith in
+    record {
+      seats_are = all;
+      flush_is = ap (λ (s : FlushSeatValue). s.ring) is;
+      idle = record {
+        whole = whole;
+        stored = stored ∙ (start ∙ sym next);
+        settled = settled ∙ (start ∙ sym next);
+        marked = ap (λ (s : FlushSeatValue). s.published) is ∙ sym next;
+        waiting = none;
+        state = sym opening ∙ sym (ap (λ (s : FlushSeatValue). state_after f.opening s.taken) is);
+      };
+      none_left = none_left;
+    }
+
+pub still_rest : {D : Type 0} (ring : TableId) (seats : List SessionSeatValue) (f : Flushed D) (place : ℕ) (old new : SessionSeatValue) → get_elem? seats place ≡ some old → new.ring ≡ old.ring → IsAtRest ring seats f → IsAtRest ring (set seats place new) f
+still_rest ring seats f place old new at same rest = record { seats_are = still_ring ring seats place old new at same rest.seats_are; flush_is = rest.flush_is; idle = rest.idle; none_left = rest.none_left }
+
+-- commands behind others, cut behind these
+cut_behind : (xs ys : List CommandValue) (m : ℕ) → take (length xs + m) (xs ++ ys) ≡ xs ++ take m ys
+cut_behind [] ys m = let none : 0 + m ≡ m = omega arith in ap (λ (k : ℕ). take k ys) none
+cut_behind (x ∷ xs) ys m =
+    let one : length (x ∷ xs) + m ≡ suc (length xs + m) = omega arith in
+    ap (λ (k : ℕ). take k (x ∷ (xs ++ ys))) one ∙ ap (λ (l : List CommandValue). x ∷ l) (cut_behind xs ys m)
+
+-- an image that holds all under the mark, and perhaps more
+pub stands_front : {D : Type 0} (f g : Flushed D) (cs : List CommandValue) (image : List ℕ) → IsIdle f → HasGoneFront f g cs → AfterSome g.opening g.seat image → StandsAfterFront f.broker.state cs image
+stands_front f g cs image idle front after =
+    let m : ℕ = after.number - next_ticket f.seat in
+    let long : length g.seat.taken ≡ length f.seat.taken + front.n = ap length front.taken ∙ (length-append f.seat.taken (take front.n cs) ∙ ap (λ (k : ℕ). length f.seat.taken + k) (length-take-le front.n cs front.few)) in
+    let more : after.number - g.seat.base ≡ length f.seat.taken + m = omega (arith, after.marked, front.published, front.base, idle.marked) in
+    let few : m ≤ front.n = omega (arith, after.taken, long, front.base) in
+    let cut : take (after.number - g.seat.base) g.seat.taken ≡ f.seat.taken ++ take m cs =
+    (λ i. take (more i) (front.taken i)) ∙ (cut_behind f.seat.taken (take front.n cs) m ∙ ap (λ (l : List CommandValue). f.seat.taken ++ l) (take-take m front.n cs few)) in
+    let state : state_at g.opening g.seat after.number ≡ state_after f.broker.state (take m cs) =
+    (λ i. state_after (front.opening i) (cut i)) ∙ (after-append f.seat.taken f.opening (take m cs) ∙ ap (λ (s : State). state_after s (take m cs)) (sym idle.state)) in
+    record { n = m; few = omega (arith, few, front.few); stands = subst (Stands image) state after.stands }
+
+pub same_idle : {C D : Type 0} (f : Flushed C) (u : Flushed D) → IsSame f u → IsIdle f → IsIdle u
+same_idle f u same idle = record {
+  whole = same.broken ∙ idle.whole;
+  stored = same.stored ∙ (idle.stored ∙ sym (ap next_ticket same.seat));
+  settled = same.settled ∙ (idle.settled ∙ sym (ap next_ticket same.seat));
+  marked = ap (λ (s : FlushSeatValue). s.published) same.seat ∙ (idle.marked ∙ sym (ap next_ticket same.seat));
+  waiting = same.waiting ∙ idle.waiting;
+  state = ap (λ (b : BrokerValue). b.state) same.broker ∙ (idle.state ∙ sym (λ i. state_taken (same.opening i) (same.seat i)));
+}
+
+pub crashed : {C D : Type 0} (f : Flushed C) (u g : Flushed D) (cs : List CommandValue) (image : List ℕ) (s : State) → IsIdle f → IsSame f u → HasGoneFront u g cs → f.broker.state ≡ s
+    → ∥ AfterSome g.opening g.seat image ∥₁ → ∥ StandsAfterFront s cs image ∥₁
+crashed f u g cs image s idle same front is after = ∥∥₁_map after (λ it.
+    subst (λ (t : State). StandsAfterFront t cs image) (ap (λ (b : BrokerValue). b.state) same.broker ∙ is) (stands_front u g cs image (same_idle f u same idle) front it))
+
+pub opened_state : (opened : Option BrokerValue) (result : Result JournalValue OpenFault) (content : List ℕ) → IsSome opened → IfSome opened (λ broker. (s : State) → Stands content s → broker.state ≡ restarted s)
+    → IfOk result (λ journal. IfSome opened (λ broker. journal ≡ record { state = broker.state; durable = true })) → IfOk result (λ journal. (s : State) → Stands content s → journal.state ≡ restarted s)
+opened_state None result content there states made = absurd (false≢true there)
+opened_state (Some broker) (Ok journal) content there states made = λ s stands. ap (λ (j : JournalValue). j.state) made ∙ states s stands
+opened_state (Some broker) (Err fault) content there states made = tt

@@ -1,0 +1,6 @@
+use Rattle.recover_core.specs.Stores.{opened_by}
+use Rattle.script_journal.proofs.Resting.{opened_state}
+use Rattle.script_journal.proofs.journal.Journal.open.Goals as goal
+
+pub returns-in-Ok-clause-state : goal.returns-in-Ok-clause-state
+returns-in-Ok-clause-state c = opened_state (opened_by c.in-Ok.store) c.with_broker.result c.args.disk.content c.in-Ok.ensures.opened (c.in-Ok.ensures.state tt) c.with_broker.ensures.made

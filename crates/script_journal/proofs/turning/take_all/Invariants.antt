@@ -1,0 +1,7 @@
+use Rattle.std.proofs.Common.{◌≡◌, ◌+◌, List, length}
+use Rattle.command_core.specs.Commands.{CommandValue}
+use Rattle.script_journal.specs.Going.{HasGone}
+use Rattle.script_journal.proofs.turning.take_all.Given as goal
+
+abbrev pub invariant-loop-turn : goal.invariant-loop-turn
+invariant-loop-turn g l = (more : List CommandValue) × (length more + l.left ≡ l.fn.count) × HasGone l.fn.flusher l.flusher more

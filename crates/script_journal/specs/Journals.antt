@@ -1,0 +1,29 @@
+-- What a script's journal keeps.
+use Rattle.std.specs.Prelude.{◌≡◌, ◌≤◌, ℕ, Bool, List, [], length, take}
+use Rattle.atomic_table.specs.Seated.{TableId}
+use Rattle.command_core.specs.Commands.{CommandValue}
+use Rattle.broker_core.specs.States.{State}
+use Rattle.broker_core.specs.Steps.{state_after}
+use Rattle.claim_core.specs.Seats.{SessionSeatValue}
+use Rattle.flush_core.specs.Flushed.{Flushed}
+use Rattle.recover_core.specs.Standing.{Stands}
+use Rattle.script_journal.specs.Going.{IsIdle}
+use Rattle.script_journal.specs.Placed.{AreSeatsOf}
+
+-- A journal: the broker's state after its commands, and whether they are durable.
+pub record JournalValue : Type 0 where
+  pub state : State
+  pub durable : Bool
+
+-- the seats and the flusher are at this ring, and the flusher is idle and has handed all outputs out
+pub record IsAtRest {D : Type 0} (ring : TableId) (seats : List SessionSeatValue) (flusher : Flushed D) : Type 0 where
+  pub seats_are : AreSeatsOf ring seats
+  pub flush_is : flusher.seat.ring ≡ ring
+  pub idle : IsIdle flusher
+  pub none_left : flusher.left ≡ []
+
+-- the image stands for the state after the first n of these commands
+pub record StandsAfterFront (s : State) (commands : List CommandValue) (image : List ℕ) : Type 0 where
+  pub n : ℕ
+  pub few : n ≤ length commands
+  pub stands : Stands image (state_after s (take n commands))

@@ -1,0 +1,11 @@
+//! The journal of a script: its commands go through the ring and the flusher, all on one thread.
+
+#![tactic(auto)]
+
+mod appending;
+mod journal;
+mod turning;
+mod waiting;
+
+pub use journal::Journal;
+pub use waiting::Waiting;

@@ -1,0 +1,108 @@
+//! How commands come out of the ring: in turns of the flusher.
+
+ghost use Rattle.std.specs.Prelude.{◌≡◌, List, IfErr, IfOk, OnOk, length, true};
+ghost use Rattle.command_core.specs.Commands.{CommandValue};
+ghost use Rattle.script_journal.specs.Going.{HasGone, HasGoneFront, HasGoneSomeWay, IsIdle};
+ghost use Rattle.script_journal.specs.Placed.{AgreeAll, AreSeatsOf, commands_of};
+
+use crate::appending::append_all;
+use crate::waiting::{ScriptRing, ScriptSeat, Waiting};
+use disk_core::Disk;
+use flush_core::{FlushFault, Flusher};
+use outbox_core::Silent;
+use std::alloc::Global;
+
+/// Turns until so many commands are taken, which are then stored, carried out and published.
+///
+/// `Broken` where a turn takes none of them, or more, or where a session has a box: none does whose commands are all in the
+/// ring, without boxes.
+pub fn take_all<D: Disk>(
+    alloc: Global,
+    ring: &ScriptRing,
+    flusher: &mut Flusher<D, Silent>,
+    count: u64,
+) -> Result<(), FlushFault>
+    requires ring { flusher.old.seat.ring ≡ ring.now }
+    requires idle { IsIdle flusher.old }
+    ensures taken { OnOk result ((more : List CommandValue) × (length more ≡ count) × HasGone flusher.old flusher.new more) }
+    ensures fallen { IfErr result (λ fault. HasGoneSomeWay flusher.old flusher.new) }
+{
+    let mut left = count;
+    for _turn in 0..count {
+        if left == 0 {
+            break;
+        }
+        let taken = flusher.turn(alloc, ring)?;
+        if taken == 0 || taken > left || !flusher.has_no_box() {
+            return Err(FlushFault::Broken);
+        }
+        left -= taken;
+    }
+    if left > 0 {
+        return Err(FlushFault::Broken);
+    }
+    Ok(())
+}
+
+// Turns until so many commands are taken, and answers whether they are; they are not where the disk fails.
+fn take_until_stop<D: Disk>(
+    alloc: Global,
+    ring: &ScriptRing,
+    flusher: &mut Flusher<D, Silent>,
+    count: u64,
+) -> Result<bool, FlushFault>
+    requires ring { flusher.old.seat.ring ≡ ring.now }
+    requires idle { IsIdle flusher.old }
+    ensures all { IfOk result (λ all. all ≡ true → (more : List CommandValue) × (length more ≡ count) × HasGone flusher.old flusher.new more) }
+    ensures some { IfOk result (λ all. HasGoneSomeWay flusher.old flusher.new) }
+{
+    match take_all(alloc, ring, flusher, count) {
+        Ok(()) => Ok(true),
+        Err(FlushFault::Device) => Ok(false),
+        Err(fault) => Err(fault),
+    }
+}
+
+/// Has waiting commands go into the ring and through the flusher, and answers whether all did; they do not where the disk
+/// fails, and then the first so many did.
+pub fn go<D: Disk>(
+    alloc: Global,
+    ring: &ScriptRing,
+    seats: &mut Vec<ScriptSeat>,
+    flusher: &mut Flusher<D, Silent>,
+    waiting: Vec<Waiting>,
+) -> Result<bool, FlushFault>
+    requires ring { flusher.old.seat.ring ≡ ring.now }
+    requires seats { AreSeatsOf ring.now seats.old.items }
+    requires idle { IsIdle flusher.old }
+    ensures seats { AreSeatsOf ring.now seats.new.items }
+    ensures all { IfOk result (λ all. all ≡ true → HasGone flusher.old flusher.new (commands_of waiting.items)) }
+    ensures some { IfOk result (λ all. HasGoneFront flusher.old flusher.new (commands_of waiting.items)) }
+{
+    let first = flusher.next();
+    let count = waiting.len() as u64;
+    append_all(alloc, ring, seats, first, waiting)?;
+    let all = take_until_stop(alloc, ring, flusher, count)?;
+    if flusher.next().saturating_sub(first) > count {
+        return Err(FlushFault::Broken);
+    }
+    compare_all(ring, seats, flusher);
+    Ok(all)
+}
+
+/// Brings each seat beside the flusher's. Nothing changes.
+pub fn compare_all<D: Disk>(
+    ring: &ScriptRing,
+    seats: &mut Vec<ScriptSeat>,
+    flusher: &mut Flusher<D, Silent>,
+)
+    requires ring { flusher.old.seat.ring ≡ ring.now }
+    requires seats { AreSeatsOf ring.now seats.old.items }
+    ensures flusher { flusher.new ≡ flusher.old }
+    ensures seats { seats.new.items ≡ seats.old.items }
+    ensures agree { AgreeAll flusher.old.seat seats.old.items }
+{
+    for place in 0..seats.len() {
+        flusher.beside(ring, &mut seats[place]);
+    }
+}

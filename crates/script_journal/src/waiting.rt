@@ -1,0 +1,19 @@
+//! Commands that wait for the next flush.
+
+use claim_core::{BrokerRing, BrokerSeat};
+use command_core::Command;
+use outbox_core::{OutSender, Silent};
+
+/// A command that waits for the next flush, and the connection that it came from.
+#[derive(Debug, Drop)]
+pub struct Waiting {
+    pub connection: u8,
+    pub command: Command,
+}
+
+// A script has no outboxes: what goes to its connections stays with the flusher until it is taken.
+pub(crate) type ScriptBox = OutSender<Silent>;
+
+pub(crate) type ScriptRing = BrokerRing<ScriptBox>;
+
+pub(crate) type ScriptSeat = BrokerSeat<ScriptBox>;

@@ -1,0 +1,73 @@
+//! What wakes a worker that waits for its socket.
+
+use hub_core::Ringers;
+use mio::{Registry, Token, Waker};
+use outbox_core::Bell;
+use std::alloc::AllocError;
+use std::io;
+use std::sync::Arc;
+use std::sync::atomic::{AtomicBool, Ordering};
+
+/// Ends the wait of one worker. A ring is never lost: one that comes while the worker is awake keeps it from falling asleep
+/// once. Only a ring of a sleeping worker costs a call of the system.
+#[derive(Drop)]
+pub struct Doorbell {
+    waker: Waker,
+    asleep: AtomicBool,
+    rung: AtomicBool,
+}
+
+impl Doorbell {
+    /// The doorbell of the one who waits for what is registered there.
+    pub fn new(registry: &Registry, token: Token) -> io::Result<Doorbell> {
+        Ok(Doorbell {
+            waker: Waker::new(registry, token)?,
+            asleep: AtomicBool::new(false),
+            rung: AtomicBool::new(false),
+        })
+    }
+
+    /// Wakes the worker, or keeps it awake. Where the system refuses the wake, the worker's own time limit ends its wait.
+    pub fn ring(&self) {
+        self.rung.store(true, Ordering::SeqCst);
+        if self.asleep.swap(false, Ordering::SeqCst) {
+            let _woken = self.waker.wake();
+        }
+    }
+
+    /// Says that the worker is about to wait, and answers whether it may: it may not where the bell was rung since it last
+    /// woke. It has to look whether there is something for it then.
+    pub(crate) fn falls_asleep(&self) -> bool {
+        self.asleep.store(true, Ordering::SeqCst);
+        // A ring before this is seen here, and a ring after it sees that the worker is asleep.
+        !self.rung.load(Ordering::SeqCst)
+    }
+
+    /// Says that the worker is awake, and will look.
+    pub(crate) fn wakes_up(&self) {
+        self.asleep.store(false, Ordering::SeqCst);
+        self.rung.store(false, Ordering::SeqCst);
+    }
+}
+
+/// What rings a doorbell from afar: the outbox of a worker's session has one.
+#[derive(Drop)]
+pub struct BellRope(Arc<Doorbell>);
+
+impl BellRope {
+    pub fn new(bell: Arc<Doorbell>) -> BellRope {
+        BellRope(bell)
+    }
+}
+
+impl Bell for BellRope {
+    fn ring(&self) {
+        self.0.ring();
+    }
+}
+
+impl Ringers<BellRope> for BellRope {
+    fn bell(&self) -> Result<BellRope, AllocError> {
+        Ok(BellRope(self.0.clone()?))
+    }
+}

@@ -1,0 +1,12 @@
+//! A server: its workers and its flusher, and what their threads wait by.
+
+#![tactic(auto)]
+
+mod doorbell;
+mod fault;
+mod pace;
+mod serving;
+mod socket_stream;
+
+pub use fault::ServeFault;
+pub use serving::{Server, Worker};

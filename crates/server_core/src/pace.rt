@@ -1,0 +1,95 @@
+//! How the threads of a server wait for one another.
+
+use hub_core::Gate;
+use std::sync::Wait;
+use std::sync::atomic::{AtomicBool, AtomicU64, Ordering};
+use std::thread::Parker;
+use std::time::Duration;
+
+/// For how many seconds a thread sleeps at most before it looks again. Nothing waits for this to end: whoever sleeps is
+/// woken when there is something to do.
+const LONGEST_SLEEP: u64 = 10;
+
+/// Has the flusher sleep until a command was put into the ring, and a worker with a full window until the mark has risen.
+///
+/// No wake is lost, and only a wake of a thread that sleeps costs a call of the system.
+#[derive(Drop)]
+pub struct Pace<T> {
+    rt: T,
+    // The flusher's sleep.
+    flusher: Parker,
+    // Whether the flusher's last turn took something: more may be ready then, so that it doesn't sleep.
+    took: AtomicBool,
+    // The mark that was published last, and how many workers wait for a greater one.
+    mark: AtomicU64,
+    waiting: AtomicU64,
+}
+
+impl<T: Wait> Pace<T> {
+    /// The pace of a server whose mark is this.
+    pub fn new(rt: T, mark: u64) -> Pace<T> {
+        Pace {
+            rt,
+            flusher: Parker::new(),
+            took: AtomicBool::new(false),
+            mark: AtomicU64::new(mark),
+            waiting: AtomicU64::new(0),
+        }
+    }
+
+    /// Returns once the flusher has something to do: at once where its last turn took something, since more may be ready.
+    fn await_commands(&self) {
+        if !self.took.swap(false, Ordering::SeqCst) {
+            let longest = Duration::from_secs(LONGEST_SLEEP);
+            self.flusher.park_timeout(&self.rt, longest);
+        }
+    }
+
+    /// Says that a command was put into the ring.
+    fn wake_flusher(&self) {
+        self.flusher.unpark();
+    }
+
+    /// Returns once a mark over this one is published.
+    fn await_mark(&self, mark: u64) {
+        self.waiting.fetch_add(1, Ordering::SeqCst);
+        let seen = self.mark.load(Ordering::SeqCst);
+        if seen <= mark {
+            // It sleeps only while the word (its lower half) is what was read, so that a mark published since then is not missed.
+            let longest = Duration::from_secs(LONGEST_SLEEP);
+            let low = (seen % 4_294_967_296) as u32;
+            self.mark.park_timeout(&self.rt, low, longest);
+        }
+        self.waiting.fetch_sub(1, Ordering::SeqCst);
+    }
+
+    /// Says that the flusher took something, and that the mark is this now.
+    fn raise(&self, mark: u64) {
+        self.took.store(true, Ordering::SeqCst);
+        self.mark.store(mark, Ordering::SeqCst);
+        if self.waiting.load(Ordering::SeqCst) > 0 {
+            self.mark.wake_all();
+        }
+    }
+}
+
+impl<T: Wait> Gate for Pace<T> {
+    fn pass(&self, worker: u32, _turn: u64) -> bool {
+        if worker == u32::MAX {
+            self.await_commands();
+        }
+        true
+    }
+
+    fn appended(&self, _worker: u32) {
+        self.wake_flusher();
+    }
+
+    fn is_full(&self, _worker: u32, mark: u64) {
+        self.await_mark(mark);
+    }
+
+    fn published(&self, mark: u64) {
+        self.raise(mark);
+    }
+}

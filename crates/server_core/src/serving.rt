@@ -1,0 +1,277 @@
+//! A server and its workers.
+
+ghost use Rattle.std.specs.Prelude.{◌≡◌, IfOk, OnOk};
+ghost use Rattle.std.specs.Arc.{arc_value};
+ghost use Rattle.std.proofs.Props.{props};
+ghost use Rattle.server_core.specs.Serving.{AreAt, IsReady};
+
+use crate::doorbell::BellRope;
+use crate::fault::ServeFault;
+use crate::pace::Pace;
+use crate::socket_stream::SocketStream;
+use claim_core::{BrokerRing, BrokerSeat, SEATS};
+use disk_core::FileDisk;
+use flush_core::{FlushFault, Flusher};
+use hub_core::{Hub, flush_loop, worker};
+use outbox_core::OutSender;
+use std::alloc::Global;
+use std::fs::{File, Files};
+use std::io::Write;
+use std::net::{Net, TcpListener, TcpStream};
+use std::sync::{Arc, Wait};
+use std::time::{Clock, Duration};
+use std::{io, thread};
+use ws_core::WsLink;
+
+type ServerHub = Hub<FileDisk, BellRope>;
+
+type ServerFlusher = Flusher<FileDisk, BellRope>;
+
+type ServerRing = BrokerRing<OutSender<BellRope>>;
+
+type ServerSeat = BrokerSeat<OutSender<BellRope>>;
+
+/// For how many milliseconds a worker rests where a connection was not accepted.
+const REST: u64 = 20;
+
+/// What the threads of a server share.
+#[derive(Drop)]
+pub struct Shared<R> {
+    rt: R,
+    ring: ServerRing,
+    listener: TcpListener,
+    pace: Pace<R>,
+}
+
+/// A server whose journal and port are open. It is the flusher, and has the seats of its workers until they are started.
+#[derive(Drop)]
+pub struct Server<R: Drop> {
+    shared: Arc<Shared<R>>,
+    port: u16,
+    seats: Vec<ServerSeat>,
+    flusher: ServerFlusher,
+    ghost ready: { IsReady (arc_value shared).ring flusher },
+    ghost seated: { AreAt (arc_value shared).ring seats.items } by { Prim.hlevel props },
+}
+
+/// A worker of a server, which serves one connection after another with a seat of its own.
+#[derive(Drop)]
+pub struct Worker<R: Drop> {
+    shared: Arc<Shared<R>>,
+    seat: ServerSeat,
+    ghost seated: { seat.ring ≡ (arc_value shared).ring },
+}
+
+impl<R> Server<R>
+where
+    R: Files<File = File> + Net<Listener = TcpListener, Stream = TcpStream> + Wait + Clone + Drop,
+{
+    /// Opens the journal in a file, and the port at 127.0.0.1. `CannotOpen` where the file or the port can't be opened,
+    /// `Opening` where the journal is refused.
+    pub fn open(alloc: Global, rt: &R, path: &str, port: u16) -> Result<Server<R>, ServeFault> {
+        match open_hub(alloc, rt, path) {
+            Ok(hub) => Server::over(alloc, rt, hub, port),
+            Err(fault) => Err(fault),
+        }
+    }
+
+    // A server over a hub that was just opened.
+    fn over(alloc: Global, rt: &R, hub: ServerHub, port: u16) -> Result<Server<R>, ServeFault> {
+        match TcpListener::bind(rt, ("127.0.0.1", port)) {
+            Ok(listener) => Server::listening(alloc, rt, hub, listener, port),
+            Err(_) => Err(ServeFault::CannotOpen),
+        }
+    }
+}
+
+impl<R: Wait + Clone + Drop> Server<R> {
+    // A server over a hub, which accepts connections there.
+    fn listening(
+        alloc: Global,
+        rt: &R,
+        hub: ServerHub,
+        listener: TcpListener,
+        port: u16,
+    ) -> Result<Server<R>, ServeFault> {
+        let mut hub = hub;
+        let mut seats = Vec::new(alloc);
+        match add_seats(&mut seats, &mut hub) {
+            Ok(()) => {}
+            Err(fault) => return Err(fault),
+        }
+        match hub.flusher() {
+            Some(flusher) => {
+                let ring = hub.into_ring();
+                Server::flushing(alloc, rt, ring, listener, port, seats, flusher)
+            }
+            None => Err(ServeFault::CannotOpen),
+        }
+    }
+
+    // The server, of all its parts.
+    fn flushing(
+        alloc: Global,
+        rt: &R,
+        ring: ServerRing,
+        listener: TcpListener,
+        port: u16,
+        seats: Vec<ServerSeat>,
+        flusher: ServerFlusher,
+    ) -> Result<Server<R>, ServeFault>
+        requires ready { IsReady ring flusher }
+        requires seated { AreAt ring seats.items }
+    {
+        match share(alloc, rt, ring, listener, flusher.mark()) {
+            Ok(shared) => Ok(Server {
+                shared,
+                port,
+                seats,
+                flusher,
+            }),
+            Err(fault) => Err(fault),
+        }
+    }
+}
+
+impl<R: Drop> Server<R> {
+    /// The next worker, which is to be run in a thread of its own; `None` once all 32 are handed out.
+    pub fn next_worker(&mut self) -> Result<Option<Worker<R>>, ServeFault> {
+        let Some(seat) = self.seats.pop() else {
+            return Ok(None);
+        };
+        Ok(Some(Worker {
+            shared: self.shared.clone()?,
+            seat,
+        }))
+    }
+}
+
+impl<R: Wait + Drop> Server<R> {
+    /// Writes `listening` and the port, and flushes until a step fails. Nothing more is acknowledged then.
+    pub fn run<W: Write>(self, alloc: Global, writer: &mut W) -> ServeFault {
+        let port = self.port;
+        if writeln!(writer, "listening {port}").is_err() || writer.flush().is_err() {
+            return ServeFault::Output;
+        }
+        let mut flusher = self.flusher;
+        let shared = self.shared;
+        match flush_loop(alloc, &shared.ring, &mut flusher, &shared.pace, u64::MAX) {
+            // No server lives for so many turns.
+            Ok(_) => ServeFault::Flushing(FlushFault::Broken),
+            Err(fault) => ServeFault::Flushing(fault),
+        }
+    }
+}
+
+impl<R: Net + Wait + Clock + Clone + Drop> Worker<R> {
+    /// Accepts a connection, serves it to its end, and accepts the next. It does not return.
+    pub fn run(self, alloc: Global) {
+        let shared = self.shared;
+        let mut seat = self.seat;
+        for _connection in shared.rt.forever() {
+            match shared.listener.accept() {
+                Ok((socket, _)) => serve_one(alloc, &shared, &mut seat, socket),
+                Err(_) => thread::sleep(&shared.rt, Duration::from_millis(REST)),
+            }
+        }
+    }
+}
+
+// The hub over the journal in a file.
+fn open_hub<R: Files<File = File>>(
+    alloc: Global,
+    rt: &R,
+    path: &str,
+) -> Result<ServerHub, ServeFault> {
+    let Ok(disk) = FileDisk::open(rt, path) else {
+        return Err(ServeFault::CannotOpen);
+    };
+    match Hub::open(alloc, disk) {
+        Ok(hub) => Ok(hub),
+        Err((_, fault)) => Err(ServeFault::Opening(fault)),
+    }
+}
+
+// Adds all seats of a hub, the first one first.
+fn add_seats(seats: &mut Vec<ServerSeat>, hub: &mut ServerHub) -> Result<(), ServeFault>
+    ensures ring { hub.new.ring ≡ hub.old.ring }
+    ensures seats { AreAt hub.old.ring seats.old.items → OnOk result (AreAt hub.old.ring seats.new.items) }
+{
+    for _seat in 0..SEATS {
+        match add_seat(seats, hub) {
+            Ok(()) => {}
+            Err(fault) => return Err(fault),
+        }
+    }
+    Ok(())
+}
+
+// Adds the hub's next seat, if there is one.
+fn add_seat(seats: &mut Vec<ServerSeat>, hub: &mut ServerHub) -> Result<(), ServeFault>
+    ensures ring { hub.new.ring ≡ hub.old.ring }
+    ensures seats { AreAt hub.old.ring seats.old.items → OnOk result (AreAt hub.old.ring seats.new.items) }
+{
+    let Some(seat) = hub.seat() else {
+        return Ok(());
+    };
+    match seats.push(seat) {
+        Ok(()) => Ok(()),
+        Err(_) => Err(ServeFault::Memory),
+    }
+}
+
+// What the threads share.
+fn share<R: Wait + Clone + Drop>(
+    alloc: Global,
+    rt: &R,
+    ring: ServerRing,
+    listener: TcpListener,
+    mark: u64,
+) -> Result<Arc<Shared<R>>, ServeFault>
+    ensures { IfOk result (λ shared. (arc_value shared).ring ≡ ring) }
+{
+    let mine = rt.clone()?;
+    let its = rt.clone()?;
+    let shared = Shared {
+        rt: mine,
+        ring,
+        listener,
+        pace: Pace::new(its, mark),
+    };
+    match Arc::new(alloc, shared) {
+        Ok(shared) => Ok(shared),
+        Err(_) => Err(ServeFault::Memory),
+    }
+}
+
+// Serves one connection to its end. One whose handshake fails is dropped.
+fn serve_one<R: Net + Wait + Clock + Clone + Drop>(
+    alloc: Global,
+    shared: &Shared<R>,
+    seat: &mut ServerSeat,
+    socket: TcpStream,
+)
+    requires { seat.old.ring ≡ shared.now.ring }
+    ensures { seat.new.ring ≡ seat.old.ring }
+{
+    let Ok((stream, rope)) = stream_of(alloc, &shared.rt, socket) else {
+        return;
+    };
+    let Ok(mut link) = WsLink::accept(alloc, stream) else {
+        return;
+    };
+    let ring = &shared.ring;
+    let _ended = worker(alloc, ring, seat, &mut link, &rope, &shared.pace, u64::MAX);
+}
+
+// The stream of a connection that was just accepted, and what wakes its reader.
+fn stream_of<R: Net + Clock + Clone + Drop>(
+    alloc: Global,
+    rt: &R,
+    socket: TcpStream,
+) -> io::Result<(SocketStream<R>, BellRope)> {
+    let rt = rt.clone()?;
+    let stream = SocketStream::new(alloc, rt, socket)?;
+    let rope = stream.rope()?;
+    Ok((stream, rope))
+}

@@ -1,0 +1,106 @@
+//! A socket that is read and written by one worker, which waits for it.
+
+use crate::doorbell::{BellRope, Doorbell};
+use mio::net::TcpStream;
+use mio::{Events, Interest, Poll, Token};
+use std::alloc::Global;
+use std::io::{ErrorKind, Read, Write};
+use std::rt::Net;
+use std::sync::Arc;
+use std::time::{Clock, Duration, Instant};
+use std::{io, net};
+
+/// How many seconds a read waits at most, before it says that there is nothing. A client has that long between two parts
+/// of its handshake. Nothing else waits for this to end: a doorbell ends the wait where there is something to send.
+pub const LONGEST_READ: u64 = 20;
+
+/// For how many seconds a client may take nothing of what is written, before its connection is given up.
+pub const LONGEST_WRITE: u64 = 10;
+
+const SOCKET: Token = Token(0);
+
+const BELL: Token = Token(1);
+
+/// A connected socket, with what its worker waits by.
+///
+/// A read waits until the socket has bytes or has ended, the doorbell was rung, or the time is up; in the last two cases it
+/// fails with `WouldBlock`. A write waits until the socket takes bytes, for a bounded time; then it fails with `TimedOut`.
+#[derive(Drop)]
+pub struct SocketStream<T> {
+    socket: TcpStream,
+    poll: Poll,
+    events: Events<Global>,
+    bell: Arc<Doorbell>,
+    clock: T,
+}
+
+impl<T: Net + Clock + Drop> SocketStream<T> {
+    /// The stream of a socket that was just accepted. What is written leaves at once (no delay by Nagle's algorithm).
+    pub fn new(alloc: Global, rt: T, socket: net::TcpStream) -> io::Result<SocketStream<T>> {
+        socket.set_nodelay(true)?;
+        socket.set_nonblocking(true)?;
+        let poll = Poll::new(&rt)?;
+        let mut socket = TcpStream::from_std(socket);
+        let interests = Interest::READABLE | Interest::WRITABLE;
+        poll.registry().register(&mut socket, SOCKET, interests)?;
+        let bell = Doorbell::new(poll.registry(), BELL)?;
+        Ok(SocketStream {
+            socket,
+            poll,
+            events: Events::with_capacity(alloc, 4)?,
+            bell: Arc::new(alloc, bell)?,
+            clock: rt,
+        })
+    }
+
+    /// What ends a wait of its reads.
+    pub fn rope(&self) -> io::Result<BellRope> {
+        Ok(BellRope::new(self.bell.clone()?))
+    }
+
+    // Waits until the socket takes bytes again, or the time is up.
+    fn wait_to_write(&mut self) -> io::Result<()> {
+        let start = Instant::now(&self.clock)?;
+        for _event in 0..u64::MAX {
+            let waited = start.elapsed(&self.clock)?;
+            let Some(left) = Duration::from_secs(LONGEST_WRITE).checked_sub(waited) else {
+                break;
+            };
+            self.poll.poll(&mut self.events, Some(left))?;
+            if self.events.iter().any(|event| event.is_writable()) {
+                return Ok(());
+            }
+        }
+        Err(io::Error::from(ErrorKind::TimedOut))
+    }
+}
+
+impl<T: Net + Clock + Drop> Read for SocketStream<T> {
+    fn read(&mut self, buf: &mut [u8]) -> io::Result<usize> {
+        match self.socket.read(buf) {
+            Err(error) if error.kind() == ErrorKind::WouldBlock => {}
+            outcome => return outcome,
+        }
+        if self.bell.falls_asleep() {
+            self.poll
+                .poll(&mut self.events, Some(Duration::from_secs(LONGEST_READ)))?;
+        }
+        self.bell.wakes_up();
+        self.socket.read(buf)
+    }
+}
+
+impl<T: Net + Clock + Drop> Write for SocketStream<T> {
+    fn write(&mut self, buf: &[u8]) -> io::Result<usize> {
+        match self.socket.write(buf) {
+            Err(error) if error.kind() == ErrorKind::WouldBlock => {}
+            outcome => return outcome,
+        }
+        self.wait_to_write()?;
+        self.socket.write(buf)
+    }
+
+    fn flush(&mut self) -> io::Result<()> {
+        Ok(())
+    }
+}

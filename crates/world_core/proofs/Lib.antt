@@ -1,0 +1,10 @@
+pub mod Answered
+pub mod Calling
+pub mod DeviceCalls
+pub mod Logs
+pub mod Patching
+pub mod Readings
+pub mod Recovered
+pub mod Schedules
+pub mod SessionEvents
+pub mod Shown

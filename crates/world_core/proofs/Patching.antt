@@ -1,0 +1,113 @@
+-- What is written is what the definitions say.
+use Rattle.std.proofs.Common.{◌≡◌, ℕ, zero, suc, ◌+◌, ◌-◌, ◌<◌, ◌≤◌, List, [], ◌∷◌, Bool, true, false, not, Option, Some, None, IfSome, Vec, Global, Result, IfOk, length, take, drop, slice_index, refl, sym, ◌∙◌, ap, subst, arith}
+use Rattle.command_core.specs.Commands.{CommandValue}
+use Rattle.command_core.specs.Entries.{EntryValue}
+use Rattle.broker_core.specs.Operations.{restarted}
+use Rattle.snapshot_core.specs.Snapshots.{snapshot_of}
+use Rattle.area_core.specs.Areas.{closed, commands, records}
+use Rattle.area_core.specs.Journals.{is_odd, other, start}
+use Rattle.area_core.proofs.Areas.{length-closed}
+use Rattle.area_core.proofs.Journals.{start_most}
+use Rattle.world_core.specs.declared.patches.Patch.{Patch}
+use Rattle.world_core.specs.declared.place.Place.{Place}
+use Rattle.world_core.specs.declared.place.Place.TheVariants.{Rest, Broken, BlockWritten, BlockSynced, GateWritten, OpenSynced, OpenRead, SnapshotWritten, SnapshotSynced, SelectorWritten, Opened}
+use Rattle.world_core.specs.Calls.{CanRestart, MayLead, batch, gate_of, idle_of, patch, patch_to}
+use Rattle.world_core.specs.Keeping.{IsKept}
+use Rattle.world_core.specs.Readings.{IsRead, Reading}
+use Rattle.world_core.specs.Recoveries.{IsReadable}
+use Rattle.world_core.specs.Touches.{IsDue, IsNoPatch, IsPatch}
+use Rattle.world_core.specs.Worlds.{WorldValue, between}
+use Rattle.world_core.proofs.DeviceCalls.{is_content}
+use Rattle.world_core.proofs.Readings.{gate_within}
+
+-- what is read of the disk
+pub here : (w : WorldValue) → IsKept w → IsReadable w.disk.size w.disk.content
+here w k = let f = k.images w.disk.content (is_content w.disk.content w.disk.held) in record { reading = f.reading; is_read = f.is_read }
+
+pub gate_low : (w : WorldValue) → IsKept w → (gate : ℕ) → ((r : Reading) → IsRead w.disk.size w.disk.content r → gate ≡ r.gate) → gate < w.disk.size
+gate_low w k gate is =
+    let x = here w k in
+    omega (arith, is x.reading x.is_read, gate_within w.disk.size w.disk.content x.reading x.is_read)
+
+commands_drop : {B : Type 0} (n : ℕ) (es : List (EntryValue B)) → commands (drop n es) ≡ drop n (commands es)
+commands_drop zero es = refl
+commands_drop (suc n) [] = refl
+commands_drop (suc n) (e ∷ es) = commands_drop n es
+
+commands_take : {B : Type 0} (n : ℕ) (es : List (EntryValue B)) → commands (take n es) ≡ take n (commands es)
+commands_take zero es = refl
+commands_take (suc n) [] = refl
+commands_take (suc n) (e ∷ es) = ap (λ (l : List CommandValue). e.command ∷ l) (commands_take n es)
+
+-- a part of the entries has a part of the commands
+pub batch_is : {B : Type 0} (base low high n : ℕ) (es : List (EntryValue B)) → n ≡ high - low → commands (take n (drop (low - base) es)) ≡ between base (commands es) low high
+batch_is base low high n es is =
+    commands_take n (drop (low - base) es)
+    ∙ ap (λ (l : List CommandValue). take n l) (commands_drop (low - base) es)
+    ∙ ap (λ (m : ℕ). take m (drop (low - base) (commands es))) is
+
+-- a patch is one where offset and bytes are the same
+pub patch_is : (a b : ℕ) (p q : List ℕ) → a ≡ b → p ≡ q → patch a p ≡ patch b q
+patch_is a b p q at bytes = λ i. patch (at i) (bytes i)
+
+pub block_is : (w : WorldValue) (to gate at : ℕ) (found bytes : List ℕ) → w.stored < to → ((r : Reading) → IsRead w.disk.size w.disk.content r → gate ≡ r.gate)
+    → found ≡ records (batch w to) → gate + 10 + length found ≤ w.disk.size → at ≡ start w.disk.size (is_odd (slice_index w.disk.content 16)) + gate + 1 → bytes ≡ closed found → IsPatch w (BlockWritten to) at bytes
+block_is w to gate at found bytes some gates is fits place closes r x = (
+  record { some = some; fits = omega (arith, fits, gates r x, ap (λ (l : List ℕ). length l) is) },
+  patch_is at (gate_of w.disk r + 1) bytes (closed (records (batch w to))) (omega (arith, place, gates r x)) (closes ∙ ap (λ (l : List ℕ). closed l) is),
+)
+
+pub too_long_block : (w : WorldValue) (to gate : ℕ) (found : List ℕ) → ((r : Reading) → IsRead w.disk.size w.disk.content r → gate ≡ r.gate) → found ≡ records (batch w to) → w.disk.size < gate + 10 + length found → IsNoPatch w (BlockWritten to)
+too_long_block w to gate found gates is long r x may = omega (arith, long, may.fits, gates r x, ap (λ (l : List ℕ). length l) is)
+
+pub nothing_to_store : (w : WorldValue) (to : ℕ) → to ≤ w.stored → IsNoPatch w (BlockWritten to)
+nothing_to_store w to none r x may = omega (arith, none, may.some)
+
+pub gate_patch_is : (w : WorldValue) (to gate at : ℕ) (bytes : List ℕ) → ((r : Reading) → IsRead w.disk.size w.disk.content r → gate ≡ r.gate)
+    → at ≡ start w.disk.size (is_odd (slice_index w.disk.content 16)) + gate → bytes ≡ 1 ∷ [] → IsPatch w (GateWritten to) at bytes
+gate_patch_is w to gate at bytes gates place is r x = (tt, patch_is at (gate_of w.disk r) bytes (1 ∷ []) (omega (arith, place, gates r x)) is)
+
+pub snapshot_is : (w : WorldValue) (at : ℕ) (second : Bool) (snapshot bytes : List ℕ) → ((r : Reading) → IsRead w.disk.size w.disk.content r → CanRestart w.disk.size r × (snapshot ≡ snapshot_of (restarted r.state)))
+    → at ≡ start w.disk.size second → second ≡ other (is_odd (slice_index w.disk.content 16)) → bytes ≡ closed snapshot → IsPatch w SnapshotWritten at bytes
+snapshot_is w at second snapshot bytes can place idle closes r x =
+    let both = can r x in
+    (both.0, patch_is at (idle_of w.disk) bytes (closed (snapshot_of (restarted r.state))) (place ∙ ap (λ (b : Bool). start w.disk.size b) idle) (closes ∙ ap (λ (l : List ℕ). closed l) both.1))
+
+-- what is written lies within the disk
+pub patch_fits : (w : WorldValue) → IsKept w → (to : Place) (r : Reading) → IsRead w.disk.size w.disk.content r → MayLead w r to → (patch_to w r to).at + length (patch_to w r to).bytes ≤ length w.disk.content
+patch_fits w k (BlockWritten to) r x may = omega (arith, k.size, may.fits, length-closed (records (batch w to)), start_most w.disk.size (is_odd (slice_index w.disk.content 16)))
+patch_fits w k (GateWritten to) r x may = omega (arith, k.size, gate_within w.disk.size w.disk.content r x, start_most w.disk.size (is_odd (slice_index w.disk.content 16)))
+patch_fits w k SnapshotWritten r x may = omega (arith, k.size, may.fits, length-closed (snapshot_of (restarted r.state)), start_most w.disk.size (other (is_odd (slice_index w.disk.content 16))))
+patch_fits w k SelectorWritten r x may = omega (arith, k.size)
+patch_fits w k Rest r x may = omega arith
+patch_fits w k Broken r x may = omega arith
+patch_fits w k (BlockSynced to) r x may = omega arith
+patch_fits w k OpenSynced r x may = omega arith
+patch_fits w k OpenRead r x may = omega arith
+patch_fits w k SnapshotSynced r x may = omega arith
+patch_fits w k Opened r x may = omega arith
+
+-- the place that is due
+
+pub due_is : (w : WorldValue) (to : Place) (n : ℕ) → to ≡ BlockWritten n → IsDue w to → to ≡ BlockWritten w.taken
+due_is w to n is due = is ∙ ap (λ (m : ℕ). BlockWritten m) (subst (λ (p : Place). IsDue w p) is due)
+
+pub some_moves : {E : Type 0} (w : WorldValue) (p q : Place) (r : Result (Option Patch) E) → p ≡ q → IfOk r (λ found. IfSome found (λ x. IsPatch w q x.at x.bytes.items)) → IfOk r (λ found. IfSome found (λ x. IsPatch w p x.at x.bytes.items))
+some_moves w p q r is some = subst (λ (z : Place). IfOk r (λ found. IfSome found (λ x. IsPatch w z x.at x.bytes.items))) (sym is) some
+
+pub none_moves : {E : Type 0} (w : WorldValue) (p q : Place) (r : Result (Option Patch) E) → p ≡ q → IfOk r (λ found. found ≡ None → IsNoPatch w q) → IfOk r (λ found. found ≡ None → IsNoPatch w p)
+none_moves w p q r is none = subst (λ (z : Place). IfOk r (λ found. found ≡ None → IsNoPatch w z)) (sym is) none
+
+pub patch_moves : (w : WorldValue) (p q : Place) (x : Patch) → p ≡ q → IsPatch w q x.at x.bytes.items → IsPatch w p x.at x.bytes.items
+patch_moves w p q x is patch = subst (λ (z : Place). IsPatch w z x.at x.bytes.items) (sym is) patch
+
+pub not_other : (a b : Bool) → a ≡ b → not a ≡ other b
+not_other a true is = ap not is
+not_other a false is = ap not is
+
+pub found_snapshot : (o : Option (Vec ℕ Global)) (v : Vec ℕ Global) (size : ℕ) (c d : List ℕ) → o ≡ Some v → d ≡ c
+    → IfSome o (λ snapshot. (r : Reading) → IsRead size d r → CanRestart size r × (snapshot.items ≡ snapshot_of (restarted r.state)))
+    → (r : Reading) → IsRead size c r → CanRestart size r × (v.items ≡ snapshot_of (restarted r.state))
+found_snapshot o v size c d is same some =
+    subst (λ (q : Option (Vec ℕ Global)). IfSome q (λ snapshot. (r : Reading) → IsRead size c r → CanRestart size r × (snapshot.items ≡ snapshot_of (restarted r.state)))) is
+    (subst (λ (l : List ℕ). IfSome o (λ snapshot. (r : Reading) → IsRead size l r → CanRestart size r × (snapshot.items ≡ snapshot_of (restarted r.state)))) same some)

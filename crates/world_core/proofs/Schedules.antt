@@ -1,0 +1,178 @@
+-- Each world that a schedule reaches keeps what is kept.
+use Rattle.std.proofs.Common.{◌≡◌, ◌≤◌, ◌<◌, ◌+◌, ◌*◌, ℕ, Bool, true, false, List, [], ◌∷◌, ◌++◌, drop, length, replicate, Option, None, refl, sym, ◌∙◌, ap, subst, arith}
+use Rattle.std.proofs.lemmas.List.{length-replicate}
+use Rattle.std.proofs.lemmas.List.Elements.{All-nil, All-replicate}
+use Rattle.broker_core.specs.States.{empty_state}
+use Rattle.broker_laws.proofs.BoundNames.{empty_names}
+use Rattle.broker_laws.proofs.HeldLimits.{empty_held}
+use Rattle.broker_laws.proofs.Ordered.{empty_in_order}
+use Rattle.broker_laws.proofs.StateLines.{empty_lines}
+use Rattle.broker_laws.proofs.StateNumbers.{empty_numbers}
+use Rattle.broker_laws.proofs.SubscriptionLimits.{empty_limits}
+use Rattle.snapshot_core.specs.Snapshots.{Spells}
+use Rattle.disk_core.specs.Images.{IsImage, patched}
+use Rattle.disk_core.specs.Memory.{none_held}
+use Rattle.disk_core.proofs.Patched.{length-patched}
+use Rattle.disk_core.proofs.Synced.{only_content}
+use Rattle.disk_core.proofs.Torn.{torn_patched}
+use Rattle.area_core.specs.Areas.{IsArea, closed, first_snapshot, front}
+use Rattle.area_core.specs.Journals.{Reads, header}
+use Rattle.area_core.proofs.Formatted.{formatted as formatted_reads}
+use Rattle.recover_core.specs.Standing.{Leads}
+use Rattle.recover_core.proofs.Stores.{stands}
+use Rattle.world_core.specs.declared.event.Event.{Event}
+use Rattle.world_core.specs.declared.event.Event.TheVariants.{Look, Claim, Ready, Take, Device, Raise, Release, Stop, Crash, Open}
+use Rattle.world_core.specs.declared.seat.Seat.{Seat}
+use Rattle.world_core.specs.Answers.{Answers}
+use Rattle.world_core.specs.Events.{Possible, after}
+use Rattle.world_core.specs.Keeping.{IsKept}
+use Rattle.world_core.specs.Promises.{IsPrefixKept}
+use Rattle.world_core.specs.Readings.{IsRead, Reading}
+use Rattle.world_core.specs.Schedules.{Holds, Reaches, first, formatted, life_of, opened_once}
+use Rattle.world_core.specs.Worlds.{WorldValue}
+use Rattle.world_core.proofs.DeviceCalls.{crash_keeps, device_call_keeps, open_keeps}
+use Rattle.world_core.proofs.Readings.{idle_reads, idle_written, is_read, selector_written}
+use Rattle.world_core.proofs.SessionEvents.{claim_keeps, look_keeps, raise_keeps, ready_keeps, release_keeps, stop_keeps, take_keeps}
+
+-- schedules
+
+pub event_keeps : (w : WorldValue) → IsKept w → (r : Reading) → IsRead w.disk.size w.disk.content r → (e : Event) → Possible w r e → IsKept (after w r e)
+event_keeps w k r x (Look j) may = look_keeps w k r j
+event_keeps w k r x (Claim j command) may = claim_keeps w k r j command may.1
+event_keeps w k r x (Ready j) may = ready_keeps w k r j
+event_keeps w k r x Take may = take_keeps w k r may
+event_keeps w k r x (Device call) may = device_call_keeps w k r x call may
+event_keeps w k r x (Raise n) may = raise_keeps w k r n may
+event_keeps w k r x (Release j n) may = release_keeps w k r j n may
+event_keeps w k r x Stop may = stop_keeps w k r
+event_keeps w k r x (Crash image) may = crash_keeps w k r x image may
+event_keeps w k r x Open may = open_keeps w k r x may
+
+pub answered : (w v : WorldValue) (e : Event) (b : Bool) → IsKept w → Answers w e b v → IsKept v
+answered w v e true k a = subst IsKept (sym a.tells.1) (event_keeps w k a.reading a.is_read e a.tells.0)
+answered w v e false k a = subst IsKept (sym a.tells.1) k
+
+pub reached : (events : List Event) (w v : WorldValue) → IsKept w → Reaches w events v → IsKept v
+reached [] w v k same = subst IsKept (sym same) k
+reached (e ∷ events) w v k steps = reached events steps.1 v (answered w steps.1 e steps.0 k steps.2) steps.3
+
+-- what is kept is what is promised
+
+image_kept : (w : WorldValue) → IsKept w → (c : List ℕ) → IsImage w.disk.content w.disk.held c → IsPrefixKept (life_of w) c
+image_kept w k c image =
+    let f = k.images c image in
+    record {
+      number = f.number;
+      told = omega (arith, k.marked, f.stored);
+      taken = f.taken;
+      state = f.reading.state;
+      stands = stands w.disk.size f.is_read.selector f.is_read.snapshot f.is_read.blocks c f.reading.state f.is_read.reads f.is_read.leads;
+      same = f.same;
+      running = f.running;
+    }
+
+pub kept_holds : (w : WorldValue) → IsKept w → Holds w
+kept_holds w k = record { each = λ c image. ∣ image_kept w k c image ∣₁; claimed = k.taken; released = k.released; earlier = k.earlier }
+
+-- the first world
+
+spells_first : Spells first_snapshot empty_state
+spells_first = record {
+  sound = record { order = empty_in_order; subscriptions = empty_limits; names = empty_names; numbers = empty_numbers; lines = empty_lines; limits = empty_held };
+  form = record { count = omega arith; sessions = tt; few_sessions = omega arith; durables = tt; names = tt; queues = tt; subscriptions = tt; few_subscriptions = omega arith };
+  spelled = refl;
+}
+
+first_leads : Leads first_snapshot [] empty_state
+first_leads = record { first = empty_state; spells = spells_first; is = refl }
+
+abbrev pub nothing_read : Reading
+nothing_read = record { gate = length (front first_snapshot []); state = empty_state }
+
+module _ (size : ℕ) (least : 4096 ≤ size) (most : size ≤ 1048576) where
+  abbrev zeros : List ℕ
+  zeros = replicate (32 + 2 * size) 0
+
+  abbrev ends : List ℕ
+  ends = closed first_snapshot
+
+  abbrev head : List ℕ
+  head = header size ++ replicate 16 0
+
+  length-zeros : length zeros ≡ 32 + 2 * size
+  length-zeros = length-replicate (32 + 2 * size) 0
+
+  abbrev fronted : List ℕ
+  fronted = patched 32 ends zeros
+
+  length-fronted : length fronted ≡ 32 + 2 * size
+  length-fronted = length-patched 32 ends zeros (omega (arith, length-zeros)) ∙ length-zeros
+
+  pub length-formatted : length (formatted size) ≡ 32 + 2 * size
+  length-formatted = length-patched 0 head fronted (omega (arith, length-fronted)) ∙ length-fronted
+
+  formatted_is : Reads size 0 first_snapshot [] (formatted size)
+  formatted_is = formatted_reads size zeros head ends refl refl least (omega (arith, length-zeros)) (omega arith)
+
+  abbrev formatted_read : IsRead size (formatted size) nothing_read
+  formatted_read = is_read size 0 first_snapshot [] (formatted size) empty_state formatted_is first_leads
+
+  abbrev second : List ℕ
+  second = patched (32 + size) ends (formatted size)
+
+  length-second : length second ≡ 32 + 2 * size
+  length-second = length-patched (32 + size) ends (formatted size) (omega (arith, length-formatted)) ∙ length-formatted
+
+  second_is : Reads size 0 first_snapshot [] second
+  second_is = idle_reads size (formatted size) nothing_read formatted_read (length ends) second (omega arith)
+      (torn_patched (32 + size) (length ends) ends (formatted size) refl (omega (arith, length-formatted)))
+
+  abbrev second_read : IsRead size second nothing_read
+  second_read = is_read size 0 first_snapshot [] second empty_state second_is first_leads
+
+  second_idle : IsArea size first_snapshot [] (drop (32 + size) second)
+  second_idle = idle_written size (formatted size) nothing_read formatted_read first_snapshot (omega arith)
+
+  pub first_read : IsRead size (opened_once size) nothing_read
+  first_read = selector_written size second nothing_read second_read first_snapshot empty_state spells_first second_idle
+
+  pub length-opened : length (opened_once size) ≡ 32 + 2 * size
+  length-opened = length-patched 16 (1 ∷ []) second (omega (arith, length-second)) ∙ length-second
+
+  first_still : (c : List ℕ) → IsImage (opened_once size) (none_held (32 + 2 * size)) c → c ≡ opened_once size
+  first_still c image = only_content (opened_once size) (32 + 2 * size) length-opened c image
+
+  pub first_kept : IsKept (first size)
+  first_kept = record {
+    least = least;
+    most = most;
+    size = length-opened;
+    held = omega (arith, length-opened, length-replicate (32 + 2 * size) (none_byte));
+    opened = refl;
+    low = omega arith;
+    begun = omega arith;
+    marked = omega arith;
+    stored = omega arith;
+    taken = omega arith;
+    flags = refl;
+    forms = tt;
+    seen = All-replicate (λ (seat : Seat). seat.seen ≤ 0) 32 (record { own = []; seen = 0 }) (omega arith);
+    released = All-nil (λ n. n < 0);
+    earlier = All-nil (λ n. n < 0);
+    images = λ c image. record {
+      number = 0;
+      stored = omega arith;
+      taken = omega arith;
+      reading = nothing_read;
+      is_read = subst (λ (l : List ℕ). IsRead size l nothing_read) (sym (first_still c image)) first_read;
+      same = refl;
+      running = λ q. refl;
+    };
+    at = (ap (λ (n : ℕ). none_held n) (sym length-opened), record { running = refl; reading = nothing_read; is_read = first_read; state = refl });
+  }
+    where
+      none_byte : Option ℕ
+      none_byte = None
+
+pub every : (size : ℕ) (events : List Event) (w : WorldValue) → 4096 ≤ size → size ≤ 1048576 → Reaches (first size) events w → Holds w
+every size events w least most steps = kept_holds w (reached events (first size) w (first_kept size least most) steps)

@@ -1,0 +1,12 @@
+pub mod Answers
+pub mod Calls
+pub mod Events
+pub mod Keeping
+pub mod Limits
+pub mod Parts
+pub mod Promises
+pub mod Readings
+pub mod Recoveries
+pub mod Schedules
+pub mod Touches
+pub mod Worlds

@@ -1,0 +1,24 @@
+-- What is read of a disk on the way.
+use Rattle.std.specs.Prelude.{ℕ, List}
+use Rattle.command_core.specs.Commands.{CommandValue}
+use Rattle.area_core.specs.declared.area.Area.{Area}
+use Rattle.area_core.specs.Held.{IsAt}
+use Rattle.area_core.specs.Reading.{IsPast}
+use Rattle.world_core.specs.Readings.{IsRead, Reading}
+
+-- these bytes are a journal with areas of this length
+pub record IsReadable (size : ℕ) (content : List ℕ) : Type 0 where
+  pub reading : Reading
+  pub is_read : IsRead size content reading
+
+-- the live area begins with some blocks, and the next gate is where the area that is held says
+pub record HasPassed (area : Area) (content : List ℕ) : Type 0 where
+  pub snapshot : List ℕ
+  pub blocks : List (List CommandValue)
+  pub past : IsPast area snapshot blocks content
+
+-- these are all, and that gate is closed
+pub record HasEnded (area : Area) (content : List ℕ) : Type 0 where
+  pub snapshot : List ℕ
+  pub blocks : List (List CommandValue)
+  pub at : IsAt area snapshot blocks content

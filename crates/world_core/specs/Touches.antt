@@ -1,0 +1,32 @@
+-- What the parts of a world do for a call of the device.
+use Rattle.std.specs.Prelude.{◌≡◌, ℕ, List, Bool, MatchBool}
+use Rattle.broker_core.specs.States.{State}
+use Rattle.world_core.specs.declared.event.CallKind.{CallKind}
+use Rattle.world_core.specs.declared.place.Place.{Place}
+use Rattle.world_core.specs.declared.place.Place.TheVariants.{BlockWritten}
+use Rattle.world_core.specs.Calls.{MayLead, disk_after, patch, patch_to, with_disk}
+use Rattle.world_core.specs.Events.{reopened}
+use Rattle.world_core.specs.Readings.{IsRead, Reading}
+use Rattle.world_core.specs.Worlds.{WorldValue}
+
+-- a block has all that is taken
+abbrev pub IsDue : WorldValue → Place → Type 0
+IsDue w (BlockWritten to) = to ≡ w.taken
+IsDue w to = Unit {0}
+
+-- the write that leads there may come, and writes these bytes at that offset, whatever is read of the disk
+abbrev pub IsPatch : WorldValue → Place → ℕ → List ℕ → Type 0
+IsPatch w to at bytes = (r : Reading) → IsRead w.disk.size w.disk.content r → MayLead w r to × (patch at bytes ≡ patch_to w r to)
+
+-- it may not come
+abbrev pub IsNoPatch : WorldValue → Place → Type 0
+IsNoPatch w to = (r : Reading) → IsRead w.disk.size w.disk.content r → MayLead w r to → ⊥
+
+-- the call is made on the disk, or may not come
+abbrev pub IsTouched : WorldValue → CallKind → Bool → Place → Bool → WorldValue → Type 0
+IsTouched old kind ok to answer new =
+    (r : Reading) → IsRead old.disk.size old.disk.content r → MatchBool answer (MayLead old r to × (new ≡ with_disk old (disk_after old r kind ok to))) ((MayLead old r to → ⊥) × (new ≡ old))
+
+-- a new life, where the released numbers have gone to the earlier ones
+abbrev pub begun : WorldValue → State → WorldValue
+begun w s = record (reopened w s) { earlier = w.earlier }

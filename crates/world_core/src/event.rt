@@ -1,0 +1,60 @@
+//! What may happen next in a world.
+
+use command_core::Command;
+use frame_core::Bytes;
+
+/// A list of device calls.
+#[derive(Clone, Copy, Debug, PartialEq, Eq)]
+pub enum CallList {
+    /// A block is added: written, synced, and its gate written and synced.
+    Append,
+    /// A snapshot of the state as it is is written. As a list of its own it is not made yet.
+    Snapshot,
+    /// The selector is written. As a list of its own it is not made yet.
+    Switch,
+    /// A journal is opened: a sync, reads, a snapshot of what a restart leaves written and synced, the selector written and
+    /// synced.
+    Open,
+}
+
+/// A device call.
+#[derive(Clone, Copy, Debug, PartialEq, Eq)]
+pub enum CallKind {
+    Read,
+    Write,
+    Sync,
+}
+
+/// The next call of a list, and whether it succeeds. A write that fails leaves its range unsynced; a sync that fails makes
+/// nothing stable.
+#[derive(Clone, Copy, Debug, PartialEq, Eq)]
+pub struct Call {
+    pub list: CallList,
+    pub kind: CallKind,
+    pub ok: bool,
+}
+
+/// An event. Sessions are named by the numbers of their seats, from 0.
+#[derive(Drop)]
+pub enum Event {
+    /// A session reads the mark.
+    Look(usize),
+    /// A session claims the next number for a command.
+    Claim(usize, Command),
+    /// A session's last command is ready to be taken.
+    Ready(usize),
+    /// The flusher takes the next command.
+    Take,
+    /// The flusher, or one that opens the journal, calls the device.
+    Device(Call),
+    /// The flusher raises the mark to a number.
+    Raise(u64),
+    /// A session releases what waits for a number.
+    Release(usize, u64),
+    /// The flusher stops the ring.
+    Stop,
+    /// All stops, and the disk is started again with these bytes.
+    Crash(Bytes),
+    /// Opening the journal has ended, and a new life begins.
+    Open,
+}

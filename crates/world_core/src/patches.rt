@@ -1,0 +1,160 @@
+//! What the writes of the lists write.
+
+ghost use Rattle.std.specs.Prelude.{◌≡◌, ◌+◌, ◌<◌, ◌≤◌, IfOk, IfSome, None, length, slice_index};
+ghost use Rattle.area_core.specs.Areas.{closed, commands, records};
+ghost use Rattle.area_core.specs.Journals.{is_odd, start};
+ghost use Rattle.world_core.specs.Calls.{batch};
+ghost use Rattle.world_core.specs.Keeping.{IsKept};
+ghost use Rattle.world_core.specs.Parts.{value_of};
+ghost use Rattle.world_core.specs.Readings.{IsRead, Reading};
+ghost use Rattle.world_core.specs.Touches.{IsDue, IsNoPatch, IsPatch};
+
+use crate::Place;
+use crate::parts::Parts;
+use crate::recovering::{gate_in, restarted_snapshot};
+use command_core::Entry;
+use std::alloc::{AllocError, Global};
+
+// Bytes, and where they are to be written.
+#[derive(Drop)]
+pub(crate) struct Patch {
+    pub(crate) at: usize,
+    pub(crate) bytes: Vec<u8>,
+}
+
+// The records of entries, one behind the other.
+fn records_of(alloc: Global, entries: &[Entry<()>]) -> Result<Vec<u8>, AllocError>
+    ensures { IfOk result (λ bytes. bytes.items ≡ records (commands entries.now)) }
+{
+    let mut out = Vec::new(alloc);
+    for entry in entries {
+        out.extend_from_slice(entry.bytes())?;
+    }
+    Ok(out)
+}
+
+// How many bytes these are, in eight, the bytes, and a closed gate.
+pub(crate) fn closed(alloc: Global, bytes: &[u8]) -> Result<Vec<u8>, AllocError>
+    ensures { IfOk result (λ out. out.items ≡ closed bytes.now) }
+{
+    let mut out = Vec::new(alloc);
+    out.extend_from_slice(&(bytes.len() as u64).to_be_bytes())?;
+    out.extend_from_slice(bytes)?;
+    out.push(0)?;
+    Ok(out)
+}
+
+// Where the first or the second of two areas of so many bytes begins.
+fn area_begins(size: u64, second: bool) -> usize
+    requires { size ≤ 1048576 }
+    ensures at { result ≡ start size second }
+    ensures low { result ≤ 32 + size }
+{
+    if second { 32 + size as usize } else { 32 }
+}
+
+impl Parts {
+    fn is_second_live(&self) -> bool
+        requires { IsKept (value_of self.now) }
+        ensures { result ≡ is_odd (slice_index self.now.content.items 16) }
+    {
+        self.content[16] % 2 == 1
+    }
+
+    // Where the first closed gate of the live area is, from the area's first byte on.
+    fn gate(&self, alloc: Global) -> Result<u64, AllocError>
+        requires { IsKept (value_of self.now) }
+        ensures is { IfOk result (λ gate. (r : Reading) → IsRead self.now.size self.now.content.items r → gate ≡ r.gate) }
+        ensures within { IfOk result (λ gate. gate < self.now.size) }
+    {
+        let gate = gate_in(alloc, &self.content)?;
+        Ok(gate)
+    }
+
+    // The records of what is taken and not stored.
+    fn batch_records(&self, alloc: Global) -> Result<Vec<u8>, AllocError>
+        requires kept { IsKept (value_of self.now) }
+        ensures { IfOk result (λ bytes. bytes.items ≡ records (batch (value_of self.now) self.now.taken)) }
+    {
+        let from = (self.stored - self.base) as usize;
+        let to = (self.taken - self.base) as usize;
+        let records = records_of(alloc, &self.history[from..to])?;
+        Ok(records)
+    }
+
+    fn block_patch(&self, alloc: Global) -> Result<Option<Patch>, AllocError>
+        requires { IsKept (value_of self.now) }
+        ensures some { IfOk result (λ found. IfSome found (λ p. IsPatch (value_of self.now) (Place.BlockWritten self.now.taken) p.at p.bytes.items)) }
+        ensures none { IfOk result (λ found. found ≡ None → IsNoPatch (value_of self.now) (Place.BlockWritten self.now.taken)) }
+    {
+        if self.stored >= self.taken {
+            return Ok(None);
+        }
+        let gate = self.gate(alloc)?;
+        let records = self.batch_records(alloc)?;
+        if gate + 10 + records.len() as u64 > self.size {
+            return Ok(None);
+        }
+        let bytes = closed(alloc, &records)?;
+        let begins = area_begins(self.size, self.is_second_live());
+        Ok(Some(Patch {
+            at: begins + gate as usize + 1,
+            bytes,
+        }))
+    }
+
+    fn gate_patch(&self, alloc: Global, to: u64) -> Result<Patch, AllocError>
+        requires { IsKept (value_of self.now) }
+        ensures { IfOk result (λ p. IsPatch (value_of self.now) (Place.GateWritten to) p.at p.bytes.items) }
+    {
+        let gate = self.gate(alloc)?;
+        let bytes = Vec::from_slice(alloc, &[1])?;
+        let begins = area_begins(self.size, self.is_second_live());
+        Ok(Patch {
+            at: begins + gate as usize,
+            bytes,
+        })
+    }
+
+    fn snapshot_patch(&self, alloc: Global) -> Result<Option<Patch>, AllocError>
+        requires { IsKept (value_of self.now) }
+        ensures some { IfOk result (λ found. IfSome found (λ p. IsPatch (value_of self.now) Place.SnapshotWritten p.at p.bytes.items)) }
+        ensures none { IfOk result (λ found. found ≡ None → IsNoPatch (value_of self.now) Place.SnapshotWritten) }
+    {
+        let Some(snapshot) = restarted_snapshot(alloc, &self.content, self.size)? else {
+            return Ok(None);
+        };
+        let bytes = closed(alloc, &snapshot)?;
+        let begins = area_begins(self.size, !self.is_second_live());
+        Ok(Some(Patch { at: begins, bytes }))
+    }
+
+    fn selector_patch(&self, alloc: Global) -> Result<Patch, AllocError>
+        requires { IsKept (value_of self.now) }
+        ensures { IfOk result (λ p. IsPatch (value_of self.now) Place.SelectorWritten p.at p.bytes.items) }
+    {
+        Ok(Patch {
+            at: 16,
+            bytes: Vec::from_slice(alloc, &[self.content[16].wrapping_add(1)])?,
+        })
+    }
+
+    // What the write that leads to a place writes, or none where it may not come.
+    pub(crate) fn patch(&self, alloc: Global, to: Place) -> Result<Option<Patch>, AllocError>
+        requires kept { IsKept (value_of self.now) }
+        requires due { IsDue (value_of self.now) to }
+        ensures some { IfOk result (λ found. IfSome found (λ p. IsPatch (value_of self.now) to p.at p.bytes.items)) }
+        ensures none { IfOk result (λ found. found ≡ None → IsNoPatch (value_of self.now) to) }
+    {
+        match to {
+            Place::BlockWritten(_) => self.block_patch(alloc),
+            Place::GateWritten(to) => Ok(Some(self.gate_patch(alloc, to)?)),
+            Place::SnapshotWritten => self.snapshot_patch(alloc),
+            Place::SelectorWritten => Ok(Some(self.selector_patch(alloc)?)),
+            _ => Ok(Some(Patch {
+                at: 0,
+                bytes: Vec::new(alloc),
+            })),
+        }
+    }
+}

@@ -1,0 +1,188 @@
+//! Events of sessions and of the flusher on the parts of a world.
+
+ghost use Rattle.std.specs.Prelude.{◌≡◌, ◌↔◌, ◌<◌, IfOk, IsSomeAnd, IsTrue, OnErr, OnOk, length, slice_get, vec_capacity};
+ghost use Rattle.area_core.specs.Areas.{HasRecord};
+ghost use Rattle.world_core.specs.Answers.{IsTold};
+ghost use Rattle.world_core.specs.Events.{CanClaim, IsReady, MayClaim, last_of, with_number};
+ghost use Rattle.world_core.specs.Keeping.{IsKept};
+ghost use Rattle.world_core.specs.Parts.{value_of};
+
+use crate::bytes::{is_image, release};
+use crate::parts::{Parts, are_there, is_clear, is_running, is_set};
+use crate::{Event, Phase, Place, Seat};
+use command_core::{Command, Entry};
+use frame_core::Bytes;
+use std::alloc::{AllocError, Global};
+
+// A seat claims only while fewer of its commands than these are not under the mark that it saw.
+const WINDOW: usize = 8;
+
+// A seat that saw a mark so high claims nothing more.
+const FAR: u64 = 1 << 60;
+
+// The command with its record, which shows that it has one.
+fn entry_of(alloc: Global, command: Command) -> Result<Entry<()>, AllocError>
+    ensures command { IfOk result (λ entry. entry.command ≡ command) }
+    ensures form { IfOk result (λ _. HasRecord command) }
+{
+    match Entry::new(alloc, command, None) {
+        Ok(entry) => {
+            let _record = entry.bytes();
+            Ok(entry)
+        }
+        Err(_) => Err(AllocError),
+    }
+}
+
+impl Parts {
+    pub(crate) fn look(&mut self, j: usize) -> bool
+        ensures { IsTold (value_of self.old) (Event.Look j) result (value_of self.new) }
+    {
+        if !are_there(self.phase) || j >= self.seats.len() {
+            return false;
+        }
+        self.seats[j].seen = self.mark;
+        true
+    }
+
+    fn is_last_ready(&self, seat: &Seat) -> bool
+        ensures { IsTrue result ↔ IsReady (value_of self.now) (last_of seat.now.own) }
+    {
+        match seat.own.last() {
+            Some(number) => is_set(&self.ready, number.saturating_sub(self.base) as usize),
+            None => true,
+        }
+    }
+
+    fn may_claim(&self, j: usize) -> bool
+        requires { j < length self.now.seats.items }
+        ensures { IsTrue result ↔ IsSomeAnd (slice_get self.now.seats.items j) (MayClaim (value_of self.now)) }
+    {
+        let seat = &self.seats[j];
+        seat.seen < FAR && seat.open() < WINDOW && self.is_last_ready(seat)
+    }
+
+    fn can_claim(&self, j: usize) -> bool
+        ensures { IsTrue result ↔ CanClaim (value_of self.now) j }
+    {
+        if !is_running(self.phase) || j >= self.seats.len() {
+            return false;
+        }
+        self.may_claim(j)
+    }
+
+    // The seat has one number more, which is not ready, and there is room for its entry.
+    fn note_claim(&mut self, j: usize) -> Result<(), AllocError>
+        requires kept { IsKept (value_of self.old) }
+        requires seat { j < length self.old.seats.items }
+        ensures ok { OnOk result (value_of self.new ≡ with_number (value_of self.old) j) }
+        ensures room { OnOk result (length self.new.history.items < vec_capacity self.new.history) }
+        ensures err { OnErr result (value_of self.new ≡ value_of self.old) }
+    {
+        self.history.reserve(1)?;
+        self.ready.reserve(1)?;
+        let number = self.base + self.history.len() as u64;
+        self.seats[j].own.add(number)?;
+        self.ready.push_reserved(false);
+        Ok(())
+    }
+
+    pub(crate) fn claim(
+        &mut self,
+        alloc: Global,
+        j: usize,
+        command: Command,
+    ) -> Result<bool, AllocError>
+        requires { IsKept (value_of self.old) }
+        ensures ok { IfOk result (λ answer. IsTold (value_of self.old) (Event.Claim j command) answer (value_of self.new)) }
+        ensures err { OnErr result (value_of self.new ≡ value_of self.old) }
+    {
+        if !self.can_claim(j) {
+            return Ok(false);
+        }
+        let entry = entry_of(alloc, command)?;
+        self.note_claim(j)?;
+        self.history.push_reserved(entry);
+        Ok(true)
+    }
+
+    pub(crate) fn ready(&mut self, j: usize) -> bool
+        ensures { IsTold (value_of self.old) (Event.Ready j) result (value_of self.new) }
+    {
+        if !is_running(self.phase) || j >= self.seats.len() {
+            return false;
+        }
+        let Some(number) = self.seats[j].own.last() else {
+            return false;
+        };
+        let at = number.saturating_sub(self.base) as usize;
+        if !is_clear(&self.ready, at) {
+            return false;
+        }
+        self.ready[at] = true;
+        true
+    }
+
+    pub(crate) fn take(&mut self) -> bool
+        requires { IsKept (value_of self.old) }
+        ensures { IsTold (value_of self.old) Event.Take result (value_of self.new) }
+    {
+        if !is_running(self.phase) {
+            return false;
+        }
+        let at = (self.taken - self.base) as usize;
+        if !is_set(&self.ready, at) {
+            return false;
+        }
+        self.taken += 1;
+        true
+    }
+
+    pub(crate) fn raise(&mut self, n: u64) -> bool
+        ensures { IsTold (value_of self.old) (Event.Raise n) result (value_of self.new) }
+    {
+        if !is_running(self.phase) || n < self.mark || self.stored < n {
+            return false;
+        }
+        self.mark = n;
+        true
+    }
+
+    pub(crate) fn release(&mut self, j: usize, n: u64) -> Result<bool, AllocError>
+        ensures ok { IfOk result (λ answer. IsTold (value_of self.old) (Event.Release j n) answer (value_of self.new)) }
+        ensures err { OnErr result (value_of self.new ≡ value_of self.old) }
+    {
+        if !are_there(self.phase) || j >= self.seats.len() {
+            return Ok(false);
+        }
+        if n >= self.seats[j].seen {
+            return Ok(false);
+        }
+        self.released.push(n)?;
+        Ok(true)
+    }
+
+    pub(crate) fn stop(&mut self) -> bool
+        ensures { IsTold (value_of self.old) Event.Stop result (value_of self.new) }
+    {
+        if !is_running(self.phase) {
+            return false;
+        }
+        self.stopped = true;
+        true
+    }
+
+    pub(crate) fn crash(&mut self, image: Bytes) -> bool
+        requires { IsKept (value_of self.old) }
+        ensures { IsTold (value_of self.old) (Event.Crash image) result (value_of self.new) }
+    {
+        if !is_image(&self.content, &self.held, image.as_slice()) {
+            return false;
+        }
+        self.content = image.into_vec();
+        release(&mut self.held);
+        self.phase = Phase::Crashed;
+        self.place = Place::Broken;
+        true
+    }
+}

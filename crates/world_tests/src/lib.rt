@@ -1,0 +1,16 @@
+//! Tests of worlds by their public face: single schedules, every schedule of a small bound with a stop at each place, and
+//! random events against a world that is computed slowly. They are a crate of their own, since a crate that has tests is
+//! proved twice.
+
+#![tactic(auto)]
+
+#[cfg(test)]
+mod random_tests;
+#[cfg(test)]
+mod schedule_tests;
+#[cfg(test)]
+mod schedules;
+#[cfg(test)]
+mod slow_world;
+#[cfg(test)]
+mod stop_tests;

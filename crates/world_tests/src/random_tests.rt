@@ -1,0 +1,162 @@
+//! Random events, wrong ones among them, against a world that is computed slowly.
+ghost use Rattle.std.specs.Prelude.{◌≢◌};
+
+use crate::schedules::{AREA, claim, image_of};
+use crate::slow_world::SlowWorld;
+use std::alloc::{AllocError, Global};
+use std::process::Abort;
+use std::test::Fail;
+use world_core::{Call, CallKind, CallList, Event, World};
+
+#[derive(Clone, Copy, Debug)]
+enum Pick {
+    Look(usize),
+    Claim(usize),
+    Ready(usize),
+    Take,
+    Device(Call),
+    Raise(u64),
+    Release(usize, u64),
+    Stop,
+    Crash(usize, u8),
+    Open,
+}
+
+// The next number of a fixed row.
+fn next(seed: &mut u64) -> u64 {
+    *seed = seed
+        .wrapping_mul(6_364_136_223_846_793_005)
+        .wrapping_add(1_442_695_040_888_963_407);
+    *seed / 4_294_967_296
+}
+
+// One in so many times.
+fn once_in(seed: &mut u64, times: u64) -> bool
+    requires { times ≢ 0 }
+{
+    next(seed) % times == 0
+}
+
+fn pick_call(seed: &mut u64, running: bool) -> Call {
+    let list = if once_in(seed, 40) {
+        CallList::Snapshot
+    } else if once_in(seed, 40) {
+        CallList::Switch
+    } else if running && !once_in(seed, 60) {
+        CallList::Append
+    } else {
+        CallList::Open
+    };
+    let kind = match next(seed) % 3 {
+        0 => CallKind::Read,
+        1 => CallKind::Write,
+        _ => CallKind::Sync,
+    };
+    Call {
+        list,
+        kind,
+        ok: !once_in(seed, 50),
+    }
+}
+
+// A byte of the disk: one that is unsynced, or any.
+fn pick_place(seed: &mut u64, slow: &SlowWorld) -> usize {
+    if once_in(seed, 4) {
+        return (next(seed) % (32 + 2 * AREA as u64)) as usize;
+    }
+    slow.unsynced.0.saturating_add((next(seed) % 20) as usize)
+}
+
+fn choose(seed: &mut u64, slow: &SlowWorld) -> Pick {
+    let seat = (next(seed) % 4) as usize;
+    match next(seed) % 40 {
+        0..=2 => Pick::Look(seat),
+        3..=7 => Pick::Claim(seat),
+        8..=12 => Pick::Ready(seat),
+        13..=16 => Pick::Take,
+        17..=32 => Pick::Device(pick_call(seed, slow.is_running())),
+        33 | 34 => Pick::Raise(slow.mark.saturating_add(next(seed) % 4)),
+        35 => Pick::Release(seat, slow.mark.saturating_sub(next(seed) % 3)),
+        36 => Pick::Stop,
+        37 if once_in(seed, 10) => Pick::Crash(pick_place(seed, slow), (next(seed) % 3) as u8),
+        38 => Pick::Look(32),
+        _ => Pick::Open,
+    }
+}
+
+fn apply_slowly(alloc: Global, slow: &mut SlowWorld, pick: Pick) -> Result<bool, AllocError> {
+    match pick {
+        Pick::Look(j) => Ok(slow.look(j)),
+        Pick::Claim(j) => slow.claim(j),
+        Pick::Ready(j) => Ok(slow.ready(j)),
+        Pick::Take => Ok(slow.take()),
+        Pick::Device(call) => slow.device(alloc, call),
+        Pick::Raise(n) => Ok(slow.raise(n)),
+        Pick::Release(j, n) => Ok(slow.release(j, n)),
+        Pick::Stop => Ok(slow.stop()),
+        Pick::Crash(at, byte) => Ok(slow.crash(at, byte)),
+        Pick::Open => Ok(slow.open()),
+    }
+}
+
+fn apply(alloc: Global, world: &mut World, pick: Pick) -> Result<bool, AllocError> {
+    match pick {
+        Pick::Look(j) => world.apply(Event::Look(j)),
+        Pick::Claim(j) => claim(world, j),
+        Pick::Ready(j) => world.apply(Event::Ready(j)),
+        Pick::Take => world.apply(Event::Take),
+        Pick::Device(call) => world.apply(Event::Device(call)),
+        Pick::Raise(n) => world.apply(Event::Raise(n)),
+        Pick::Release(j, n) => world.apply(Event::Release(j, n)),
+        Pick::Stop => world.apply(Event::Stop),
+        Pick::Crash(at, byte) => {
+            let crash = image_of(alloc, world, at, byte)?;
+            world.apply(crash)
+        }
+        Pick::Open => world.apply(Event::Open),
+    }
+}
+
+fn compare(rt: &impl Abort, world: &World, slow: &SlowWorld) {
+    assert_eq!(rt; world.base(), slow.base);
+    assert_eq!(rt; world.claimed(), slow.claimed());
+    assert_eq!(rt; world.taken(), slow.taken);
+    assert_eq!(rt; world.stored(), slow.stored);
+    assert_eq!(rt; world.mark(), slow.mark);
+}
+
+// So many events from that beginning of the row.
+fn run(rt: &impl Abort, alloc: Global, from: u64, events: u32) -> Result<(), AllocError> {
+    let mut world = World::new(alloc, 4_096)?;
+    let mut slow = SlowWorld::new(alloc, world.content())?;
+    let mut seed = from;
+    let mut possible = 0_u32;
+    for step in 0..events {
+        let pick = choose(&mut seed, &slow);
+        let wanted = apply_slowly(alloc, &mut slow, pick)?;
+        let answer = apply(alloc, &mut world, pick)?;
+        assert_eq!(rt; answer, wanted, "{step}: {pick:?}");
+        compare(rt, &world, &slow);
+        if answer {
+            possible = possible.saturating_add(1);
+            if let Pick::Device(_) | Pick::Crash(_, _) = pick {
+                assert!(rt;
+                    world.content() == slow.content.as_slice(),
+                    "{step}: {pick:?}"
+                );
+            }
+        }
+    }
+    assert!(rt;
+        possible > events / 10 && slow.base > 0,
+        "{possible}, {}",
+        slow.base
+    );
+    Ok(())
+}
+
+#[test]
+fn random_events_do_what_the_description_says(rt: HostRuntime) -> Result<(), Fail> {
+    run(&rt, rt.alloc(), 20_251_123, 100_000)?;
+    Ok(())
+}

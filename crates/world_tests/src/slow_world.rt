@@ -1,0 +1,330 @@
+//! A world computed slowly, by the description of events and of the journal's bytes. Its only command is an Open, whose
+//! record has 11 bytes.
+use crate::schedules::AREA;
+use std::alloc::{AllocError, Global};
+use world_core::{Call, CallKind, CallList, Phase, Place};
+
+/// The record of an Open without a client's name.
+const RECORD: [u8; 11] = [0, 0, 0, 0, 0, 0, 0, 0, 0, 1, 0];
+
+#[derive(Drop)]
+pub(crate) struct SlowSeat {
+    own: Vec<u64>,
+    seen: u64,
+}
+
+#[derive(Drop)]
+pub(crate) struct SlowWorld {
+    pub(crate) base: u64,
+    ready: Vec<bool>,
+    pub(crate) taken: u64,
+    pub(crate) stored: u64,
+    pub(crate) mark: u64,
+    seats: Vec<SlowSeat>,
+    phase: Phase,
+    place: Place,
+    pub(crate) content: Vec<u8>,
+    // The range that is unsynced, from one place up to another.
+    pub(crate) unsynced: (usize, usize),
+}
+
+fn number_at(bytes: &[u8], at: usize) -> u64 {
+    let mut number = 0_u64;
+    for i in 0..8 {
+        let byte = byte_at(bytes, at.saturating_add(i));
+        number = number.wrapping_mul(256).wrapping_add(u64::from(byte));
+    }
+    number
+}
+
+fn byte_at(bytes: &[u8], at: usize) -> u8 {
+    if at < bytes.len() { bytes[at] } else { 0 }
+}
+
+impl SlowWorld {
+    /// The world of these bytes, at its beginning.
+    pub(crate) fn new(alloc: Global, content: &[u8]) -> Result<SlowWorld, AllocError> {
+        let mut seats = Vec::new(alloc);
+        for _ in 0..32 {
+            seats.push(SlowSeat {
+                own: Vec::new(alloc),
+                seen: 0,
+            })?;
+        }
+        Ok(SlowWorld {
+            base: 0,
+            ready: Vec::new(alloc),
+            taken: 0,
+            stored: 0,
+            mark: 0,
+            seats,
+            phase: Phase::Running,
+            place: Place::Rest,
+            content: Vec::from_slice(alloc, content)?,
+            unsynced: (0, 0),
+        })
+    }
+
+    pub(crate) fn claimed(&self) -> u64 {
+        self.base.saturating_add(self.ready.len() as u64)
+    }
+
+    pub(crate) fn is_running(&self) -> bool {
+        self.phase == Phase::Running
+    }
+
+    fn flag(&self, number: u64) -> Option<bool> {
+        let at = number.saturating_sub(self.base) as usize;
+        if at < self.ready.len() {
+            Some(self.ready[at])
+        } else {
+            None
+        }
+    }
+
+    pub(crate) fn look(&mut self, j: usize) -> bool {
+        if self.phase == Phase::Crashed || j >= self.seats.len() {
+            return false;
+        }
+        self.seats[j].seen = self.mark;
+        true
+    }
+
+    fn last_of(&self, j: usize) -> Option<u64> {
+        if j >= self.seats.len() {
+            return None;
+        }
+        let own = &self.seats[j].own;
+        if own.is_empty() {
+            None
+        } else {
+            Some(own[own.len() - 1])
+        }
+    }
+
+    fn waiting(&self, j: usize) -> usize {
+        let mut count = 0_usize;
+        if j < self.seats.len() {
+            for number in &self.seats[j].own {
+                if *number >= self.seats[j].seen {
+                    count = count.saturating_add(1);
+                }
+            }
+        }
+        count
+    }
+
+    pub(crate) fn claim(&mut self, j: usize) -> Result<bool, AllocError> {
+        if !self.is_running() || j >= self.seats.len() || self.waiting(j) >= 8 {
+            return Ok(false);
+        }
+        if let Some(last) = self.last_of(j) {
+            if self.flag(last) != Some(true) {
+                return Ok(false);
+            }
+        }
+        let number = self.claimed();
+        self.ready.push(false)?;
+        self.seats[j].own.push(number)?;
+        Ok(true)
+    }
+
+    pub(crate) fn ready(&mut self, j: usize) -> bool {
+        let Some(last) = self.last_of(j) else {
+            return false;
+        };
+        if !self.is_running() || self.flag(last) != Some(false) {
+            return false;
+        }
+        let at = last.saturating_sub(self.base) as usize;
+        if at < self.ready.len() {
+            self.ready[at] = true;
+        }
+        true
+    }
+
+    pub(crate) fn take(&mut self) -> bool {
+        if !self.is_running() || self.flag(self.taken) != Some(true) {
+            return false;
+        }
+        self.taken = self.taken.saturating_add(1);
+        true
+    }
+
+    pub(crate) fn raise(&mut self, n: u64) -> bool {
+        if !self.is_running() || n < self.mark || n > self.stored {
+            return false;
+        }
+        self.mark = n;
+        true
+    }
+
+    pub(crate) fn release(&self, j: usize, n: u64) -> bool {
+        self.phase != Phase::Crashed && j < self.seats.len() && n < self.seats[j].seen
+    }
+
+    pub(crate) fn stop(&self) -> bool {
+        self.is_running()
+    }
+
+    /// Whether a stop may leave another byte at this place.
+    pub(crate) fn is_free(&self, at: usize) -> bool {
+        self.unsynced.0 <= at && at < self.unsynced.1
+    }
+
+    pub(crate) fn crash(&mut self, at: usize, byte: u8) -> bool {
+        if at < self.content.len() && self.content[at] != byte {
+            if !self.is_free(at) {
+                return false;
+            }
+            self.content[at] = byte;
+        }
+        self.unsynced = (0, 0);
+        self.phase = Phase::Crashed;
+        self.place = Place::Broken;
+        true
+    }
+
+    fn live(&self) -> usize {
+        if byte_at(&self.content, 16) % 2 == 1 {
+            32 + AREA
+        } else {
+            32
+        }
+    }
+
+    // Where the first closed gate is on the disk, and how many commands are counted before it.
+    fn read(&self) -> (usize, u64) {
+        let begins = self.live();
+        let mut count = number_at(&self.content, begins.saturating_add(8));
+        let mut gate = begins.saturating_add(40);
+        for _ in 0..AREA {
+            if byte_at(&self.content, gate) != 1 {
+                return (gate, count);
+            }
+            let size = number_at(&self.content, gate.saturating_add(1));
+            count = count.saturating_add(size / 11);
+            gate = gate.saturating_add(9).saturating_add(size as usize);
+        }
+        (gate, count)
+    }
+
+    fn write(&mut self, at: usize, bytes: &[u8]) {
+        for (i, byte) in bytes.iter().enumerate() {
+            let place = at.saturating_add(i);
+            if place < self.content.len() {
+                self.content[place] = *byte;
+            }
+        }
+        self.unsynced = (at, at.saturating_add(bytes.len()));
+    }
+
+    fn write_block(&mut self, alloc: Global) -> Result<bool, AllocError> {
+        let count = self.taken.saturating_sub(self.stored);
+        let size = count.saturating_mul(11);
+        let (gate, _) = self.read();
+        let used = gate.saturating_sub(self.live()) as u64;
+        if count == 0 || used.saturating_add(size).saturating_add(10) > AREA as u64 {
+            return Ok(false);
+        }
+        let mut block = Vec::new(alloc);
+        block.extend_from_slice(&size.to_be_bytes())?;
+        for _ in 0..count {
+            block.extend_from_slice(&RECORD)?;
+        }
+        block.push(0)?;
+        self.write(gate.saturating_add(1), &block);
+        self.place = Place::BlockWritten(self.taken);
+        Ok(true)
+    }
+
+    // What a restart leaves is the count alone: 32 bytes, of which the first eight are not zero.
+    fn write_snapshot(&mut self, alloc: Global) -> Result<bool, AllocError> {
+        let (_, count) = self.read();
+        let idle = if self.live() == 32 { 32 + AREA } else { 32 };
+        let mut front = Vec::new(alloc);
+        front.extend_from_slice(&32_u64.to_be_bytes())?;
+        front.extend_from_slice(&count.to_be_bytes())?;
+        front.extend_from_slice(&[0; 25])?;
+        self.write(idle, &front);
+        self.place = Place::SnapshotWritten;
+        Ok(true)
+    }
+
+    fn append(&mut self, alloc: Global, kind: CallKind, ok: bool) -> Result<bool, AllocError> {
+        match (kind, self.place) {
+            (CallKind::Write, Place::Rest) => return self.write_block(alloc),
+            (CallKind::Write, Place::BlockSynced(to)) => {
+                let (gate, _) = self.read();
+                self.write(gate, &[1]);
+                self.place = Place::GateWritten(to);
+            }
+            (CallKind::Sync, Place::BlockWritten(to)) => self.place = Place::BlockSynced(to),
+            (CallKind::Sync, Place::GateWritten(to)) => {
+                self.place = Place::Rest;
+                if ok {
+                    self.stored = to;
+                }
+            }
+            _ => return Ok(false),
+        }
+        Ok(true)
+    }
+
+    fn open_call(&mut self, alloc: Global, kind: CallKind) -> Result<bool, AllocError> {
+        match (kind, self.place) {
+            (CallKind::Sync, Place::Rest | Place::Broken | Place::OpenSynced | Place::OpenRead) =>
+                self.place = Place::OpenSynced,
+            (CallKind::Sync, Place::SnapshotWritten) => self.place = Place::SnapshotSynced,
+            (CallKind::Sync, Place::SelectorWritten) => self.place = Place::Opened,
+            (CallKind::Read, Place::OpenSynced | Place::OpenRead) => self.place = Place::OpenRead,
+            (CallKind::Write, Place::OpenRead) => return self.write_snapshot(alloc),
+            (CallKind::Write, Place::SnapshotSynced) => {
+                let selector = byte_at(&self.content, 16).wrapping_add(1);
+                self.write(16, &[selector]);
+                self.place = Place::SelectorWritten;
+            }
+            _ => return Ok(false),
+        }
+        Ok(true)
+    }
+
+    pub(crate) fn device(&mut self, alloc: Global, call: Call) -> Result<bool, AllocError> {
+        let done = match call.list {
+            CallList::Append => self.append(alloc, call.kind, call.ok)?,
+            CallList::Open => self.open_call(alloc, call.kind)?,
+            CallList::Snapshot | CallList::Switch => false,
+        };
+        if !done {
+            return Ok(false);
+        }
+        if call.list == CallList::Open && self.is_running() {
+            self.phase = Phase::Reopening;
+        }
+        if !call.ok {
+            self.place = Place::Broken;
+        } else if call.kind == CallKind::Sync {
+            self.unsynced = (0, 0);
+        }
+        Ok(true)
+    }
+
+    pub(crate) fn open(&mut self) -> bool {
+        if self.place != Place::Opened {
+            return false;
+        }
+        let (_, count) = self.read();
+        self.base = count;
+        self.taken = count;
+        self.stored = count;
+        self.mark = count;
+        self.ready.clear();
+        for seat in self.seats.iter_mut() {
+            seat.own.clear();
+            seat.seen = count;
+        }
+        self.phase = Phase::Running;
+        self.place = Place::Rest;
+        true
+    }
+}

@@ -1,0 +1,27 @@
+-- What a link in memory holds, and what its calls do.
+use Rattle.std.specs.Prelude.{◌≡◌, ℕ, List, [], ◌∷◌, ◌++◌, Bool, true, false}
+use Rattle.ws_core.specs.declared.link.Received.{Received}
+use Rattle.ws_core.specs.declared.link.Received.TheVariants.{Bytes, Nothing, Closed}
+
+-- The messages that are still to be received, those that were sent, and whether the link is over.
+pub record Remembered : Type 0 where
+  pub coming : List (List ℕ)
+  pub sent : List (List ℕ)
+  pub over : Bool
+
+abbrev pub remembered : List (List ℕ) → List (List ℕ) → Bool → Remembered
+remembered coming sent over = record { coming = coming; sent = sent; over = over }
+
+-- the next message, nothing where there is none left, and Closed once the link is over
+abbrev pub Recalls : Remembered → Remembered → Received → Type 0
+Recalls old new (Bytes v) = (old.over ≡ false) × (old.coming ≡ v.items ∷ new.coming) × (new ≡ remembered new.coming old.sent false)
+Recalls old new Nothing = (old.over ≡ false) × (old.coming ≡ []) × (new ≡ old)
+Recalls old new Closed = (old.over ≡ true) × (new ≡ old)
+
+-- one message more was sent
+abbrev pub with_sent : Remembered → List ℕ → Remembered
+with_sent old bytes = remembered old.coming (old.sent ++ bytes ∷ []) old.over
+
+-- it is over
+abbrev pub ended : Remembered → Remembered
+ended old = remembered old.coming old.sent true

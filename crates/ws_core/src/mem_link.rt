@@ -1,0 +1,125 @@
+//! A link in memory.
+
+ghost use Rattle.std.specs.Prelude.{◌≡◌, [], map, false};
+ghost use Rattle.ws_core.specs.Memory.{remembered};
+
+use crate::closing::CloseReason;
+use crate::fault::LinkFault;
+use crate::link::{Link, Received};
+use claim_core::Released;
+use frame_core::{Frame, Verb, write_frame};
+use std::alloc::Global;
+use std::collections::VecDeque;
+use std::marker::Model;
+
+/// A link that gives the messages it was made with, and keeps what it sends. Contracts see the messages still to be
+/// received, those that were sent, and whether the link is over.
+#[derive(Drop)]
+pub struct MemLink {
+    coming: VecDeque<Vec<u8>>,
+    sent: Vec<Vec<u8>>,
+    over: bool,
+}
+
+impl Model for MemLink {
+    ghost use Rattle.std.specs.Prelude.{map};
+    ghost use Rattle.ws_core.specs.Memory.{Remembered, remembered};
+
+    ghost Value = { Remembered };
+
+    ghost view = { λ a. remembered (map (λ v. v.items) a.coming.items) (map (λ v. v.items) a.sent.items) a.over };
+}
+
+impl MemLink {
+    ghost use Rattle.std.specs.Prelude.{◌≡◌, Err, OnOk, OnErr, IfErr, true};
+    ghost use Rattle.frame_core.specs.Writable.{Writable};
+    ghost use Rattle.frame_core.specs.Written.{written};
+    ghost use Rattle.ws_core.specs.Memory.{with_sent};
+
+    /// A link that is to receive these messages in their order, and then nothing. No memory is taken.
+    pub fn new(alloc: Global, messages: Vec<Vec<u8>>) -> MemLink
+        ensures { result ≡ remembered (map (λ v. v.items) messages.items) [] false }
+    {
+        MemLink {
+            coming: VecDeque::from(messages),
+            sent: Vec::new(alloc),
+            over: false,
+        }
+    }
+
+    /// The messages that were sent, in their order.
+    pub fn sent(&self) -> &[Vec<u8>]
+        ensures { map (λ v. v.items) result.now ≡ self.now.sent }
+    {
+        &self.sent
+    }
+
+    // Keeps the bytes of a frame as one message.
+    fn keep(&mut self, alloc: Global, frame: &Frame) -> Result<(), LinkFault>
+        requires { Writable frame.now }
+        ensures ok { OnOk result ((self.old.over ≡ false) × (self.new ≡ with_sent self.old (written frame.now))) }
+        ensures refused { OnErr result (self.new ≡ self.old) }
+        ensures gone { self.old.over ≡ true → result ≡ Err LinkFault.Gone }
+        ensures memory { self.old.over ≡ false → IfErr result (λ fault. fault ≡ LinkFault.Memory) }
+    {
+        if self.over {
+            return Err(LinkFault::Gone);
+        }
+        let bytes = write_frame(alloc, frame).map_err(|_| LinkFault::Memory)?;
+        self.sent.push(bytes).map_err(|_| LinkFault::Memory)
+    }
+}
+
+impl Link for MemLink {
+    ghost use Rattle.std.specs.Prelude.{◌≡◌, Some, Err, OnOk, OnErr, IsOk, IfErr, true};
+    ghost use Rattle.frame_core.specs.Writable.{Writable};
+    ghost use Rattle.frame_core.specs.Written.{written};
+    ghost use Rattle.ws_core.specs.Memory.{Recalls, with_sent, ended};
+
+    ghost sent = { λ a. Some a.sent };
+
+    fn receive(&mut self, _alloc: Global) -> Received
+        ensures { Recalls self.old self.new result }
+    {
+        if self.over {
+            return Received::Closed;
+        }
+        match self.coming.pop_front() {
+            Some(message) => Received::Bytes(message),
+            None => Received::Nothing,
+        }
+    }
+
+    fn send(&mut self, alloc: Global, released: &Released) -> Result<(), LinkFault>
+        ensures ok { OnOk result ((self.old.over ≡ false) × (self.new ≡ with_sent self.old (written released.now.frame))) }
+        ensures refused { OnErr result (self.new ≡ self.old) }
+        ensures gone { self.old.over ≡ true → result ≡ Err LinkFault.Gone }
+        ensures memory { self.old.over ≡ false → IfErr result (λ fault. fault ≡ LinkFault.Memory) }
+    {
+        self.keep(alloc, released.frame())
+    }
+
+    fn send_direct(&mut self, alloc: Global, frame: &Frame) -> Result<(), LinkFault>
+        requires error { frame.now.verb ≡ Verb.Error }
+        requires writable { Writable frame.now }
+        ensures ok { OnOk result ((self.old.over ≡ false) × (self.new ≡ with_sent self.old (written frame.now))) }
+        ensures refused { OnErr result (self.new ≡ self.old) }
+        ensures gone { self.old.over ≡ true → result ≡ Err LinkFault.Gone }
+        ensures memory { self.old.over ≡ false → IfErr result (λ fault. fault ≡ LinkFault.Memory) }
+    {
+        self.keep(alloc, frame)
+    }
+
+    fn end(&mut self, _reason: CloseReason) -> Result<(), LinkFault>
+        ensures ok { OnOk result (self.new ≡ ended self.old) }
+        ensures refused { IfErr result (λ fault. (fault ≡ LinkFault.Gone) × (self.new ≡ self.old)) }
+        ensures over { OnErr result (self.old.over ≡ true) }
+        ensures first { self.old.over ≡ false → IsOk result }
+    {
+        if self.over {
+            return Err(LinkFault::Gone);
+        }
+        self.over = true;
+        Ok(())
+    }
+}
