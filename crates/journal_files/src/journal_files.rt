@@ -47,6 +47,7 @@ pub fn format_file<R: Files<File = File>>(
 ) -> Result<(), FileFault>
     ensures ok { OnOk result (8224 ≤ bytes) }
     ensures small { bytes < 8224 → IsTooShort result }
+    ensures large { 8224 ≤ bytes → IsTooShort result → ⊥ }
 {
     let area = bytes.saturating_sub(HEADER) / 2;
     if area < LEAST_AREA {

@@ -1,9 +1,10 @@
 //! A server and its workers.
 
-ghost use Rattle.std.specs.Prelude.{◌≡◌, IfOk, OnOk};
+ghost use Rattle.std.specs.Prelude.{◌≡◌, ◌≢◌, ◌+◌, [], length, IfOk, OnOk, OnErr, MatchOption};
 ghost use Rattle.std.specs.Arc.{arc_value};
-ghost use Rattle.std.proofs.Props.{props};
-ghost use Rattle.server_core.specs.Serving.{AreAt, IsReady};
+ghost use Rattle.std.specs.Io.KnownBytes.{Appends};
+ghost use Rattle.server_core.specs.Serving.{AreAt, IsReady, IsNewHub, IsOpened, HandsOut, IsEnd, announced};
+ghost use Rattle.server_core.specs.declared.fault.ServeFault.TheVariants.{Output};
 
 use crate::doorbell::BellRope;
 use crate::fault::ServeFault;
@@ -17,6 +18,7 @@ use outbox_core::OutSender;
 use std::alloc::Global;
 use std::fs::{File, Files};
 use std::io::Write;
+use std::marker::Model;
 use std::net::{Net, TcpListener, TcpStream};
 use std::sync::{Arc, Wait};
 use std::time::{Clock, Duration};
@@ -50,8 +52,17 @@ pub struct Server<R: Drop> {
     port: u16,
     seats: Vec<ServerSeat>,
     flusher: ServerFlusher,
-    ghost ready: { IsReady (arc_value shared).ring flusher },
-    ghost seated: { AreAt (arc_value shared).ring seats.items } by { Prim.hlevel props },
+}
+
+impl<R: Drop> Model for Server<R> {
+    ghost use Rattle.std.specs.Arc.{arc_value};
+    ghost use Rattle.server_core.specs.Serving.{ServerValue, IsServer, server};
+
+    ghost Value = { ServerValue };
+
+    ghost view = { λ a. server a.port (arc_value a.shared).ring a.seats.items a.flusher };
+
+    ghost invariant = { λ a. IsServer (server a.port (arc_value a.shared).ring a.seats.items a.flusher) };
 }
 
 /// A worker of a server, which serves one connection after another with a seat of its own.
@@ -59,7 +70,18 @@ pub struct Server<R: Drop> {
 pub struct Worker<R: Drop> {
     shared: Arc<Shared<R>>,
     seat: ServerSeat,
-    ghost seated: { seat.ring ≡ (arc_value shared).ring },
+}
+
+impl<R: Drop> Model for Worker<R> {
+    ghost use Rattle.std.specs.Prelude.{◌≡◌};
+    ghost use Rattle.std.specs.Arc.{arc_value};
+    ghost use Rattle.server_core.specs.Serving.{WorkerValue};
+
+    ghost Value = { WorkerValue };
+
+    ghost view = { λ a. record { ring = (arc_value a.shared).ring; seat = a.seat } };
+
+    ghost invariant = { λ a. a.seat.ring ≡ (arc_value a.shared).ring };
 }
 
 impl<R> Server<R>
@@ -68,7 +90,9 @@ where
 {
     /// Opens the journal in a file, and the port at 127.0.0.1. `CannotOpen` where the file or the port can't be opened,
     /// `Opening` where the journal is refused.
-    pub fn open(alloc: Global, rt: &R, path: &str, port: u16) -> Result<Server<R>, ServeFault> {
+    pub fn open(alloc: Global, rt: &R, path: &str, port: u16) -> Result<Server<R>, ServeFault>
+        ensures { IfOk result (IsOpened port) }
+    {
         match open_hub(alloc, rt, path) {
             Ok(hub) => Server::over(alloc, rt, hub, port),
             Err(fault) => Err(fault),
@@ -76,7 +100,10 @@ where
     }
 
     // A server over a hub that was just opened.
-    fn over(alloc: Global, rt: &R, hub: ServerHub, port: u16) -> Result<Server<R>, ServeFault> {
+    fn over(alloc: Global, rt: &R, hub: ServerHub, port: u16) -> Result<Server<R>, ServeFault>
+        requires whole { IsNewHub hub }
+        ensures { IfOk result (IsOpened port) }
+    {
         match TcpListener::bind(rt, ("127.0.0.1", port)) {
             Ok(listener) => Server::listening(alloc, rt, hub, listener, port),
             Err(_) => Err(ServeFault::CannotOpen),
@@ -92,7 +119,10 @@ impl<R: Wait + Clone + Drop> Server<R> {
         hub: ServerHub,
         listener: TcpListener,
         port: u16,
-    ) -> Result<Server<R>, ServeFault> {
+    ) -> Result<Server<R>, ServeFault>
+        requires whole { IsNewHub hub }
+        ensures { IfOk result (IsOpened port) }
+    {
         let mut hub = hub;
         let mut seats = Vec::new(alloc);
         match add_seats(&mut seats, &mut hub) {
@@ -120,6 +150,9 @@ impl<R: Wait + Clone + Drop> Server<R> {
     ) -> Result<Server<R>, ServeFault>
         requires ready { IsReady ring flusher }
         requires seated { AreAt ring seats.items }
+        requires count { length seats.items ≡ 32 }
+        requires fresh { flusher.seat.taken ≡ [] }
+        ensures { IfOk result (IsOpened port) }
     {
         match share(alloc, rt, ring, listener, flusher.mark()) {
             Ok(shared) => Ok(Server {
@@ -134,21 +167,29 @@ impl<R: Wait + Clone + Drop> Server<R> {
 }
 
 impl<R: Drop> Server<R> {
-    /// The next worker, which is to be run in a thread of its own; `None` once all 32 are handed out.
-    pub fn next_worker(&mut self) -> Result<Option<Worker<R>>, ServeFault> {
-        let Some(seat) = self.seats.pop() else {
-            return Ok(None);
+    /// The next worker, which is to be run in a thread of its own; `None` once all 32 are handed out. Where memory is
+    /// refused, nothing has changed.
+    pub fn next_worker(&mut self) -> Result<Option<Worker<R>>, ServeFault>
+        ensures next { IfOk result (λ next. MatchOption next ((self.old.seats ≡ []) × (self.new ≡ self.old)) (HandsOut self.old self.new)) }
+        ensures refused { OnErr result (self.new ≡ self.old) }
+    {
+        let shared = match self.shared.clone() {
+            Ok(shared) => shared,
+            Err(_) => return Err(ServeFault::Memory),
         };
-        Ok(Some(Worker {
-            shared: self.shared.clone()?,
-            seat,
-        }))
+        match self.seats.pop() {
+            Some(seat) => Ok(Some(Worker { shared, seat })),
+            None => Ok(None),
+        }
     }
 }
 
 impl<R: Wait + Drop> Server<R> {
     /// Writes `listening` and the port, and flushes until a step fails. Nothing more is acknowledged then.
-    pub fn run<W: Write>(self, alloc: Global, writer: &mut W) -> ServeFault {
+    pub fn run<W: Write>(self, alloc: Global, writer: &mut W) -> ServeFault
+        ensures end { IsEnd result }
+        ensures told { result ≢ Output → Appends (W.contents writer.old) (W.contents writer.new) (announced self.port) }
+    {
         let port = self.port;
         if writeln!(writer, "listening {port}").is_err() || writer.flush().is_err() {
             return ServeFault::Output;
@@ -182,7 +223,9 @@ fn open_hub<R: Files<File = File>>(
     alloc: Global,
     rt: &R,
     path: &str,
-) -> Result<ServerHub, ServeFault> {
+) -> Result<ServerHub, ServeFault>
+    ensures { IfOk result IsNewHub }
+{
     let Ok(disk) = FileDisk::open(rt, path) else {
         return Err(ServeFault::CannotOpen);
     };
@@ -194,7 +237,9 @@ fn open_hub<R: Files<File = File>>(
 
 // Adds all seats of a hub, the first one first.
 fn add_seats(seats: &mut Vec<ServerSeat>, hub: &mut ServerHub) -> Result<(), ServeFault>
-    ensures ring { hub.new.ring ≡ hub.old.ring }
+    requires all { length hub.old.seats ≡ 32 }
+    ensures rest { hub.new ≡ record hub.old { seats = hub.new.seats } }
+    ensures count { OnOk result (length seats.new.items ≡ length seats.old.items + 32) }
     ensures seats { AreAt hub.old.ring seats.old.items → OnOk result (AreAt hub.old.ring seats.new.items) }
 {
     for _seat in 0..SEATS {
@@ -208,7 +253,8 @@ fn add_seats(seats: &mut Vec<ServerSeat>, hub: &mut ServerHub) -> Result<(), Ser
 
 // Adds the hub's next seat, if there is one.
 fn add_seat(seats: &mut Vec<ServerSeat>, hub: &mut ServerHub) -> Result<(), ServeFault>
-    ensures ring { hub.new.ring ≡ hub.old.ring }
+    ensures rest { hub.new ≡ record hub.old { seats = hub.new.seats } }
+    ensures count { hub.old.seats ≢ [] → OnOk result ((length seats.new.items ≡ length seats.old.items + 1) × (length hub.old.seats ≡ length hub.new.seats + 1)) }
     ensures seats { AreAt hub.old.ring seats.old.items → OnOk result (AreAt hub.old.ring seats.new.items) }
 {
     let Some(seat) = hub.seat() else {

@@ -1,6 +1,7 @@
 //! A socket that is read and written by one worker, which waits for it.
 
 use crate::doorbell::{BellRope, Doorbell};
+use mio::event::Event;
 use mio::net::TcpStream;
 use mio::{Events, Interest, Poll, Token};
 use std::alloc::Global;
@@ -20,6 +21,11 @@ pub const LONGEST_WRITE: u64 = 10;
 const SOCKET: Token = Token(0);
 
 const BELL: Token = Token(1);
+
+// Whether there is something to read, or to look for.
+fn ends_a_read(event: &Event) -> bool {
+    event.token() == BELL || event.is_readable() || event.is_read_closed() || event.is_error()
+}
 
 /// A connected socket, with what its worker waits by.
 ///
@@ -58,6 +64,23 @@ impl<T: Net + Clock + Drop> SocketStream<T> {
         Ok(BellRope::new(self.bell.clone()?))
     }
 
+    // Waits until the socket may have bytes or has ended, the doorbell was rung, or the time is up. That the socket takes
+    // bytes, which it does from its beginning, ends no wait for a read.
+    fn wait_to_read(&mut self) -> io::Result<()> {
+        let start = Instant::now(&self.clock)?;
+        for _event in 0..u64::MAX {
+            let waited = start.elapsed(&self.clock)?;
+            let Some(left) = Duration::from_secs(LONGEST_READ).checked_sub(waited) else {
+                break;
+            };
+            self.poll.poll(&mut self.events, Some(left))?;
+            if self.events.iter().any(ends_a_read) {
+                break;
+            }
+        }
+        Ok(())
+    }
+
     // Waits until the socket takes bytes again, or the time is up.
     fn wait_to_write(&mut self) -> io::Result<()> {
         let start = Instant::now(&self.clock)?;
@@ -82,8 +105,7 @@ impl<T: Net + Clock + Drop> Read for SocketStream<T> {
             outcome => return outcome,
         }
         if self.bell.falls_asleep() {
-            self.poll
-                .poll(&mut self.events, Some(Duration::from_secs(LONGEST_READ)))?;
+            self.wait_to_read()?;
         }
         self.bell.wakes_up();
         self.socket.read(buf)

@@ -2,25 +2,13 @@
 
 #![tactic(auto)]
 
-mod command_line;
-#[cfg(test)]
-mod crash_tests;
-#[cfg(test)]
-mod delivery_tests;
-#[cfg(test)]
-mod durable_tests;
-#[cfg(test)]
-mod tests;
-mod tool;
-
-use command_line::{Subcommand, subcommand_of};
 use engine_core::ScriptFault;
 use server_core::{ServeFault, Server};
 use std::alloc::{AllocError, Global};
 use std::io::{ErrorKind, Lock};
 use std::process::ExitCode;
 use std::{env, io, thread};
-use tool::{BAD_COMMAND_LINE, Failure, tool};
+use tool_core::{BAD_COMMAND_LINE, Failure, Subcommand, subcommand_of, tool};
 
 /// How many workers a server has.
 const WORKERS: u32 = 32;

@@ -1,4 +1,4 @@
-use crate::tests::{
+use crate::words_tests::{
     CONNECTED, expect, expect_frames, expect_lines, expect_whole_and_octets, text_of,
 };
 use std::process::Abort;

@@ -3,8 +3,8 @@
 ghost use Rattle.std.specs.Prelude.{◌≡◌, ◌≤◌, IfErr, IfOk, OnOk, map};
 ghost use Rattle.broker_core.specs.States.{empty_state};
 ghost use Rattle.recover_core.specs.Standing.{Stands};
-ghost use Rattle.stompd.specs.CommandLines.{AsksForScript};
-ghost use Rattle.stompd.specs.Failures.{IsDone, RunsToEnd, StopsBy, IsBeforehand, IsTold, Tells, status_of};
+ghost use Rattle.tool_core.specs.CommandLines.{AsksForScript};
+ghost use Rattle.tool_core.specs.Failures.{IsDone, RunsToEnd, StopsBy, IsBeforehand, IsTold, Tells, status_of};
 
 use crate::command_line::{Refused, Subcommand, subcommand_of};
 use area_core::{FormatFault, format};

@@ -1,4 +1,3 @@
-use crate::tool::tool;
 use std::alloc::Global;
 use std::fs::File;
 use std::io::{ErrorKind, Read, Write};
@@ -6,6 +5,7 @@ use std::process::Abort;
 use std::rt::Files;
 use std::test::Fail;
 use std::{fs, io};
+use tool_core::tool;
 
 const CONNECT: &str = "0 CONNECT%0Aaccept-version:1.2%0A%0A%00\n";
 

@@ -1,8 +1,8 @@
 //! What the words of a command line ask for.
 
 ghost use Rattle.std.specs.Prelude.{◌≡◌, true, map, Ok};
-ghost use Rattle.stompd.specs.CommandLines.{AsksForScript};
-ghost use Rattle.stompd.specs.declared.command_line.Subcommand.TheVariants.{Script};
+ghost use Rattle.tool_core.specs.CommandLines.{AsksForScript};
+ghost use Rattle.tool_core.specs.declared.command_line.Subcommand.TheVariants.{Script};
 
 use clap::{Arg, ArgAction, ArgMatches, Command, Error};
 use std::alloc::Global;

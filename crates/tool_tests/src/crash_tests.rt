@@ -1,4 +1,4 @@
-use crate::tests::{CONNECTED, expect, expect_lines, text_of};
+use crate::words_tests::{CONNECTED, expect, expect_lines, text_of};
 use std::alloc::Global;
 use std::process::Abort;
 use std::test::Fail;

@@ -1,4 +1,4 @@
-use crate::tests::expect_lines;
+use crate::words_tests::expect_lines;
 use std::process::Abort;
 use std::test::Fail;
 

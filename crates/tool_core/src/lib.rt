@@ -1,0 +1,9 @@
+//! The program `stompd` as a function of its words and streams, but for the threads of a server.
+
+#![tactic(auto)]
+
+mod command_line;
+mod tool;
+
+pub use command_line::{Refused, Subcommand, subcommand_of};
+pub use tool::{BAD_COMMAND_LINE, DONE, FAILED, Failure, run, tool};
