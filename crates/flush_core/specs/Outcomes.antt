@@ -101,6 +101,8 @@ pub record TurnFalls {D : Type 0} (old new : Flushed D) : Type 0 where
   pub now : new.broken ≡ true
   pub stopped : new.seat.stopped ≡ true
   pub ring : new.seat.ring ≡ old.seat.ring
+  pub base : new.seat.base ≡ old.seat.base
+  pub seats : new.seat.seats ≡ old.seat.seats
   pub published : new.seat.published ≡ old.seat.published
   pub taken : (more : List CommandValue) × (new.seat.taken ≡ old.seat.taken ++ more)
   pub opening : new.opening ≡ old.opening

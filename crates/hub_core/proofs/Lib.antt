@@ -1,3 +1,4 @@
 pub mod Beginning
+pub mod Shown
 pub mod Talking
 pub mod Turning

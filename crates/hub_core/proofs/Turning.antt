@@ -15,6 +15,8 @@ use Rattle.hub_core.specs.Flushes.{Flushes}
 pub none : {D : Type 0} (f : Flushed D) → Flushes f f
 none f = record {
   ring = refl;
+  base = refl;
+  seats = refl;
   taken = ([], sym (append-nil f.seat.taken));
   raised = omega arith;
   opening = refl;
@@ -26,6 +28,8 @@ none f = record {
 pub more : {D : Type 0} (f g h : Flushed D) → Flushes f g → Flushes g h → Flushes f h
 more f g h a b = record {
   ring = b.ring ∙ a.ring;
+  base = b.base ∙ a.base;
+  seats = b.seats ∙ a.seats;
   taken = (a.taken.0 ++ b.taken.0, b.taken.1 ∙ ap (λ l. l ++ b.taken.0) a.taken.1 ∙ append_assoc f.seat.taken a.taken.0 b.taken.0);
   raised = omega (arith, a.raised, b.raised);
   opening = b.opening ∙ a.opening;
@@ -46,6 +50,8 @@ turned honest images old mid cs kept whole t =
     let published : mid.seat.published ≡ next_ticket (with_more old.seat (commands cs)) = ap (λ (s : FlushSeatValue). s.published) t.seat in
     record {
       ring = ap (λ (s : FlushSeatValue). s.ring) t.seat;
+      base = ap (λ (s : FlushSeatValue). s.base) t.seat;
+      seats = ap (λ (s : FlushSeatValue). s.seats) t.seat;
       taken = (commands cs, ap (λ (s : FlushSeatValue). s.taken) t.seat);
       raised = omega (arith, published, length-append old.seat.taken (commands cs), kept.marked, kept.settled, kept.stored);
       opening = t.opening;
@@ -57,6 +63,8 @@ turned honest images old mid cs kept whole t =
 falls : {D : Type 0} (old new : Flushed D) → TurnFalls old new → Flushes old new
 falls old new t = record {
   ring = t.ring;
+  base = t.base;
+  seats = t.seats;
   taken = t.taken;
   raised = omega (arith, t.published);
   opening = t.opening;

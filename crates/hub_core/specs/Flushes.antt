@@ -4,10 +4,13 @@ use Rattle.command_core.specs.Commands.{CommandValue}
 use Rattle.claim_core.specs.Seats.{next_ticket}
 use Rattle.flush_core.specs.Flushed.{Flushed}
 
--- Turns were made, or none: the seat is of the same ring, the commands taken are those from before and more, and the mark
--- has not fallen. Where all that was taken was published, it is again, unless a step failed, and no output is left.
+-- Turns were made, or none: the seat is of the same ring, with the same first ticket and as many sessions' seats, the
+-- commands taken are those from before and more, and the mark has not fallen. Where all that was taken was published, it is
+-- again, unless a step failed, and no output is left.
 pub record Flushes {D : Type 0} (old new : Flushed D) : Type 0 where
   pub ring : new.seat.ring ≡ old.seat.ring
+  pub base : new.seat.base ≡ old.seat.base
+  pub seats : new.seat.seats ≡ old.seat.seats
   pub taken : (more : List CommandValue) × (new.seat.taken ≡ old.seat.taken ++ more)
   pub raised : old.seat.published ≤ new.seat.published
   pub opening : new.opening ≡ old.opening

@@ -1,6 +1,6 @@
 //! The hub: an opened journal, and the ring before it.
 
-ghost use Rattle.std.specs.Prelude.{◌≡◌, ◌≤◌, ◌^◌, ◌∷◌, [], None, Some, IfSome, IsSome, IfOk, IfErr, MatchOption, false};
+ghost use Rattle.std.specs.Prelude.{◌≡◌, ◌≤◌, ◌^◌, ◌∷◌, [], None, Some, IfSome, IsSome, IfOk, IfErr, MatchOption, false, length};
 ghost use Rattle.broker_core.specs.Operations.{restarted};
 ghost use Rattle.broker_core.specs.States.{State};
 ghost use Rattle.claim_core.specs.Seats.{new_session};
@@ -25,20 +25,23 @@ use std::marker::Model;
 /// Contracts see which ring it is, its first ticket, and what was not handed out.
 #[derive(Drop)]
 pub struct Hub<D: Disk, B: Bell> {
-    ring: BrokerRing<OutSender<B>>,
+    pub(crate) ring: BrokerRing<OutSender<B>>,
     base: u64,
-    seats: VecDeque<BrokerSeat<OutSender<B>>>,
+    // With room for all 32, so that closing needs none.
+    pub(crate) seats: VecDeque<BrokerSeat<OutSender<B>>>,
     flusher: Option<Flusher<D, B>>,
 }
 
 impl<D: Disk, B: Bell> Model for Hub<D, B> {
+    ghost use Rattle.std.specs.Prelude.{◌≤◌};
+    ghost use Rattle.std.specs.VecDeque.{deque_capacity};
     ghost use Rattle.hub_core.specs.Hubs.{HubValue, IsHub, hub};
 
     ghost Value = { HubValue D };
 
     ghost view = { λ a. hub a.ring a.base a.seats.items a.flusher };
 
-    ghost invariant = { λ a. IsHub (hub a.ring a.base a.seats.items a.flusher) };
+    ghost invariant = { λ a. IsHub (hub a.ring a.base a.seats.items a.flusher) × (32 ≤ deque_capacity a.seats) };
 }
 
 impl<D: Disk, B: Bell> Hub<D, B> {
@@ -94,13 +97,14 @@ impl<D: Disk, B: Bell> Hub<D, B> {
         flusher: Flusher<D, B>,
     ) -> Hub<D, B>
         requires seats { AreNew ring base seats.items }
+        requires count { length seats.items ≡ 32 }
         requires flusher { IsFirst ring base flusher }
         ensures { result ≡ hub ring base seats.items (Some flusher) }
     {
         Hub {
             ring,
             base,
-            seats: VecDeque::from(seats),
+            seats: VecDeque::from_vec(seats),
             flusher: Some(flusher),
         }
     }

@@ -4,6 +4,8 @@
 
 mod acts;
 mod appending;
+mod closed;
+mod closing;
 mod connection;
 mod ended;
 mod flushing;
@@ -17,6 +19,7 @@ mod sending;
 mod speaking;
 mod working;
 
+pub use closed::Closed;
 pub use ended::Ended;
 pub use flushing::flush_loop;
 pub use gate::Gate;

@@ -5,6 +5,16 @@ use std::sync::atomic::{AtomicBool, Ordering};
 use std::thread;
 use std::time::{Clock, Duration};
 
+/// Lets each turn pass.
+#[derive(Drop)]
+pub struct Free;
+
+impl Gate for Free {
+    fn pass(&self, _worker: u32, _turn: u64) -> bool {
+        true
+    }
+}
+
 /// Lets each turn pass after a millisecond.
 #[derive(Drop)]
 pub struct Pause<R> {

@@ -1,12 +1,12 @@
 //! Hubs over journals in memory.
 
-ghost use Rattle.std.specs.Prelude.{◌≡◌, IfSome};
+ghost use Rattle.std.specs.Prelude.{◌≡◌, ◌≤◌, ◌+◌, IfOk, IfSome, All, length};
 
 use area_core::format;
 use claim_core::{BrokerRing, BrokerSeat};
 use disk_core::MemDisk;
 use flush_core::Flusher;
-use hub_core::Hub;
+use hub_core::{Closed, Hub};
 use outbox_core::{OutSender, Silent};
 use std::alloc::{AllocError, Global};
 use std::test::Fail;
@@ -20,15 +20,30 @@ pub type HubSeat = BrokerSeat<OutSender<Silent>>;
 
 pub type HubFlusher = Flusher<MemDisk, Silent>;
 
-// The bytes of an area, and of a disk with two of them.
+// The bytes of an area.
 const AREA: u64 = 262_144;
 
-const SIZE: u64 = 524_320;
-
 /// The hub of an empty journal.
-pub fn empty_hub(alloc: Global) -> Result<MemHub, Fail> {
-    let mut disk = MemDisk::new(alloc, SIZE)?;
-    format(alloc, &mut disk, AREA)?;
+pub fn empty_hub(alloc: Global) -> Result<MemHub, Fail>
+    ensures { IfOk result (λ hub. length hub.seats ≡ 32) }
+{
+    hub_with_areas(alloc, AREA)
+}
+
+/// The hub of an empty journal with areas of so many bytes.
+pub fn hub_with_areas(alloc: Global, area_bytes: u64) -> Result<MemHub, Fail>
+    requires { (4096 ≤ area_bytes) × (area_bytes ≤ 262144) }
+    ensures { IfOk result (λ hub. length hub.seats ≡ 32) }
+{
+    let mut disk = MemDisk::new(alloc, 32 + 2 * area_bytes)?;
+    format(alloc, &mut disk, area_bytes)?;
+    open_again(alloc, disk)
+}
+
+/// The hub of a journal.
+pub fn open_again(alloc: Global, disk: MemDisk) -> Result<MemHub, Fail>
+    ensures { IfOk result (λ hub. length hub.seats ≡ 32) }
+{
     match Hub::open(alloc, disk) {
         Ok(hub) => Ok(hub),
         Err((_, fault)) => Err(Fail::from(fault)),
@@ -38,6 +53,7 @@ pub fn empty_hub(alloc: Global) -> Result<MemHub, Fail> {
 /// The next seat.
 pub fn take_seat(hub: &mut MemHub) -> Option<HubSeat>
     ensures seat { IfSome result (λ seat. seat.ring ≡ hub.new.ring) }
+    ensures count { IfSome result (λ seat. length hub.new.seats + 1 ≡ length hub.old.seats) }
     ensures same { hub.new.ring ≡ hub.old.ring }
 {
     hub.seat()
@@ -45,10 +61,31 @@ pub fn take_seat(hub: &mut MemHub) -> Option<HubSeat>
 
 /// The flusher.
 pub fn take_flusher(hub: &mut MemHub) -> Option<HubFlusher>
-    ensures flusher { IfSome result (λ f. (f.seat.ring ≡ hub.new.ring) × (f.settled ≡ f.stored)) }
-    ensures same { hub.new.ring ≡ hub.old.ring }
+    ensures flusher { IfSome result (λ f. (f.seat.ring ≡ hub.new.ring) × (f.settled ≡ f.stored) × (f.seat.seats ≡ 32)) }
+    ensures same { (hub.new.ring ≡ hub.old.ring) × (hub.new.seats ≡ hub.old.seats) }
 {
     hub.flusher()
+}
+
+/// Ends a hub, with the seats that it handed out.
+pub fn close(
+    hub: MemHub,
+    seats: Vec<HubSeat>,
+    flusher: HubFlusher,
+) -> Result<Closed<MemDisk>, Fail>
+    requires flusher { flusher.seat.ring ≡ hub.ring }
+    requires seats { All (λ seat. seat.ring ≡ hub.ring) seats.items }
+    requires all { length seats.items + length hub.seats ≡ flusher.seat.seats }
+{
+    match hub.close(seats, flusher) {
+        Ok(closed) => Ok(closed),
+        Err((_, refused)) => Err(Fail::from(refused)),
+    }
+}
+
+/// Its numbers: the first, the next, the one after those taken, and the mark.
+pub fn numbers(closed: &Closed<MemDisk>) -> [u64; 4] {
+    [closed.base, closed.claimed, closed.taken, closed.mark]
 }
 
 /// A link whose messages are these texts.

@@ -4,6 +4,8 @@
 #![tactic(auto)]
 
 #[cfg(test)]
+mod closing_tests;
+#[cfg(test)]
 mod gates;
 #[cfg(test)]
 mod hubs;

@@ -1,7 +1,9 @@
-ghost use Rattle.std.specs.Prelude.{◌≡◌, false};
+ghost use Rattle.std.specs.Prelude.{◌≡◌, ◌+◌, IfSome, false, length};
 
 use crate::gates::Pause;
-use crate::hubs::{HubFlusher, HubRing, HubSeat, MemHub, empty_hub, take_flusher, take_seat};
+use crate::hubs::{
+    HubFlusher, HubRing, HubSeat, MemHub, close, empty_hub, numbers, take_flusher, take_seat,
+};
 use claim_core::Refused;
 use command_core::{Command, Entry, Op};
 use hub_core::{Gate, flush_loop};
@@ -59,6 +61,7 @@ fn append_next<R: Clock>(
 // Appends a thousand entries, and answers whether each got a ticket over the one before it.
 fn append_all<R: Clock>(rt: &R, alloc: Global, ring: &HubRing, seat: &mut HubSeat) -> bool
     requires { seat.old.ring ≡ ring.now }
+    ensures { seat.new.ring ≡ seat.old.ring }
 {
     let mut last = None;
     for i in 0..1_000u64 {
@@ -71,36 +74,43 @@ fn append_all<R: Clock>(rt: &R, alloc: Global, ring: &HubRing, seat: &mut HubSea
     true
 }
 
-fn work<R: Clock>(rt: &R, alloc: Global, ring: &HubRing, mut seat: HubSeat) -> bool
+// The same, with the seat back.
+fn work<R: Clock>(rt: &R, alloc: Global, ring: &HubRing, mut seat: HubSeat) -> (bool, HubSeat)
     requires { seat.ring ≡ ring.now }
+    ensures { result.1.ring ≡ ring.now }
 {
-    append_all(rt, alloc, ring, &mut seat)
+    let rose = append_all(rt, alloc, ring, &mut seat);
+    (rose, seat)
 }
 
-// Turns until so many commands are published, and answers the mark.
+// Turns until so many commands are published.
 fn flush_to<G: Gate>(
     alloc: Global,
     ring: &HubRing,
     flusher: &mut HubFlusher,
     gate: &G,
     wanted: u64,
-) -> Option<u64>
+)
     requires ring { flusher.old.seat.ring ≡ ring.now }
     requires settled { flusher.old.broken ≡ false → flusher.old.settled ≡ flusher.old.stored }
+    ensures ring { flusher.new.seat.ring ≡ flusher.old.seat.ring }
+    ensures seats { flusher.new.seat.seats ≡ flusher.old.seat.seats }
 {
     for _ in 0..20_000u32 {
-        let mark = flush_loop(alloc, ring, flusher, gate, 1).ok()?;
-        if mark >= wanted {
-            return Some(mark);
+        match flush_loop(alloc, ring, flusher, gate, 1) {
+            Ok(mark) if mark < wanted => {}
+            _ => return,
         }
     }
-    None
 }
 
-fn flush<G: Gate>(alloc: Global, ring: &HubRing, mut flusher: HubFlusher, gate: &G) -> Option<u64>
+// Turns until 2,000 commands are published, and hands the flusher back.
+fn flush<G: Gate>(alloc: Global, ring: &HubRing, mut flusher: HubFlusher, gate: &G) -> HubFlusher
     requires { (flusher.seat.ring ≡ ring.now) × (flusher.settled ≡ flusher.stored) }
+    ensures { (result.seat.ring ≡ ring.now) × (result.seat.seats ≡ flusher.seat.seats) }
 {
-    flush_to(alloc, ring, &mut flusher, gate, 2_000)
+    flush_to(alloc, ring, &mut flusher, gate, 2_000);
+    flusher
 }
 
 // Both workers.
@@ -110,16 +120,19 @@ fn work_both<R: Threads + Wait + Clock + Sync>(
     ring: &HubRing,
     first: HubSeat,
     second: HubSeat,
-) -> (bool, bool)
+) -> ((bool, HubSeat), (bool, HubSeat))
     requires { (first.ring ≡ ring.now) × (second.ring ≡ ring.now) }
+    ensures { (result.0.1.ring ≡ ring.now) × (result.1.1.ring ≡ ring.now) }
 {
     thread::join(
         rt,
-        || -> bool
+        || -> (bool, HubSeat)
             requires { first.ring ≡ ring.now }
+            ensures { result.1.ring ≡ ring.entry.now }
         { work(rt, alloc, ring, first) },
-        || -> bool
+        || -> (bool, HubSeat)
             requires { second.ring ≡ ring.now }
+            ensures { result.1.ring ≡ ring.entry.now }
         { work(rt, alloc, ring, second) },
     )
 }
@@ -133,56 +146,79 @@ fn work_and_flush<R: Threads + Wait + Clock + Sync>(
     second: HubSeat,
     flusher: HubFlusher,
     gate: &Pause<R>,
-) -> ((bool, bool), Option<u64>)
+) -> (((bool, HubSeat), (bool, HubSeat)), HubFlusher)
     requires seats { (first.ring ≡ ring.now) × (second.ring ≡ ring.now) }
     requires flusher { (flusher.seat.ring ≡ ring.now) × (flusher.settled ≡ flusher.stored) }
+    ensures seats { (result.0.0.1.ring ≡ ring.now) × (result.0.1.1.ring ≡ ring.now) }
+    ensures flusher { (result.1.seat.ring ≡ ring.now) × (result.1.seat.seats ≡ flusher.seat.seats) }
 {
     thread::join(
         rt,
-        || -> (bool, bool)
+        || -> ((bool, HubSeat), (bool, HubSeat))
             requires { (first.ring ≡ ring.now) × (second.ring ≡ ring.now) }
+            ensures { (result.0.1.ring ≡ ring.entry.now) × (result.1.1.ring ≡ ring.entry.now) }
         { work_both(rt, alloc, ring, first, second) },
-        || -> Option<u64>
+        || -> HubFlusher
             requires { (flusher.seat.ring ≡ ring.now) × (flusher.settled ≡ flusher.stored) }
+            ensures { (result.seat.ring ≡ ring.entry.now) × (result.seat.seats ≡ flusher.seat.seats) }
         { flush(alloc, ring, flusher, gate) },
     )
 }
 
-// Whether the tickets of each worker rose, and the mark at the end.
-fn run_hub<R: Threads + Wait + Clock + Sync>(
-    rt: &R,
-    alloc: Global,
-    hub: &mut MemHub,
-    gate: &Pause<R>,
-) -> ((bool, bool), Option<u64>) {
-    let Some(first) = take_seat(hub) else {
-        return ((false, false), None);
-    };
-    let Some(second) = take_seat(hub) else {
-        return ((false, false), None);
-    };
-    match take_flusher(hub) {
-        Some(flusher) => work_and_flush(rt, alloc, hub.ring(), first, second, flusher, gate),
-        None => ((false, false), None),
-    }
+// Two seats and the flusher.
+fn hand_out(hub: &mut MemHub) -> Option<(HubSeat, HubSeat, HubFlusher)>
+    requires { length hub.old.seats ≡ 32 }
+    ensures seats { IfSome result (λ t. (t.0.ring ≡ hub.new.ring) × (t.1.ring ≡ hub.new.ring)) }
+    ensures flusher { IfSome result (λ t. (t.2.seat.ring ≡ hub.new.ring) × (t.2.settled ≡ t.2.stored)) }
+    ensures count { IfSome result (λ t. 2 + length hub.new.seats ≡ t.2.seat.seats) }
+{
+    let first = take_seat(hub)?;
+    let second = take_seat(hub)?;
+    let flusher = take_flusher(hub)?;
+    Some((first, second, flusher))
 }
 
+// Ends the hub, with both seats.
+fn close_both(
+    alloc: Global,
+    hub: MemHub,
+    first: HubSeat,
+    second: HubSeat,
+    flusher: HubFlusher,
+) -> Result<[u64; 4], Fail>
+    requires seats { (first.ring ≡ hub.ring) × (second.ring ≡ hub.ring) }
+    requires flusher { flusher.seat.ring ≡ hub.ring }
+    requires count { 2 + length hub.seats ≡ flusher.seat.seats }
+{
+    let mut seats = Vec::with_capacity(alloc, 2)?;
+    seats.push_reserved(first);
+    seats.push_reserved(second);
+    let closed = close(hub, seats, flusher)?;
+    Ok(numbers(&closed))
+}
+
+// Whether the tickets of each worker rose, and the numbers at the end.
 fn run<R: Threads + Wait + Clock + Sync>(
     rt: &R,
     alloc: Global,
     gate: &Pause<R>,
-) -> Result<((bool, bool), Option<u64>), Fail> {
-    match empty_hub(alloc) {
-        Ok(mut hub) => Ok(run_hub(rt, alloc, &mut hub, gate)),
-        Err(fail) => Err(fail),
-    }
+) -> Result<((bool, bool), [u64; 4]), Fail> {
+    let mut hub = empty_hub(alloc)?;
+    let Some((first, second, flusher)) = hand_out(&mut hub) else {
+        return Err(Fail::from("a seat or the flusher is missing"));
+    };
+    let (workers, flusher) =
+        work_and_flush(rt, alloc, hub.ring(), first, second, flusher, gate);
+    let ((one, first), (other, second)) = workers;
+    let numbers = close_both(alloc, hub, first, second, flusher)?;
+    Ok(((one, other), numbers))
 }
 
 #[test]
-fn two_threads_and_a_flusher_take_2000_commands(rt: HostRuntime) -> Result<(), Fail> {
+fn two_threads_and_a_flusher_close_with_2000_commands(rt: HostRuntime) -> Result<(), Fail> {
     let gate = Pause { rt: rt.clone()? };
-    let (rose, mark) = run(&rt, rt.alloc(), &gate)?;
+    let (rose, numbers) = run(&rt, rt.alloc(), &gate)?;
     assert_eq!(rt; rose, (true, true));
-    assert_eq!(rt; mark, Some(2_000));
+    assert_eq!(rt; numbers, [0, 2_000, 2_000, 2_000]);
     Ok(())
 }

@@ -1,4 +1,4 @@
-use Rattle.std.proofs.Common.{◌≡◌, sym, subst, Some, List}
+use Rattle.std.proofs.Common.{◌≡◌, arith, sym, subst, Some, List}
 use Rattle.claim_core.specs.Seats.{SessionSeatValue}
 use Rattle.flush_core.specs.Flushed.{Flushed}
 use Rattle.hub_core.specs.Hubs.{AreNew, IsFirst}
@@ -7,4 +7,4 @@ use Rattle.hub_core.proofs.hub.Hub.of.Goals as goal
 pub invariant_of-result : goal.invariant_of-result
 invariant_of-result g c =
     let Seats : List SessionSeatValue → Type 0 = λ l. AreNew c.args.ring c.args.base l in
-    (subst Seats (sym c.from.ensures.0) c.requires.seats, λ f e. let First : Flushed g.row.D.Denot → Type 0 = λ x. IsFirst c.args.ring c.args.base x in let same : c.args.flusher ≡ f = cc in subst First same c.requires.flusher)
+    ((subst Seats (sym c.from_vec.ensures.items) c.requires.seats, λ f e. let First : Flushed g.row.D.Denot → Type 0 = λ x. IsFirst c.args.ring c.args.base x in let same : c.args.flusher ≡ f = cc in subst First same c.requires.flusher), omega (arith, c.from_vec.ensures.capacity, c.requires.count))

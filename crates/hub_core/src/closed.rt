@@ -1,0 +1,15 @@
+//! What is left of a hub.
+
+/// What is left of a hub that was closed: the disk of its journal, and numbers of commands.
+#[derive(Debug, Drop)]
+pub struct Closed<D> {
+    /// The hub's first number.
+    pub base: u64,
+    /// The number after the last one that was claimed.
+    pub claimed: u64,
+    /// The number after the last one that the flusher took.
+    pub taken: u64,
+    /// The mark: every number under it is published.
+    pub mark: u64,
+    pub disk: D,
+}
