@@ -36,6 +36,9 @@ type ServerSeat = BrokerSeat<OutSender<BellRope>>;
 /// For how many milliseconds a worker rests where a connection was not accepted.
 const REST: u64 = 20;
 
+/// How many milliseconds the workers have, once nothing more is acknowledged, to tell their clients that the broker stops.
+const FAREWELL: u64 = 1_000;
+
 /// What the threads of a server share.
 #[derive(Drop)]
 pub struct Shared<R> {
@@ -184,8 +187,9 @@ impl<R: Drop> Server<R> {
     }
 }
 
-impl<R: Wait + Drop> Server<R> {
-    /// Writes `listening` and the port, and flushes until a step fails. Nothing more is acknowledged then.
+impl<R: Wait + Clock + Drop> Server<R> {
+    /// Writes `listening` and the port, and flushes until a step fails. Nothing more is acknowledged then, and the workers
+    /// have a second to tell their clients, before it answers why.
     pub fn run<W: Write>(self, alloc: Global, writer: &mut W) -> ServeFault
         ensures end { IsEnd result }
         ensures told { result ≢ Output → Appends (W.contents writer.old) (W.contents writer.new) (announced self.port) }
@@ -196,11 +200,15 @@ impl<R: Wait + Drop> Server<R> {
         }
         let mut flusher = self.flusher;
         let shared = self.shared;
-        match flush_loop(alloc, &shared.ring, &mut flusher, &shared.pace, u64::MAX) {
+        let fault = match flush_loop(alloc, &shared.ring, &mut flusher, &shared.pace, u64::MAX) {
             // No server lives for so many turns.
-            Ok(_) => ServeFault::Flushing(FlushFault::Broken),
-            Err(fault) => ServeFault::Flushing(fault),
-        }
+            Ok(_) => FlushFault::Broken,
+            Err(fault) => fault,
+        };
+        // The outboxes go with the flusher, which wakes the workers of their sessions.
+        drop(flusher);
+        thread::sleep(&shared.rt, Duration::from_millis(FAREWELL));
+        ServeFault::Flushing(fault)
     }
 }
 

@@ -17,8 +17,10 @@ use std::io::{ErrorKind, Read, Write};
 use tungstenite::{Bytes, CloseCode, CloseFrame, Error, Message, NoMask, Utf8Bytes, WebSocket};
 use websocket::error::ProtocolError;
 
-// How many messages and waits are heard before the peer's close is waited for no longer.
+// How many messages, and waits, are heard before the peer's close is waited for no longer.
 const CLOSING_READS: u32 = 64;
+
+const CLOSING_WAITS: u32 = 3;
 
 // Reads once, and says what came for the STOMP stream. Where the connection fails, the peer is told why (RFC 6455,
 // section 7.1.7), if it still listens.
@@ -110,15 +112,18 @@ pub fn say_close<S: Read + Write + Drop>(
     socket.close(Some(reason.frame()))
 }
 
-// Reads on to the peer's close, so that the stream isn't cut while it still sends.
+// Reads on to the peer's close, so that the stream isn't cut while it still sends. A peer that says nothing is given up
+// after a few waits: each may last as long as the stream lets a read wait.
 pub fn hear_close<S: Read + Write + Drop>(socket: &mut WebSocket<S, NoMask>) {
+    let mut waits = 0u32;
     for _ in 0..CLOSING_READS {
         match socket.read() {
             Ok(_) => {}
             Err(error) => {
-                if !is_wait(&error) {
+                if !is_wait(&error) || waits >= CLOSING_WAITS {
                     return;
                 }
+                waits += 1;
             }
         }
     }
