@@ -1,0 +1,98 @@
+#!/usr/bin/env python3
+"""32 connections at once, and a 33rd that waits until one of them leaves and is then served.
+
+    python3 clients/crowd.py [PROGRAM]
+"""
+
+import sys
+import time
+
+import scenario
+from stomp_client import Client, Stream, Closed, handshake
+
+SEATS = 32
+
+
+def hears_something(stream, seconds):
+    stream.socket.settimeout(seconds)
+    try:
+        stream.fill()
+        return True
+    except TimeoutError:
+        return False
+    finally:
+        stream.socket.settimeout(10)
+
+
+def shake_hands_late(port, waiting):
+    """The handshake and the CONNECT of a stream whose request was sent before."""
+    head = waiting.take_head()
+    client = Client.__new__(Client)
+    client.socket, client.buffer, client.head = waiting.socket, waiting.buffer, head.decode()
+    return client.connect()
+
+
+def a_full_house(broker, checks):
+    """each of 32 clients hears each other in one room"""
+    crowd = [Client(broker.port).connect() for _ in range(SEATS)]
+    for client in crowd:
+        client.subscribe("a", "/topic/crowd")
+    for number, client in enumerate(crowd):
+        client.send("SEND", [("destination", "/topic/crowd")], f"{number}")
+    heard = [[client.receive().body for _ in range(SEATS)] for client in crowd]
+    checks.same("each hears all 32", sorted(heard[0], key=int), [f"{number}" for number in range(SEATS)])
+    checks.check("all in the same order", all(one == heard[0] for one in heard), heard)
+    for client in crowd:
+        client.disconnect()
+
+
+def one_too_many(broker, checks):
+    """the 33rd connects, is not answered while all seats are taken, and is served once one is free"""
+    crowd = [Client(broker.port).connect() for _ in range(SEATS)]
+    waiting = Stream(broker.port)
+    waiting.write(handshake(broker.port, offer="v12.stomp"))
+    checks.check("it connects, and hears nothing for 3 seconds", not hears_something(waiting, 3))
+    for client in crowd:
+        client.publish("/topic/none", "x")
+    checks.check("the 32 have their receipts meanwhile", True)
+    start = time.perf_counter()
+    crowd.pop().disconnect()
+    last = shake_hands_late(broker.port, waiting)
+    checks.tell(f"served {(time.perf_counter() - start) * 1000:.1f} ms after the 32nd began to leave")
+    last.publish("/topic/none", "x")
+    checks.check("it has a receipt", True)
+    for client in [*crowd, last]:
+        client.disconnect()
+
+
+def one_gone_without_a_word(broker, checks):
+    """a seat is free too once a client is gone without a DISCONNECT"""
+    crowd = [Client(broker.port).connect() for _ in range(SEATS)]
+    waiting = Stream(broker.port)
+    waiting.write(handshake(broker.port, offer="v12.stomp"))
+    checks.check("the 33rd hears nothing for a second", not hears_something(waiting, 1))
+    start = time.perf_counter()
+    crowd.pop().close()
+    last = shake_hands_late(broker.port, waiting)
+    checks.check("it is served", True)
+    checks.tell(f"served {(time.perf_counter() - start) * 1000:.1f} ms after the 32nd was gone")
+    for client in [*crowd, last]:
+        client.disconnect()
+
+
+def one_that_gave_up(broker, checks):
+    """one that waits and goes away again takes no seat"""
+    crowd = [Client(broker.port).connect() for _ in range(SEATS)]
+    gone, waiting = Stream(broker.port), Stream(broker.port)
+    for stream in (gone, waiting):
+        stream.write(handshake(broker.port, offer="v12.stomp"))
+    gone.close()
+    crowd.pop().disconnect()
+    last = shake_hands_late(broker.port, waiting)
+    checks.check("the one behind it is served", True)
+    for client in [*crowd, last]:
+        client.disconnect()
+
+
+if __name__ == "__main__":
+    sys.exit(scenario.run(__doc__, [a_full_house, one_too_many, one_gone_without_a_word, one_that_gave_up]))
