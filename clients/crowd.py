@@ -8,28 +8,15 @@ import sys
 import time
 
 import scenario
-from stomp_client import Client, Stream, Closed, handshake
+from stomp_client import Client
 
 SEATS = 32
 
 
-def hears_something(stream, seconds):
-    stream.socket.settimeout(seconds)
-    try:
-        stream.fill()
-        return True
-    except TimeoutError:
-        return False
-    finally:
-        stream.socket.settimeout(10)
-
-
-def shake_hands_late(port, waiting):
-    """The handshake and the CONNECT of a stream whose request was sent before."""
-    head = waiting.take_head()
-    client = Client.__new__(Client)
-    client.socket, client.buffer, client.head = waiting.socket, waiting.buffer, head.decode()
-    return client.connect()
+def served(waiting):
+    """The client that waited, once it is served."""
+    waiting.hear_answer()
+    return waiting.connect()
 
 
 def a_full_house(broker, checks):
@@ -49,15 +36,14 @@ def a_full_house(broker, checks):
 def one_too_many(broker, checks):
     """the 33rd connects, is not answered while all seats are taken, and is served once one is free"""
     crowd = [Client(broker.port).connect() for _ in range(SEATS)]
-    waiting = Stream(broker.port)
-    waiting.write(handshake(broker.port, offer="v12.stomp"))
-    checks.check("it connects, and hears nothing for 3 seconds", not hears_something(waiting, 3))
+    waiting = Client(broker.port, waits=False)
+    checks.check("it connects, and hears nothing for 3 seconds", not waiting.hears_within(3))
     for client in crowd:
         client.publish("/topic/none", "x")
     checks.check("the 32 have their receipts meanwhile", True)
     start = time.perf_counter()
     crowd.pop().disconnect()
-    last = shake_hands_late(broker.port, waiting)
+    last = served(waiting)
     checks.tell(f"served {(time.perf_counter() - start) * 1000:.1f} ms after the 32nd began to leave")
     last.publish("/topic/none", "x")
     checks.check("it has a receipt", True)
@@ -68,12 +54,11 @@ def one_too_many(broker, checks):
 def one_gone_without_a_word(broker, checks):
     """a seat is free too once a client is gone without a DISCONNECT"""
     crowd = [Client(broker.port).connect() for _ in range(SEATS)]
-    waiting = Stream(broker.port)
-    waiting.write(handshake(broker.port, offer="v12.stomp"))
-    checks.check("the 33rd hears nothing for a second", not hears_something(waiting, 1))
+    waiting = Client(broker.port, waits=False)
+    checks.check("the 33rd hears nothing for a second", not waiting.hears_within(1))
     start = time.perf_counter()
     crowd.pop().close()
-    last = shake_hands_late(broker.port, waiting)
+    last = served(waiting)
     checks.check("it is served", True)
     checks.tell(f"served {(time.perf_counter() - start) * 1000:.1f} ms after the 32nd was gone")
     for client in [*crowd, last]:
@@ -83,12 +68,10 @@ def one_gone_without_a_word(broker, checks):
 def one_that_gave_up(broker, checks):
     """one that waits and goes away again takes no seat"""
     crowd = [Client(broker.port).connect() for _ in range(SEATS)]
-    gone, waiting = Stream(broker.port), Stream(broker.port)
-    for stream in (gone, waiting):
-        stream.write(handshake(broker.port, offer="v12.stomp"))
+    gone, waiting = Client(broker.port, waits=False), Client(broker.port, waits=False)
     gone.close()
     crowd.pop().disconnect()
-    last = shake_hands_late(broker.port, waiting)
+    last = served(waiting)
     checks.check("the one behind it is served", True)
     for client in [*crowd, last]:
         client.disconnect()

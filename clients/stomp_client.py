@@ -3,6 +3,7 @@
 import base64
 import collections
 import os
+import select
 import socket
 import struct
 
@@ -119,16 +120,25 @@ class Stream:
             self.fill()
         return self.take(self.buffer.index(b"\r\n\r\n") + 4)
 
+    def hears_within(self, seconds):
+        """Whether bytes come, or the end, within that time."""
+        return bool(select.select([self.socket], [], [], seconds)[0])
+
     def close(self):
         self.socket.close()
 
 
 class WebSocket(Stream):
-    """A WebSocket whose handshake was accepted."""
+    """A WebSocket whose handshake was accepted; where `waits` is false, `hear_answer` says whether it is."""
 
-    def __init__(self, port, path="/", offer=None, timeout=10, receive_bytes=None):
+    def __init__(self, port, path="/", offer=None, timeout=10, receive_bytes=None, waits=True):
         super().__init__(port, timeout, receive_bytes)
         self.write(handshake(port, path, offer))
+        if waits:
+            self.hear_answer()
+
+    def hear_answer(self):
+        """Waits for the answer to the handshake."""
         self.head = self.take_head().decode()
         status = self.head.split(" ", 2)[1]
         if status != "101":
@@ -175,8 +185,8 @@ class WebSocket(Stream):
 class Client(WebSocket):
     """A client of a broker."""
 
-    def __init__(self, port, timeout=10, receive_bytes=None):
-        super().__init__(port, offer="v12.stomp", timeout=timeout, receive_bytes=receive_bytes)
+    def __init__(self, port, **options):
+        super().__init__(port, offer="v12.stomp", **options)
         self.session = None
 
     def connect(self, client_id=None):
@@ -201,6 +211,15 @@ class Client(WebSocket):
         """Sends a message, and answers the frames that came up to its receipt."""
         self.send("SEND", [("destination", destination), ("receipt", "p " + body[:40]), *headers], body)
         return self.receipt("p " + body[:40])
+
+    def publish_all(self, destination, texts, window=64):
+        """Sends many messages, so many at a time, and returns once each has its receipt."""
+        for start in range(0, len(texts), window):
+            batch = range(start, min(start + window, len(texts)))
+            for number in batch:
+                self.send("SEND", [("destination", destination), ("receipt", f"{number}")], texts[number])
+            for number in batch:
+                self.receipt(f"{number}")
 
     def receive(self):
         """The next frame of STOMP. Each message of the server holds one."""
