@@ -52,7 +52,7 @@ class Loader:
     def run(self):
         try:
             self.go_on()
-        except OSError:
+        except ConnectionError:
             pass
         except Closed as closed:
             self.fault = closed if closed.code else None
