@@ -31,6 +31,7 @@ SWITCHES = ["--headless=new", "--no-sandbox", "--disable-gpu", "--no-first-run",
 SWITCHES += ["--disable-background-timer-throttling", "--disable-renderer-backgrounding", "--disable-backgrounding-occluded-windows"]
 
 ENTER = {"key": "Enter", "code": "Enter", "windowsVirtualKeyCode": 13, "text": "\r"}
+TAB = {"key": "Tab", "code": "Tab", "windowsVirtualKeyCode": 9}
 SPACE = {"key": " ", "code": "Space", "windowsVirtualKeyCode": 32, "text": " "}
 
 
@@ -229,6 +230,18 @@ def a_job_is_handed_out_again(broker, checks, anna, ben):
     checks.check("it was receipted, and the other hears that it is done", anna.rows_come("interrupted", ["sent", "receipted", "done"]), anna.states_of("interrupted"))
 
 
+def a_keyboard_is_enough(broker, checks, anna, ben):
+    anna.value("document.activeElement.blur()")
+    reached = []
+    for _ in range(30):
+        anna.press(TAB)
+        reached.append(anna.value("document.activeElement.id"))
+    expected = ["port", "name", "room", "go", "leave", "chat", "words", "feed", "rate", "jobs", "job", "ten", "work"]
+    checks.check("each field and button is reached by Tab", set(expected) <= set(reached), reached)
+    named = "[...document.querySelectorAll('input, select, button')].every(one => one.ariaLabel || one.labels?.length || one.textContent.trim())"
+    checks.check("and has a name", anna.value(named))
+
+
 def an_error_is_shown(broker, checks, anna, ben):
     anna.value("const row = chat.row('bad', 'anna', 'to nowhere'); stomp.post([['SEND', { destination: '/nowhere' }, 'x']], (state, why) => chat.mark(row, state, why))")
     checks.check("what the broker refuses is shown as refused", anna.rows_come("to nowhere", ["sent", "refused"]), anna.states_of("to nowhere"))
@@ -245,7 +258,17 @@ def a_page_leaves(broker, checks, anna, ben):
     checks.check("and comes back when it is asked to", ben.is_in("open"), ben.state())
 
 
-STEPS = [they_talk, they_work, they_watch, the_broker_is_killed, it_is_sent_again, a_job_is_handed_out_again, an_error_is_shown, a_page_leaves]
+STEPS = [
+    they_talk,
+    they_work,
+    they_watch,
+    the_broker_is_killed,
+    it_is_sent_again,
+    a_job_is_handed_out_again,
+    a_keyboard_is_enough,
+    an_error_is_shown,
+    a_page_leaves,
+]
 
 
 def try_page(broker, checks, browser, server, pictures):
