@@ -109,21 +109,31 @@ def half_a_handshake(broker, checks):
         checks.tell(f"after {seconds:.1f} s")
 
 
-def a_slow_handshake(broker, checks):
-    """a request that comes late, and one that comes in parts with a second between, are answered"""
-    head = handshake(broker.port, offer="v12.stomp")
-    for name, parts in (("late", [head]), ("in two parts", [head[:60], head[60:]]), ("in 8 parts", [head[at : at + 32] for at in range(0, len(head), 32)])):
-        stream = Stream(broker.port)
-        answer = b""
-        try:
-            for part in parts:
-                time.sleep(0.3)
-                stream.write(part)
-            answer = stream.take_head()
-        except (Closed, ConnectionError) as error:
-            answer = repr(error).encode()
-        checks.check(f"a handshake that comes {name} is answered with 101", b" 101 " in answer, answer[:80])
+def answer_to_parts(port, parts, pause):
+    """What is answered to a handshake that comes in parts, with a pause before each."""
+    stream = Stream(port)
+    try:
+        for part in parts:
+            time.sleep(pause)
+            stream.write(part)
+        return stream.take_head()
+    except (Closed, ConnectionError) as error:
+        return repr(error).encode()
+    finally:
         stream.close()
+
+
+def a_slow_handshake(broker, checks):
+    """one that begins a second after the connection, and those that come in parts, are answered"""
+    head = handshake(broker.port, offer="v12.stomp")
+    cases = [
+        ("begins a second late", [head], 1),
+        ("comes in two parts", [head[:60], head[60:]], 0.5),
+        ("comes 32 bytes at a time", [head[at : at + 32] for at in range(0, len(head), 32)], 0.1),
+    ]
+    for name, parts, pause in cases:
+        answer = answer_to_parts(broker.port, parts, pause)
+        checks.check(f"a handshake that {name} is answered with 101", b" 101 " in answer, answer[:80])
 
 
 def faults_of_a_session(broker, checks):
