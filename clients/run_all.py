@@ -24,6 +24,7 @@ SCRIPTS = [
     "waiting_queue.py",
     "rubbish.py",
     "independent.py",
+    "full_journal.py",
     "browser.py",
     "kills.py",
 ]
