@@ -227,7 +227,8 @@ def a_job_is_handed_out_again(broker, checks, anna, ben):
     checks.check("the worker has a job in hand", ben.comes("inHand.length == 1"))
     broker.again()
     checks.check("after the kill it comes again, and is done", ben.rows_come("interrupted", ["received", "done"]), ben.states_of("interrupted"))
-    checks.check("it was receipted, and the other hears that it is done", anna.rows_come("interrupted", ["sent", "receipted", "done"]), anna.states_of("interrupted"))
+    # The other hears that it is done only where it is back before that, as in any topic.
+    checks.same("the other still sees it receipted, once", [row[:2] for row in anna.states_of("interrupted")], [["sent", "receipted"]])
 
 
 def a_keyboard_is_enough(broker, checks, anna, ben):
