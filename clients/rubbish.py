@@ -19,6 +19,43 @@ LONGEST_READ = 20
 DESTINATION = "destination:/queue/rubbish\n"
 SUBSCRIBE = "SUBSCRIBE\nid:a\n" + DESTINATION
 
+# What a session that isn't open is told of a text, and then one that is.
+OF_A_NEW_SESSION = {
+    "HELLO\n\n\0": "E4 unknown command",
+    "connect\naccept-version:1.2\n\n\0": "E4 unknown command",
+    "\0": "E1 malformed frame",
+    "SEND\n" + DESTINATION + "\nx\0": "E7 frame not expected here",
+    "CONNECT\naccept-version:1.0,1.1\n\n\0": "E6 only version 1.2 is spoken",
+    "CONNECT\n\n\0": "E6 only version 1.2 is spoken",
+    "CONNECT\naccept-version:1.2\n\nbody\0": "E19 body not allowed",
+}
+OF_AN_OPEN_SESSION = {
+    "SEND\nno colon\n\n\0": "E1 malformed frame",
+    "SEND\n" + DESTINATION + "content-length:1\n\nxy\0": "E1 malformed frame",
+    "SEND\n" + DESTINATION + "x:" + "y" * 8_192 + "\n\n\0": "E2 frame too large",
+    "SEND\n" + DESTINATION + "a:b\n" * 64 + "\n\0": "E2 frame too large",
+    "SEND\n" + DESTINATION + "content-length:65537\n\n": "E2 frame too large",
+    "SEND\n" + DESTINATION + "\n" + "x" * 65_537: "E2 frame too large",
+    "SEND\n" + DESTINATION + "x:a\\tb\n\n\0": "E3 undefined escape",
+    "MESSAGE\n" + DESTINATION + "\n\0": "E4 unknown command",
+    "SEND\n\nx\0": "E5 missing header",
+    "CONNECT\naccept-version:1.2\n\n\0": "E7 frame not expected here",
+    "SEND\ndestination:/elsewhere\n\nx\0": "E8 bad destination",
+    "SEND\ndestination:/queue/" + "q" * 201 + "\n\nx\0": "E8 bad destination",
+    2 * (SUBSCRIBE + "\n\0"): "E9 subscription id in use",
+    "UNSUBSCRIBE\nid:a\n\n\0": "E10 unknown subscription id",
+    "ACK\nid:1\n\n\0": "E11 unknown acknowledgement id",
+    SUBSCRIBE.replace("queue", "topic") + "activemq.subscriptionName:n\n\n\0": "E13 durable subscription without client-id",
+    2 * "BEGIN\ntransaction:t\n\n\0": "E15 transaction already begun",
+    "COMMIT\ntransaction:t\n\n\0": "E16 transaction not begun",
+    "".join(f"BEGIN\ntransaction:{name}\n\n\0" for name in range(5)): "E18 too many subscriptions or transactions",
+    "".join(SUBSCRIBE.replace("id:a", f"id:{name}") + "\n\0" for name in range(17)): "E18 too many subscriptions or transactions",
+    SUBSCRIBE + "\nbody\0": "E19 body not allowed",
+    SUBSCRIBE + "ack:sometimes\n\n\0": "E20 bad header value",
+    "ACK\nid:01\n\n\0": "E20 bad header value",
+    "BEGIN\ntransaction:t\n\n\0" + 65 * ("SEND\n" + DESTINATION + "transaction:t\n\n\0"): "E17 transaction too large",
+}
+
 
 def still_served(broker, checks, behind):
     """A client that comes now has a receipt."""
@@ -138,44 +175,9 @@ def a_slow_handshake(broker, checks):
 
 def faults_of_a_session(broker, checks):
     """frames that are no STOMP, or not allowed: ERROR with its text, and 1002"""
-    new = {
-        "HELLO\n\n\0": "E4 unknown command",
-        "connect\naccept-version:1.2\n\n\0": "E4 unknown command",
-        "\0": "E1 malformed frame",
-        "SEND\n" + DESTINATION + "\nx\0": "E7 frame not expected here",
-        "CONNECT\naccept-version:1.0,1.1\n\n\0": "E6 only version 1.2 is spoken",
-        "CONNECT\n\n\0": "E6 only version 1.2 is spoken",
-        "CONNECT\naccept-version:1.2\n\nbody\0": "E19 body not allowed",
-    }
-    opened = {
-        "SEND\nno colon\n\n\0": "E1 malformed frame",
-        "SEND\n" + DESTINATION + "content-length:1\n\nxy\0": "E1 malformed frame",
-        "SEND\n" + DESTINATION + "x:" + "y" * 8_192 + "\n\n\0": "E2 frame too large",
-        "SEND\n" + DESTINATION + "a:b\n" * 64 + "\n\0": "E2 frame too large",
-        "SEND\n" + DESTINATION + "content-length:65537\n\n": "E2 frame too large",
-        "SEND\n" + DESTINATION + "\n" + "x" * 65_537: "E2 frame too large",
-        "SEND\n" + DESTINATION + "x:a\\tb\n\n\0": "E3 undefined escape",
-        "MESSAGE\n" + DESTINATION + "\n\0": "E4 unknown command",
-        "SEND\n\nx\0": "E5 missing header",
-        "CONNECT\naccept-version:1.2\n\n\0": "E7 frame not expected here",
-        "SEND\ndestination:/elsewhere\n\nx\0": "E8 bad destination",
-        "SEND\ndestination:/queue/" + "q" * 201 + "\n\nx\0": "E8 bad destination",
-        2 * (SUBSCRIBE + "\n\0"): "E9 subscription id in use",
-        "UNSUBSCRIBE\nid:a\n\n\0": "E10 unknown subscription id",
-        "ACK\nid:1\n\n\0": "E11 unknown acknowledgement id",
-        SUBSCRIBE.replace("queue", "topic") + "activemq.subscriptionName:n\n\n\0": "E13 durable subscription without client-id",
-        2 * "BEGIN\ntransaction:t\n\n\0": "E15 transaction already begun",
-        "COMMIT\ntransaction:t\n\n\0": "E16 transaction not begun",
-        "".join(f"BEGIN\ntransaction:{name}\n\n\0" for name in range(5)): "E18 too many subscriptions or transactions",
-        "".join(SUBSCRIBE.replace("id:a", f"id:{name}") + "\n\0" for name in range(17)): "E18 too many subscriptions or transactions",
-        SUBSCRIBE + "\nbody\0": "E19 body not allowed",
-        SUBSCRIBE + "ack:sometimes\n\n\0": "E20 bad header value",
-        "ACK\nid:01\n\n\0": "E20 bad header value",
-        "BEGIN\ntransaction:t\n\n\0" + 65 * ("SEND\n" + DESTINATION + "transaction:t\n\n\0"): "E17 transaction too large",
-    }
-    for text, expected in [*new.items(), *opened.items()]:
+    for text, expected in [*OF_A_NEW_SESSION.items(), *OF_AN_OPEN_SESSION.items()]:
         client = Client(broker.port)
-        if text in opened:
+        if text in OF_AN_OPEN_SESSION:
             client.connect()
         client.send_message(TEXT, text.encode())
         frames, code = client.to_the_end()
