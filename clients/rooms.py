@@ -1,134 +1,242 @@
 #!/usr/bin/env python3
-"""Runs the built program over a real file and real sockets, with clients that talk to it. README.md says what it shows.
+"""Rooms, receipts, work queues, transactions and a durable subscriber, with clients that talk to the built program.
 
     python3 clients/rooms.py [PROGRAM]
 """
 
-import os
-import pathlib
-import signal
-import socket
-import subprocess
 import sys
-import tempfile
 import time
 
-from websocket import Client, Closed
-
-PROGRAM = pathlib.Path(__file__).resolve().parent.parent / "crates" / "stompd" / "out" / "stompd"
-
-
-def free_port():
-    with socket.socket() as probe:
-        probe.bind(("127.0.0.1", 0))
-        return probe.getsockname()[1]
+import scenario
+from stomp_client import Client
 
 
-class Broker:
-    def __init__(self, program, journal):
-        self.program, self.journal, self.port = program, journal, free_port()
-        self.process = subprocess.Popen([program, "serve", journal, str(self.port)], stdout=subprocess.PIPE, stderr=subprocess.PIPE)
-        line = self.process.stdout.readline().decode()
-        assert line == f"listening {self.port}\n", (line, self.process.poll() is not None and self.process.stderr.read())
-
-    def kill(self):
-        self.process.send_signal(signal.SIGKILL)
-        self.process.wait()
+def bodies(frames):
+    return [frame.body for frame in frames if frame.command == "MESSAGE"]
 
 
-def room(broker):
+def send_all(port, destination, texts):
+    client = Client(port).connect()
+    for text in texts:
+        client.publish(destination, text)
+    client.disconnect()
+
+
+def take_all(port, destination, client_id=None, headers=()):
+    """What a reader that acknowledges finds there, up to a message that it sends last."""
+    reader = Client(port).connect(client_id)
+    frames = reader.subscribe("reader", destination, "client-individual", headers)
+    reader.send("SEND", [("destination", destination)], "the last one")
+    found = []
+    while not found or found[-1] != "the last one":
+        frame = frames.pop(0) if frames else reader.receive()
+        found.append(frame.body)
+        reader.send("ACK", [("id", frame.headers["ack"])])
+    reader.disconnect()
+    return found[:-1]
+
+
+def lose(client):
+    """Goes away without a word. The broker hears of it a moment later."""
+    client.close()
+    time.sleep(0.3)
+
+
+def a_room_of_two(broker, checks):
+    """what one says is heard by both, with the headers that it sent"""
     one, other = Client(broker.port).connect(), Client(broker.port).connect()
-    for client in (one, other):
-        client.send("SUBSCRIBE", [("id", "a"), ("destination", "/topic/room"), ("receipt", "s")])
-        client.receipt("s")
-    one.send("SEND", [("destination", "/topic/room"), ("receipt", "r")], "hello")
-    heard = one.receipt("r")
-    assert [body for _, _, body in heard] == ["hello"], heard
-    command, headers, body = other.receive()
-    assert (command, headers["destination"], body) == ("MESSAGE", "/topic/room", "hello")
-    one.send("DISCONNECT", [("receipt", "bye")])
-    one.receipt("bye")
-    try:
-        one.receive()
-    except Closed as closed:
-        assert closed.args[0] == 1000, closed
+    one.subscribe("a", "/topic/room")
+    other.subscribe("b", "/topic/room")
+    sent = [("content-type", "text/plain"), ("said:by", "one\\two\nthree")]
+    heard = one.publish("/topic/room", "hello, öäü", sent)
+    checks.same("the one who says it hears it before its receipt", bodies(heard), ["hello, öäü"])
+    frame = other.receive()
+    number = frame.headers["message-id"]
+    expected = {"subscription": "b", "message-id": number, "destination": "/topic/room", "content-length": "13", **dict(sent)}
+    checks.same("the other hears it, headers and all", (frame.command, frame.headers), ("MESSAGE", expected))
+    checks.same("both hear one message under one number", heard[0].headers["message-id"], number)
+    checks.same("who says DISCONNECT is told 1000", one.disconnect(), ([], 1000))
     other.close()
 
 
-def jobs(broker):
-    sender = Client(broker.port).connect()
-    sender.send("BEGIN", [("transaction", "t")])
-    for job in ("x", "y"):
-        sender.send("SEND", [("destination", "/queue/jobs"), ("transaction", "t")], job)
-    sender.send("COMMIT", [("transaction", "t"), ("receipt", "c")])
-    sender.receipt("c")
+def receipts(broker, checks):
+    """each kind of frame that asks for a receipt has it, in its turn, spelled as it was asked for"""
+    client = Client(broker.port).connect()
+    to_queue, within = ("destination", "/queue/receipts"), ("transaction", "t")
+    client.subscribe("q", "/queue/receipts", "client-individual")
+    first = client.publish("/queue/receipts", "x")[0].headers["ack"]
+    second = client.publish("/queue/receipts", "y")[0].headers["ack"]
+    frames = [
+        ("ACK", [("id", first)]),
+        ("NACK", [("id", second)]),
+        ("BEGIN", [within]),
+        ("SEND", [to_queue, within]),
+        ("ABORT", [within]),
+        ("BEGIN", [within]),
+        ("COMMIT", [within]),
+        ("UNSUBSCRIBE", [("id", "q")]),
+        ("DISCONNECT", []),
+    ]
+    names = [f"{place}:{command}\\ of a\nlong\rname" for place, (command, _) in enumerate(frames)]
+    for name, (command, headers) in zip(names, frames):
+        client.send(command, [*headers, ("receipt", name)])
+    heard, code = client.to_the_end()
+    seen = [(frame.command, frame.headers.get("receipt-id")) for frame in heard]
+    checks.same("nine receipts in their order", seen, [("RECEIPT", name) for name in names])
+    checks.same("and then 1000", code, 1000)
+
+
+def acknowledged_in_auto(broker, checks):
+    """a message handed out needs no acknowledgement, and is gone"""
+    send_all(broker.port, "/queue/auto", ["one", "two"])
     worker = Client(broker.port).connect()
-    worker.send("SUBSCRIBE", [("id", "w"), ("destination", "/queue/jobs"), ("ack", "client-individual")])
-    for job in ("x", "y"):
-        _, headers, body = worker.receive()
-        assert body == job, body
-        worker.send("ACK", [("id", headers["ack"]), ("receipt", job)])
-    worker.receipt("x"), worker.receipt("y")
-    worker.send("ACK", [("id", "999"), ("receipt", "z")])
-    command, headers, _ = worker.receive()
-    assert (command, headers["message"]) == ("ERROR", "E11 unknown acknowledgement id"), headers
-    try:
-        worker.receive()
-    except Closed as closed:
-        assert closed.args[0] == 1002, closed
-    sender.close()
+    frames = worker.subscribe("w", "/queue/auto")
+    checks.same("both come, in order", bodies(frames), ["one", "two"])
+    checks.check("without an ack header", all("ack" not in frame.headers for frame in frames), frames)
+    lose(worker)
+    checks.same("nothing is left", take_all(broker.port, "/queue/auto"), [])
 
 
-def after_a_kill(program, journal, broker, rounds):
-    """Each SEND whose receipt came is there once after the broker was killed and started again."""
-    number = 0
-    for _ in range(rounds):
-        client = Client(broker.port).connect()
-        receipted = []
-        for _ in range(20):
-            client.send("SEND", [("destination", "/queue/kept"), ("receipt", str(number))], str(number))
-            client.receipt(str(number))
-            receipted.append(str(number))
-            number += 1
-        broker.kill()
-        client.close()
-        broker = Broker(program, journal)
-        reader = Client(broker.port).connect()
-        reader.send("SUBSCRIBE", [("id", "k"), ("destination", "/queue/kept"), ("ack", "client-individual")])
-        found, settled = [], 0
-        while settled < len(receipted):
-            command, headers, body = reader.receive()
-            if command == "RECEIPT":
-                settled += 1
-                continue
-            found.append(body)
-            reader.send("ACK", [("id", headers["ack"]), ("receipt", "a" + body)])
-        assert found == receipted, (found, receipted)
-        reader.close()
-    return broker
+def acknowledged_in_client(broker, checks):
+    """an acknowledgement settles all before it; what isn't acknowledged stands in line again"""
+    send_all(broker.port, "/queue/client", ["one", "two", "three", "four"])
+    worker = Client(broker.port).connect()
+    frames = worker.subscribe("w", "/queue/client", "client")
+    checks.same("all come, in order", bodies(frames), ["one", "two", "three", "four"])
+    worker.send("ACK", [("id", frames[2].headers["ack"]), ("receipt", "a")])
+    worker.receipt("a")
+    lose(worker)
+    checks.same("the fourth is there again", take_all(broker.port, "/queue/client"), ["four"])
 
 
-def main():
-    program = sys.argv[1] if len(sys.argv) > 1 else PROGRAM
-    with tempfile.TemporaryDirectory() as folder:
-        journal = os.path.join(folder, "journal")
-        subprocess.run([program, "format", journal, "67108896"], check=True)
-        broker = Broker(program, journal)
-        try:
-            for name, run in (("a room of two", room), ("a work queue", jobs)):
-                run(broker)
-                print(f"{name}: as it should be")
-            broker = after_a_kill(program, journal, broker, 10)
-            print("killed 10 times: each receipted message is there once")
-            start = time.perf_counter()
-            client = Client(broker.port).connect()
-            for number in range(500):
-                client.send("SEND", [("destination", "/topic/none"), ("receipt", str(number))], "x")
-                client.receipt(str(number))
-            print(f"a receipt takes {(time.perf_counter() - start) / 500 * 1e6:.0f} us, one at a time")
-        finally:
-            broker.kill()
+def acknowledged_each(broker, checks):
+    """in client-individual an acknowledgement settles one; a refused one is dropped"""
+    send_all(broker.port, "/queue/each", ["one", "two", "three", "four"])
+    worker = Client(broker.port).connect()
+    frames = worker.subscribe("w", "/queue/each", "client-individual")
+    worker.send("ACK", [("id", frames[1].headers["ack"]), ("receipt", "a")])
+    worker.send("NACK", [("id", frames[3].headers["ack"]), ("receipt", "n")])
+    worker.receipt("n")
+    lose(worker)
+    checks.same("one and three are there again, in order", take_all(broker.port, "/queue/each"), ["one", "three"])
 
+
+def sixteen_at_once(broker, checks):
+    """a subscription that acknowledges has 16 messages at most, and then one for each that it settles"""
+    texts = [f"{number}" for number in range(20)]
+    send_all(broker.port, "/queue/sixteen", texts)
+    worker = Client(broker.port).connect()
+    frames = worker.subscribe("w", "/queue/sixteen", "client-individual")
+    checks.same("16 come before the receipt", bodies(frames), texts[:16])
+    worker.send("ACK", [("id", frames[7].headers["ack"]), ("receipt", "a")])
+    checks.same("one more after an acknowledgement", bodies(worker.receipt("a")), texts[16:17])
+    worker.send("SEND", [("destination", "/topic/none"), ("receipt", "then")])
+    checks.same("and no more", bodies(worker.receipt("then")), [])
+    worker.send("ACK", [("id", "999999999"), ("receipt", "z")])
+    heard, code = worker.to_the_end()
+    told = [(frame.command, frame.headers) for frame in heard]
+    refusal = {"message": "E11 unknown acknowledgement id", "receipt-id": "z"}
+    checks.same("an acknowledgement of nothing is E11", told, [("ERROR", refusal)])
+    checks.same("and then 1002", code, 1002)
+    rest = texts[:7] + texts[8:]
+    checks.same("all that wasn't acknowledged is there again", take_all(broker.port, "/queue/sixteen"), rest)
+
+
+def two_workers(broker, checks):
+    """two workers at a queue take turns"""
+    workers = [Client(broker.port).connect() for _ in range(2)]
+    for worker in workers:
+        worker.subscribe("w", "/queue/turns", "client-individual")
+    send_all(broker.port, "/queue/turns", ["one", "two", "three", "four"])
+    taken = [[worker.receive().body for _ in range(2)] for worker in workers]
+    checks.same("each has every second one", taken, [["one", "three"], ["two", "four"]])
+    for worker in workers:
+        worker.close()
+
+
+def a_transaction(broker, checks):
+    """nothing of it is there before COMMIT, all of it after, and nothing of one that is aborted or refused"""
+    worker, sender = Client(broker.port).connect(), Client(broker.port).connect()
+    worker.subscribe("w", "/queue/jobs", "client-individual")
+    job, within = ("destination", "/queue/jobs"), ("transaction", "t")
+    sender.send("BEGIN", [within])
+    sender.send("SEND", [job, within], "one")
+    sender.send("SEND", [job, within], "two")
+    sender.publish("/queue/jobs", "before the COMMIT")
+    checks.same("what is sent outside comes first", worker.receive().body, "before the COMMIT")
+    sender.send("COMMIT", [within, ("receipt", "c")])
+    sender.receipt("c")
+    both = [worker.receive() for _ in range(2)]
+    checks.same("both come with the COMMIT", bodies(both), ["one", "two"])
+    numbers = [frame.headers["message-id"].split(".") for frame in both]
+    checks.check("as places 0 and 1 of one command", numbers == [[numbers[0][0], "0"], [numbers[0][0], "1"]], numbers)
+    sender.send("BEGIN", [within])
+    sender.send("SEND", [job, within], "three")
+    sender.send("ABORT", [within, ("receipt", "a")])
+    sender.receipt("a")
+    sender.send("BEGIN", [within])
+    sender.send("SEND", [job, within], "four")
+    sender.send("ACK", [("id", "999999999"), within])
+    sender.send("COMMIT", [within, ("receipt", "c")])
+    heard, code = sender.to_the_end()
+    told = [(frame.command, frame.headers["message"], frame.headers["receipt-id"]) for frame in heard]
+    checks.same("a COMMIT with a bad member is refused", (told, code), ([("ERROR", "E11 unknown acknowledgement id", "c")], 1002))
+    lose(worker)
+    left = take_all(broker.port, "/queue/jobs")
+    checks.same("nothing of the aborted and the refused one is there", left, ["before the COMMIT", "one", "two"])
+
+
+def a_durable_subscriber(broker, checks):
+    """it goes away, also with the broker, and finds what was sent meanwhile when it comes back under its name"""
+    name = [("activemq.subscriptionName", "news")]
+    reader = Client(broker.port).connect("anna")
+    reader.subscribe("d", "/topic/news", "client-individual", name)
+    reader.disconnect()
+    send_all(broker.port, "/topic/news", ["one", "two", "three"])
+    reader = Client(broker.port).connect("anna")
+    frames = reader.subscribe("d", "/topic/news", "client-individual", name)
+    checks.same("what was sent while it was away", bodies(frames), ["one", "two", "three"])
+    reader.send("ACK", [("id", frames[0].headers["ack"]), ("receipt", "a")])
+    reader.receipt("a")
+    lose(reader)
+    send_all(broker.port, "/topic/news", ["four"])
+    broker.again()
+    send_all(broker.port, "/topic/news", ["five"])
+    found = take_all(broker.port, "/topic/news", "anna", name)
+    checks.same("all but the acknowledged one, after a SIGKILL of the broker", found, ["two", "three", "four", "five"])
+    reader = Client(broker.port).connect("anna")
+    reader.send("UNSUBSCRIBE", [("id", "d"), *name, ("receipt", "u")])
+    reader.receipt("u")
+    reader.disconnect()
+    send_all(broker.port, "/topic/news", ["six"])
+    found = take_all(broker.port, "/topic/news", "anna", name)
+    checks.same("nothing once the name was given up", found, [])
+
+
+def what_a_receipt_takes(broker, checks):
+    """500 SENDs, one at a time"""
+    client = Client(broker.port).connect()
+    start = time.perf_counter()
+    for number in range(500):
+        client.publish("/topic/none", f"{number}")
+    each = (time.perf_counter() - start) / 500
+    checks.check("each has its receipt", True)
+    checks.tell(f"{each * 1e6:.0f} us each")
+    client.disconnect()
+
+
+SCENARIOS = [
+    a_room_of_two,
+    receipts,
+    acknowledged_in_auto,
+    acknowledged_in_client,
+    acknowledged_each,
+    sixteen_at_once,
+    two_workers,
+    a_transaction,
+    a_durable_subscriber,
+    what_a_receipt_takes,
+]
 
 if __name__ == "__main__":
-    main()
+    sys.exit(scenario.run(__doc__, SCENARIOS))

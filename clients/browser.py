@@ -1,0 +1,307 @@
+#!/usr/bin/env python3
+"""Tries examples/rooms.html in headless Chromium, over a broker that is killed and started again.
+
+    python3 clients/browser.py [PROGRAM] [--browser CHROMIUM]
+
+It needs Chromium (Debian: apt-get install chromium) and nothing else: it speaks to it by the DevTools protocol.
+"""
+
+import base64
+import functools
+import http.server
+import json
+import os
+import pathlib
+import shutil
+import signal
+import subprocess
+import sys
+import tempfile
+import threading
+import time
+import urllib.parse
+
+import scenario
+from stomp_client import TEXT, Client, WebSocket
+
+PAGE = pathlib.Path(__file__).resolve().parent.parent / "examples" / "rooms.html"
+BROWSERS = ("chromium", "chromium-browser", "google-chrome")
+SWITCHES = ["--headless=new", "--no-sandbox", "--disable-gpu", "--no-first-run", "--remote-debugging-port=0"]
+# Pages that nobody looks at are to run as those that somebody does.
+SWITCHES += ["--disable-background-timer-throttling", "--disable-renderer-backgrounding", "--disable-backgrounding-occluded-windows"]
+
+ENTER = {"key": "Enter", "code": "Enter", "windowsVirtualKeyCode": 13, "text": "\r"}
+TAB = {"key": "Tab", "code": "Tab", "windowsVirtualKeyCode": 9}
+SPACE = {"key": " ", "code": "Space", "windowsVirtualKeyCode": 32, "text": " "}
+
+
+class Target:
+    """A DevTools connection to a page, or to the browser itself."""
+
+    def __init__(self, port, path):
+        self.socket = WebSocket(port, path=path, timeout=30)
+        self.count = 0
+        self.exceptions = []
+
+    def call(self, method, **parameters):
+        self.count += 1
+        call = {"id": self.count, "method": method, "params": parameters}
+        self.socket.send_message(TEXT, json.dumps(call).encode())
+        while True:
+            answer = json.loads(self.socket.receive_message()[1])
+            if answer.get("method") == "Runtime.exceptionThrown":
+                self.exceptions.append(answer["params"]["exceptionDetails"])
+            if answer.get("id") == self.count:
+                assert "error" not in answer, answer
+                return answer["result"]
+
+
+class Page(Target):
+    def __init__(self, port, target):
+        super().__init__(port, f"/devtools/page/{target}")
+        self.call("Runtime.enable")
+        self.call("Page.enable")
+
+    def value(self, expression):
+        result = self.call("Runtime.evaluate", expression=expression, returnByValue=True, awaitPromise=True)
+        assert "exceptionDetails" not in result, result
+        return result["result"].get("value")
+
+    def comes(self, expression, seconds=10):
+        """Whether it comes true within that time."""
+        end = time.monotonic() + seconds
+        while time.monotonic() < end:
+            if self.value(expression):
+                return True
+            time.sleep(0.02)
+        return False
+
+    def press(self, key):
+        self.call("Input.dispatchKeyEvent", type="keyDown", **key)
+        self.call("Input.dispatchKeyEvent", type="keyUp", **key)
+
+    def write(self, field, text):
+        """Writes into a field and presses Enter, as from a keyboard."""
+        self.value(f"document.getElementById({field!r}).focus()")
+        self.call("Input.insertText", text=text)
+        self.press(ENTER)
+
+    def toggle(self, field):
+        self.value(f"document.getElementById({field!r}).focus()")
+        self.press(SPACE)
+
+    def state(self):
+        return self.value("document.getElementById('state').dataset.state")
+
+    def is_in(self, state, seconds=15):
+        return self.comes(f"document.getElementById('state').dataset.state == {state!r}", seconds)
+
+    def states_of(self, text):
+        """The states of the rows that hold that text: a list for each row."""
+        return self.value(
+            f"[...document.querySelectorAll('li')].filter(row => row.childNodes[1].textContent == {text!r})"
+            ".map(row => [...row.querySelectorAll('[data-state]')].map(chip => chip.dataset.state))"
+        )
+
+    def rows_come(self, text, states, seconds=15):
+        """Whether there is one row with that text, and in those states, within that time."""
+        end = time.monotonic() + seconds
+        while time.monotonic() < end:
+            if self.states_of(text) == [states]:
+                return True
+            time.sleep(0.02)
+        return False
+
+    def look(self, path, width, height):
+        """A picture of the page."""
+        self.call("Emulation.setDeviceMetricsOverride", width=width, height=height, deviceScaleFactor=1, mobile=False)
+        time.sleep(0.5)
+        picture = self.call("Page.captureScreenshot", format="png", captureBeyondViewport=False)
+        path.write_bytes(base64.b64decode(picture["data"]))
+
+
+class Browser:
+    def __init__(self, program, folder):
+        words = [program, *SWITCHES, f"--user-data-dir={folder}/profile", "about:blank"]
+        self.process = subprocess.Popen(words, stdout=subprocess.DEVNULL, stderr=subprocess.DEVNULL)
+        port_file = pathlib.Path(folder) / "profile" / "DevToolsActivePort"
+        self.port, path = self.wait_for(port_file)
+        self.target = Target(self.port, path)
+
+    def wait_for(self, port_file):
+        for _ in range(600):
+            if port_file.exists() and len(port_file.read_text().split("\n")) >= 2:
+                port, path = port_file.read_text().split("\n")[:2]
+                return int(port), path
+            assert self.process.poll() is None, "the browser has ended"
+            time.sleep(0.05)
+        raise AssertionError("the browser does not answer")
+
+    def open(self, url):
+        target = self.target.call("Target.createTarget", url=url)["targetId"]
+        return Page(self.port, target)
+
+    def close(self):
+        self.target.call("Browser.close")
+        self.process.wait(timeout=20)
+
+
+class QuietHandler(http.server.SimpleHTTPRequestHandler):
+    def log_message(self, *_):
+        pass
+
+
+def static_server():
+    """A server of the examples, by plain HTTP."""
+    handler = functools.partial(QuietHandler, directory=PAGE.parent)
+    server = http.server.ThreadingHTTPServer(("127.0.0.1", 0), handler)
+    threading.Thread(target=server.serve_forever, daemon=True).start()
+    return server
+
+
+def fragment(broker, name):
+    return "#" + urllib.parse.urlencode({"port": broker.port, "name": name, "room": "lobby"})
+
+
+def they_talk(broker, checks, anna, ben):
+    checks.check("both pages are connected, one by file://, one by http://", anna.is_in("open") and ben.is_in("open"), (anna.state(), ben.state()))
+    # So that nothing is said before the other listens.
+    time.sleep(0.3)
+    anna.write("words", "hello from anna")
+    checks.check("the sender sees it sent, receipted and received", anna.rows_come("hello from anna", ["sent", "received", "receipted"]), anna.states_of("hello from anna"))
+    checks.check("the other sees it received", ben.rows_come("hello from anna", ["received"]), ben.states_of("hello from anna"))
+    text = "<b>öäü</b> \\ : 'quoted'"
+    ben.write("words", text)
+    checks.check("whatever is said", anna.rows_come(text, ["received"]), anna.states_of(text))
+
+
+def they_work(broker, checks, anna, ben):
+    anna.write("job", "alone")
+    checks.check("a job is sent and receipted", anna.rows_come("alone", ["sent", "receipted"]), anna.states_of("alone"))
+    ben.toggle("work")
+    checks.check("the worker has received it, and done it", ben.rows_come("alone", ["received", "done"]), ben.states_of("alone"))
+    checks.check("the other hears that it is done", anna.rows_come("alone", ["sent", "receipted", "done"]), anna.states_of("alone"))
+    anna.toggle("work")
+    anna.value("document.getElementById('ten').click()")
+    done = "[...document.querySelectorAll('#jobs li')].filter(row => row.querySelector('[data-state=done]')).length"
+    checks.check("ten jobs of one transaction are done by two workers", anna.comes(f"{done} == 11", 20), anna.value(done))
+    checks.check("by both of them", anna.value("['anna', 'ben'].every(name => document.getElementById('jobs').textContent.includes('done by ' + name))"))
+    anna.toggle("work")
+
+
+def they_watch(broker, checks, anna, ben):
+    anna.toggle("feed")
+    checks.check("numbers are drawn in both pages", all(page.comes("numbers.length > 20") for page in (anna, ben)))
+    checks.check("some five a second", ben.comes("/ [456]\\.\\d a second/.test(document.getElementById('summary').textContent)"), ben.value("summary()"))
+    drawn = "[...document.getElementById('bars').getContext('2d').getImageData(0, 0, 9999, 999).data].some(octet => octet)"
+    checks.check("as bars", ben.value(drawn))
+
+
+def the_broker_is_killed(broker, checks, anna, ben):
+    start = time.monotonic()
+    broker.kill()
+    checks.check("both pages see it gone", anna.is_in("lost") and ben.is_in("lost"), (anna.state(), ben.state()))
+    anna.write("words", "said while away")
+    checks.check("what is said meanwhile waits", anna.rows_come("said while away", ["waits"]), anna.states_of("said while away"))
+    time.sleep(2)
+    broker.serve()
+    served = time.monotonic()
+    checks.check("both come back by themselves", anna.is_in("open") and ben.is_in("open"), (anna.state(), ben.state()))
+    checks.tell(f"the broker was away for {served - start:.1f} s, and both were back {time.monotonic() - served:.1f} s later")
+    checks.check("what was said meanwhile goes out", anna.rows_come("said while away", ["sent", "received", "receipted"]), anna.states_of("said while away"))
+    ben.write("words", "and a further one")
+    checks.check("a further message goes through", anna.rows_come("and a further one", ["received"]), anna.states_of("and a further one"))
+
+
+def it_is_sent_again(broker, checks, anna, ben):
+    # The broker stands still, so that nothing is receipted, and is then killed.
+    broker.process.send_signal(signal.SIGSTOP)
+    anna.write("words", "in doubt")
+    checks.check("what has no receipt is shown as sent", anna.rows_come("in doubt", ["sent"]), anna.states_of("in doubt"))
+    broker.again()
+    checks.check("it is sent again and receipted", anna.rows_come("in doubt", ["sent", "again", "received", "receipted"]), anna.states_of("in doubt"))
+
+
+def a_job_is_handed_out_again(broker, checks, anna, ben):
+    anna.write("job", "interrupted")
+    checks.check("the worker has a job in hand", ben.comes("inHand.length == 1"))
+    broker.again()
+    checks.check("after the kill it comes again, and is done", ben.rows_come("interrupted", ["received", "done"]), ben.states_of("interrupted"))
+    # The other hears that it is done only where it is back before that, as in any topic.
+    checks.same("the other still sees it receipted, once", [row[:2] for row in anna.states_of("interrupted")], [["sent", "receipted"]])
+
+
+def a_keyboard_is_enough(broker, checks, anna, ben):
+    anna.value("document.activeElement.blur()")
+    reached = []
+    for _ in range(30):
+        anna.press(TAB)
+        reached.append(anna.value("document.activeElement.id"))
+    expected = ["port", "name", "room", "go", "leave", "chat", "words", "feed", "rate", "jobs", "job", "ten", "work"]
+    checks.check("each field and button is reached by Tab", set(expected) <= set(reached), reached)
+    named = "[...document.querySelectorAll('input, select, button')].every(one => one.ariaLabel || one.labels?.length || one.textContent.trim())"
+    checks.check("and has a name", anna.value(named))
+
+
+def an_error_is_shown(broker, checks, anna, ben):
+    anna.value("const row = chat.row('bad', 'anna', 'to nowhere'); stomp.post([['SEND', { destination: '/nowhere' }, 'x']], (state, why) => chat.mark(row, state, why))")
+    checks.check("what the broker refuses is shown as refused", anna.rows_come("to nowhere", ["sent", "refused"]), anna.states_of("to nowhere"))
+    told = anna.value("document.getElementById('chat').textContent.includes('E8 bad destination')")
+    checks.check("with the broker's words", told)
+    checks.check("and the page comes back", anna.is_in("open"), anna.state())
+
+
+def a_page_leaves(broker, checks, anna, ben):
+    ben.value("document.getElementById('leave').click()")
+    checks.check("a page that leaves stays away", ben.is_in("left") and not ben.is_in("open", 2), ben.state())
+    ben.value("document.getElementById('port').focus()")
+    ben.press(ENTER)
+    checks.check("and comes back when it is asked to", ben.is_in("open"), ben.state())
+
+
+STEPS = [
+    they_talk,
+    they_work,
+    they_watch,
+    the_broker_is_killed,
+    it_is_sent_again,
+    a_job_is_handed_out_again,
+    a_keyboard_is_enough,
+    an_error_is_shown,
+    a_page_leaves,
+]
+
+
+def try_page(broker, checks, browser, server, pictures):
+    anna = browser.open(PAGE.as_uri() + fragment(broker, "anna"))
+    ben = browser.open(f"http://127.0.0.1:{server.server_address[1]}/{PAGE.name}" + fragment(broker, "ben"))
+    for step in STEPS:
+        print(f"{step.__name__.replace('_', ' ')}", flush=True)
+        step(broker, checks, anna, ben)
+    for page, name, width, height in ((anna, "wide", 1280, 800), (ben, "narrow", 390, 1400)):
+        page.look(pictures / f"rooms-{name}.png", width, height)
+        checks.same(f"no exception was thrown in the page of {name}", page.exceptions, [])
+    checks.tell(f"pictures of the pages are in {pictures}")
+
+
+def main():
+    parser = scenario.words_of(__doc__)
+    parser.add_argument("--browser", default=next(filter(None, map(shutil.which, BROWSERS)), None))
+    words = parser.parse_args()
+    if not words.browser:
+        print("browser.py needs Chromium, which is not on the path (Debian: apt-get install chromium)", file=sys.stderr)
+        return 2
+    checks = scenario.Checks()
+    pictures = pathlib.Path(tempfile.mkdtemp(prefix="rooms-"))
+    with scenario.serving(words.program) as broker, tempfile.TemporaryDirectory(ignore_cleanup_errors=True) as folder:
+        browser, server = Browser(words.browser, folder), static_server()
+        try:
+            try_page(broker, checks, browser, server, pictures)
+        finally:
+            server.shutdown()
+            browser.close()
+    return 1 if checks.failed else 0
+
+
+if __name__ == "__main__":
+    sys.exit(main())

@@ -1,0 +1,245 @@
+#!/usr/bin/env python3
+"""Kills the broker by SIGKILL at random moments, under load, and looks after each restart what is there.
+
+    python3 clients/kills.py [PROGRAM] [--rounds N] [--seed N] [--senders N]
+
+In each round senders send to one queue, several receipts in flight, every fourth time a transaction; a worker takes from the
+queue and acknowledges; and the broker is killed. It is started again over the same file, and a reader takes all that is there:
+
+- a message whose receipt came, and that nobody acknowledged, once;
+- a message whose acknowledgement had its receipt, never;
+- a message whose receipt did not come, once or never, but the messages of a transaction all or none;
+- the messages of a sender in the order in which it sent them, and nothing that wasn't sent.
+
+A SIGKILL ends the program, not the machine: what the program had written is there for the system. What a lost machine leaves
+is the crash model's matter.
+"""
+
+import collections
+import random
+import sys
+import threading
+import time
+
+import scenario
+from stomp_client import Client, Closed
+
+QUEUE = "/queue/kept"
+# Receipts that a sender has in flight. The broker itself takes 8 commands of a connection at a time.
+IN_FLIGHT = 8
+# What the senders of a round send at most, so that no more than 4,096 messages are held.
+MOST_OF_A_ROUND = 3_600
+LAST_BODY = "the last one"
+
+
+class Group:
+    """What one receipt tells of: a message, or the messages of a transaction."""
+
+    def __init__(self, bodies):
+        self.bodies = bodies
+        self.is_receipted = False
+
+
+class Loader:
+    """A client in a thread of its own, which goes on until the broker is gone."""
+
+    def __init__(self, port):
+        self.client = Client(port).connect()
+        # What ended it, where that isn't the end of its stream.
+        self.fault = None
+        self.thread = threading.Thread(target=self.run)
+
+    def run(self):
+        try:
+            self.go_on()
+        except ConnectionError:
+            pass
+        except Closed as closed:
+            self.fault = closed if closed.code else None
+        except Exception as error:
+            self.fault = error
+
+
+class Sender(Loader):
+    """Keeps what it sent and what was receipted."""
+
+    def __init__(self, port, name, most, seed):
+        super().__init__(port)
+        self.name, self.most = name, most
+        self.random = random.Random(seed)
+        self.groups = []
+        self.count = 0
+
+    def go_on(self):
+        waiting = []
+        while self.count < self.most or waiting:
+            if self.count < self.most and len(waiting) < IN_FLIGHT:
+                waiting.append(self.send_some())
+            else:
+                self.hear_receipt(waiting.pop(0))
+
+    def send_some(self):
+        """A message, or every fourth time a transaction; what its receipt tells of."""
+        size = self.random.randint(2, 5) if self.random.random() < 0.25 else 1
+        # It is kept before it is sent: of what was sent in part nothing is known.
+        group = Group([f"{self.name} {self.count + place}" for place in range(size)])
+        self.groups.append(group)
+        self.count += size
+        if size == 1:
+            self.client.send("SEND", [("destination", QUEUE), ("receipt", group.bodies[0])], group.bodies[0])
+        else:
+            self.send_transaction(group.bodies)
+        return group
+
+    def send_transaction(self, bodies):
+        within = ("transaction", bodies[0])
+        self.client.send("BEGIN", [within])
+        for body in bodies:
+            self.client.send("SEND", [("destination", QUEUE), within], body)
+        self.client.send("COMMIT", [within, ("receipt", bodies[0])])
+
+    def hear_receipt(self, group):
+        before = self.client.receipt(group.bodies[0])
+        assert not before, before
+        group.is_receipted = True
+
+
+class Worker(Loader):
+    """Takes from the queue and acknowledges; keeps how often it had each message, and what was acknowledged."""
+
+    def __init__(self, port):
+        super().__init__(port)
+        self.had, self.settled = collections.Counter(), set()
+
+    def go_on(self):
+        self.client.send("SUBSCRIBE", [("id", "w"), ("destination", QUEUE), ("ack", "client-individual")])
+        while True:
+            frame = self.client.receive()
+            if frame.command == "RECEIPT":
+                self.settled.add(frame.headers["receipt-id"])
+            else:
+                self.acknowledge(frame)
+
+    def acknowledge(self, frame):
+        assert frame.command == "MESSAGE", frame
+        self.had[frame.body] += 1
+        self.client.send("ACK", [("id", frame.headers["ack"]), ("receipt", frame.body)])
+        # Slower than the senders, so that something is left in the queue.
+        time.sleep(0.001)
+
+
+def take_all(port):
+    """All that is in the queue, acknowledged, up to a message that is sent behind it."""
+    reader = Client(port).connect()
+    reader.send("SEND", [("destination", QUEUE)], LAST_BODY)
+    reader.send("SUBSCRIBE", [("id", "r"), ("destination", QUEUE), ("ack", "client-individual")])
+    found = []
+    while not found or found[-1] != LAST_BODY:
+        frame = reader.receive()
+        found.append(frame.body)
+        reader.send("ACK", [("id", frame.headers["ack"])])
+    reader.disconnect()
+    return found[:-1]
+
+
+def faults_of_a_group(group, there, worker):
+    """What is wrong with a group, by how often each of its messages was found."""
+    was_had = any(body in worker.had for body in group.bodies)
+    untouched = [body for body in group.bodies if body not in worker.had]
+    missing = [body for body in untouched if body not in there]
+    if missing and (group.is_receipted or was_had):
+        yield f"{missing}: lost"
+    if missing and len(missing) < len(untouched):
+        yield f"{group.bodies}: there in part"
+
+
+def faults_of_a_round(senders, worker, found):
+    """What is wrong with what was found."""
+    there = collections.Counter(found)
+    sent = {body for sender in senders for group in sender.groups for body in group.bodies}
+    yield from (f"{one}: {one.fault!r}" for one in [*senders, worker] if one.fault)
+    yield from (f"{body}: there {count} times" for body, count in there.items() if count > 1)
+    yield from (f"{body}: handed out {count} times in one session" for body, count in worker.had.items() if count > 1)
+    yield from (f"{body}: nobody sent it in this round" for body in [*there, *worker.had] if body not in sent)
+    yield from (f"{body}: there although its acknowledgement was receipted" for body in worker.settled if body in there)
+    for sender in senders:
+        numbers = [int(body.split(" ")[1]) for body in found if body.startswith(sender.name + " ")]
+        if numbers != sorted(numbers):
+            yield f"sender {sender.name}: out of order"
+        for group in sender.groups:
+            yield from faults_of_a_group(group, there, worker)
+
+
+class Totals:
+    """What was seen over all rounds."""
+
+    def __init__(self):
+        self.sent = self.receipted = self.unknown = self.unknown_kept = self.settled = self.found = 0
+        self.longest_restart = 0.0
+
+    def add(self, senders, worker, found):
+        kept = set(found)
+        for group in (group for sender in senders for group in sender.groups):
+            size = len(group.bodies)
+            self.sent += size
+            self.receipted += size if group.is_receipted else 0
+            self.unknown += 0 if group.is_receipted else size
+            self.unknown_kept += 0 if group.is_receipted else sum(body in kept or body in worker.had for body in group.bodies)
+        self.settled += len(worker.settled)
+        self.found += len(found)
+
+
+def kill_under_load(broker, name, chance, count):
+    """A round up to the kill: the senders and the worker, once they all have noticed."""
+    most = MOST_OF_A_ROUND // count
+    senders = [Sender(broker.port, f"{name}.{number}", most, chance.random()) for number in range(count)]
+    worker = Worker(broker.port)
+    everybody = [*senders, worker]
+    for one in everybody:
+        one.thread.start()
+    time.sleep(chance.uniform(0.001, 0.25))
+    broker.kill()
+    for one in everybody:
+        one.thread.join()
+        one.client.close()
+    return senders, worker
+
+
+def one_round(broker, name, chance, count, totals):
+    """Kills and starts the broker, and answers what is wrong then."""
+    senders, worker = kill_under_load(broker, name, chance, count)
+    start = time.perf_counter()
+    broker.serve()
+    totals.longest_restart = max(totals.longest_restart, time.perf_counter() - start)
+    found = take_all(broker.port)
+    totals.add(senders, worker, found)
+    return list(faults_of_a_round(senders, worker, found))
+
+
+def tell(checks, totals, rounds):
+    checks.tell(f"{totals.sent} messages sent, {totals.receipted} receipted, {totals.settled} acknowledged with a receipt")
+    checks.tell(f"of {totals.unknown} without a receipt {totals.unknown_kept} were kept")
+    checks.tell(f"{totals.found} found after {rounds} restarts, of which the longest took {totals.longest_restart * 1000:.0f} ms")
+
+
+def main():
+    parser = scenario.words_of(__doc__)
+    parser.add_argument("--rounds", type=int, default=100, help="how often the broker is killed")
+    parser.add_argument("--seed", type=int, default=random.randrange(2**32), help="of the moments and of what is sent")
+    parser.add_argument("--senders", type=int, default=4)
+    words = parser.parse_args()
+    print(f"seed {words.seed}", flush=True)
+    chance, checks, totals = random.Random(words.seed), scenario.Checks(), Totals()
+    with scenario.serving(words.program) as broker:
+        for number in range(words.rounds):
+            faults = one_round(broker, f"{number}", chance, words.senders, totals)
+            if faults:
+                checks.check(f"kill {number}", False, faults[:5])
+    checks.check(f"killed {words.rounds} times: all that was receipted is there once, and nothing else", not checks.failed)
+    checks.check("the load was one: some messages had no receipt at the kill", totals.unknown > 0)
+    tell(checks, totals, words.rounds)
+    return 1 if checks.failed else 0
+
+
+if __name__ == "__main__":
+    sys.exit(main())

@@ -1,0 +1,116 @@
+"""What the scripts share: a broker over a journal in a temporary folder, and a line for each check."""
+
+import argparse
+import contextlib
+import os
+import pathlib
+import signal
+import socket
+import subprocess
+import tempfile
+import time
+import traceback
+
+PROGRAM = pathlib.Path(__file__).resolve().parent.parent / "bin" / "stompd"
+
+# Two areas of 512 MiB. The file is sparse: it takes what is written. A full area would end the broker.
+JOURNAL_BYTES = 1_073_741_856
+
+
+def free_port():
+    with socket.socket() as probe:
+        probe.bind(("127.0.0.1", 0))
+        return probe.getsockname()[1]
+
+
+class Broker:
+    """The program, serving a journal."""
+
+    def __init__(self, program, journal, port=None):
+        self.program, self.journal, self.port = program, journal, port or free_port()
+        self.serve()
+
+    def serve(self):
+        words = [self.program, "serve", self.journal, str(self.port)]
+        self.process = subprocess.Popen(words, stdout=subprocess.PIPE, stderr=subprocess.PIPE)
+        line = self.process.stdout.readline().decode()
+        if line != f"listening {self.port}\n":
+            self.process.kill()
+            raise RuntimeError(f"the broker does not serve: {line!r}, {self.process.stderr.read().decode()!r}")
+
+    def kill(self):
+        self.process.send_signal(signal.SIGKILL)
+        self.process.wait()
+        self.process.stdout.close()
+        self.process.stderr.close()
+
+    def again(self):
+        """Kills it and serves the same file at the same port."""
+        self.kill()
+        self.serve()
+
+    def is_running(self):
+        return self.process.poll() is None
+
+
+@contextlib.contextmanager
+def serving(program=PROGRAM, journal_bytes=JOURNAL_BYTES):
+    """A broker over a new journal, which is killed at the end."""
+    with tempfile.TemporaryDirectory(prefix="stompd-") as folder:
+        journal = os.path.join(folder, "journal")
+        subprocess.run([program, "format", journal, str(journal_bytes)], check=True)
+        broker = Broker(program, journal)
+        try:
+            yield broker
+        finally:
+            broker.kill()
+
+
+class Checks:
+    """Prints a line for each check, and counts those that failed."""
+
+    def __init__(self):
+        self.failed = 0
+
+    def check(self, what, holds, seen=None):
+        if holds:
+            print(f"ok    {what}", flush=True)
+        else:
+            self.failed += 1
+            print(f"FAIL  {what}; seen: {seen!r}", flush=True)
+
+    def same(self, what, seen, expected):
+        self.check(what, seen == expected, f"{seen!r} and not {expected!r}")
+
+    def tell(self, what):
+        print(f"      {what}", flush=True)
+
+
+def try_one(scenario, broker, checks):
+    """Runs a scenario. What it raises is a failed check."""
+    print(f"{scenario.__name__.replace('_', ' ')}: {scenario.__doc__}", flush=True)
+    try:
+        scenario(broker, checks)
+    except Exception as error:
+        traceback.print_exc()
+        checks.check(f"{scenario.__name__} runs to its end", False, error)
+
+
+def words_of(text):
+    """The words of a script that has no others than the program."""
+    parser = argparse.ArgumentParser(description=text, formatter_class=argparse.RawDescriptionHelpFormatter)
+    parser.add_argument("program", nargs="?", default=PROGRAM, help="the built program; without it bin/stompd")
+    return parser
+
+
+def run(text, scenarios):
+    """Runs each scenario over one broker, and answers the status: 0 only where every check held."""
+    program = words_of(text).parse_args().program
+    checks = Checks()
+    start = time.monotonic()
+    with serving(program) as broker:
+        for scenario in scenarios:
+            try_one(scenario, broker, checks)
+        checks.check("the broker still runs", broker.is_running(), broker.process.poll())
+    checks.tell(f"{time.monotonic() - start:.1f} s")
+    return 1 if checks.failed else 0

@@ -1,0 +1,262 @@
+"""A WebSocket client (RFC 6455) and a client of STOMP 1.2 over it, of Python's own library alone."""
+
+import base64
+import collections
+import os
+import select
+import socket
+import struct
+
+Frame = collections.namedtuple("Frame", "command headers body")
+
+TEXT, BINARY, CLOSE, PING, PONG = 1, 2, 8, 9, 10
+
+ESCAPES = {"\\": "\\\\", "\r": "\\r", "\n": "\\n", ":": "\\c"}
+MEANINGS = {"\\": "\\", "r": "\r", "n": "\n", "c": ":"}
+
+
+class Closed(Exception):
+    """The server has closed the connection. The code is that of its close frame: 1005 where that has none, and 0 where the
+    stream ended without such a frame."""
+
+    def __init__(self, code):
+        super().__init__(f"closed with {code}")
+        self.code = code
+
+
+class Refused(Exception):
+    """The server has not accepted the handshake."""
+
+    def __init__(self, status):
+        super().__init__(f"the handshake was answered with {status}")
+        self.status = status
+
+
+def escape(text):
+    return "".join(ESCAPES.get(letter, letter) for letter in text)
+
+
+def unescape(text):
+    pieces = text.split("\\")
+    meant, at = [pieces[0]], 1
+    while at < len(pieces):
+        if pieces[at]:
+            meant.append(MEANINGS[pieces[at][0]] + pieces[at][1:])
+            at += 1
+        else:
+            # Two backslashes, and the text behind them.
+            meant.append("\\" + pieces[at + 1])
+            at += 2
+    return "".join(meant)
+
+
+def masked(payload, mask):
+    """The payload with the mask laid over it; the same call takes it off."""
+    laid = (mask * (len(payload) // 4 + 1))[: len(payload)]
+    return (int.from_bytes(payload, "big") ^ int.from_bytes(laid, "big")).to_bytes(len(payload), "big")
+
+
+def message_bytes(opcode, payload, is_masked=True, is_last=True):
+    """One frame of a WebSocket, as it stands on the wire."""
+    size, mask_bit = len(payload), 0x80 if is_masked else 0
+    first = opcode | (0x80 if is_last else 0)
+    if size < 126:
+        head = struct.pack(">BB", first, mask_bit | size)
+    elif size < 65_536:
+        head = struct.pack(">BBH", first, mask_bit | 126, size)
+    else:
+        head = struct.pack(">BBQ", first, mask_bit | 127, size)
+    if not is_masked:
+        return head + payload
+    mask = os.urandom(4)
+    return head + mask + masked(payload, mask)
+
+
+def handshake(port, path="/", offer=None):
+    """The head of a request that asks for a WebSocket."""
+    key = base64.b64encode(os.urandom(16)).decode()
+    lines = [f"GET {path} HTTP/1.1", f"Host: 127.0.0.1:{port}", "Upgrade: websocket", "Connection: Upgrade"]
+    lines += [f"Sec-WebSocket-Key: {key}", "Sec-WebSocket-Version: 13"]
+    if offer:
+        lines.append(f"Sec-WebSocket-Protocol: {offer}")
+    return ("\r\n".join(lines) + "\r\n\r\n").encode()
+
+
+class Stream:
+    """A TCP connection to 127.0.0.1, and what was read of it and not taken."""
+
+    def __init__(self, port, timeout=10, receive_bytes=None):
+        self.socket = socket.socket()
+        if receive_bytes:
+            self.socket.setsockopt(socket.SOL_SOCKET, socket.SO_RCVBUF, receive_bytes)
+        self.socket.settimeout(timeout)
+        self.socket.connect(("127.0.0.1", port))
+        self.socket.setsockopt(socket.IPPROTO_TCP, socket.TCP_NODELAY, 1)
+        self.buffer = bytearray()
+
+    def write(self, octets):
+        self.socket.sendall(octets)
+
+    def fill(self):
+        """Waits for more bytes, up to the socket's timeout."""
+        try:
+            more = self.socket.recv(65_536)
+        except ConnectionResetError:
+            more = b""
+        if not more:
+            raise Closed(0)
+        self.buffer += more
+
+    def take(self, count):
+        while len(self.buffer) < count:
+            self.fill()
+        taken = bytes(self.buffer[:count])
+        del self.buffer[:count]
+        return taken
+
+    def take_head(self):
+        """The bytes up to the first empty line, with it."""
+        while b"\r\n\r\n" not in self.buffer:
+            self.fill()
+        return self.take(self.buffer.index(b"\r\n\r\n") + 4)
+
+    def hears_within(self, seconds):
+        """Whether bytes come, or the end, within that time."""
+        return bool(select.select([self.socket], [], [], seconds)[0])
+
+    def close(self):
+        self.socket.close()
+
+
+class WebSocket(Stream):
+    """A WebSocket whose handshake was accepted; where `waits` is false, `hear_answer` says whether it is."""
+
+    def __init__(self, port, path="/", offer=None, timeout=10, receive_bytes=None, waits=True):
+        super().__init__(port, timeout, receive_bytes)
+        self.write(handshake(port, path, offer))
+        if waits:
+            self.hear_answer()
+
+    def hear_answer(self):
+        """Waits for the answer to the handshake."""
+        self.head = self.take_head().decode()
+        status = self.head.split(" ", 2)[1]
+        if status != "101":
+            self.close()
+            raise Refused(status)
+
+    def send_message(self, opcode, payload):
+        self.write(message_bytes(opcode, payload))
+
+    def take_frame(self):
+        """The next frame of the WebSocket: whether it is the last of its message, its opcode and its payload."""
+        # Nothing is taken before all of it is there, so that a wait that was too long loses nothing.
+        needed = 2
+        while True:
+            while len(self.buffer) < needed:
+                self.fill()
+            head = 2 + {126: 2, 127: 8}.get(self.buffer[1] & 0x7F, 0)
+            if len(self.buffer) < head:
+                needed = head
+                continue
+            size = self.buffer[1] & 0x7F if head == 2 else int.from_bytes(self.buffer[2:head], "big")
+            if len(self.buffer) >= head + size:
+                taken = self.take(head + size)
+                return taken[0] & 0x80 != 0, taken[0] & 0x0F, taken[head:]
+            needed = head + size
+
+    def receive_message(self):
+        """The next message: its opcode and its payload. A ping is answered."""
+        opcode, payload = None, b""
+        while True:
+            is_last, kind, piece = self.take_frame()
+            if kind == CLOSE:
+                raise Closed(int.from_bytes(piece[:2], "big") if piece else 1005)
+            if kind == PING:
+                self.send_message(PONG, piece)
+            elif kind == PONG:
+                return kind, piece
+            else:
+                opcode, payload = kind or opcode, payload + piece
+                if is_last:
+                    return opcode, payload
+
+
+class Client(WebSocket):
+    """A client of a broker."""
+
+    def __init__(self, port, **options):
+        super().__init__(port, offer="v12.stomp", **options)
+        self.session = None
+
+    def connect(self, client_id=None):
+        headers = [("accept-version", "1.2")] + ([("client-id", client_id)] if client_id else [])
+        self.send("CONNECT", headers)
+        connected = self.receive()
+        assert connected.command == "CONNECTED", connected
+        self.session = connected.headers["session"]
+        return self
+
+    def send(self, command, headers=(), body=""):
+        spell = str if command == "CONNECT" else escape
+        lines = [command] + [f"{spell(name)}:{spell(value)}" for name, value in headers]
+        self.send_message(TEXT, ("\n".join(lines) + "\n\n" + body + "\0").encode())
+
+    def subscribe(self, name, destination, ack="auto", headers=()):
+        """Subscribes, and answers the frames that came up to the receipt."""
+        self.send("SUBSCRIBE", [("id", name), ("destination", destination), ("ack", ack), ("receipt", "s " + name), *headers])
+        return self.receipt("s " + name)
+
+    def publish(self, destination, body, headers=()):
+        """Sends a message, and answers the frames that came up to its receipt."""
+        self.send("SEND", [("destination", destination), ("receipt", "p " + body[:40]), *headers], body)
+        return self.receipt("p " + body[:40])
+
+    def publish_all(self, destination, texts, window=64):
+        """Sends many messages, so many at a time, and returns once each has its receipt."""
+        for start in range(0, len(texts), window):
+            batch = range(start, min(start + window, len(texts)))
+            for number in batch:
+                self.send("SEND", [("destination", destination), ("receipt", f"{number}")], texts[number])
+            for number in batch:
+                self.receipt(f"{number}")
+
+    def receive(self):
+        """The next frame of STOMP. Each message of the server holds one."""
+        kind, payload = self.receive_message()
+        while kind == PONG:
+            kind, payload = self.receive_message()
+        head, body = payload.split(b"\n\n", 1)
+        command, *lines = head.decode().split("\n")
+        spell = str if command == "CONNECTED" else unescape
+        pairs = [tuple(spell(part) for part in line.split(":", 1)) for line in lines]
+        # Of a repeated header the first counts.
+        return Frame(command, dict(reversed(pairs)), body[:-1].decode())
+
+    def receipt(self, name):
+        """Reads on to that receipt, and answers the frames before it."""
+        before = []
+        while True:
+            frame = self.receive()
+            if frame.command == "RECEIPT" and frame.headers["receipt-id"] == name:
+                return before
+            if frame.command == "ERROR":
+                raise AssertionError(f"told {frame.headers.get('message')} before the receipt {name}")
+            before.append(frame)
+
+    def to_the_end(self):
+        """The frames up to the server's close, and its code."""
+        frames = []
+        while True:
+            try:
+                frames.append(self.receive())
+            except Closed as closed:
+                return frames, closed.code
+
+    def disconnect(self):
+        """Leaves as a client should: the receipt of its DISCONNECT says that all before was heard."""
+        self.send("DISCONNECT", [("receipt", "bye")])
+        before = self.receipt("bye")
+        _, code = self.to_the_end()
+        self.close()
+        return before, code
