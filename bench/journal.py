@@ -135,7 +135,7 @@ def writes(bench):
     for connections, in_flight in ((1, 1), (1, 8), (31, 8)):
         make_journal(bench.program, bench.journal, 64 * MB)
         trace = bench.folder / "trace"
-        before = ("strace", "-f", "--kill-on-exit", "-o", trace, "-e", "trace=pwrite64,fsync,fdatasync")
+        before = ("strace", "-f", "-o", trace, "-e", "trace=pwrite64,fsync,fdatasync")
         with Server(bench.program, bench.journal, before) as server:
             Load(bench.load, server, "receipts", connections, in_flight, 2)
         seen = shown(bench.program, bench.journal)

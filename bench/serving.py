@@ -42,10 +42,12 @@ def shown(program, path):
 
 
 class Server:
-    """A running server. `started` is how many seconds it took until it listened."""
+    """A running server. `started` is how many seconds it took until it listened. `before` are the words of a program that
+    runs it as its one child."""
 
     def __init__(self, program, journal, before=()):
         self.port = free_port()
+        self.is_child = bool(before)
         begun = time.perf_counter()
         self.process = subprocess.Popen([*before, program, "serve", journal, str(self.port)], stdout=subprocess.PIPE, stderr=subprocess.PIPE)
         line = self.process.stdout.readline()
@@ -65,7 +67,10 @@ class Server:
         return (int(fields[11]) + int(fields[12])) / os.sysconf("SC_CLK_TCK")
 
     def kill(self):
-        self.process.send_signal(signal.SIGKILL)
+        served = self.process.pid
+        if self.is_child:
+            served = int(pathlib.Path(f"/proc/{served}/task/{served}/children").read_text(encoding="ascii"))
+        os.kill(served, signal.SIGKILL)
         self.process.wait()
         self.process.stdout.close()
         self.process.stderr.close()

@@ -101,15 +101,16 @@ class Traced:
             probe.bind(("127.0.0.1", 0))
             self.port = probe.getsockname()[1]
         words = ["strace", "-f", "-xx", "-s", "1000000", "-o", trace, "-e", "trace=" + CALLS, program, "serve", journal, str(self.port)]
-        self.trace = trace
         self.process = subprocess.Popen(words, stdout=subprocess.PIPE, stderr=subprocess.PIPE)
         line = self.process.stdout.readline().decode()
         if line != f"listening {self.port}\n":
             sys.exit(f"trace_serve: the server does not listen: {line}{self.process.stderr.read().decode()}")
 
     def kill(self):
-        """Kills the server itself, whose number stands first in the trace; strace ends with it."""
-        os.kill(int(self.trace.read_text().split(" ", 1)[0]), signal.SIGKILL)
+        """Kills the server itself, the one child of strace, which ends with it."""
+        strace = self.process.pid
+        children = pathlib.Path(f"/proc/{strace}/task/{strace}/children").read_text(encoding="ascii")
+        os.kill(int(children), signal.SIGKILL)
         self.process.wait()
         self.process.stdout.close()
         self.process.stderr.close()
