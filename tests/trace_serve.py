@@ -70,7 +70,7 @@ class Call:
 
 
 WHOLE = re.compile(r"(\d+) +(\w+)\((.*)\) += (-?\d+)(?: .*)?$")
-BEGUN = re.compile(r"(\d+) +(\w+)\((.*) <unfinished \.\.\.>$")
+BEGUN = re.compile(r"(\d+) +(\w+)\((.*?)(?: <unfinished \.\.\.>|\) += \?.*)$")
 ENDED = re.compile(r"(\d+) +<\.\.\. (\w+) resumed>(.*)\) += (-?\d+)(?: .*)?$")
 
 
@@ -179,9 +179,10 @@ class Journal:
         self.calls = [call for call in calls if call.name in names and call.descriptor() == self.file and call.begun > opened[0].begun]
         self.at = 0
 
-    def has_next(self):
+    def has_next(self, count=1):
         # A call under way when the server was killed has no answer.
-        return self.at < len(self.calls) and self.calls[self.at].ended is not None
+        calls = self.calls[self.at : self.at + count]
+        return len(calls) == count and calls[-1].ended is not None
 
     def next(self, what):
         check(self.has_next(), f"{what} is missing")
@@ -233,8 +234,8 @@ def blocks(journal, gate):
         check(place == gate + 1, f"a block is written at {place} and not behind its gate at {gate}")
         length = int.from_bytes(octets[:8], "big")
         check(length > 0 and len(octets) == 9 + length and octets[-1] == 0, "a block is not its length, its records and a closed gate")
-        if len(journal.calls) < journal.at + 3:
-            # The server was killed before the block's end: nobody has heard of it.
+        if not journal.has_next(3):
+            # The server was killed before the block's end: nobody may have heard of it.
             return
         journal.sync("a block's sync")
         check(journal.write("a gate") == (gate, b"\1"), "a gate is not opened by one byte")
@@ -335,10 +336,10 @@ def first_run(program, folder, path):
     ended, gate = start(journal, 0, bytes(32))
     listens_after(calls, ended)
     found = durable(journal, gate, 0)
+    count = heard(calls, found, journal)
     check([octets for _, _, octets, _, _ in found] == records, "the blocks hold other records than what the client asked for")
     lines = [line for *_, line in found]
     check(len(set(lines)) == len(lines), "two commands of a client that waits stand in one block")
-    count = heard(calls, found, journal)
     check(count == len(records), f"{count} frames left for {len(records)} commands")
     print(f"trace_serve: a start, {len(records)} commands of a client that waits, each a block of its own")
 
@@ -355,9 +356,9 @@ def second_run(program, folder, path):
     ended, gate = start(journal, 1, held_state(41, messages))
     listens_after(calls, ended)
     found = durable(journal, gate, 41)
+    frames = heard(calls, found, journal)
     receipts = [receipt for _, receipt, *_ in found if receipt is not None]
     check(sorted(receipts) == sorted(asked), "the blocks hold other commands than what the clients asked for")
-    frames = heard(calls, found, journal)
     count = len({line for *_, line in found})
     print(f"trace_serve: a start with 40 messages held, {len(found)} commands of four clients in {count} blocks, {frames} frames behind them")
 
