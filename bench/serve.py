@@ -7,13 +7,14 @@ PROGRAM is the built program; without it, the one that bin/stompd leaves in crat
 FOLDER (/dev/shm, and the folder for temporary files), and removed.
 """
 
+import os
 import pathlib
 import statistics
 import tempfile
 import time
 
 from measuring import MB, arguments, machine, parsed
-from serving import Load, Server, build_load, make_journal
+from serving import Load, Server, build_load, build_slow_sync, make_journal
 
 AREA = 512 * MB
 HELD = 4_000
@@ -21,15 +22,15 @@ AT_ONCE = 32
 
 
 class Bench:
-    def __init__(self, words, load, folder):
+    def __init__(self, words, load, slow, folder):
         self.program, self.runs, self.seconds = words.program, words.runs, words.seconds
-        self.load, self.journal = load, folder / "journal"
+        self.load, self.slow, self.journal = load, slow, folder / "journal"
         self.plain = folder / "syncs"
 
-    def server(self, area=AREA):
+    def server(self, environment=None):
         """A server over a new journal."""
-        make_journal(self.program, self.journal, area)
-        return Server(self.program, self.journal)
+        make_journal(self.program, self.journal, AREA)
+        return Server(self.program, self.journal, environment=environment)
 
     def loads(self, *words):
         """The loads of a case, each on a server of its own."""
@@ -37,11 +38,11 @@ class Bench:
             with self.server() as server:
                 yield Load(self.load, server, *words)
 
-    def syncs(self):
+    def syncs(self, count=3_000, environment=None):
         """The times of a block's two writes and two syncs on this disk, in a new file of the same size."""
         with open(self.plain, "wb") as file:
             file.truncate(2 * AREA)
-        load = Load(self.load, None, "syncs", self.plain, 3_000)
+        load = Load(self.load, None, "syncs", self.plain, count, environment=environment)
         self.plain.unlink()
         return load
 
@@ -71,10 +72,19 @@ def one(bench):
 
 
 def many(bench):
-    pair = bench.syncs()["two_syncs_median_us"]
-    best = tell_rate("receipts, 31 connections, 8 in flight", "receipts_a_second", "a second", list(bench.loads("receipts", 31, 8, bench.seconds)))
-    bound = AT_ONCE / pair * 1e6
-    tell("the same, of 32 commands in two syncs", f"{best / bound * 100:,.1f}", "%", f" of {bound:,.0f} a second")
+    tell_rate("receipts, 31 connections, 8 in flight", "receipts_a_second", "a second", list(bench.loads("receipts", 31, 8, bench.seconds)))
+
+
+def slow(bench):
+    """The same over syncs that are made slower: then 32 commands in two syncs are the most that there can be."""
+    for more in (500, 2_000):
+        environment = {**os.environ, "LD_PRELOAD": str(bench.slow), "SLOW_SYNC": str(more)}
+        pair = bench.syncs(500, environment)["two_syncs_median_us"]
+        with bench.server(environment) as server:
+            load = Load(bench.load, server, "receipts", 31, 8, bench.seconds)
+        bound = AT_ONCE / pair * 1e6
+        rate = load["receipts_a_second"]
+        tell(f"the same, syncs slower by {more / 1e3:.1f} ms", f"{rate:,.0f}", "a second", f", {rate / bound * 100:.0f} % of 32 commands in two syncs of {pair:,.0f} us")
 
 
 def fanout(bench):
@@ -114,7 +124,7 @@ def idle(bench):
     tell("32 idle connections, of one processor", f"{load.server_busy * 100:,.2f}", "%", f" over {load.seconds:.0f} s")
 
 
-CASES = {case.__name__: case for case in (one, many, fanout, queue, latency, starts, idle)}
+CASES = {case.__name__: case for case in (one, many, slow, fanout, queue, latency, starts, idle)}
 
 
 def main():
@@ -126,10 +136,10 @@ def main():
     folders = words.folder or [pathlib.Path("/dev/shm"), pathlib.Path(tempfile.gettempdir())]
     print(machine(), time.strftime("%Y-%m-%d %H:%M UTC", time.gmtime()))
     with tempfile.TemporaryDirectory() as built:
-        load = build_load(pathlib.Path(built))
+        load, slower = build_load(pathlib.Path(built)), build_slow_sync(pathlib.Path(built))
         for folder in folders:
             with tempfile.TemporaryDirectory(dir=folder) as name:
-                bench = Bench(words, load, pathlib.Path(name))
+                bench = Bench(words, load, slower, pathlib.Path(name))
                 print(f"{folder}:")
                 syncs(bench)
                 for case in words.only or CASES:

@@ -29,6 +29,13 @@ def build_load(folder):
     return built
 
 
+def build_slow_sync(folder):
+    """A library that makes each sync of a program slower."""
+    built = folder / "slow_sync.so"
+    subprocess.run(["cc", "-O2", "-Wall", "-shared", "-fPIC", "-o", built, HERE / "slow_sync.c"], check=True)
+    return built
+
+
 def make_journal(program, path, area):
     """A new journal with areas of so many bytes."""
     pathlib.Path(path).unlink(missing_ok=True)
@@ -45,11 +52,12 @@ class Server:
     """A running server. `started` is how many seconds it took until it listened. `before` are the words of a program that
     runs it as its one child."""
 
-    def __init__(self, program, journal, before=()):
+    def __init__(self, program, journal, before=(), environment=None):
         self.port = free_port()
         self.is_child = bool(before)
         begun = time.perf_counter()
-        self.process = subprocess.Popen([*before, program, "serve", journal, str(self.port)], stdout=subprocess.PIPE, stderr=subprocess.PIPE)
+        words = [*before, program, "serve", journal, str(self.port)]
+        self.process = subprocess.Popen(words, stdout=subprocess.PIPE, stderr=subprocess.PIPE, env=environment)
         line = self.process.stdout.readline()
         self.started = time.perf_counter() - begun
         if line != b"listening %d\n" % self.port:
@@ -79,12 +87,12 @@ class Server:
 class Load:
     """The load generator, against one server or none. `figures` are what it printed."""
 
-    def __init__(self, built, server, *words):
+    def __init__(self, built, server, *words, environment=None):
         used, begun = cpu_seconds(), time.perf_counter()
         served = server.cpu() if server else 0
         mode, *rest = (str(word) for word in words)
         place = [str(server.port)] if server else []
-        done = subprocess.run([built, mode, *place, *rest], capture_output=True, text=True, check=False)
+        done = subprocess.run([built, mode, *place, *rest], capture_output=True, text=True, check=False, env=environment)
         if done.returncode != 0:
             ended = server and server.process.poll() is not None
             sys.exit(f"{words}: {done.stderr.strip()}" + (f"; the server ended: {server.process.stderr.read()}" if ended else ""))
