@@ -154,7 +154,7 @@ def serves(checks, folder):
 def words(checks, folder):
     journal = str(folder / "journal")
     none = ([], ["flash"], ["--flash"], ["script", "x"], ["show"], ["show", journal, "x"], ["format", journal], ["format", journal, "1", "2"])
-    for bad in (*none, ["serve", journal], ["serve", journal, "80", "x"], ["--help"], ["show", "--help"], ["format", journal, "-1"]):
+    for bad in (*none, ["serve", journal], ["serve", journal, "80", "x"], ["--help"], ["show", "--help"]):
         checks.run(bad, 2, NOTHING, SOME)
     for bad in ([b"\xff"], ["script", b"\xff"], ["show", b"\xff"], ["format", b"\xff", str(SMALLEST)], ["serve", b"\xff", "80"]):
         checks.run(bad, 2, NOTHING, NOTHING)

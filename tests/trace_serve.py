@@ -211,7 +211,6 @@ class Journal:
 def start(journal, live, snapshot):
     """Checks a start: recovery's sync and reads, the snapshot into the other area in one write or more, and the switch.
     Answers the call that ended it."""
-    journal.reads()
     journal.sync("recovery's sync")
     journal.reads()
     front, idle = b"", HEAD + AREA * (1 - live)
