@@ -1,10 +1,10 @@
 #!/usr/bin/env python3
 """Measures appends to the claim buffer, and to two kinds of queues in plain Rust. README.md says what each figure means.
 
-    python3 bench/appends.py [--runs N] [--plain]
+    python3 bench/appends.py [--runs N] [--plain] [--crates FOLDER]
 
-The claim buffer's program is proved and built by `rt` in a temporary copy of the crates that it stands on (some minutes where
-their `out` folders are missing); --plain leaves it out. The queues need `rustc`; those of `crossbeam_queue` also its source,
+The claim buffer's program is proved and built by `rt` in a temporary copy of the crates that it stands on; --plain leaves it
+out. FOLDER has these crates, if not crates/ of the repository; where their `out` folders are missing they are proved first. The queues need `rustc`; those of `crossbeam_queue` also its source,
 as Debian's librust-crossbeam-queue-dev has it, and are left out where that is missing.
 """
 
@@ -26,14 +26,14 @@ STANDS_ON = ("escape_core", "frame_core", "command_core", "claim_core")
 REGISTRY = "/usr/share/cargo/registry"
 
 
-def build_claim_buffer(folder):
+def build_claim_buffer(folder, crates):
     """The program over the claim buffer, proved and built beside copies of the crates below it."""
     lines = (TOP / "crates.txt").read_text(encoding="utf-8").splitlines()
     own = [line for line in lines if line.split(":")[0].split(" ")[0] in STANDS_ON]
     (folder / "crates.txt").write_text("\n".join([*own, f"{CRATE}: frame_core command_core claim_core", ""]), encoding="utf-8")
     shutil.copy(TOP / "HANDLES", folder / "HANDLES")
     for name in STANDS_ON:
-        shutil.copytree(TOP / "crates" / name, folder / "crates" / name, symlinks=True)
+        shutil.copytree(crates / name, folder / "crates" / name, symlinks=True)
     crate = folder / "crates" / CRATE
     for source in SOURCES.rglob("*.txt"):
         place = crate / source.relative_to(SOURCES).with_suffix("")
@@ -102,13 +102,14 @@ def main():
     parser = argparse.ArgumentParser(description="Measures appends to the claim buffer.")
     parser.add_argument("--runs", type=int, default=9, help="how often each program is run (9)")
     parser.add_argument("--plain", action="store_true", help="leave the claim buffer out")
+    parser.add_argument("--crates", type=pathlib.Path, default=TOP / "crates", help="where the crates are that it stands on")
     words = parser.parse_args()
     with tempfile.TemporaryDirectory() as name:
         folder, programs = pathlib.Path(name), []
         if words.plain:
             print("the claim buffer is left out")
         elif shutil.which("rt"):
-            programs.append(build_claim_buffer(folder))
+            programs.append(build_claim_buffer(folder, words.crates))
         else:
             print("no rt here: the claim buffer is left out")
         if shutil.which("rustc"):
