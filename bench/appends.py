@@ -4,8 +4,9 @@
     python3 bench/appends.py [--runs N] [--plain] [--crates FOLDER]
 
 The claim buffer's program is proved and built by `rt` in a temporary copy of the crates that it stands on; --plain leaves it
-out. FOLDER has these crates, if not crates/ of the repository; where their `out` folders are missing they are proved first. The queues need `rustc`; those of `crossbeam_queue` also its source,
-as Debian's librust-crossbeam-queue-dev has it, and are left out where that is missing.
+out. FOLDER has these crates, if not crates/ of the repository; where their `out` folders are missing they are proved first.
+The queues need `rustc`; those of `crossbeam_queue` also its source, as Debian's librust-crossbeam-queue-dev has it, and are
+left out where that is missing.
 """
 
 import argparse
