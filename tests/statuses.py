@@ -90,7 +90,8 @@ def formats(checks, folder):
 
 def broken(folder):
     """Files that are no journals, or damaged ones, and what is told of them."""
-    good = (folder / "journal").read_bytes()
+    # Of an empty journal that was never opened: its first area is live.
+    good = (folder / "zeros").read_bytes()
     length = struct.pack(">Q", 4_096)
     cases = {
         "J1 not a journal": (bytes(64), b"", good[:31], b"STOMPX01" + good[8:]),
