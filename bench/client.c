@@ -228,34 +228,44 @@ static int all_connected(void) {
     return heard == connection_count;
 }
 
-// Opens a connection, with its handshake.
-static void open_one(int port) {
+// Asks for a WebSocket, and answers whether the server has let it in.
+static int shake_hands(struct connection *one, const struct sockaddr_in *address) {
     static const char request[] =
         "GET / HTTP/1.1\r\nHost: localhost\r\nUpgrade: websocket\r\nConnection: Upgrade\r\n"
         "Sec-WebSocket-Key: dGhlIHNhbXBsZSBub25jZQ==\r\nSec-WebSocket-Version: 13\r\n"
         "Sec-WebSocket-Protocol: v12.stomp\r\n\r\n";
-    struct connection *one = &connections[connection_count++];
-    struct sockaddr_in address = {.sin_family = AF_INET, .sin_port = htons(port)};
-    address.sin_addr.s_addr = htonl(INADDR_LOOPBACK);
     one->fd = socket(AF_INET, SOCK_STREAM, 0);
-    if (one->fd < 0 || connect(one->fd, (struct sockaddr *)&address, sizeof address) != 0) {
+    if (one->fd < 0 || connect(one->fd, (const struct sockaddr *)address, sizeof *address) != 0) {
         fail("connect: %s", strerror(errno));
     }
     int yes = 1;
     setsockopt(one->fd, IPPROTO_TCP, TCP_NODELAY, &yes, sizeof yes);
-    if (write(one->fd, request, sizeof request - 1) != sizeof request - 1) {
-        fail("handshake: %s", strerror(errno));
+    if (send(one->fd, request, sizeof request - 1, MSG_NOSIGNAL) != sizeof request - 1) {
+        return 0;
     }
     size_t length = 0;
     while (memmem(one->in, length, "\r\n\r\n", 4) == NULL) {
         ssize_t count = read(one->fd, one->in + length, ROOM - length);
         if (count <= 0) {
-            fail("the handshake was refused");
+            return 0;
         }
         length += count;
     }
-    if (!starts(one->in, length, "HTTP/1.1 101")) {
-        fail("the handshake was refused: %.12s", one->in);
+    return starts(one->in, length, "HTTP/1.1 101");
+}
+
+long refused;
+
+// Opens a connection. One whose handshake is refused is tried again, and counted.
+static void open_one(int port) {
+    struct connection *one = &connections[connection_count++];
+    struct sockaddr_in address = {.sin_family = AF_INET, .sin_port = htons(port)};
+    address.sin_addr.s_addr = htonl(INADDR_LOOPBACK);
+    while (!shake_hands(one, &address)) {
+        close(one->fd);
+        if (++refused > MOST_REFUSED) {
+            fail("%ld handshakes were refused", refused);
+        }
     }
     fcntl(one->fd, F_SETFL, fcntl(one->fd, F_GETFL) | O_NONBLOCK);
     struct epoll_event event = {.events = EPOLLIN, .data.ptr = one};

@@ -10,6 +10,7 @@ enum {
     MOST_IN_FLIGHT = 64,
     ROOM = 1 << 18,
     SLACK_SECONDS = 20,
+    MOST_REFUSED = 20000,
 };
 
 struct connection {
@@ -27,6 +28,9 @@ struct connection {
 
 extern struct connection connections[MOST_CONNECTIONS];
 extern int connection_count;
+
+// How many handshakes were refused until all were let in.
+extern long refused;
 
 // Hears each frame that comes.
 extern void (*on_message)(struct connection *, const char *frame, size_t length);

@@ -382,5 +382,8 @@ int main(int count, char **words) {
     } else {
         fail("the head of load.c says which words are understood");
     }
+    if (refused > 0) {
+        tell("refused_handshakes", refused);
+    }
     return 0;
 }
