@@ -7,7 +7,7 @@
 //     load queue PORT PRODUCERS CONSUMERS SECONDS          a work queue, each job acknowledged
 //     load send PORT DESTINATION COUNT BODY                so many SENDs on 31 connections, with bodies of so many bytes
 //     load idle PORT CONNECTIONS SECONDS                   connections that say nothing
-//     load syncs FILE COUNT                                two writes and two syncs, as for a block, so often
+//     load syncs FILE COUNT PAUSE                          two writes and two syncs, as for a block, so often, and a pause
 //
 // What comes back is compared with what has to come: receipts in order, each message once. What is not so ends the program
 // with status 1.
@@ -313,7 +313,7 @@ static void fill(const char *destination, long count) {
 }
 
 // A write and a sync of a block's bytes, and a write and a sync of one byte before them, as for each block of the journal.
-static void syncs(const char *path, long count) {
+static void syncs(const char *path, long count, long pause) {
     double *each = calloc(count * 2, sizeof *each), *pairs = calloc(count, sizeof *pairs);
     char block[120] = "block";
     int file = open(path, O_RDWR | O_CREAT, 0600);
@@ -334,6 +334,9 @@ static void syncs(const char *path, long count) {
         each[number * 2] = middle - start;
         each[number * 2 + 1] = end - middle;
         pairs[number] = end - start;
+        if (pause > 0) {
+            usleep(pause);
+        }
     }
     tell_times("sync", each, count * 2);
     tell_times("two_syncs", pairs, count);
@@ -377,8 +380,8 @@ int main(int count, char **words) {
     } else if (strcmp(mode, "idle") == 0 && count == 5) {
         open_all(port, numbers[1]);
         sleep(numbers[2]);
-    } else if (strcmp(mode, "syncs") == 0 && count == 4) {
-        syncs(words[2], numbers[1]);
+    } else if (strcmp(mode, "syncs") == 0 && count == 5) {
+        syncs(words[2], numbers[1], numbers[2]);
     } else {
         fail("the head of load.c says which words are understood");
     }

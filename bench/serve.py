@@ -38,11 +38,11 @@ class Bench:
             with self.server() as server:
                 yield Load(self.load, server, *words)
 
-    def syncs(self, count=3_000, environment=None):
+    def syncs(self, count=3_000, pause=0, environment=None):
         """The times of a block's two writes and two syncs on this disk, in a new file of the same size."""
         with open(self.plain, "wb") as file:
             file.truncate(2 * AREA)
-        load = Load(self.load, None, "syncs", self.plain, count, environment=environment)
+        load = Load(self.load, None, "syncs", self.plain, count, pause, environment=environment)
         self.plain.unlink()
         return load
 
@@ -79,7 +79,7 @@ def slow(bench):
     """The same over syncs that are made slower: then 32 commands in two syncs are the most that there can be."""
     for more in (500, 2_000):
         environment = {**os.environ, "LD_PRELOAD": str(bench.slow), "SLOW_SYNC": str(more)}
-        pair = bench.syncs(500, environment)["two_syncs_median_us"]
+        pair = bench.syncs(500, environment=environment)["two_syncs_median_us"]
         with bench.server(environment) as server:
             load = Load(bench.load, server, "receipts", 31, 8, bench.seconds)
         bound = AT_ONCE / pair * 1e6
@@ -99,7 +99,7 @@ def latency(bench):
     """A receipt at a time, at once after the last one and on a server that has slept, beside the two syncs in the same run."""
     for text, count, pause in (("a receipt, one after another", 5_000, 0), ("a receipt, 5 ms after the last", 1_000, 5_000)):
         with bench.server() as server:
-            load, pair = Load(bench.load, server, "latency", count, pause), bench.syncs()
+            load, pair = Load(bench.load, server, "latency", count, pause), bench.syncs(count, pause)
         median, syncs_median = load["receipt_median_us"], pair["two_syncs_median_us"]
         tell(text, f"{median:,.1f}", "us median", f", {load['receipt_99th_us']:,.1f} 99th; two syncs {syncs_median:,.1f}; over them {median - syncs_median:,.1f}")
 
