@@ -358,7 +358,7 @@ fn run_raw(mut input: impl Read, size: usize) -> Result<Tally, String> {
     }
 }
 
-/// Reads the frames that a script spells. Its `flush` lines do nothing.
+/// Reads the frames that a script spells. Its `flush` lines do nothing, and `open` ends all connections.
 fn run_script(mut input: impl BufRead) -> Result<Tally, String> {
     let mut readers: [FrameReader; CONNECTIONS] = std::array::from_fn(|_| FrameReader::default());
     let mut frames = Vec::new();
@@ -375,6 +375,7 @@ fn run_script(mut input: impl BufRead) -> Result<Tally, String> {
         let not_understood = || format!("line {number} not understood");
         match line.strip_suffix(b"\n").ok_or_else(not_understood)? {
             b"" | b"flush" => {}
+            b"open" => readers = std::array::from_fn(|_| FrameReader::default()),
             text => {
                 let (connection, text) = cut_number(text).ok_or_else(not_understood)?;
                 bytes.clear();

@@ -7,11 +7,8 @@ PROGRAM is the built program; without it, the one that bin/stompd leaves in crat
 in a temporary folder. Every output is compared with what the protocol says that it is.
 """
 
-import argparse
 import os
 import pathlib
-import platform
-import resource
 import shutil
 import statistics
 import subprocess
@@ -20,17 +17,14 @@ import tempfile
 import threading
 import time
 
-HERE = pathlib.Path(__file__).resolve().parent
-PROGRAM = HERE.parent / "crates" / "stompd" / "out" / "stompd"
+from measuring import AREA, BLOCK, CONNECT_RECORD, FRONT, HERE, MB, MOST_SECONDS, Times, arguments, machine, parsed, rounds, run, send_record
 
-MB = 1_000_000
 LONGEST_LINE = 1_048_576
-# A run that takes longer is stopped, and a case whose runs took as long together is not run again.
-MOST_SECONDS = 55
 
+TOPIC = b"/topic/bench"
 CONNECT = b"CONNECT\naccept-version:1.2\n\n\0"
-CONNECTED = b"0 CONNECTED%0Aversion:1.2%0Asession:0%0Aheart-beat:0,0%0A%0A%00\n"
 LAST = b"SEND\ndestination:/topic/bench\nreceipt:last\n\nend\0"
+LAST_RECORD = send_record(TOPIC, (), b"end", b"last")
 
 
 def show(octets):
@@ -39,36 +33,81 @@ def show(octets):
     return b"".join(b"%c" % o if o in plain and o != 0x25 else b"%%%02X" % o for o in octets)
 
 
+def connected(session):
+    return b"0 CONNECTED%%0Aversion:1.2%%0Asession:%d%%0Aheart-beat:0,0%%0A%%0A%%00\n" % session
+
+
 def receipt(name):
     return b"0 RECEIPT%0Areceipt-id:" + name + b"%0A%0A%00\n"
 
 
 def small_frame(number):
-    """A SEND of 100 bytes to a topic."""
+    """A SEND of 100 bytes to a topic, and the bytes of its record."""
     head = b"SEND\ndestination:/topic/bench\ncontent-type:text/plain\n\n"
-    return head + b"message %d " % number + b"x" * (100 - len(head) - len(b"message %d " % number) - 1) + b"\0"
+    body = b"message %d " % number
+    body += b"x" * (100 - len(head) - len(body) - 1)
+    return head + body + b"\0", send_record(TOPIC, [(b"content-type", b"text/plain")], body)
 
 
 def large_frame(number):
-    """A SEND to a topic with 60,000 letters announced."""
+    """A SEND to a topic with 60,000 letters announced, and the bytes of its record."""
     head = b"SEND\ndestination:/topic/bench\ncontent-length:60000\n\n"
-    return head + bytes([97 + number % 26]) * 60_000 + b"\0"
+    body = bytes([97 + number % 26]) * 60_000
+    return head + body + b"\0", send_record(TOPIC, (), body)
+
+
+class Part:
+    """Whole frames, as lines of a script and as a stream."""
+
+    def __init__(self):
+        self.text, self.stream, self.frames, self.room = [], [], 0, 0
+
+    def add(self, text, frame, record):
+        self.text.append(text)
+        self.stream.append(frame)
+        self.frames += 1
+        self.room += record + BLOCK
 
 
 class Input:
     """A script of SENDs between a CONNECT and a SEND with a receipt, the stream of its bytes, and what it prints.
 
+    The journal is opened again before a part that might not fit into its area any more, and the connection begins anew.
     `piece` is in which pieces the plain reader gets the stream."""
 
-    def __init__(self, folder, name, lines, stream, piece=65_536):
+    def __init__(self, folder, name, piece=65_536):
         self.name = name
         self.piece = piece
         self.script = folder / (name + ".script")
-        self.script.write_bytes(b"0 " + show(CONNECT) + b"\nflush\n" + lines + b"0 " + show(LAST) + b"\nflush\n")
         self.stream = folder / (name + ".stream")
-        self.stream.write_bytes(CONNECT + stream + LAST)
-        self.frames = stream.count(b"SEND\n") + 2
-        self.expected = CONNECTED + receipt(b"last")
+        self.text, self.octets, self.printed = [], [], []
+        self.frames = self.commands = self.used = 0
+
+    def begin(self):
+        """Begins with an area that has nothing but its front."""
+        self.text.append(b"0 " + show(CONNECT) + b"\nflush\n")
+        self.octets.append(CONNECT)
+        self.printed.append(connected(self.commands))
+        self.frames, self.commands = self.frames + 1, self.commands + 1
+        self.used = FRONT + CONNECT_RECORD + LAST_RECORD + 2 * BLOCK
+
+    def add(self, part):
+        if self.used + part.room > AREA:
+            self.text.append(b"flush\nopen\n")
+            self.printed.append(b"open %d 0\n" % self.commands)
+            self.begin()
+        self.text += part.text
+        self.octets += part.stream
+        self.frames, self.commands = self.frames + part.frames, self.commands + part.frames
+        self.used += part.room
+
+    def end(self):
+        self.script.write_bytes(b"".join(self.text) + b"0 " + show(LAST) + b"\nflush\n")
+        self.stream.write_bytes(b"".join(self.octets) + LAST)
+        self.frames += 1
+        self.expected = b"".join(self.printed) + receipt(b"last")
+        self.text = self.octets = self.printed = None
+        return self
 
     def megabytes(self):
         return self.script.stat().st_size / MB
@@ -79,71 +118,38 @@ class Input:
 
 def whole_frames(folder, name, make_frame, size, longest=LONGEST_LINE):
     """A script of about so many bytes, with as many whole frames on a line as it takes."""
-    lines, frames, line, total = [], [], b"", 0
+    made, part, length, number, total = Input(folder, name), Part(), 2, 0, 0
+    made.begin()
     while total < size:
-        frame = make_frame(len(frames))
+        frame, record = make_frame(number)
         shown = show(frame) if len(frame) < 1_000 else show(frame[:100]) + frame[100:-1] + b"%00"
-        if len(line) + len(shown) + 2 > longest:
-            lines.append(b"0 " + line + b"\n")
-            line = b""
-        frames.append(frame)
-        line += shown
+        # A line and an area end before what they have no room for.
+        if length + len(shown) > longest or FRONT + 200 + part.room + record + BLOCK > AREA:
+            part.text = [b"0 ", *part.text, b"\n"]
+            made.add(part)
+            part, length = Part(), 2
+        part.add(shown, frame, record)
+        length += len(shown)
         total += len(shown)
-    lines.append(b"0 " + line + b"\n")
-    return Input(folder, name, b"".join(lines), b"".join(frames))
+        number += 1
+    part.text = [b"0 ", *part.text, b"\n"]
+    made.add(part)
+    return made.end()
 
 
 def single_bytes(folder, name, size):
     """A script of about so many bytes, with one byte of the stream on a line."""
     shown = [b"0 " + show(bytes([octet])) + b"\n" for octet in range(256)]
-    lines, frames, total = [], [], 0
+    made, number, total = Input(folder, name, piece=1), 0, 0
+    made.begin()
     while total < size:
-        frame = small_frame(len(frames))
-        text = b"".join(shown[octet] for octet in frame)
-        frames.append(frame)
-        lines.append(text)
-        total += len(text)
-    return Input(folder, name, b"".join(lines), b"".join(frames), piece=1)
-
-
-class Times:
-    """What the runs of one case took."""
-
-    def __init__(self):
-        self.wall = []
-        self.cpu = []
-
-    def best(self):
-        return min(self.wall)
-
-    def median(self):
-        return statistics.median(self.wall)
-
-
-def cpu_seconds():
-    used = resource.getrusage(resource.RUSAGE_CHILDREN)
-    return used.ru_utime + used.ru_stime
-
-
-def run(command, path, times, output):
-    """Runs a command once on an input, and answers what it printed."""
-    with open(path, "rb") as source, open(output, "wb") as sink:
-        cpu, start = cpu_seconds(), time.perf_counter()
-        done = subprocess.run(command, stdin=source, stdout=sink, stderr=subprocess.PIPE, timeout=MOST_SECONDS)
-        times.wall.append(time.perf_counter() - start)
-        times.cpu.append(cpu_seconds() - cpu)
-    if done.returncode != 0:
-        sys.exit(f"{command}: status {done.returncode}: {done.stderr.decode(errors='replace').strip()}")
-    return output.read_bytes()
-
-
-def rounds(runs):
-    """The rounds of a case: as many as asked for, fewer where they take long."""
-    start = time.perf_counter()
-    for number in range(runs):
-        if number and time.perf_counter() - start > MOST_SECONDS:
-            return
-        yield number
+        part = Part()
+        frame, record = small_frame(number)
+        part.add(b"".join(shown[octet] for octet in frame), frame, record)
+        made.add(part)
+        total += len(part.text[0])
+        number += 1
+    return made.end()
 
 
 def measure(bench, case, is_compared):
@@ -231,26 +237,35 @@ FLUSH_EVERY = 8
 
 
 def commands_script(folder):
-    """A script of SENDs with receipts to a topic where nobody listens, and what it prints."""
-    lines, expected = [b"0 " + show(CONNECT) + b"\nflush\n"], [CONNECTED]
+    """A script of SENDs with receipts to a topic where nobody listens, what it prints, and how many lines are printed once
+    so many receipts are. The journal is opened again after each 10,000, so that its area has room."""
+    lines, expected, printed, last = [], [], {}, 0
     for number in range(COMMANDS):
+        if number % WINDOW == 0:
+            # A CONNECT for each time that the connection began.
+            count = number + number // WINDOW
+            lines += [b"open\n"] if number else []
+            expected += [b"open %d 0\n" % count] if number else []
+            lines.append(b"0 " + show(CONNECT) + b"\nflush\n")
+            expected.append(connected(count))
         lines.append(b"0 SEND%%0Adestination:/topic/bench%%0Areceipt:r%d%%0A%%0Amessage %d%%00\n" % (number, number))
         if (number + 1) % FLUSH_EVERY == 0:
             lines.append(b"flush\n")
         expected.append(receipt(b"r%d" % number))
+        printed[number + 1] = len(expected)
     script = folder / "commands.script"
     script.write_bytes(b"".join(lines))
-    return script, b"".join(expected)
+    return script, b"".join(expected), printed
 
 
 def run_commands(bench, script, expected, marks):
-    """Runs the script, and answers when as many receipts had come as each mark says, counted from the start."""
+    """Runs the script, and answers when as many lines had come as each mark says, counted from the start."""
     with open(script, "rb") as source:
         start = time.perf_counter()
         child = subprocess.Popen([bench.program, "script"], stdin=source, stdout=subprocess.PIPE)
     watch = threading.Timer(MOST_SECONDS, child.kill)
     watch.start()
-    printed, count, waiting, reached = [], -1, list(marks), {}
+    printed, count, waiting, reached = [], 0, list(marks), {}
     while block := os.read(child.stdout.fileno(), 65_536):
         now = time.perf_counter() - start
         printed.append(block)
@@ -266,15 +281,15 @@ def run_commands(bench, script, expected, marks):
 
 
 def commands(bench, folder):
-    script, expected = commands_script(folder)
+    script, expected, printed = commands_script(folder)
     windows = [held for held in (1_000, 10_000, 100_000, 190_000) if held + WINDOW <= COMMANDS]
-    marks = sorted({*windows, *(held + WINDOW for held in windows), COMMANDS})
+    marks = sorted({printed[held] for held in (*windows, *(held + WINDOW for held in windows), COMMANDS)})
     found = [run_commands(bench, script, expected, marks) for _ in rounds(bench.runs)]
-    whole = [reached[COMMANDS] for reached in found]
-    print(f"commands: {COMMANDS:,} SENDs with receipt to a topic, one a line, a flush every {FLUSH_EVERY}:")
+    whole = [reached[printed[COMMANDS]] for reached in found]
+    print(f"commands: {COMMANDS:,} SENDs with receipt to a topic, one a line, a flush every {FLUSH_EVERY}, an open every {WINDOW:,}:")
     print(f"  {'commands a second':<42} {COMMANDS / min(whole):8.0f} best {COMMANDS / statistics.median(whole):8.0f} median")
     for held in windows:
-        costs = [(reached[held + WINDOW] - reached[held]) / WINDOW * 1e6 for reached in found]
+        costs = [(reached[printed[held + WINDOW]] - reached[printed[held]]) / WINDOW * 1e6 for reached in found]
         print(f"  {f'a command, {held:,} to {held + WINDOW:,} before':<42} {min(costs):8.2f} us best   {statistics.median(costs):8.2f} median")
 
 
@@ -407,7 +422,9 @@ def seconds_of(bench, folder, talk):
     return times.best()
 
 
-ROUNDS = 20_000
+# As many as the area of a script's journal has room for.
+ROUNDS = 8_000
+ENDS = 200
 
 
 def cost(bench, folder, make, *words, turns=ROUNDS):
@@ -428,23 +445,11 @@ def broker(bench, folder):
         few, many = (cost(bench, folder, make, held) for held in (40, 4_000))
         print(f"  {text:<42} {few * 1e6:8.2f} us with 40 held {many * 1e6:8.2f} with 4,000   ratio {many / few:.2f}")
     # With 256 out, 3,744 more are 4,000 held: a session's end puts 256 back, whatever waits behind them.
-    few, many = (cost(bench, folder, session_ends, waiting, turns=ROUNDS // 100) for waiting in (40, 4_000 - OUT))
+    few, many = (cost(bench, folder, session_ends, waiting, turns=ENDS) for waiting in (40, 4_000 - OUT))
     print(f"  {'a session with 256 deliveries out, and its end':<42} {few * 1e6:8.2f} us with 40 waiting {many * 1e6:8.2f} with 3,744   ratio {many / few:.2f}")
     for subscribers in (1, 4, 16):
         each = cost(bench, folder, fan_out, subscribers) / subscribers
         print(f"  {f'a MESSAGE of a topic to {subscribers}':<42} {each * 1e6:8.2f} us")
-
-
-def machine():
-    model = platform.processor() or "unknown processor"
-    try:
-        for line in open("/proc/cpuinfo", encoding="ascii", errors="replace"):
-            if line.startswith("model name"):
-                model = line.split(":", 1)[1].strip()
-                break
-    except OSError:
-        pass
-    return f"{os.cpu_count()} cores, {model}, load {os.getloadavg()[0]:.1f}"
 
 
 def build_plain(folder):
@@ -466,19 +471,12 @@ class Bench:
 
 
 def main():
-    parser = argparse.ArgumentParser(description="Measures stompd script.")
-    parser.add_argument("program", nargs="?", type=pathlib.Path, default=PROGRAM)
-    parser.add_argument("--runs", type=int, default=5, help="how often each case is run (5)")
+    parser = arguments("Measures stompd script.")
     parser.add_argument("--broker", action="store_true", help="measure the broker alone")
-    words = parser.parse_args()
-    if words.runs < 1:
-        parser.error("a case is run once at least")
-    program = words.program.resolve()
-    if not os.access(program, os.X_OK):
-        sys.exit(f"no program at {program}: bin/stompd builds it (bin/stompd script < examples/receipt.script)")
+    words = parsed(parser)
     print(machine())
     with tempfile.TemporaryDirectory() as folder:
-        bench = Bench(program, words.runs, pathlib.Path(folder))
+        bench = Bench(words.program, words.runs, pathlib.Path(folder))
         if not words.broker:
             speeds(bench, pathlib.Path(folder))
             commands(bench, pathlib.Path(folder))

@@ -1,0 +1,154 @@
+#!/usr/bin/env python3
+"""Measures the built program `stompd serve` over real files and loopback. README.md says what each figure means.
+
+    python3 bench/serve.py [PROGRAM] [--runs N] [--seconds N] [--folder FOLDER].. [--only CASE]..
+
+PROGRAM is the built program; without it, the one that bin/stompd leaves in crates/stompd/out. The journals are made in each
+FOLDER (/dev/shm, and the folder for temporary files), and removed.
+"""
+
+import os
+import pathlib
+import statistics
+import tempfile
+import time
+
+from measuring import MB, arguments, machine, parsed
+from serving import Load, Server, build_load, build_slow_sync, make_journal
+
+AREA = 512 * MB
+HELD = 4_000
+AT_ONCE = 32
+
+
+class Bench:
+    def __init__(self, words, load, slow, folder):
+        self.program, self.runs, self.seconds = words.program, words.runs, words.seconds
+        self.load, self.slow, self.journal = load, slow, folder / "journal"
+        self.plain = folder / "syncs"
+
+    def server(self, environment=None):
+        """A server over a new journal."""
+        make_journal(self.program, self.journal, AREA)
+        return Server(self.program, self.journal, environment=environment)
+
+    def loads(self, *words):
+        """The loads of a case, each on a server of its own."""
+        for _ in range(self.runs):
+            with self.server() as server:
+                yield Load(self.load, server, *words)
+
+    def syncs(self, count=3_000, pause=0, environment=None):
+        """The times of a block's two writes and two syncs on this disk, in a new file of the same size."""
+        with open(self.plain, "wb") as file:
+            file.truncate(2 * AREA)
+        load = Load(self.load, None, "syncs", self.plain, count, pause, environment=environment)
+        self.plain.unlink()
+        return load
+
+
+def tell(text, figure, unit, more=""):
+    print(f"  {text:<44} {figure:>10} {unit}{more}")
+
+
+def tell_rate(text, name, unit, loads):
+    """Tells the best and the median of some rates, and what the run of the best kept busy."""
+    best = max(loads, key=lambda load: load[name])
+    middle = statistics.median(load[name] for load in loads)
+    more = f"best, {middle:,.0f} median; receipt {best['receipt_median_us']:,.0f} us median, {best['receipt_99th_us']:,.0f} 99th"
+    refused = sum(load.figures.get("refused_handshakes", 0) for load in loads)
+    more += f"; {refused:.0f} handshakes refused" if refused else ""
+    tell(text, f"{best[name]:,.0f}", unit, f" {more}; processors: server {best.server_busy:.2f}, load {best.busy:.2f}")
+    return best[name]
+
+
+def syncs(bench):
+    load = bench.syncs()
+    for name, text in (("sync", "a write and a sync"), ("two_syncs", "a block's two writes and two syncs")):
+        tell(text, f"{load[name + '_median_us']:,.1f}", "us median", f", {load[name + '_99th_us']:,.1f} 99th")
+    return load
+
+
+def one(bench):
+    tell_rate("receipts, one connection, 8 in flight", "receipts_a_second", "a second", list(bench.loads("receipts", 1, 8, bench.seconds)))
+
+
+def many(bench):
+    tell_rate("receipts, 31 connections, 8 in flight", "receipts_a_second", "a second", list(bench.loads("receipts", 31, 8, bench.seconds)))
+
+
+def slow(bench):
+    """The same over syncs that are made slower: then 32 commands in two syncs are the most that there can be."""
+    for more in (500, 2_000):
+        environment = {**os.environ, "LD_PRELOAD": str(bench.slow), "SLOW_SYNC": str(more)}
+        pair = bench.syncs(500, environment=environment)["two_syncs_median_us"]
+        with bench.server(environment) as server:
+            load = Load(bench.load, server, "receipts", 31, 8, bench.seconds)
+        bound = AT_ONCE / pair * 1e6
+        rate = load["receipts_a_second"]
+        tell(f"the same, syncs slower by {more / 1e3:.1f} ms", f"{rate:,.0f}", "a second", f", {rate / bound * 100:.0f} % of 32 commands in two syncs of {pair:,.0f} us")
+
+
+def fanout(bench):
+    tell_rate("messages, one sender to 16 subscribers", "messages_a_second", "a second", list(bench.loads("fanout", 16, bench.seconds)))
+
+
+def queue(bench):
+    tell_rate("jobs, 4 producers, 4 consumers, acknowledged", "jobs_a_second", "a second", list(bench.loads("queue", 4, 4, bench.seconds)))
+
+
+def latency(bench):
+    """A receipt at a time, at once after the last one and on a server that has slept, beside the two syncs in the same run."""
+    for text, count, pause in (("a receipt, one after another", 5_000, 0), ("a receipt, 5 ms after the last", 1_000, 5_000)):
+        with bench.server() as server:
+            load, pair = Load(bench.load, server, "latency", count, pause), bench.syncs(count, pause)
+        median, syncs_median = load["receipt_median_us"], pair["two_syncs_median_us"]
+        tell(text, f"{median:,.1f}", "us median", f", {load['receipt_99th_us']:,.1f} 99th; two syncs {syncs_median:,.1f}; over them {median - syncs_median:,.1f}")
+
+
+def starts(bench):
+    """From start to `listening`: on an empty journal, on one with 4,000 messages as they were sent, and as a snapshot."""
+    empty, sent, kept = [], [], []
+    for _ in range(bench.runs):
+        with bench.server() as server:
+            empty.append(server.started)
+            Load(bench.load, server, "send", "/queue/held", HELD, 100)
+        for times in (sent, kept):
+            with Server(bench.program, bench.journal) as server:
+                times.append(server.started)
+    for text, times in (("an empty journal", empty), ("4,000 messages held, as they were sent", sent), ("4,000 messages held, from a snapshot", kept)):
+        tell(f"start, {text}", f"{min(times) * 1e3:,.1f}", "ms best", f", {statistics.median(times) * 1e3:,.1f} median")
+
+
+def idle(bench):
+    with bench.server() as server:
+        load = Load(bench.load, server, "idle", 32, 20)
+    tell("32 idle connections, of one processor", f"{load.server_busy * 100:,.2f}", "%", f" over {load.seconds:.0f} s")
+
+
+CASES = {case.__name__: case for case in (one, many, slow, fanout, queue, latency, starts, idle)}
+
+
+def main():
+    parser = arguments("Measures stompd serve.", runs=3)
+    parser.add_argument("--seconds", type=int, default=5, help="how long a load is measured (5)")
+    parser.add_argument("--folder", type=pathlib.Path, action="append", help="where the journals are made")
+    parser.add_argument("--only", choices=CASES, action="append", help="measure this case alone")
+    words = parsed(parser)
+    folders = words.folder or [pathlib.Path("/dev/shm"), pathlib.Path(tempfile.gettempdir())]
+    print(machine(), time.strftime("%Y-%m-%d %H:%M UTC", time.gmtime()))
+    with tempfile.TemporaryDirectory() as built:
+        load, slower = build_load(pathlib.Path(built)), build_slow_sync(pathlib.Path(built))
+        for folder in folders:
+            with tempfile.TemporaryDirectory(dir=folder) as name:
+                bench = Bench(words, load, slower, pathlib.Path(name))
+                print(f"{folder}:")
+                syncs(bench)
+                for case in words.only or CASES:
+                    CASES[case](bench)
+                syncs(bench)
+    print(machine())
+
+
+if __name__ == "__main__":
+    main()

@@ -1,0 +1,106 @@
+"""Servers and load for the measurements: starts `stompd serve`, and runs the load generator against it."""
+
+import os
+import pathlib
+import shutil
+import signal
+import socket
+import subprocess
+import sys
+import time
+
+from measuring import HERE, cpu_seconds
+
+HEADER = 32
+
+
+def free_port():
+    with socket.socket() as probe:
+        probe.bind(("127.0.0.1", 0))
+        return probe.getsockname()[1]
+
+
+def build_load(folder):
+    """The load generator, which needs a C compiler."""
+    if not shutil.which("cc"):
+        sys.exit("no C compiler here (cc): the load generator can't be built")
+    built = folder / "load"
+    subprocess.run(["cc", "-O2", "-Wall", "-o", built, HERE / "load.c", HERE / "client.c"], check=True)
+    return built
+
+
+def build_slow_sync(folder):
+    """A library that makes each sync of a program slower."""
+    built = folder / "slow_sync.so"
+    subprocess.run(["cc", "-O2", "-Wall", "-shared", "-fPIC", "-o", built, HERE / "slow_sync.c"], check=True)
+    return built
+
+
+def make_journal(program, path, area):
+    """A new journal with areas of so many bytes."""
+    pathlib.Path(path).unlink(missing_ok=True)
+    subprocess.run([program, "format", path, str(HEADER + 2 * area)], check=True)
+
+
+def shown(program, path):
+    """What `stompd show` says: its numbers by name."""
+    done = subprocess.run([program, "show", path], check=True, capture_output=True, text=True)
+    return {name: int(value) for name, value in (line.split(" ") for line in done.stdout.splitlines())}
+
+
+class Server:
+    """A running server. `started` is how many seconds it took until it listened. `before` are the words of a program that
+    runs it as its one child."""
+
+    def __init__(self, program, journal, before=(), environment=None):
+        self.port = free_port()
+        self.is_child = bool(before)
+        begun = time.perf_counter()
+        words = [*before, program, "serve", journal, str(self.port)]
+        self.process = subprocess.Popen(words, stdout=subprocess.PIPE, stderr=subprocess.PIPE, env=environment)
+        line = self.process.stdout.readline()
+        self.started = time.perf_counter() - begun
+        if line != b"listening %d\n" % self.port:
+            sys.exit(f"the server does not listen: {line!r} {self.process.stderr.read().decode(errors='replace')}")
+
+    def __enter__(self):
+        return self
+
+    def __exit__(self, *_):
+        self.kill()
+
+    def cpu(self):
+        """How many seconds of processor time it has taken."""
+        fields = pathlib.Path(f"/proc/{self.process.pid}/stat").read_text(encoding="ascii").rsplit(") ", 1)[1].split()
+        return (int(fields[11]) + int(fields[12])) / os.sysconf("SC_CLK_TCK")
+
+    def kill(self):
+        served = self.process.pid
+        if self.is_child:
+            served = int(pathlib.Path(f"/proc/{served}/task/{served}/children").read_text(encoding="ascii"))
+        os.kill(served, signal.SIGKILL)
+        self.process.wait()
+        self.process.stdout.close()
+        self.process.stderr.close()
+
+
+class Load:
+    """The load generator, against one server or none. `figures` are what it printed."""
+
+    def __init__(self, built, server, *words, environment=None):
+        used, begun = cpu_seconds(), time.perf_counter()
+        served = server.cpu() if server else 0
+        mode, *rest = (str(word) for word in words)
+        place = [str(server.port)] if server else []
+        done = subprocess.run([built, mode, *place, *rest], capture_output=True, text=True, check=False, env=environment)
+        if done.returncode != 0:
+            ended = server and server.process.poll() is not None
+            sys.exit(f"{words}: {done.stderr.strip()}" + (f"; the server ended: {server.process.stderr.read()}" if ended else ""))
+        self.seconds = time.perf_counter() - begun
+        # Processors that the load generator and the server kept busy.
+        self.busy = (cpu_seconds() - used) / self.seconds
+        self.server_busy = (server.cpu() - served) / self.seconds if server else 0
+        self.figures = {name: float(value) for name, value in (line.split(" ") for line in done.stdout.splitlines())}
+
+    def __getitem__(self, name):
+        return self.figures[name]

@@ -1,0 +1,182 @@
+#!/usr/bin/env python3
+"""Runs the built program on good and bad words, files and ports, and compares its status and what it writes to standard
+output and standard error with what docs/PROTOCOL.md says. Needs Python 3 alone; the gate does not run it.
+
+    python3 tests/statuses.py [PROGRAM]
+
+PROGRAM is the built program; without it, the one that bin/stompd leaves in crates/stompd/out.
+"""
+
+import os
+import pathlib
+import select
+import socket
+import struct
+import subprocess
+import sys
+import tempfile
+
+PROGRAM = pathlib.Path(__file__).resolve().parent.parent / "crates" / "stompd" / "out" / "stompd"
+
+# What may be written: just this text, some text that is not ours to say, or nothing.
+SOME = object()
+NOTHING = ""
+
+
+def told(text):
+    return f"stompd: {text}\n"
+
+
+CANNOT_OPEN = told("cannot open")
+# Areas of 4,096 bytes.
+SMALLEST = 8_224
+
+
+class Checks:
+    def __init__(self, program):
+        self.program = program
+        self.count = self.failed = 0
+
+    def expect(self, what, holds, seen=""):
+        self.count += 1
+        if not holds:
+            self.failed += 1
+            print(f"statuses: {what}: {seen}", file=sys.stderr)
+
+    def run(self, words, status, output, errors, given=b"", sink=subprocess.PIPE):
+        """Runs the program, and compares its status and its two outputs."""
+        done = subprocess.run([self.program, *words], input=given, stdout=sink, stderr=subprocess.PIPE, timeout=60)
+        wrote, said = (text.decode(errors="replace") if text else "" for text in (done.stdout, done.stderr))
+        fits = all(bool(seen) if wanted is SOME else seen == wanted for seen, wanted in ((wrote, output), (said, errors)))
+        self.expect(f"{words}", fits and done.returncode == status, (done.returncode, wrote, said))
+
+
+def scripts(checks):
+    checks.run(["script"], 0, NOTHING, NOTHING)
+    checks.run(["script"], 0, NOTHING, NOTHING, b"\n\n0 \nflush\n")
+    connect, connected = b"0 CONNECT%0Aaccept-version:1.2%0A%0A%00\n", "0 CONNECTED%0Aversion:1.2%0Asession:0%0Aheart-beat:0,0%0A%0A%00\n"
+    checks.run(["script"], 0, connected, NOTHING, connect + b"flush\n" + connect)
+    checks.run(["script"], 1, connected, told("line 4 not understood"), connect + b"flush\n\nflash\nflush\n")
+    checks.run(["script"], 1, NOTHING, told("line 1 not understood"), b"0")
+    checks.run(["script"], 1, NOTHING, told("line 1 not understood"), b"32 x\n")
+    checks.run(["script"], 1, NOTHING, told("line 1 not understood"), b"0 " + b"%0A" * 400_000 + b"\n")
+    send = b"0 SEND%0Adestination:/topic/t%0A%0A" + b"x" * 60_000 + b"%00\n"
+    checks.run(["script"], 1, connected, told("J4 journal full"), connect + b"flush\n" + 18 * send + b"flush\n")
+    with open("/dev/full", "wb") as full:
+        checks.run(["script"], 1, NOTHING, told("input or output failed"), connect + b"flush\n", full)
+
+
+def formats(checks, folder):
+    journal, other = str(folder / "journal"), str(folder / "other")
+    checks.run(["format", journal, str(SMALLEST)], 0, NOTHING, NOTHING)
+    made = pathlib.Path(journal).read_bytes()
+    front = b"STOMPJ01" + struct.pack(">Q", 4_096) + bytes(16) + struct.pack(">Q", 32) + bytes(33)
+    checks.expect("the bytes of an empty journal", made == front + bytes(SMALLEST - len(front)), made[:80])
+    checks.run(["format", journal, str(SMALLEST)], 1, NOTHING, CANNOT_OPEN)
+    for few in (str(SMALLEST - 1), "31", "0"):
+        checks.run(["format", other, few], 1, NOTHING, told("J8 disk too small"))
+        checks.run(["format", journal, few], 1, NOTHING, told("J8 disk too small"))
+    checks.run(["format", str(folder / "none" / "journal"), str(SMALLEST)], 1, NOTHING, CANNOT_OPEN)
+    for number in ("8224x", "+8224", "0x2020", "8 224", "", "18446744073709551616", "99999999999999999999"):
+        checks.run(["format", other, number], 2, NOTHING, NOTHING)
+    checks.expect("refused words make no file", not os.path.exists(other))
+    checks.expect("refused words change no file", pathlib.Path(journal).read_bytes() == made)
+    zeros, odd = str(folder / "zeros"), str(folder / "odd")
+    checks.run(["format", zeros, f"000{SMALLEST}"], 0, NOTHING, NOTHING)
+    checks.expect("leading zeros count for nothing", pathlib.Path(zeros).read_bytes() == made)
+    checks.run(["format", odd, str(SMALLEST + 1)], 0, NOTHING, NOTHING)
+    checks.expect("a byte over is there, and no area has it", pathlib.Path(odd).read_bytes() == made + b"\0")
+
+
+def broken(folder):
+    """Files that are no journals, or damaged ones, and what is told of them."""
+    # Of an empty journal that was never opened: its first area is live.
+    good = (folder / "zeros").read_bytes()
+    length = struct.pack(">Q", 4_096)
+    cases = {
+        "J1 not a journal": (bytes(64), b"", good[:31], b"STOMPX01" + good[8:]),
+        "J7 unknown version": (b"STOMPJ09" + good[8:],),
+        "J8 disk too small": (good[:-1], good[:8] + struct.pack(">Q", 4_095) + good[16:], good[:8] + b"\xff" * 8 + good[16:]),
+        # A snapshot whose length is not that of a state, and one that leaves the area.
+        "J2 damaged at 40": (good[:32] + struct.pack(">Q", 31) + good[40:],),
+        "J2 damaged at 32": (good[:32] + struct.pack(">Q", 4_088) + good[40:],),
+        # An open gate with an empty block behind it, and with a block that is no record.
+        "J2 damaged at 73": (good[:72] + b"\1" + good[73:],),
+        "J2 damaged at 81": (good[:72] + b"\1" + struct.pack(">Q", 1) + b"\xff\0" + good[83:],),
+    }
+    assert good[8:16] == length
+    for text, files in cases.items():
+        for number, octets in enumerate(files):
+            path = folder / f"{text[:2]}-{text[-2:]}-{number}"
+            path.write_bytes(octets)
+            yield path, octets, told(text)
+
+
+def shows(checks, folder):
+    shown = "version 1\narea 0\nused 41\ncount 0\nheld 0\n"
+    before = (folder / "journal").read_bytes()
+    checks.run(["show", str(folder / "journal")], 0, shown, NOTHING)
+    checks.expect("show writes nothing into the file", (folder / "journal").read_bytes() == before)
+    with open("/dev/full", "wb") as full:
+        checks.run(["show", str(folder / "journal")], 1, NOTHING, told("input or output failed"), sink=full)
+    checks.run(["show", str(folder / "missing")], 1, NOTHING, CANNOT_OPEN)
+    checks.run(["show", str(folder)], 1, NOTHING, CANNOT_OPEN)
+    for path, octets, text in broken(folder):
+        checks.run(["show", str(path)], 1, NOTHING, text)
+        checks.expect(f"{path.name} is left as it was", path.read_bytes() == octets)
+
+
+def serves(checks, folder):
+    with socket.socket() as taken:
+        taken.bind(("127.0.0.1", 0))
+        taken.listen()
+        port = str(taken.getsockname()[1])
+        checks.run(["serve", str(folder / "missing"), port], 1, NOTHING, CANNOT_OPEN)
+        checks.run(["serve", str(folder / "journal"), port], 1, NOTHING, CANNOT_OPEN)
+        # The journal is opened before the port.
+        for path, octets, text in broken(folder):
+            checks.run(["serve", str(path), port], 1, NOTHING, text)
+            checks.expect(f"{path.name} is left as it was", path.read_bytes() == octets)
+    for number in ("0", "65536", "http", "80x", "+80", "", "99999999999999999999"):
+        checks.run(["serve", str(folder / "journal"), number], 2, NOTHING, NOTHING)
+    serving = subprocess.Popen([checks.program, "serve", str(folder / "journal"), port], stdout=subprocess.PIPE, stderr=subprocess.PIPE)
+    try:
+        ready, _, _ = select.select([serving.stdout], [], [], 20)
+        line = serving.stdout.readline().decode() if ready else ""
+        checks.expect("serve says where it listens", line == f"listening {port}\n", line)
+        with socket.create_connection(("127.0.0.1", int(port)), timeout=5):
+            pass
+        checks.expect("a connection that says nothing ends no server", serving.poll() is None)
+    finally:
+        serving.kill()
+        serving.wait()
+
+
+def words(checks, folder):
+    journal = str(folder / "journal")
+    none = ([], ["flash"], ["--flash"], ["script", "x"], ["show"], ["show", journal, "x"], ["format", journal], ["format", journal, "1", "2"])
+    for bad in (*none, ["serve", journal], ["serve", journal, "80", "x"], ["--help"], ["show", "--help"]):
+        checks.run(bad, 2, NOTHING, SOME)
+    for bad in ([b"\xff"], ["script", b"\xff"], ["show", b"\xff"], ["format", b"\xff", str(SMALLEST)], ["serve", b"\xff", "80"]):
+        checks.run(bad, 2, NOTHING, NOTHING)
+
+
+def main():
+    program = pathlib.Path(sys.argv[1]).resolve() if len(sys.argv) > 1 else PROGRAM
+    if not os.access(program, os.X_OK):
+        sys.exit(f"statuses: {program} is missing; bin/stompd builds it")
+    checks = Checks(program)
+    with tempfile.TemporaryDirectory() as name:
+        folder = pathlib.Path(name)
+        scripts(checks)
+        formats(checks, folder)
+        shows(checks, folder)
+        serves(checks, folder)
+        words(checks, folder)
+    if checks.failed:
+        sys.exit(f"statuses: {checks.failed} of {checks.count} checks failed")
+    print(f"statuses: ok, {checks.count} checks")
+
+
+if __name__ == "__main__":
+    main()
