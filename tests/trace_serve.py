@@ -30,7 +30,7 @@ PROGRAM = TOP / "crates" / "stompd" / "out" / "stompd"
 sys.path.insert(0, str(TOP / "clients"))
 sys.dont_write_bytecode = True
 
-from websocket import Client  # noqa: E402
+from stomp_client import Client  # noqa: E402
 
 AREA = 65_536
 HEAD = 32
