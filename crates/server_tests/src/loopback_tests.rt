@@ -3,14 +3,10 @@ use flush_core::FlushFault;
 use journal_files::format_file;
 use server_core::{ServeFault, Server};
 use std::alloc::Global;
-use std::fs;
-use std::net::{Net, TcpStream};
-use std::random::RandomSource;
-use std::sync::Wait;
 use std::sync::atomic::{AtomicU32, Ordering};
 use std::test::Fail;
-use std::thread::{self, Threads};
-use std::time::{Clock, Duration};
+use std::time::Duration;
+use std::{fs, thread};
 
 const PORT: u16 = 47_613;
 
@@ -28,7 +24,7 @@ const FIRST_IS_CONNECTED: u32 = 1;
 const SECOND_HAS_ITS_RECEIPT: u32 = 2;
 
 // Waits until both have come so far, for ten seconds at most.
-fn wait_for<R: Clock>(rt: &R, stage: &AtomicU32, wanted: u32) -> bool {
+fn wait_for(rt: &HostRuntime, stage: &AtomicU32, wanted: u32) -> bool {
     for _ in 0..10_000u32 {
         if stage.load(Ordering::SeqCst) >= wanted {
             return true;
@@ -39,10 +35,7 @@ fn wait_for<R: Clock>(rt: &R, stage: &AtomicU32, wanted: u32) -> bool {
 }
 
 // Sends until the journal, of two areas of 4,096 bytes, is full: the server ends then.
-fn fill<R>(alloc: Global, client: &mut Client<R>) -> bool
-where
-    R: Net<Stream = TcpStream> + RandomSource + Clone + Drop,
-{
+fn fill(alloc: Global, client: &mut Client<HostRuntime>) -> bool {
     for _ in 0..10_000u32 {
         if !client.send(alloc, SEND) || !client.reads(RECEIPT) {
             return true;
@@ -52,10 +45,7 @@ where
 }
 
 // The first client connects before the second, and sends once the second has its RECEIPT.
-fn first<R>(rt: &R, alloc: Global, stage: &AtomicU32) -> Option<bool>
-where
-    R: Net<Stream = TcpStream> + RandomSource + Clock + Clone + Drop,
-{
+fn first(rt: &HostRuntime, alloc: Global, stage: &AtomicU32) -> Option<bool> {
     let mut client = Client::connect(rt, alloc, PORT).ok()?;
     let connected = client.send(alloc, CONNECT) && client.reads(CONNECTED);
     stage.store(FIRST_IS_CONNECTED, Ordering::SeqCst);
@@ -66,29 +56,13 @@ where
 }
 
 // The second client connects once the first is CONNECTED, and gets the RECEIPT of its SEND while the first waits.
-fn second<R>(rt: &R, alloc: Global, stage: &AtomicU32) -> Option<bool>
-where
-    R: Net<Stream = TcpStream> + RandomSource + Clock + Clone + Drop,
-{
+fn second(rt: &HostRuntime, alloc: Global, stage: &AtomicU32) -> Option<bool> {
     let waited = wait_for(rt, stage, FIRST_IS_CONNECTED);
     let mut client = Client::connect(rt, alloc, PORT).ok()?;
     let connected = waited && client.send(alloc, CONNECT) && client.reads(CONNECTED);
     let told = connected && client.send(alloc, SEND) && client.reads(RECEIPT);
     stage.store(SECOND_HAS_ITS_RECEIPT, Ordering::SeqCst);
     Some(told)
-}
-
-// Whether each client got what it should.
-fn both<R>(rt: &R, alloc: Global) -> (Option<bool>, Option<bool>)
-where
-    R: Threads + Wait + Net<Stream = TcpStream> + RandomSource + Clock + Clone + Sync + Drop,
-{
-    let stage = AtomicU32::new(0);
-    thread::join(
-        rt,
-        || -> Option<bool> { first(rt, alloc, &stage) },
-        || -> Option<bool> { second(rt, alloc, &stage) },
-    )
 }
 
 #[test]
@@ -105,11 +79,18 @@ fn over_loopback(rt: HostRuntime) -> Result<(), Fail> {
             thread::spawn(&rt, move || worker.run(alloc))?;
         }
     }
+    let stage = AtomicU32::new(0);
     let mut written = Vec::new(alloc);
     let (fault, told) = thread::join(
         &rt,
         || -> ServeFault { server.run(alloc, &mut written) },
-        || -> (Option<bool>, Option<bool>) { both(&rt, alloc) },
+        || -> (Option<bool>, Option<bool>) {
+            thread::join(
+                &rt,
+                || -> Option<bool> { first(&rt, alloc, &stage) },
+                || -> Option<bool> { second(&rt, alloc, &stage) },
+            )
+        },
     );
     assert!(rt; matches!(fault, ServeFault::Flushing(FlushFault::Full)));
     assert_eq!(rt; told, (Some(true), Some(true)));

@@ -14,8 +14,8 @@ use Rattle.engine_core.specs.declared.fault.ScriptFault.{ScriptFault}
 use Rattle.engine_core.specs.declared.fault.ScriptFault.TheVariants.{Memory, NotUnderstood, CountTooLarge, Opening, Storing, Input, Output}
 use Rattle.engine_core.specs.Runs.{IsToldAtOnce, Stops, StopsOver}
 use Rattle.tool_core.specs.Failures.{RunsToEnd, IsAtOnce, IsBeforehand, StopsBy, Tells}
-use Rattle.tool_core.specs.declared.tool.Failure.{Failure}
-use Rattle.tool_core.specs.declared.tool.Failure.TheVariants.{CommandLine, Number, Script, Format, File, Server}
+use Rattle.tool_core.specs.declared.program.Failure.{Failure}
+use Rattle.tool_core.specs.declared.program.Failure.TheVariants.{CommandLine, Number, Script, Format, File, Server}
 
 pub stops_before : (error : Error) (failure : Failure) (unread held : Option (List ℕ)) → Tells error failure → StopsBy failure unread unread held held
 stops_before error (CommandLine other) unread held told = (refl, refl)

@@ -11,8 +11,8 @@ use Rattle.engine_core.specs.declared.fault.ScriptFault.{ScriptFault}
 use Rattle.engine_core.specs.declared.fault.ScriptFault.TheVariants.{Memory, Opening}
 use Rattle.journal_files.specs.JournalFiles.{Shows}
 use Rattle.journal_files.specs.declared.journal_files.FileFault.TheVariants.{Output}
-use Rattle.tool_core.specs.declared.tool.Failure.{Failure}
-use Rattle.tool_core.specs.declared.tool.Failure.TheVariants.{CommandLine, Number, Script, Format, File, Server}
+use Rattle.tool_core.specs.declared.program.Failure.{Failure}
+use Rattle.tool_core.specs.declared.program.Failure.TheVariants.{CommandLine, Number, Script, Format, File, Server}
 
 -- a script was read to its end, and what was written is what it prints from an empty journal on
 pub record RunsToEnd (unread left before after : Option (List ℕ)) : Type 0 where

@@ -3,7 +3,7 @@
 #![tactic(auto)]
 
 mod command_line;
-mod tool;
+mod program;
 
 pub use command_line::{Refused, Subcommand, subcommand_of};
-pub use tool::{BAD_COMMAND_LINE, DONE, FAILED, Failure, run, tool};
+pub use program::{BAD_COMMAND_LINE, DONE, FAILED, Failure, run, tool};

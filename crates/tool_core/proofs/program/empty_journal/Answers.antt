@@ -1,6 +1,6 @@
 use Rattle.tool_core.proofs.Nothing.{spells_empty, stands_formatted}
 use Rattle.disk_core.specs.Memory.{reads_image}
-use Rattle.tool_core.proofs.tool.empty_journal.Goals as goal
+use Rattle.tool_core.proofs.program.empty_journal.Goals as goal
 
 pub returns-in-Ok-format-clause-empty : goal.returns-in-Ok-format-clause-empty
 returns-in-Ok-format-clause-empty c =
