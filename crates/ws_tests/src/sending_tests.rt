@@ -67,7 +67,7 @@ fn a_link_ends_with_its_code(rt: HostRuntime) -> Result<(), Fail> {
 const AWAY: &[Do] = &[Do::End(CloseReason::GoingAway)];
 
 #[test]
-fn the_peers_close_is_heard_or_64_messages_and_waits(rt: HostRuntime) -> Result<(), Fail> {
+fn the_peers_close_is_heard_or_64_messages_or_a_few_waits(rt: HostRuntime) -> Result<(), Fail> {
     let alloc = rt.alloc();
     // Each frame has ten bytes, and so has each read.
     let mut input = frames(alloc, &[(0x82, b"late"), (0x88, b"\x03\xe8ok")])?;
