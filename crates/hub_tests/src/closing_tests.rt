@@ -1,112 +1,187 @@
-ghost use Rattle.std.specs.Prelude.{◌≡◌, ◌+◌, IfOk, OnOk, length};
+ghost use Rattle.std.specs.Prelude.{◌≡◌, ◌≤◌, ◌+◌, IfSome, IsTrue, OnSome, All, length};
 
 use crate::gates::Free;
 use crate::hubs::{
-    HubFlusher, HubRing, HubSeat, MemHub, close, hub_with_areas, numbers, open_again, take_flusher,
-    take_seat,
+    HubFlusher, HubRing, HubSeat, MemHub, close, hub_with_areas, numbers, take_flusher, take_seat,
 };
 use command_core::{Command, Dest, Entry, Op, Sending};
+use disk_core::MemDisk;
 use frame_core::{Bytes, Headers};
 use hub_core::flush_loop;
-use outbox_core::{OutSender, Silent};
 use std::alloc::Global;
 use std::test::Fail;
 
 // The bytes of an area.
 const AREA: u64 = 4_096;
 
-// An entry that sends a body of so many bytes, for a session that isn't open.
-fn entry(alloc: Global, bytes: usize) -> Result<Entry<OutSender<Silent>>, Fail> {
-    let destination = Dest::read(alloc, "/queue/q")?;
-    let body = Bytes::new(Vec::from_elem(alloc, b'x', bytes)?);
-    let sending = Sending::new(destination, Headers::new(Vec::new(alloc)), body);
-    match Entry::new(alloc, Command::new(7, Op::Send(sending), None), None) {
-        Ok(entry) => Ok(entry),
-        Err(_) => Err(Fail::from("no memory for a record")),
-    }
+// What sends a body of so many bytes.
+fn sending(alloc: Global, bytes: usize) -> Option<Sending>
+    requires { bytes ≤ 65536 }
+{
+    let destination = Dest::read(alloc, "/queue/q").ok()?;
+    let body = Bytes::new(Vec::from_elem(alloc, b'x', bytes).ok()?);
+    Some(Sending::new(destination, Headers::new(Vec::new(alloc)), body))
 }
 
-// Appends an entry that sends so many bytes.
-fn append(alloc: Global, ring: &HubRing, seat: &mut HubSeat, bytes: usize) -> Result<(), Fail>
-    requires { seat.old.ring ≡ ring.now }
+// Appends an entry that sends so many bytes, for a session that isn't open.
+fn append(alloc: Global, ring: &HubRing, seat: &mut HubSeat, bytes: usize) -> Option<u64>
+    requires seat { seat.old.ring ≡ ring.now }
+    requires short { bytes ≤ 65536 }
     ensures { seat.new.ring ≡ seat.old.ring }
 {
-    let entry = entry(alloc, bytes)?;
-    match ring.append(seat, entry) {
-        Ok(_) => Ok(()),
-        Err(_) => Err(Fail::from("an entry was refused")),
-    }
+    let command = Command::new(7, Op::Send(sending(alloc, bytes)?), None);
+    let entry = Entry::new(alloc, command, None).ok()?;
+    ring.append(seat, entry).ok()
 }
 
 // One seat and the flusher.
-fn hand_out(hub: &mut MemHub) -> Result<(HubSeat, HubFlusher), Fail>
+fn hand_out(hub: &mut MemHub) -> Option<(HubSeat, HubFlusher)>
     requires { length hub.old.seats ≡ 32 }
-    ensures seats { IfOk result (λ t. t.0.ring ≡ hub.new.ring) }
-    ensures flusher { IfOk result (λ t. (t.1.seat.ring ≡ hub.new.ring) × (t.1.settled ≡ t.1.stored)) }
-    ensures count { IfOk result (λ t. 1 + length hub.new.seats ≡ t.1.seat.seats) }
+    ensures seat { IfSome result (λ t. t.0.ring ≡ hub.new.ring) }
+    ensures flusher { IfSome result (λ t. (t.1.seat.ring ≡ hub.new.ring) × (t.1.settled ≡ t.1.stored)) }
+    ensures count { IfSome result (λ t. 1 + length hub.new.seats ≡ t.1.seat.seats) }
 {
     let Some(seat) = take_seat(hub) else {
-        return Err(Fail::from("a seat is missing"));
+        return None;
     };
     match take_flusher(hub) {
-        Some(flusher) => Ok((seat, flusher)),
-        None => Err(Fail::from("the flusher is missing")),
+        Some(flusher) => Some((seat, flusher)),
+        None => None,
     }
 }
 
-// Ends a hub of which one seat was handed out, and answers its numbers with those of the hub that is opened behind it.
-fn close_one(
+// The first number of the hub that is opened over a disk.
+fn next_base(alloc: Global, disk: MemDisk) -> Option<u64> {
+    match MemHub::open(alloc, disk) {
+        Ok(mut hub) => take_flusher(&mut hub).map(|flusher| flusher.next()),
+        Err(_) => None,
+    }
+}
+
+// Ends a hub, and answers its numbers with the first of the hub that is opened behind it.
+fn close_and_open(
     alloc: Global,
     hub: MemHub,
-    seat: HubSeat,
+    seats: Vec<HubSeat>,
     flusher: HubFlusher,
-) -> Result<([u64; 4], u64), Fail>
-    requires seat { seat.ring ≡ hub.ring }
+) -> Option<([u64; 4], u64)>
     requires flusher { flusher.seat.ring ≡ hub.ring }
-    requires count { 1 + length hub.seats ≡ flusher.seat.seats }
+    requires seats { All (λ seat. seat.ring ≡ hub.ring) seats.items }
+    requires all { length seats.items + length hub.seats ≡ flusher.seat.seats }
 {
-    let mut seats = Vec::with_capacity(alloc, 1)?;
-    seats.push_reserved(seat);
-    let closed = close(hub, seats, flusher)?;
-    let numbers = numbers(&closed);
-    let disk = closed.disk;
-    let mut hub = open_again(alloc, disk)?;
-    match take_flusher(&mut hub) {
-        Some(flusher) => Ok((numbers, flusher.next())),
-        None => Err(Fail::from("the flusher is missing")),
+    match close(hub, seats, flusher) {
+        Some(closed) => {
+            let numbers = numbers(&closed);
+            next_base(alloc, closed.disk).map(|base| (numbers, base))
+        }
+        None => None,
     }
 }
 
-// Two commands are published and a third is taken.
-fn close_within_a_turn(alloc: Global) -> Result<([u64; 4], u64), Fail> {
-    let mut hub = hub_with_areas(alloc, AREA)?;
-    let (mut seat, mut flusher) = hand_out(&mut hub)?;
-    append(alloc, hub.ring(), &mut seat, 1)?;
-    append(alloc, hub.ring(), &mut seat, 1)?;
-    flush_loop(alloc, hub.ring(), &mut flusher, &Free, 1)?;
-    append(alloc, hub.ring(), &mut seat, 1)?;
-    flusher.gather(hub.ring())?;
-    append(alloc, hub.ring(), &mut seat, 1)?;
-    close_one(alloc, hub, seat, flusher)
+// Two commands are published, a third is taken, and a fourth waits, whose ticket is the answer.
+fn stop_within_a_turn(
+    alloc: Global,
+    ring: &HubRing,
+    seat: &mut HubSeat,
+    flusher: &mut HubFlusher,
+) -> Option<u64>
+    requires seat { seat.old.ring ≡ ring.now }
+    requires flusher { (flusher.old.seat.ring ≡ ring.now) × (flusher.old.settled ≡ flusher.old.stored) }
+    ensures seat { seat.new.ring ≡ seat.old.ring }
+    ensures flusher { OnSome result ((flusher.new.seat.ring ≡ flusher.old.seat.ring) × (flusher.new.seat.seats ≡ flusher.old.seat.seats)) }
+{
+    append(alloc, ring, seat, 1)?;
+    append(alloc, ring, seat, 1)?;
+    flush_loop(alloc, ring, flusher, &Free, 1).ok()?;
+    append(alloc, ring, seat, 1)?;
+    flusher.gather(ring).ok()?;
+    append(alloc, ring, seat, 1)
 }
 
-// The block of the second command doesn't fit.
-fn close_after_a_fault(alloc: Global) -> Result<([u64; 4], u64), Fail> {
-    let mut hub = hub_with_areas(alloc, AREA)?;
-    let (mut seat, mut flusher) = hand_out(&mut hub)?;
-    append(alloc, hub.ring(), &mut seat, 1)?;
-    flush_loop(alloc, hub.ring(), &mut flusher, &Free, 1)?;
-    append(alloc, hub.ring(), &mut seat, 4_096)?;
-    if flush_loop(alloc, hub.ring(), &mut flusher, &Free, 1).is_ok() {
-        return Err(Fail::from("the block fits"));
+// One command is published, and the block of the next doesn't fit, whose ticket is the answer.
+fn break_flusher(
+    alloc: Global,
+    ring: &HubRing,
+    seat: &mut HubSeat,
+    flusher: &mut HubFlusher,
+) -> Option<u64>
+    requires seat { seat.old.ring ≡ ring.now }
+    requires flusher { (flusher.old.seat.ring ≡ ring.now) × (flusher.old.settled ≡ flusher.old.stored) }
+    ensures seat { seat.new.ring ≡ seat.old.ring }
+    ensures flusher { OnSome result ((flusher.new.seat.ring ≡ flusher.old.seat.ring) × (flusher.new.seat.seats ≡ flusher.old.seat.seats)) }
+{
+    append(alloc, ring, seat, 1)?;
+    flush_loop(alloc, ring, flusher, &Free, 1).ok()?;
+    let ticket = append(alloc, ring, seat, 4_096)?;
+    match flush_loop(alloc, ring, flusher, &Free, 1) {
+        Ok(_) => None,
+        Err(_) => Some(ticket),
     }
-    close_one(alloc, hub, seat, flusher)
+}
+
+// One of the two.
+fn play(
+    alloc: Global,
+    ring: &HubRing,
+    seat: &mut HubSeat,
+    flusher: &mut HubFlusher,
+    breaks: bool,
+) -> bool
+    requires seat { seat.old.ring ≡ ring.now }
+    requires flusher { (flusher.old.seat.ring ≡ ring.now) × (flusher.old.settled ≡ flusher.old.stored) }
+    ensures seat { seat.new.ring ≡ seat.old.ring }
+    ensures flusher { IsTrue result → (flusher.new.seat.ring ≡ flusher.old.seat.ring) × (flusher.new.seat.seats ≡ flusher.old.seat.seats) }
+{
+    if breaks {
+        break_flusher(alloc, ring, seat, flusher).is_some()
+    } else {
+        stop_within_a_turn(alloc, ring, seat, flusher).is_some()
+    }
+}
+
+// The only seat that was handed out, and the flusher, when all is done.
+fn played(
+    alloc: Global,
+    ring: &HubRing,
+    mut seat: HubSeat,
+    mut flusher: HubFlusher,
+    breaks: bool,
+) -> Option<(Vec<HubSeat>, HubFlusher)>
+    requires seat { seat.ring ≡ ring.now }
+    requires flusher { (flusher.seat.ring ≡ ring.now) × (flusher.settled ≡ flusher.stored) }
+    ensures seats { IfSome result (λ t. All (λ seat. seat.ring ≡ ring.now) t.0.items × (length t.0.items ≡ 1)) }
+    ensures flusher { IfSome result (λ t. (t.1.seat.ring ≡ ring.now) × (t.1.seat.seats ≡ flusher.seat.seats)) }
+{
+    if !play(alloc, ring, &mut seat, &mut flusher, breaks) {
+        return None;
+    }
+    let mut seats = Vec::new(alloc);
+    match seats.push(seat) {
+        Ok(()) => Some((seats, flusher)),
+        Err(_) => None,
+    }
+}
+
+// The numbers of a hub that is closed then, and the first one of the next.
+fn run(alloc: Global, hub: MemHub, breaks: bool) -> Option<([u64; 4], u64)>
+    requires { length hub.seats ≡ 32 }
+{
+    let mut hub = hub;
+    let Some((seat, flusher)) = hand_out(&mut hub) else {
+        return None;
+    };
+    match played(alloc, hub.ring(), seat, flusher, breaks) {
+        Some((seats, flusher)) => close_and_open(alloc, hub, seats, flusher),
+        None => None,
+    }
 }
 
 #[test]
 fn a_flusher_closes_between_its_steps_and_broken(rt: HostRuntime) -> Result<(), Fail> {
     let alloc = rt.alloc();
-    assert_eq!(rt; close_within_a_turn(alloc)?, ([0, 4, 3, 2], 2));
-    assert_eq!(rt; close_after_a_fault(alloc)?, ([0, 2, 2, 1], 1));
+    let within = run(alloc, hub_with_areas(alloc, AREA)?, false);
+    assert_eq!(rt; within, Some(([0, 4, 3, 2], 2)));
+    let broken = run(alloc, hub_with_areas(alloc, AREA)?, true);
+    assert_eq!(rt; broken, Some(([0, 2, 2, 1], 1)));
     Ok(())
 }

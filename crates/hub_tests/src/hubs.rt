@@ -1,6 +1,9 @@
 //! Hubs over journals in memory.
 
-ghost use Rattle.std.specs.Prelude.{◌≡◌, ◌≤◌, ◌+◌, IfOk, IfSome, All, length};
+ghost use Rattle.std.specs.Prelude.{◌≡◌, ◌≤◌, ◌+◌, ◌++◌, List, IfOk, IfSome, All, length};
+ghost use Rattle.command_core.specs.Commands.{CommandValue};
+ghost use Rattle.hub_core.specs.Closings.{shown};
+ghost use Rattle.world_core.specs.Schedules.{Holds};
 
 use area_core::format;
 use claim_core::{BrokerRing, BrokerSeat};
@@ -37,13 +40,6 @@ pub fn hub_with_areas(alloc: Global, area_bytes: u64) -> Result<MemHub, Fail>
 {
     let mut disk = MemDisk::new(alloc, 32 + 2 * area_bytes)?;
     format(alloc, &mut disk, area_bytes)?;
-    open_again(alloc, disk)
-}
-
-/// The hub of a journal.
-pub fn open_again(alloc: Global, disk: MemDisk) -> Result<MemHub, Fail>
-    ensures { IfOk result (λ hub. length hub.seats ≡ 32) }
-{
     match Hub::open(alloc, disk) {
         Ok(hub) => Ok(hub),
         Err((_, fault)) => Err(Fail::from(fault)),
@@ -67,19 +63,19 @@ pub fn take_flusher(hub: &mut MemHub) -> Option<HubFlusher>
     hub.flusher()
 }
 
-/// Ends a hub, with the seats that it handed out.
-pub fn close(
-    hub: MemHub,
-    seats: Vec<HubSeat>,
-    flusher: HubFlusher,
-) -> Result<Closed<MemDisk>, Fail>
+/// Ends a hub, with the seats that it handed out. What is promised of the world shown, with the disk in memory for its disk,
+/// is known then.
+pub fn close(hub: MemHub, seats: Vec<HubSeat>, flusher: HubFlusher) -> Option<Closed<MemDisk>>
     requires flusher { flusher.seat.ring ≡ hub.ring }
     requires seats { All (λ seat. seat.ring ≡ hub.ring) seats.items }
     requires all { length seats.items + length hub.seats ≡ flusher.seat.seats }
+    ensures holds { IfSome result (λ closed. (history : List CommandValue)
+        × Holds (shown history (hub.seats ++ seats.items) flusher
+        (record { size = flusher.size; content = closed.disk.content; held = closed.disk.held }))) }
 {
     match hub.close(seats, flusher) {
-        Ok(closed) => Ok(closed),
-        Err((_, refused)) => Err(Fail::from(refused)),
+        Ok(closed) => Some(closed),
+        Err(_) => None,
     }
 }
 

@@ -1,4 +1,4 @@
-ghost use Rattle.std.specs.Prelude.{◌≡◌, ◌+◌, IfSome, false, length};
+ghost use Rattle.std.specs.Prelude.{◌≡◌, ◌+◌, IfSome, All, false, length};
 
 use crate::gates::Pause;
 use crate::hubs::{
@@ -84,13 +84,7 @@ fn work<R: Clock>(rt: &R, alloc: Global, ring: &HubRing, mut seat: HubSeat) -> (
 }
 
 // Turns until so many commands are published.
-fn flush_to<G: Gate>(
-    alloc: Global,
-    ring: &HubRing,
-    flusher: &mut HubFlusher,
-    gate: &G,
-    wanted: u64,
-)
+fn flush_to<G: Gate>(alloc: Global, ring: &HubRing, flusher: &mut HubFlusher, gate: &G, wanted: u64)
     requires ring { flusher.old.seat.ring ≡ ring.now }
     requires settled { flusher.old.broken ≡ false → flusher.old.settled ≡ flusher.old.stored }
     ensures ring { flusher.new.seat.ring ≡ flusher.old.seat.ring }
@@ -165,60 +159,93 @@ fn work_and_flush<R: Threads + Wait + Clock + Sync>(
     )
 }
 
-// Two seats and the flusher.
-fn hand_out(hub: &mut MemHub) -> Option<(HubSeat, HubSeat, HubFlusher)>
+// Two seats.
+fn hand_out_seats(hub: &mut MemHub) -> Option<(HubSeat, HubSeat)>
     requires { length hub.old.seats ≡ 32 }
     ensures seats { IfSome result (λ t. (t.0.ring ≡ hub.new.ring) × (t.1.ring ≡ hub.new.ring)) }
-    ensures flusher { IfSome result (λ t. (t.2.seat.ring ≡ hub.new.ring) × (t.2.settled ≡ t.2.stored)) }
-    ensures count { IfSome result (λ t. 2 + length hub.new.seats ≡ t.2.seat.seats) }
+    ensures count { IfSome result (λ t. 2 + length hub.new.seats ≡ 32) }
 {
-    let first = take_seat(hub)?;
-    let second = take_seat(hub)?;
-    let flusher = take_flusher(hub)?;
-    Some((first, second, flusher))
+    let Some(first) = take_seat(hub) else {
+        return None;
+    };
+    match take_seat(hub) {
+        Some(second) => Some((first, second)),
+        None => None,
+    }
+}
+
+// The seats of both workers, to be handed back.
+fn both(alloc: Global, first: HubSeat, second: HubSeat) -> Option<Vec<HubSeat>>
+    requires { first.ring ≡ second.ring }
+    ensures { IfSome result (λ seats. All (λ seat. seat.ring ≡ first.ring) seats.items × (length seats.items ≡ 2)) }
+{
+    let Ok(mut seats) = Vec::with_capacity(alloc, 2) else {
+        return None;
+    };
+    seats.push_reserved(first);
+    seats.push_reserved(second);
+    Some(seats)
 }
 
 // Ends the hub, with both seats.
-fn close_both(
+fn close_both(hub: MemHub, seats: Option<Vec<HubSeat>>, flusher: HubFlusher) -> Option<[u64; 4]>
+    requires flusher { flusher.seat.ring ≡ hub.ring }
+    requires seats { IfSome seats (λ seats. All (λ seat. seat.ring ≡ hub.ring) seats.items × (length seats.items ≡ 2)) }
+    requires count { 2 + length hub.seats ≡ flusher.seat.seats }
+{
+    match seats {
+        Some(seats) => match close(hub, seats, flusher) {
+            Some(closed) => Some(numbers(&closed)),
+            None => None,
+        },
+        None => None,
+    }
+}
+
+// Whether the tickets of each worker rose, and the numbers at the end.
+fn run_all<R: Threads + Wait + Clock + Sync>(
+    rt: &R,
     alloc: Global,
     hub: MemHub,
     first: HubSeat,
     second: HubSeat,
     flusher: HubFlusher,
-) -> Result<[u64; 4], Fail>
+    gate: &Pause<R>,
+) -> ((bool, bool), Option<[u64; 4]>)
     requires seats { (first.ring ≡ hub.ring) × (second.ring ≡ hub.ring) }
-    requires flusher { flusher.seat.ring ≡ hub.ring }
+    requires flusher { (flusher.seat.ring ≡ hub.ring) × (flusher.settled ≡ flusher.stored) }
     requires count { 2 + length hub.seats ≡ flusher.seat.seats }
 {
-    let mut seats = Vec::with_capacity(alloc, 2)?;
-    seats.push_reserved(first);
-    seats.push_reserved(second);
-    let closed = close(hub, seats, flusher)?;
-    Ok(numbers(&closed))
+    let (workers, flusher) = work_and_flush(rt, alloc, hub.ring(), first, second, flusher, gate);
+    let ((one, first), (other, second)) = workers;
+    let numbers = close_both(hub, both(alloc, first, second), flusher);
+    ((one, other), numbers)
 }
 
-// Whether the tickets of each worker rose, and the numbers at the end.
-fn run<R: Threads + Wait + Clock + Sync>(
+fn run_hub<R: Threads + Wait + Clock + Sync>(
     rt: &R,
     alloc: Global,
+    hub: MemHub,
     gate: &Pause<R>,
-) -> Result<((bool, bool), [u64; 4]), Fail> {
-    let mut hub = empty_hub(alloc)?;
-    let Some((first, second, flusher)) = hand_out(&mut hub) else {
-        return Err(Fail::from("a seat or the flusher is missing"));
+) -> ((bool, bool), Option<[u64; 4]>)
+    requires { length hub.seats ≡ 32 }
+{
+    let mut hub = hub;
+    let Some((first, second)) = hand_out_seats(&mut hub) else {
+        return ((false, false), None);
     };
-    let (workers, flusher) =
-        work_and_flush(rt, alloc, hub.ring(), first, second, flusher, gate);
-    let ((one, first), (other, second)) = workers;
-    let numbers = close_both(alloc, hub, first, second, flusher)?;
-    Ok(((one, other), numbers))
+    match take_flusher(&mut hub) {
+        Some(flusher) => run_all(rt, alloc, hub, first, second, flusher, gate),
+        None => ((false, false), None),
+    }
 }
 
 #[test]
 fn two_threads_and_a_flusher_close_with_2000_commands(rt: HostRuntime) -> Result<(), Fail> {
     let gate = Pause { rt: rt.clone()? };
-    let (rose, numbers) = run(&rt, rt.alloc(), &gate)?;
+    let hub = empty_hub(rt.alloc())?;
+    let (rose, numbers) = run_hub(&rt, rt.alloc(), hub, &gate);
     assert_eq!(rt; rose, (true, true));
-    assert_eq!(rt; numbers, [0, 2_000, 2_000, 2_000]);
+    assert_eq!(rt; numbers, Some([0, 2_000, 2_000, 2_000]));
     Ok(())
 }
