@@ -1,0 +1,13 @@
+//! Tests of the server over real sockets and files, by its public face. They are a crate of their own, since a crate that
+//! has tests is proved twice.
+
+#![tactic(auto)]
+
+#[cfg(test)]
+mod client;
+#[cfg(test)]
+mod handshake_tests;
+#[cfg(test)]
+mod loopback_tests;
+#[cfg(test)]
+mod opening_tests;

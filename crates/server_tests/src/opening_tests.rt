@@ -1,0 +1,55 @@
+use journal_files::format_file;
+use recover_core::OpenFault;
+use server_core::{ServeFault, Server};
+use std::alloc::Global;
+use std::fs;
+use std::fs::File;
+use std::net::{Net, TcpListener, TcpStream};
+use std::rt::Files;
+use std::sync::Wait;
+use std::test::Fail;
+
+const PORT: u16 = 47_617;
+
+// What is told of a server over that file.
+fn fault_of<R>(rt: &R, alloc: Global, path: &str) -> Option<ServeFault>
+where
+    R: Files<File = File> + Net<Listener = TcpListener, Stream = TcpStream> + Wait + Clone + Drop,
+{
+    match Server::open(alloc, rt, path, PORT) {
+        Ok(_) => None,
+        Err(fault) => Some(fault),
+    }
+}
+
+#[test]
+fn a_server_wants_a_file(rt: HostRuntime) -> Result<(), Fail> {
+    let path = "server_without_a_file";
+    let _ = fs::remove_file(&rt, path);
+    let fault = fault_of(&rt, rt.alloc(), path);
+    assert!(rt; matches!(fault, Some(ServeFault::CannotOpen)));
+    Ok(())
+}
+
+#[test]
+fn a_server_wants_a_journal(rt: HostRuntime) -> Result<(), Fail> {
+    let path = "server_without_a_journal";
+    fs::write(&rt, path, b"rooms")?;
+    let fault = fault_of(&rt, rt.alloc(), path);
+    let _ = fs::remove_file(&rt, path);
+    assert!(rt; matches!(fault, Some(ServeFault::Opening(OpenFault::Read(_)))));
+    Ok(())
+}
+
+#[test]
+fn a_server_wants_a_port_at_which_nobody_listens(rt: HostRuntime) -> Result<(), Fail> {
+    let path = "server_without_a_port";
+    let _ = fs::remove_file(&rt, path);
+    assert!(rt; format_file(rt.alloc(), &rt, path, 8_224).is_ok());
+    let other = TcpListener::bind(&rt, ("127.0.0.1", PORT))?;
+    let fault = fault_of(&rt, rt.alloc(), path);
+    drop(other);
+    let _ = fs::remove_file(&rt, path);
+    assert!(rt; matches!(fault, Some(ServeFault::CannotOpen)));
+    Ok(())
+}
