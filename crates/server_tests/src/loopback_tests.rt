@@ -3,7 +3,10 @@ use flush_core::FlushFault;
 use journal_files::format_file;
 use server_core::{ServeFault, Server};
 use std::alloc::Global;
+use std::fs::{File, Files};
+use std::net::{Net, TcpListener, TcpStream};
 use std::sync::atomic::{AtomicU32, Ordering};
+use std::sync::{Arc, Wait};
 use std::test::Fail;
 use std::time::Duration;
 use std::{fs, thread};
@@ -65,36 +68,41 @@ fn second(rt: &HostRuntime, alloc: Global, stage: &AtomicU32) -> Option<bool> {
     Some(told)
 }
 
+// A server at the port, over a journal of the smallest areas.
+fn opened<R>(rt: &R, alloc: Global) -> Option<Server<R>>
+where
+    R: Files<File = File> + Net<Listener = TcpListener, Stream = TcpStream> + Wait + Clone + Drop,
+{
+    let path = "server_over_loopback";
+    let _ = fs::remove_file(rt, path);
+    if format_file(alloc, rt, path, 8_224).is_err() {
+        return None;
+    }
+    Server::open(alloc, rt, path, PORT).ok()
+}
+
 #[test]
 fn over_loopback(rt: HostRuntime) -> Result<(), Fail> {
     let alloc = rt.alloc();
-    let path = "server_over_loopback";
-    let _ = fs::remove_file(&rt, path);
-    assert!(rt; format_file(alloc, &rt, path, 8_224).is_ok());
-    let Ok(mut server) = Server::open(alloc, &rt, path, PORT) else {
+    let Some(mut server) = opened(&rt, alloc) else {
         return Err(Fail::from("the server was not opened"));
     };
     for _worker in 0..2u32 {
         if let Ok(Some(worker)) = server.next_worker() {
-            thread::spawn(&rt, move || worker.run(alloc))?;
+            if thread::spawn(&rt, move || worker.run(alloc)).is_err() {
+                return Err(Fail::from("no thread"));
+            }
         }
     }
-    let stage = AtomicU32::new(0);
+    let stage = Arc::new(alloc, AtomicU32::new(0))?;
+    let (mine, seen) = (rt.clone()?, stage.clone()?);
+    let one = thread::spawn(&rt, move || first(&mine, alloc, &seen))?;
+    let mine = rt.clone()?;
+    let other = thread::spawn(&rt, move || second(&mine, alloc, &stage))?;
     let mut written = Vec::new(alloc);
-    let (fault, told) = thread::join(
-        &rt,
-        || -> ServeFault { server.run(alloc, &mut written) },
-        || -> (Option<bool>, Option<bool>) {
-            thread::join(
-                &rt,
-                || -> Option<bool> { first(&rt, alloc, &stage) },
-                || -> Option<bool> { second(&rt, alloc, &stage) },
-            )
-        },
-    );
+    let fault = server.run(alloc, &mut written);
     assert!(rt; matches!(fault, ServeFault::Flushing(FlushFault::Full)));
-    assert_eq!(rt; told, (Some(true), Some(true)));
+    assert_eq!(rt; (one.join(&rt), other.join(&rt)), (Some(true), Some(true)));
     assert_eq!(rt; written.as_slice(), b"listening 47613\n".as_slice());
-    fs::remove_file(&rt, path)?;
     Ok(())
 }
