@@ -73,6 +73,12 @@ IsNext New c = role_of c.op ≡ Opens
 IsNext (Open number) c = (c.session ≡ number) × (role_of c.op ≢ Opens)
 IsNext Over c = ⊥
 
+-- the session's number as a command of that role has it: an Open has none yet, and so has one of no session
+abbrev pub session_of : Progress → Role → ℕ
+session_of progress Opens = 0
+session_of (Open number) role = number
+session_of progress role = 0
+
 -- how far it has come with a command of that role and ticket
 abbrev pub after : Progress → Role → ℕ → Progress
 after progress Opens ticket = Open ticket

@@ -1,6 +1,6 @@
 //! What a session has asked for and is still to be done.
 
-ghost use Rattle.std.specs.Prelude.{◌≡◌, ◌++◌, [], None, Some, option_to_list, IfSome};
+ghost use Rattle.std.specs.Prelude.{◌≡◌, ◌≢◌, ◌++◌, [], None, Some, true, false, length, option_to_list, IfSome};
 ghost use Rattle.std.specs.List.{AllByRecursion};
 ghost use Rattle.session_core.specs.Sessions.{HasForm};
 ghost use Rattle.hub_core.specs.Tasks.{tasks, all_of};
@@ -52,12 +52,20 @@ impl Acts {
         }
     }
 
-    pub(crate) fn is_empty(&self) -> bool {
+    pub(crate) fn is_empty(&self) -> bool
+        ensures yes { result ≡ true → all_of self.now ≡ [] }
+        ensures no { result ≡ false → all_of self.now ≢ [] }
+    {
         self.again.is_none() && self.rest.is_empty()
     }
 
-    pub(crate) fn len(&self) -> usize {
-        self.rest.len().saturating_add(1)
+    pub(crate) fn len(&self) -> usize
+        ensures { result ≡ length (all_of self.now) }
+    {
+        match self.again {
+            Some(_) => self.rest.len() + 1,
+            None => self.rest.len(),
+        }
     }
 
     pub(crate) fn next(&mut self) -> Option<Act>

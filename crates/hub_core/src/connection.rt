@@ -1,8 +1,10 @@
 //! One connection, as its worker keeps it from turn to turn.
 
-ghost use Rattle.std.specs.Prelude.{◌≡◌, None, IfSome, IfErr};
+ghost use Rattle.std.specs.Prelude.{◌≡◌, ◌≢◌, ◌⊎◌, [], None, true, false, IfSome, IfErr};
 ghost use Rattle.session_core.specs.Sessions.{HasForm};
 ghost use Rattle.session_core.specs.declared.act.Act.TheVariants as acts;
+ghost use Rattle.hub_core.specs.Tasks.{all_of};
+ghost use Rattle.hub_core.specs.declared.connection.Stage.TheVariants.{Running, Leaving};
 ghost use Rattle.hub_core.specs.declared.progress.Progress.TheVariants.{New};
 
 use crate::acts::Acts;
@@ -31,7 +33,10 @@ pub enum Stage {
 
 impl Stage {
     // Whether acts are still to be done.
-    pub fn carries_out(self) -> bool {
+    pub fn carries_out(self) -> bool
+        ensures yes { result ≡ true → (self ≡ Running) ⊎ (self ≡ Leaving) }
+        ensures no { result ≡ false → (self ≢ Running) × (self ≢ Leaving) }
+    {
         matches!(self, Stage::Running | Stage::Leaving)
     }
 }
@@ -70,7 +75,10 @@ impl<B: Bell> Connection<B> {
     }
 
     // Whether something waits to be appended.
-    pub fn has_work(&self) -> bool {
+    pub fn has_work(&self) -> bool
+        ensures yes { result ≡ true → (self.now.entry ≢ None) ⊎ (all_of self.now.acts ≢ []) }
+        ensures no { result ≡ false → (self.now.entry ≡ None) × (all_of self.now.acts ≡ []) }
+    {
         self.entry.is_some() || !self.acts.is_empty()
     }
 

@@ -1,7 +1,7 @@
 //! How far the conversation of one connection with the broker has come.
 
-ghost use Rattle.std.specs.Prelude.{◌≡◌, IsTrue};
-ghost use Rattle.hub_core.specs.Conversations.{IsNext, after, role_of};
+ghost use Rattle.std.specs.Prelude.{◌≡◌, true, false};
+ghost use Rattle.hub_core.specs.Conversations.{IsNext, after, role_of, session_of};
 
 use command_core::{Command, Op};
 
@@ -39,7 +39,7 @@ pub enum Progress {
 impl Progress {
     // The session's number, as a command of that role has it: an Open has none yet.
     pub fn session(self, role: Role) -> u64
-        ensures { role ≡ Role.Opens → result ≡ 0 }
+        ensures { result ≡ session_of self role }
     {
         match (self, role) {
             (_, Role::Opens) => 0,
@@ -50,7 +50,8 @@ impl Progress {
 
     // Whether the command may be the next. A session's acts come in this order; here it is made sure of.
     pub fn admits(self, command: &Command) -> bool
-        ensures { IsTrue result → IsNext self command.now }
+        ensures yes { result ≡ true → IsNext self command.now }
+        ensures no { result ≡ false → IsNext self command.now → ⊥ }
     {
         let role = Role::of(command.op());
         match self {
