@@ -10,6 +10,7 @@ FOLDER (/dev/shm, and the folder for temporary files), and removed.
 import os
 import pathlib
 import statistics
+import struct
 import tempfile
 import time
 
@@ -25,7 +26,7 @@ class Bench:
     def __init__(self, words, load, slow, folder):
         self.program, self.runs, self.seconds = words.program, words.runs, words.seconds
         self.load, self.slow, self.journal = load, slow, folder / "journal"
-        self.plain = folder / "syncs"
+        self.plain, self.seen = folder / "syncs", folder / "seen"
 
     def server(self, environment=None):
         """A server over a new journal."""
@@ -45,6 +46,15 @@ class Bench:
         load = Load(self.load, None, "syncs", self.plain, count, pause, environment=environment)
         self.plain.unlink()
         return load
+
+    def new_counts(self):
+        """A file in which syncs are counted."""
+        self.seen.write_bytes(bytes(16))
+        return self.seen
+
+    def counts(self):
+        """How many syncs there were, and how many nanoseconds they took."""
+        return struct.unpack("=QQ", self.seen.read_bytes())
 
 
 def tell(text, figure, unit, more=""):
@@ -78,15 +88,21 @@ def many(bench):
 
 
 def slow(bench):
-    """The same over syncs that are made slower: then 32 commands in two syncs are the most that there can be."""
+    """The same over syncs that are made slower: then 32 commands in two syncs are the most that there can be. What a sync
+    takes is told as it is on an idle disk (median), and as the server's own syncs were (mean)."""
     for more in (500, 2_000):
         environment = {**os.environ, "LD_PRELOAD": str(bench.slow), "SLOW_SYNC": str(more)}
         pair = bench.syncs(500, environment=environment)["two_syncs_median_us"]
-        with bench.server(environment) as server:
+        with bench.server({**environment, "SYNCS_SEEN": str(bench.new_counts())}) as server:
+            calls, spent = bench.counts()
+            begun = time.perf_counter()
             load = Load(bench.load, server, "receipts", 31, 8, bench.seconds)
-        bound = AT_ONCE / pair * 1e6
-        rate = load["receipts_a_second"]
-        tell(f"the same, syncs slower by {more / 1e3:.1f} ms", f"{rate:,.0f}", "a second", f", {rate / bound * 100:.0f} % of 32 commands in two syncs of {pair:,.0f} us")
+            seconds = time.perf_counter() - begun
+            calls, spent = (now - then for now, then in zip(bench.counts(), (calls, spent)))
+        rate, own = load["receipts_a_second"], spent / calls * 2 / 1e3
+        told = f", {rate * pair / AT_ONCE / 1e4:.0f} % of 32 commands in two syncs of {pair:,.0f} us"
+        told += f", {rate * own / AT_ONCE / 1e4:.0f} % in two of its own, {own:,.0f} us; {spent / seconds / 1e7:.0f} % of its time was in syncs"
+        tell(f"the same, syncs slower by {more / 1e3:.1f} ms", f"{rate:,.0f}", "a second", told)
 
 
 def fanout(bench):

@@ -1,20 +1,51 @@
-// Makes each fsync take SLOW_SYNC microseconds more, to measure what a slow disk would do. It is put before the C library's
-// by LD_PRELOAD; bench/serve.py builds it and says where.
+// Makes each fsync take SLOW_SYNC microseconds more, to measure what a slow disk would do, and counts the syncs and the
+// nanoseconds that they took in the file SYNCS_SEEN, two words of 64 bits each. It is put before the C library's fsync by
+// LD_PRELOAD; bench/serve.py builds it and says where.
 
 #define _GNU_SOURCE
 #include <dlfcn.h>
+#include <fcntl.h>
+#include <stdint.h>
 #include <stdlib.h>
+#include <sys/mman.h>
 #include <time.h>
+#include <unistd.h>
+
+static int (*below)(int);
+static long microseconds;
+static uint64_t *seen;
+static uint64_t unseen[2];
+
+static void begin(void) {
+    const char *slow = getenv("SLOW_SYNC"), *path = getenv("SYNCS_SEEN");
+    microseconds = slow == NULL ? 0 : strtol(slow, NULL, 10);
+    seen = unseen;
+    if (path != NULL) {
+        int file = open(path, O_RDWR);
+        if (file >= 0) {
+            void *words = mmap(NULL, sizeof unseen, PROT_READ | PROT_WRITE, MAP_SHARED, file, 0);
+            seen = words == MAP_FAILED ? unseen : words;
+            close(file);
+        }
+    }
+    below = (int (*)(int))dlsym(RTLD_NEXT, "fsync");
+}
+
+static int64_t nanoseconds(void) {
+    struct timespec now;
+    clock_gettime(CLOCK_MONOTONIC, &now);
+    return now.tv_sec * 1000000000 + now.tv_nsec;
+}
 
 int fsync(int file) {
-    static int (*below)(int);
-    static long microseconds;
     if (below == NULL) {
-        const char *words = getenv("SLOW_SYNC");
-        microseconds = words == NULL ? 0 : strtol(words, NULL, 10);
-        below = (int (*)(int))dlsym(RTLD_NEXT, "fsync");
+        begin();
     }
     struct timespec pause = {microseconds / 1000000, microseconds % 1000000 * 1000};
+    int64_t begun = nanoseconds();
     nanosleep(&pause, NULL);
-    return below(file);
+    int done = below(file);
+    __atomic_fetch_add(&seen[0], 1, __ATOMIC_RELAXED);
+    __atomic_fetch_add(&seen[1], nanoseconds() - begun, __ATOMIC_RELAXED);
+    return done;
 }

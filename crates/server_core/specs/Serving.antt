@@ -1,5 +1,5 @@
 -- What contracts see of a server and of its workers.
-use Rattle.std.specs.Prelude.{◌≡◌, ℕ, List, [], ◌∷◌, ◌++◌, Option, codes, length}
+use Rattle.std.specs.Prelude.{◌≡◌, ℕ, List, [], ◌∷◌, ◌++◌, Option, Bool, true, false, codes, length}
 use Rattle.std.specs.List.{AllByRecursion}
 use Rattle.std.specs.Fmt.{decimal}
 use Rattle.atomic_table.specs.Seated.{TableId}
@@ -29,10 +29,10 @@ pub record WorkerValue : Type 0 where
 abbrev pub AreAt : TableId → List SessionSeatValue → Type 0
 AreAt ring seats = AllByRecursion (λ (seat : SessionSeatValue). seat.ring ≡ ring) seats
 
--- the flusher is at this ring, and has carried out all that it has stored
+-- the flusher is at this ring, and has carried out all that it has stored, unless a step has failed
 pub record IsReady {D : Type 0} (ring : TableId) (flusher : Flushed D) : Type 0 where
   pub ring_is : flusher.seat.ring ≡ ring
-  pub settled : flusher.settled ≡ flusher.stored
+  pub settled : flusher.broken ≡ false → flusher.settled ≡ flusher.stored
 
 -- all seats and the flusher are at the server's ring
 abbrev pub IsServer : ServerValue → Type 0
@@ -58,8 +58,15 @@ pub record HandsOut (old new : ServerValue) (worker : WorkerValue) : Type 0 wher
 abbrev pub announced : ℕ → List ℕ
 announced port = codes "listening " ++ (decimal port ++ 10 ∷ [])
 
--- a server ends where its announcement can't be written, or where a step of its flusher fails
-abbrev pub IsEnd : ServeFault → Type 0
-IsEnd Output = Unit {0}
-IsEnd (Flushing fault) = Unit {0}
-IsEnd _ = ⊥
+-- the flusher of a server has failed, and nothing else of it has changed
+pub record IsFailed (old new : ServerValue) : Type 0 where
+  pub broken : new.flusher.broken ≡ true
+  pub stopped : new.flusher.seat.stopped ≡ true
+  pub same : new ≡ record old { flusher = new.flusher }
+
+-- A server ends where its announcement can't be written, and then nothing has changed, or where a step of its flusher has
+-- failed: the flusher is broken then, and its ring is stopped.
+abbrev pub IsEnd : ServerValue → ServerValue → ServeFault → Type 0
+IsEnd old new Output = new ≡ old
+IsEnd old new (Flushing fault) = IsFailed old new
+IsEnd old new _ = ⊥

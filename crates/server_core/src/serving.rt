@@ -1,6 +1,6 @@
 //! A server and its workers.
 
-ghost use Rattle.std.specs.Prelude.{◌≡◌, ◌≢◌, ◌+◌, [], length, IfOk, OnOk, OnErr, MatchOption};
+ghost use Rattle.std.specs.Prelude.{◌≡◌, ◌≢◌, ◌+◌, [], true, length, IfOk, OnOk, OnErr, MatchOption};
 ghost use Rattle.std.specs.Arc.{arc_value};
 ghost use Rattle.std.specs.Io.KnownBytes.{Appends};
 ghost use Rattle.server_core.specs.Serving.{AreAt, IsReady, IsNewHub, IsOpened, HandsOut, IsEnd, announced};
@@ -188,27 +188,25 @@ impl<R: Drop> Server<R> {
 }
 
 impl<R: Wait + Clock + Drop> Server<R> {
-    /// Writes `listening` and the port, and flushes until a step fails. Nothing more is acknowledged then, and the workers
-    /// have a second to tell their clients, before it answers why.
-    pub fn run<W: Write>(self, alloc: Global, writer: &mut W) -> ServeFault
-        ensures end { IsEnd result }
-        ensures told { result ≢ Output → Appends (W.contents writer.old) (W.contents writer.new) (announced self.port) }
+    /// Writes `listening` and the port, and flushes until a step fails, which it answers: the flusher is broken then, its
+    /// ring is stopped, and nothing more is acknowledged. `Output` where the line can't be written: nothing has changed.
+    pub fn run<W: Write>(&mut self, alloc: Global, writer: &mut W) -> ServeFault
+        ensures end { IsEnd self.old self.new result }
+        ensures told { result ≢ Output → Appends (W.contents writer.old) (W.contents writer.new) (announced self.old.port) }
     {
         let port = self.port;
         if writeln!(writer, "listening {port}").is_err() || writer.flush().is_err() {
             return ServeFault::Output;
         }
-        let mut flusher = self.flusher;
+        ServeFault::Flushing(flush(alloc, &self.shared, &mut self.flusher))
+    }
+
+    /// Ends the server: the outboxes go with the flusher, which wakes the workers of their sessions, and these have a second
+    /// to tell their clients that the broker stops.
+    pub fn close(self) {
         let shared = self.shared;
-        let fault = match flush_loop(alloc, &shared.ring, &mut flusher, &shared.pace, u64::MAX) {
-            // No server lives for so many turns.
-            Ok(_) => FlushFault::Broken,
-            Err(fault) => fault,
-        };
-        // The outboxes go with the flusher, which wakes the workers of their sessions.
-        drop(flusher);
+        drop(self.flusher);
         thread::sleep(&shared.rt, Duration::from_millis(FAREWELL));
-        ServeFault::Flushing(fault)
     }
 }
 
@@ -296,6 +294,25 @@ fn share<R: Wait + Clone + Drop>(
         Ok(shared) => Ok(shared),
         Err(_) => Err(ServeFault::Memory),
     }
+}
+
+// Flushes until a step fails, and answers why it did.
+fn flush<R: Wait + Drop>(
+    alloc: Global,
+    shared: &Shared<R>,
+    flusher: &mut ServerFlusher,
+) -> FlushFault
+    requires { IsReady shared.now.ring flusher.old }
+    ensures ring { flusher.new.seat.ring ≡ flusher.old.seat.ring }
+    ensures stops { (flusher.new.broken ≡ true) × (flusher.new.seat.stopped ≡ true) }
+{
+    for _round in shared.rt.forever() {
+        match flush_loop(alloc, &shared.ring, flusher, &shared.pace, u64::MAX) {
+            Ok(_) => {}
+            Err(fault) => return fault,
+        }
+    }
+    unreachable!()
 }
 
 // Serves one connection to its end. One whose handshake fails is dropped.

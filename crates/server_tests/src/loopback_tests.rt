@@ -101,6 +101,7 @@ fn over_loopback(rt: HostRuntime) -> Result<(), Fail> {
     let other = thread::spawn(&rt, move || second(&mine, alloc, &stage))?;
     let mut written = Vec::new(alloc);
     let fault = server.run(alloc, &mut written);
+    server.close();
     assert!(rt; matches!(fault, ServeFault::Flushing(FlushFault::Full)));
     assert_eq!(rt; (one.join(&rt), other.join(&rt)), (Some(true), Some(true)));
     assert_eq!(rt; written.as_slice(), b"listening 47613\n".as_slice());

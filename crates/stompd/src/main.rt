@@ -5,61 +5,61 @@
 use engine_core::ScriptFault;
 use server_core::{ServeFault, Server};
 use std::alloc::{AllocError, Global};
-use std::io::{ErrorKind, Lock};
+use std::io::{ErrorKind, Lock, Write};
 use std::process::ExitCode;
+use std::sync::Wait;
+use std::time::Clock;
 use std::{env, io, thread};
 use tool_core::{BAD_COMMAND_LINE, Failure, Subcommand, subcommand_of, tool};
 
 /// How many workers a server has.
 const WORKERS: u32 = 32;
 
-/// Runs the program on its arguments, standard input, standard output and standard error. Arguments that are not UTF-8
-/// are a bad command line, of which nothing is told. The threads of a server are started here.
+/// Runs the program on its arguments, standard input, standard output and standard error. The threads of a server are
+/// started here.
 fn main(rt: HostRuntime) -> ExitCode {
-    let mut reader = rt.stdin().lock();
-    let mut writer = rt.stdout().lock();
-    let mut errors = rt.stderr().lock();
     let alloc = rt.alloc();
     let words = match words_of(&rt) {
         Ok(words) => words,
-        Err(error) if error.kind() == ErrorKind::OutOfMemory => {
-            let failure = Failure::Script(ScriptFault::Memory(AllocError));
-            let _told = failure.tell(&mut errors);
-            return ExitCode::from(failure.status());
-        }
-        Err(_) => return ExitCode::from(BAD_COMMAND_LINE),
+        Err(status) => return ExitCode::from(status),
     };
     let Some((file, port)) = served(alloc, words.as_slice()) else {
-        let status = tool(
-            &rt,
-            alloc,
-            words.as_slice(),
-            &mut reader,
-            &mut writer,
-            &mut errors,
-        );
-        return ExitCode::from(status);
+        return ExitCode::from(run_tool(&rt, words.as_slice()));
     };
     let mut server = match Server::open(alloc, &rt, file, port) {
         Ok(server) => server,
-        Err(fault) => return failed(fault, &mut errors),
+        Err(fault) => return failed(&rt, fault),
     };
     for _worker in 0..WORKERS {
         match server.next_worker() {
             Ok(Some(worker)) => {
                 if thread::spawn(&rt, move || worker.run(alloc)).is_err() {
-                    return failed(ServeFault::Threads, &mut errors);
+                    return failed(&rt, ServeFault::Threads);
                 }
             }
             Ok(None) => break,
-            Err(fault) => return failed(fault, &mut errors),
+            Err(fault) => return failed(&rt, fault),
         }
     }
-    failed(server.run(alloc, &mut writer), &mut errors)
+    let mut writer = rt.stdout().lock();
+    let fault = ended(alloc, server, &mut writer);
+    failed(&rt, fault)
 }
 
-/// The arguments, of which the first is the program's name.
-fn words_of(rt: &HostRuntime) -> io::Result<Vec<String>> {
+/// The arguments, of which the first is the program's name. Where they are not UTF-8 they are a bad command line, of which
+/// nothing is told; where memory is refused, that is. The status is the answer then.
+fn words_of(rt: &HostRuntime) -> Result<Vec<String>, u8> {
+    match collected(rt) {
+        Ok(words) => Ok(words),
+        Err(error) if error.kind() == ErrorKind::OutOfMemory => {
+            let failure = Failure::Script(ScriptFault::Memory(AllocError));
+            Err(told(rt, &failure))
+        }
+        Err(_) => Err(BAD_COMMAND_LINE),
+    }
+}
+
+fn collected(rt: &HostRuntime) -> io::Result<Vec<String>> {
     Ok(env::args(rt)?.collect(rt.alloc())?)
 }
 
@@ -71,9 +71,34 @@ fn served(alloc: Global, words: &[String]) -> Option<(&str, u16)> {
     }
 }
 
+/// What the words ask for that is no server, and the status.
+fn run_tool(rt: &HostRuntime, words: &[String]) -> u8 {
+    let mut reader = rt.stdin().lock();
+    let mut writer = rt.stdout().lock();
+    let mut errors = rt.stderr().lock();
+    tool(rt, rt.alloc(), words, &mut reader, &mut writer, &mut errors)
+}
+
+/// Runs a server to its end, and answers why that came.
+fn ended<R: Wait + Clock + Drop, W: Write>(
+    alloc: Global,
+    server: Server<R>,
+    writer: &mut W,
+) -> ServeFault {
+    let mut server = server;
+    let fault = server.run(alloc, writer);
+    server.close();
+    fault
+}
+
 /// Tells why a server is not there, and answers the status.
-fn failed<E: io::Write>(fault: ServeFault, errors: &mut E) -> ExitCode {
-    let failure = Failure::Server(fault);
-    let _told = failure.tell(errors);
-    ExitCode::from(failure.status())
+fn failed(rt: &HostRuntime, fault: ServeFault) -> ExitCode {
+    ExitCode::from(told(rt, &Failure::Server(fault)))
+}
+
+/// Tells a failure, and answers its status.
+fn told(rt: &HostRuntime, failure: &Failure) -> u8 {
+    let mut errors = rt.stderr().lock();
+    let _told = failure.tell(&mut errors);
+    failure.status()
 }
