@@ -125,8 +125,8 @@ fn error_is_told(alloc: Global) -> Result<bool, AllocError> {
 }
 
 fn message_is_told(alloc: Global) -> Result<bool, DestFault> {
-    let sending = greeting(alloc)?;
     let id = r1(alloc)?;
+    let sending = greeting(alloc)?;
     let frame = message_reply(alloc, &id, 12, 3, Some(40), sending)?;
     let expected =
         "MESSAGE subscription=r1 message-id=12.3 destination=/queue/a ack=40 content-length=2 'hi' ";
@@ -145,7 +145,8 @@ fn answers_have_their_headers(rt: HostRuntime) -> Result<(), Fail> {
 // The kind 1, the destination 4 and 8, the count of headers 2, the body 4 and 2.
 #[test]
 fn an_operation_has_the_size_of_its_record(rt: HostRuntime) -> Result<(), Fail> {
-    let op = Op::Send(greeting(rt.alloc())?);
-    assert!(rt; op_size(&op) == 21);
+    let sending = greeting(rt.alloc())?;
+    let size = op_size(&Op::Send(sending));
+    assert!(rt; size == 21);
     Ok(())
 }

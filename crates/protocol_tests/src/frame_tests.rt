@@ -238,12 +238,22 @@ fn is_written(alloc: Global, frame: &Frame, expected: &[u8]) -> Result<bool, All
     }
 }
 
+// Whether a frame with one header has it, and is written so.
+fn is_written_with(
+    alloc: Global,
+    verb: Verb,
+    header: (&str, &str),
+    body: &[u8],
+    expected: &[u8],
+) -> Result<bool, AllocError> {
+    let frame = frame_with(alloc, verb, header.0, header.1, body)?;
+    Ok(is_written(alloc, &frame, expected)? && first(&frame, header.0) == Some(header.1))
+}
+
 #[test]
 fn frames_are_written_or_can_not_be(rt: HostRuntime) -> Result<(), Fail> {
     for (verb, name, value, body, expected) in &WRITTEN {
-        let frame = frame_with(rt.alloc(), *verb, name, value, body)?;
-        assert!(rt; is_written(rt.alloc(), &frame, expected)?);
-        assert!(rt; first(&frame, name) == Some(*value));
+        assert!(rt; is_written_with(rt.alloc(), *verb, (*name, *value), body, expected)?);
     }
     Ok(())
 }

@@ -22,6 +22,16 @@ const PUT_BACK: [(u64, u32); 3] = [(3, 2), (5, 0), (1, 0)];
 // Numbers as they are taken out.
 const TAKEN: [(u64, u32); 6] = [(1, 0), (3, 0), (3, 1), (3, 2), (5, 0), (7, 0)];
 
+fn put(alloc: Global, line: &mut Line, number: &(u64, u32)) -> Result<(), Fail> {
+    let message = message(alloc, number.0, number.1)?;
+    Ok(line.put(message)?)
+}
+
+fn put_back(alloc: Global, line: &mut Line, number: &(u64, u32)) -> Result<(), Fail> {
+    let message = message(alloc, number.0, number.1)?;
+    Ok(line.put_back(message)?)
+}
+
 // Whether the next message that waits has that number. It is taken out.
 fn is_next(line: &mut Line, command: u64, place: u32) -> bool {
     match line.take() {
@@ -33,13 +43,11 @@ fn is_next(line: &mut Line, command: u64, place: u32) -> bool {
 #[test]
 fn messages_wait_in_the_order_of_their_numbers(rt: HostRuntime) -> Result<(), Fail> {
     let mut line = Line::new(rt.alloc());
-    for (command, place) in &PUT {
-        let message = message(rt.alloc(), *command, *place)?;
-        line.put(message)?;
+    for number in &PUT {
+        put(rt.alloc(), &mut line, number)?;
     }
-    for (command, place) in &PUT_BACK {
-        let message = message(rt.alloc(), *command, *place)?;
-        line.put_back(message)?;
+    for number in &PUT_BACK {
+        put_back(rt.alloc(), &mut line, number)?;
     }
     assert!(rt; matches!(line.first(), Some(message) if size(&message.sending) == 10));
     for (command, place) in &TAKEN {

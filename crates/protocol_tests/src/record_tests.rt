@@ -129,11 +129,22 @@ const REFUSED: [&[u8]; 28] = [
 
 // How long the record is that begins the bytes, which is written as it stands there; none where none does.
 fn record_at(alloc: Global, bytes: &[u8]) -> Result<Option<usize>, AllocError> {
-    match decode(alloc, bytes) {
-        Ok((command, length)) if is_written(alloc, &command, &bytes[..length])? => Ok(Some(length)),
-        Ok(_) => Ok(Some(usize::MAX)),
+    let read = decode(alloc, bytes);
+    length_of(alloc, &read, bytes)
+}
+
+fn length_of(
+    alloc: Global,
+    read: &Result<(Command, usize), DecodeFault>,
+    bytes: &[u8],
+) -> Result<Option<usize>, AllocError> {
+    match read {
+        Ok((command, length)) => match bytes.get(..*length) {
+            Some(record) if is_written(alloc, command, record)? => Ok(Some(*length)),
+            _ => Ok(Some(usize::MAX)),
+        },
         Err(DecodeFault::NoSpelling) => Ok(None),
-        Err(DecodeFault::Memory(refused)) => Err(refused),
+        Err(DecodeFault::Memory(refused)) => Err(*refused),
     }
 }
 
@@ -254,11 +265,17 @@ fn records_have_their_limits(rt: HostRuntime) -> Result<(), Fail> {
     Ok(())
 }
 
+// The record of that command.
+fn record_of_greeting(alloc: Global) -> Result<Vec<u8>, Fail> {
+    let receipt = r1(alloc)?;
+    let sending = greeting(alloc)?;
+    let command = Command::new(0, Op::Send(sending), Some(receipt));
+    Ok(encode(alloc, &command)?)
+}
+
 #[test]
 fn a_command_is_written_as_its_record(rt: HostRuntime) -> Result<(), Fail> {
-    let op = Op::Send(greeting(rt.alloc())?);
-    let receipt = r1(rt.alloc())?;
-    let command = Command::new(0, op, Some(receipt));
-    assert!(rt; is_written(rt.alloc(), &command, GREETING)?);
+    let record = record_of_greeting(rt.alloc())?;
+    assert!(rt; record.as_slice() == GREETING);
     Ok(())
 }

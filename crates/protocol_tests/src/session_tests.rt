@@ -1,8 +1,8 @@
 //! Sessions: streams of clients, and what is to be done for them.
 
-use crate::telling::acts as tell_acts;
+use crate::telling::{acts as tell_acts, optional_act as tell_optional};
 use session_core::Session;
-use std::alloc::Global;
+use std::alloc::{AllocError, Global};
 use std::test::Fail;
 
 const CONNECT: &str = "CONNECT\naccept-version:1.2\n\n\0";
@@ -207,29 +207,52 @@ const OPEN: [(&str, &str); 50] = [
     ("BEGIN\n\nx", "end E19 body not allowed close 1002 "),
 ];
 
-// What is done for the stream, in pieces of so many bytes, behind an opening.
-fn told_of(alloc: Global, opening: &str, stream: &str, size: usize) -> Result<String, Fail> {
+// The session hears a piece, and what is done for it is told.
+fn hear(alloc: Global, session: &mut Session, piece: &[u8], told: &mut String) -> Result<(), Fail> {
+    let acts = session.feed(alloc, piece)?;
+    Ok(tell_acts(told, acts.as_slice())?)
+}
+
+// Whether that is done for the stream, in pieces of so many bytes, behind an opening.
+fn is_told(
+    alloc: Global,
+    opening: &str,
+    stream: &str,
+    size: usize,
+    expected: &str,
+) -> Result<bool, Fail> {
     let mut session = Session::new(alloc);
     let mut told = String::new(alloc);
-    let _opened = session.feed(alloc, opening.as_bytes())?;
+    hear(alloc, &mut session, opening.as_bytes(), &mut told)?;
+    told.clear();
     if size > 0 {
         for piece in stream.as_bytes().chunks(size) {
-            let acts = session.feed(alloc, piece)?;
-            tell_acts(&mut told, acts.as_slice())?;
+            hear(alloc, &mut session, piece, &mut told)?;
         }
     }
-    Ok(told)
+    Ok(told.as_str() == expected)
+}
+
+// The first of the streams for which something else is done.
+fn other_than_told<'a>(
+    alloc: Global,
+    opening: &str,
+    rows: &[(&'a str, &str)],
+    size: usize,
+) -> Result<Option<&'a str>, Fail> {
+    for (stream, expected) in rows {
+        if !is_told(alloc, opening, stream, size, expected)? {
+            return Ok(Some(*stream));
+        }
+    }
+    Ok(None)
 }
 
 #[test]
 fn frames_are_answered_however_they_are_cut(rt: HostRuntime) -> Result<(), Fail> {
     for size in [1, 7, 1000] {
-        for (stream, expected) in &NEW {
-            assert!(rt; told_of(rt.alloc(), "", stream, size)?.as_str() == *expected);
-        }
-        for (stream, expected) in &OPEN {
-            assert!(rt; told_of(rt.alloc(), CONNECT, stream, size)?.as_str() == *expected);
-        }
+        assert_eq!(rt; other_than_told(rt.alloc(), "", &NEW, size)?, None);
+        assert_eq!(rt; other_than_told(rt.alloc(), CONNECT, &OPEN, size)?, None);
     }
     Ok(())
 }
@@ -242,24 +265,27 @@ const LOST: [(&str, &str); 4] = [
     ("CONNECT\naccept-version:1.2\n\n\0DISCONNECT\n\n\0", ""),
 ];
 
-fn told_of_loss(alloc: Global, stream: &str) -> Result<String, Fail> {
+// The connection is gone, and what is done for that is told.
+fn lose(session: &mut Session, told: &mut String) -> Result<(), AllocError> {
+    let act = session.lost();
+    tell_optional(told, &act)
+}
+
+fn is_told_of_loss(alloc: Global, stream: &str, expected: &str) -> Result<bool, Fail> {
     let mut session = Session::new(alloc);
     let mut told = String::new(alloc);
-    let _before = session.feed(alloc, stream.as_bytes())?;
-    for _ in 0..2 {
-        if let Some(act) = session.lost() {
-            tell_acts(&mut told, [act].as_slice())?;
-        }
-    }
-    let after = session.feed(alloc, CONNECT.as_bytes())?;
-    tell_acts(&mut told, after.as_slice())?;
-    Ok(told)
+    hear(alloc, &mut session, stream.as_bytes(), &mut told)?;
+    told.clear();
+    lose(&mut session, &mut told)?;
+    lose(&mut session, &mut told)?;
+    hear(alloc, &mut session, CONNECT.as_bytes(), &mut told)?;
+    Ok(told.as_str() == expected)
 }
 
 #[test]
 fn a_lost_connection_ends_an_open_session_once(rt: HostRuntime) -> Result<(), Fail> {
     for (stream, expected) in &LOST {
-        assert!(rt; told_of_loss(rt.alloc(), stream)?.as_str() == *expected);
+        assert!(rt; is_told_of_loss(rt.alloc(), stream, expected)?);
     }
     Ok(())
 }

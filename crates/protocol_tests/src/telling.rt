@@ -59,17 +59,17 @@ fn optional(told: &mut String, name: &str, text: &Option<HeaderText>) -> Result<
     }
 }
 
+/// What is done with a delivery, as `ack 7 `.
+fn delivery(told: &mut String, done: &str, delivery: u64) -> Result<(), AllocError> {
+    word(told, done)?;
+    number(told, delivery)
+}
+
 fn member(told: &mut String, member: &Member) -> Result<(), AllocError> {
     match member {
         Member::Send(it) => sending(told, it),
-        Member::Ack(delivery) => {
-            word(told, "ack")?;
-            number(told, *delivery)
-        }
-        Member::Nack(delivery) => {
-            word(told, "nack")?;
-            number(told, *delivery)
-        }
+        Member::Ack(it) => delivery(told, "ack", *it),
+        Member::Nack(it) => delivery(told, "nack", *it),
     }
 }
 
@@ -121,8 +121,8 @@ pub fn operation(told: &mut String, op: &Op) -> Result<(), AllocError> {
             optional(told, "id", id)?;
             optional(told, "durable", durable)
         }
-        Op::Ack(delivery) => member(told, &Member::Ack(*delivery)),
-        Op::Nack(delivery) => member(told, &Member::Nack(*delivery)),
+        Op::Ack(it) => delivery(told, "ack", *it),
+        Op::Nack(it) => delivery(told, "nack", *it),
         Op::Commit(all) => {
             word(told, "commit")?;
             members(told, all.as_slice())
@@ -143,6 +143,13 @@ fn act(told: &mut String, act: &Act) -> Result<(), AllocError> {
             word(told, "close")?;
             number(told, u64::from(code.code()))
         }
+    }
+}
+
+pub fn optional_act(told: &mut String, one: &Option<Act>) -> Result<(), AllocError> {
+    match one {
+        Some(one) => act(told, one),
+        None => Ok(()),
     }
 }
 
