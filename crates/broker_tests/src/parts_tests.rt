@@ -1,4 +1,4 @@
-use crate::tests::{Event, are_messages, execute, greeting, header_text};
+use crate::tests::{Event, answers, greeting, header_text};
 use broker_core::{Broker, DurableName, GivenName, Parts};
 use command_core::{AckMode, Dest};
 use line_core::{Line, Message, MessageNumber};
@@ -43,11 +43,10 @@ fn a_broker_goes_on_from_its_parts(rt: HostRuntime) -> Result<(), Fail> {
     let alloc = rt.alloc();
     let parts = parts_with(alloc, 2, line_of(alloc, 1, "/queue/q")?)?;
     let mut broker = Broker::from_parts(alloc, parts)?.ok_or("a broker has these parts")?;
-    assert_eq!(rt; broker.count(), 2);
-    assert_eq!(rt; broker.held().messages, 1);
-    let listen = Event::Subscribe(0, "s", "/queue/q", AckMode::Auto);
-    let outs = execute(alloc, &mut broker, &listen)?;
-    assert!(rt; are_messages(outs.as_slice(), &[(0, "s", "1.0")]));
+    let (count, messages) = (broker.count(), broker.held().messages);
+    let listen = [Event::Subscribe(0, "s", "/queue/q", AckMode::Auto)];
+    answers(alloc, &mut broker, &listen, "0 MESSAGE s 1.0; 0 held")?;
+    assert_eq!(rt; (count, messages), (2, 1));
     Ok(())
 }
 

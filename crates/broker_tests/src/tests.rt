@@ -5,11 +5,11 @@ use command_core::{
     AckMode, Command, Dest, End, Fault, HeaderText, Member, Members, Op, Out, Sending,
 };
 use frame_core::{Bytes, Headers, Text, Verb};
-use std::alloc::Global;
+use std::alloc::{AllocError, Global};
 use std::test::Fail;
 
 /// What happens to a broker: by which session, and what is named.
-#[derive(Drop)]
+#[derive(Clone, Copy)]
 pub(crate) enum Event<'a> {
     Connect,
     /// By a client that has this name.
@@ -164,11 +164,7 @@ pub(crate) fn execute(
 }
 
 /// Carries all out, and gives what the last one gives.
-pub(crate) fn last_of(
-    alloc: Global,
-    broker: &mut Broker,
-    events: &[Event<'_>],
-) -> Result<Vec<Out>, Fail> {
+fn last_of(alloc: Global, broker: &mut Broker, events: &[Event<'_>]) -> Result<Vec<Out>, Fail> {
     let mut outs = Vec::new(alloc);
     for event in events {
         outs = execute(alloc, broker, event)?;
@@ -190,57 +186,78 @@ pub(crate) fn many(
     Ok(count)
 }
 
-/// Whether it is one output to that session, of that verb, whose last header has that value.
-pub(crate) fn is_one(outs: &[Out], session: u64, verb: Verb, value: &str) -> bool {
-    match outs {
-        [out] => {
-            let told = match out.frame().headers.as_slice() {
-                [.., last] => last.1.as_str() == value,
-                [] => false,
-            };
-            out.session() == session && out.frame().verb == verb && told
-        }
-        _ => false,
+// An output: the session and the verb; of a MESSAGE the subscription and the message, else the last header's value.
+fn tell(alloc: Global, told: &mut String, out: &Out) -> Result<(), AllocError> {
+    let frame = out.frame();
+    let (first, second) = match frame.headers.as_slice() {
+        [first, second, ..] if frame.verb == Verb::Message => (first.1.as_str(), second.1.as_str()),
+        [.., last] => (last.1.as_str(), ""),
+        [] => ("", ""),
+    };
+    let (session, verb) = (out.session(), frame.verb.name());
+    let text = format!(in alloc; "{session} {verb} {first} {second}; ")?;
+    told.push_str(text.as_str())
+}
+
+// How many messages are held.
+fn tell_held(alloc: Global, told: &mut String, broker: &Broker) -> Result<(), AllocError> {
+    let messages = broker.held().messages;
+    let text = format!(in alloc; "{messages} held")?;
+    told.push_str(text.as_str())
+}
+
+// What the last of the events is answered, and how many messages are held then.
+fn told_of(alloc: Global, broker: &mut Broker, events: &[Event<'_>]) -> Result<String, Fail> {
+    let outs = last_of(alloc, broker, events)?;
+    let mut told = String::new(alloc);
+    for out in outs.as_slice() {
+        tell(alloc, &mut told, out)?;
+    }
+    tell_held(alloc, &mut told, broker)?;
+    Ok(told)
+}
+
+/// Has the last of the events answered so.
+pub(crate) fn answers(
+    alloc: Global,
+    broker: &mut Broker,
+    events: &[Event<'_>],
+    expected: &str,
+) -> Result<(), Fail> {
+    let told = told_of(alloc, broker, events)?;
+    if told.as_str() == expected {
+        Ok(())
+    } else {
+        Err(Fail::from(told))
     }
 }
 
-/// Whether these are MESSAGEs, in order: to which session, for which subscription, which message.
-pub(crate) fn are_messages(outs: &[Out], expected: &[(u64, &str, &str)]) -> bool {
-    outs.len() == expected.len()
-        && outs.iter().zip(expected).all(|(out, (session, id, name))| is_message(
-            out, *session, id, name,
-        ))
-}
-
-fn is_message(out: &Out, session: u64, id: &str, name: &str) -> bool {
-    match out.frame().headers.as_slice() {
-        [subscription, message, ..] => {
-            out.session() == session
-                && out.frame().verb == Verb::Message
-                && subscription.1.as_str() == id
-                && message.1.as_str() == name
-        }
-        _ => false,
+/// Has a new broker answer so: of each row the last event, behind all rows before.
+pub(crate) fn answers_all(alloc: Global, rows: &[(&[Event<'_>], &str)]) -> Result<(), Fail> {
+    let mut broker = Broker::new(alloc);
+    for (events, expected) in rows {
+        answers(alloc, &mut broker, events, expected)?;
     }
-}
-
-#[test]
-fn a_session_is_opened_and_ended(rt: HostRuntime) -> Result<(), Fail> {
-    let mut broker = Broker::new(rt.alloc());
-    assert!(rt; broker.count() == 0 && broker.held().messages == 0 && broker.held().bytes == 0);
-    let outs = last_of(rt.alloc(), &mut broker, &[Event::Connect, Event::Connect])?;
-    assert!(rt; is_one(outs.as_slice(), 1, Verb::Connected, "0,0"));
-    let bad = Event::End(0, End::Bad(Fault::UndefinedEscape));
-    let outs = last_of(rt.alloc(), &mut broker, &[bad])?;
-    assert!(rt; is_one(outs.as_slice(), 0, Verb::Error, "E3 undefined escape"));
-    let outs = last_of(rt.alloc(), &mut broker, &[Event::Send(0, "/queue/q")])?;
-    assert!(rt; outs.is_empty() && broker.held().messages == 0 && broker.count() == 4);
     Ok(())
 }
 
 #[test]
+fn a_session_is_opened_and_ended(rt: HostRuntime) -> Result<(), Fail> {
+    let bad = Event::End(0, End::Bad(Fault::UndefinedEscape));
+    let rows: [(&[Event<'_>], &str); 4] = [
+        (&[], "0 held"),
+        (
+            &[Event::Connect, Event::Connect],
+            "1 CONNECTED 0,0 ; 0 held",
+        ),
+        (&[bad], "0 ERROR E3 undefined escape ; 0 held"),
+        (&[Event::Send(0, "/queue/q")], "0 held"),
+    ];
+    answers_all(rt.alloc(), &rows)
+}
+
+#[test]
 fn a_topic_reaches_all_who_listen_to_it(rt: HostRuntime) -> Result<(), Fail> {
-    let mut broker = Broker::new(rt.alloc());
     let events = [
         Event::Connect,
         Event::Subscribe(0, "a", "/topic/t", AckMode::Auto),
@@ -248,10 +265,8 @@ fn a_topic_reaches_all_who_listen_to_it(rt: HostRuntime) -> Result<(), Fail> {
         Event::Subscribe(0, "c", "/topic/t", AckMode::Auto),
         Event::Send(0, "/topic/t"),
     ];
-    let outs = last_of(rt.alloc(), &mut broker, &events)?;
-    assert!(rt; are_messages(outs.as_slice(), &[(0, "a", "4.0"), (0, "c", "4.0")]));
-    assert_eq!(rt; broker.held().messages, 0);
-    Ok(())
+    let rows: [(&[Event<'_>], &str); 1] = [(&events, "0 MESSAGE a 4.0; 0 MESSAGE c 4.0; 0 held")];
+    answers_all(rt.alloc(), &rows)
 }
 
 #[test]
@@ -259,20 +274,16 @@ fn sixteen_may_be_unacknowledged(rt: HostRuntime) -> Result<(), Fail> {
     let mut broker = Broker::new(rt.alloc());
     let mode = AckMode::ClientIndividual;
     let events = [Event::Connect, Event::Subscribe(0, "s", "/queue/q", mode)];
-    let _ = last_of(rt.alloc(), &mut broker, &events)?;
-    assert_eq!(rt;
-        many(rt.alloc(), &mut broker, &Event::Send(0, "/queue/q"), 17)?,
-        16
-    );
-    let outs = last_of(rt.alloc(), &mut broker, &[Event::Ack(0, 3)])?;
-    assert!(rt; are_messages(outs.as_slice(), &[(0, "s", "18.0")]));
-    assert_eq!(rt; broker.held().messages, 16);
+    answers(rt.alloc(), &mut broker, &events, "0 held")?;
+    let count = many(rt.alloc(), &mut broker, &Event::Send(0, "/queue/q"), 17)?;
+    let event = [Event::Ack(0, 3)];
+    answers(rt.alloc(), &mut broker, &event, "0 MESSAGE s 18.0; 16 held")?;
+    assert_eq!(rt; count, 16);
     Ok(())
 }
 
 #[test]
 fn what_a_lost_session_had_goes_to_others(rt: HostRuntime) -> Result<(), Fail> {
-    let mut broker = Broker::new(rt.alloc());
     let events = [
         Event::Connect,
         Event::Connect,
@@ -282,128 +293,97 @@ fn what_a_lost_session_had_goes_to_others(rt: HostRuntime) -> Result<(), Fail> {
         Event::Subscribe(1, "b", "/queue/q", AckMode::Client),
         Event::End(0, End::Lost),
     ];
-    let outs = last_of(rt.alloc(), &mut broker, &events)?;
-    assert!(rt; are_messages(outs.as_slice(), &[(1, "b", "3.0"), (1, "b", "4.0")]));
-    Ok(())
+    let rows: [(&[Event<'_>], &str); 1] = [(&events, "1 MESSAGE b 3.0; 1 MESSAGE b 4.0; 2 held")];
+    answers_all(rt.alloc(), &rows)
 }
 
 #[test]
 fn a_transaction_is_carried_out_wholly_or_not_at_all(rt: HostRuntime) -> Result<(), Fail> {
-    let mut broker = Broker::new(rt.alloc());
-    let events = [
+    let refused = [
         Event::Connect,
         Event::Connect,
         Event::Commit(0, "/queue/q", 7),
     ];
-    let outs = last_of(rt.alloc(), &mut broker, &events)?;
-    assert!(rt;
-        is_one(
-            outs.as_slice(),
-            0,
-            Verb::Error,
-            "E11 unknown acknowledgement id"
-        )
-    );
-    assert_eq!(rt; broker.held().messages, 0);
-    let events = [
+    let carried_out = [
         Event::Subscribe(1, "s", "/queue/q", AckMode::Client),
         Event::Send(1, "/queue/q"),
         Event::Commit(1, "/queue/q", 0),
     ];
-    let outs = last_of(rt.alloc(), &mut broker, &events)?;
-    assert!(rt; are_messages(outs.as_slice(), &[(1, "s", "5.0")]));
-    assert_eq!(rt; broker.held().messages, 1);
-    Ok(())
+    let rows: [(&[Event<'_>], &str); 2] = [
+        (&refused, "0 ERROR E11 unknown acknowledgement id ; 0 held"),
+        (&carried_out, "1 MESSAGE s 5.0; 1 held"),
+    ];
+    answers_all(rt.alloc(), &rows)
 }
 
 #[test]
 fn subscriptions_are_known_by_their_ids(rt: HostRuntime) -> Result<(), Fail> {
-    let mut broker = Broker::new(rt.alloc());
-    let events = [
+    let twice = [
         Event::Connect,
         Event::Connect,
         Event::Subscribe(0, "a", "/queue/q", AckMode::Auto),
         Event::Subscribe(0, "a", "/queue/r", AckMode::Auto),
     ];
-    let outs = last_of(rt.alloc(), &mut broker, &events)?;
-    assert!(rt; is_one(outs.as_slice(), 0, Verb::Error, "E9 subscription id in use"));
-    let outs = last_of(rt.alloc(), &mut broker, &[Event::Unsubscribe(1, "z")])?;
-    assert!(rt;
-        is_one(
-            outs.as_slice(),
-            1,
-            Verb::Error,
-            "E10 unknown subscription id"
-        )
-    );
-    Ok(())
+    let rows: [(&[Event<'_>], &str); 2] = [
+        (&twice, "0 ERROR E9 subscription id in use ; 0 held"),
+        (
+            &[Event::Unsubscribe(1, "z")],
+            "1 ERROR E10 unknown subscription id ; 0 held",
+        ),
+    ];
+    answers_all(rt.alloc(), &rows)
 }
 
 #[test]
 fn no_more_than_4096_messages_are_held(rt: HostRuntime) -> Result<(), Fail> {
     let mut broker = Broker::new(rt.alloc());
-    let _ = last_of(rt.alloc(), &mut broker, &[Event::Connect, Event::Connect])?;
-    let _ = many(rt.alloc(), &mut broker, &Event::Send(0, "/queue/q"), 4095)?;
-    let events = [
+    let _ = many(rt.alloc(), &mut broker, &Event::Connect, 2)?;
+    let silent = many(rt.alloc(), &mut broker, &Event::Send(0, "/queue/q"), 4095)?;
+    let two_more = [
         Event::Subscribe(1, "a", "/topic/t", AckMode::Auto),
         Event::Subscribe(1, "b", "/topic/t", AckMode::Auto),
         Event::Send(1, "/topic/t"),
     ];
-    let outs = last_of(rt.alloc(), &mut broker, &events)?;
-    assert!(rt;
-        is_one(
-            outs.as_slice(),
-            1,
-            Verb::Error,
-            "E12 no room for the message"
-        )
-    );
-    assert_eq!(rt;
-        many(rt.alloc(), &mut broker, &Event::Send(0, "/queue/q"), 1)?,
-        0
-    );
-    let outs = last_of(rt.alloc(), &mut broker, &[Event::Send(0, "/queue/q")])?;
-    assert!(rt;
-        is_one(
-            outs.as_slice(),
-            0,
-            Verb::Error,
-            "E12 no room for the message"
-        )
-    );
-    assert_eq!(rt; broker.held().messages, 4096);
+    let one_more = [Event::Send(0, "/queue/q")];
+    let rows: [(&[Event<'_>], &str); 3] = [
+        (&two_more, "1 ERROR E12 no room for the message ; 4095 held"),
+        (&one_more, "4096 held"),
+        (&one_more, "0 ERROR E12 no room for the message ; 4096 held"),
+    ];
+    for (events, expected) in &rows {
+        answers(rt.alloc(), &mut broker, events, expected)?;
+    }
+    assert_eq!(rt; silent, 0);
     Ok(())
 }
 
 #[test]
 fn subscribers_of_a_queue_take_turns(rt: HostRuntime) -> Result<(), Fail> {
-    let mut broker = Broker::new(rt.alloc());
     let events = [
         Event::Connect,
         Event::Subscribe(0, "a", "/queue/q", AckMode::Client),
         Event::Subscribe(0, "b", "/queue/q", AckMode::Client),
         Event::Subscribe(0, "c", "/queue/q", AckMode::Auto),
     ];
-    let _ = last_of(rt.alloc(), &mut broker, &events)?;
-    let turns = [
-        ("a", "4.0"),
-        ("b", "5.0"),
-        ("c", "6.0"),
-        ("a", "7.0"),
-        ("b", "8.0"),
+    let send = [Event::Send(0, "/queue/q")];
+    let rows: [(&[Event<'_>], &str); 6] = [
+        (&events, "0 held"),
+        (&send, "0 MESSAGE a 4.0; 1 held"),
+        (&send, "0 MESSAGE b 5.0; 2 held"),
+        (&send, "0 MESSAGE c 6.0; 2 held"),
+        (&send, "0 MESSAGE a 7.0; 3 held"),
+        (&send, "0 MESSAGE b 8.0; 4 held"),
     ];
-    for (id, name) in &turns {
-        let outs = execute(rt.alloc(), &mut broker, &Event::Send(0, "/queue/q"))?;
-        assert!(rt; are_messages(outs.as_slice(), &[(0, *id, *name)]));
-    }
-    Ok(())
+    answers_all(rt.alloc(), &rows)
 }
 
 #[test]
 fn client_acknowledges_what_came_before_too(rt: HostRuntime) -> Result<(), Fail> {
-    let left = [(AckMode::Client, 1), (AckMode::ClientIndividual, 2)];
+    let left = [
+        (AckMode::Client, "1 held"),
+        (AckMode::ClientIndividual, "2 held"),
+    ];
     for (mode, held) in &left {
-        let mut broker = Broker::new(rt.alloc());
         let events = [
             Event::Connect,
             Event::Subscribe(0, "s", "/queue/q", *mode),
@@ -412,15 +392,14 @@ fn client_acknowledges_what_came_before_too(rt: HostRuntime) -> Result<(), Fail>
             Event::Send(0, "/queue/q"),
             Event::Ack(0, 1),
         ];
-        let _ = last_of(rt.alloc(), &mut broker, &events)?;
-        assert_eq!(rt; broker.held().messages, *held);
+        let rows: [(&[Event<'_>], &str); 1] = [(&events, *held)];
+        answers_all(rt.alloc(), &rows)?;
     }
     Ok(())
 }
 
 #[test]
 fn what_is_refused_ends_its_session_and_is_told_last(rt: HostRuntime) -> Result<(), Fail> {
-    let mut broker = Broker::new(rt.alloc());
     let events = [
         Event::Connect,
         Event::Connect,
@@ -429,15 +408,12 @@ fn what_is_refused_ends_its_session_and_is_told_last(rt: HostRuntime) -> Result<
         Event::Subscribe(1, "b", "/queue/q", AckMode::Client),
         Event::Ack(0, 9),
     ];
-    let outs = last_of(rt.alloc(), &mut broker, &events)?;
-    match outs.as_slice() {
-        [message, error] => {
-            assert!(rt; is_message(message, 1, "b", "3.0"));
-            assert!(rt; error.session() == 0 && error.frame().verb == Verb::Error);
-        }
-        _ => return Err(Fail::from("no message and an error")),
-    }
-    let outs = last_of(rt.alloc(), &mut broker, &[Event::Send(0, "/queue/q")])?;
-    assert!(rt; outs.is_empty() && broker.held().messages == 1);
-    Ok(())
+    let rows: [(&[Event<'_>], &str); 2] = [
+        (
+            &events,
+            "1 MESSAGE b 3.0; 0 ERROR E11 unknown acknowledgement id ; 1 held",
+        ),
+        (&[Event::Send(0, "/queue/q")], "1 held"),
+    ];
+    answers_all(rt.alloc(), &rows)
 }
