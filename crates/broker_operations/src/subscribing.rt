@@ -1,10 +1,12 @@
 //! Subscriptions and sessions begin and end.
 
 ghost use Rattle.std.specs.Prelude.{◌≡◌, ◌+◌, ◌-◌, ◌<◌, ◌≤◌, ◌^◌, [], ℕ, IfOk, IfSome, IsErr, MatchOption, OnOk, Some, count_by, drop, length, remove, slice_get, take};
+ghost use Rattle.std.specs.BTreeMap.{insert_entry};
 ghost use Rattle.std.specs.List.{list_any, sum_by};
 ghost use Rattle.line_core.specs.declared.message.Message.{Message};
 ghost use Rattle.command_core.specs.Operations.{IsGiven};
 ghost use Rattle.command_core.specs.declared.command.Op.TheVariants.{Unsubscribe};
+ghost use Rattle.broker_state.specs.Names.{name_cmp};
 ghost use Rattle.broker_state.specs.Operations.{begun, executed, client_in, ended, forgotten, given_up, given_up_for, is_named, is_of, name_for, restarted, subscribed, uses, with_subscription, without};
 ghost use Rattle.broker_state.specs.Parts.{IsFirst, IsGivenAt, NonePass, but_at, leaving, without_at};
 ghost use Rattle.broker_state.specs.States.{bytes, one};
@@ -105,6 +107,19 @@ fn is_used(order: &Order, name: &DurableName, but: Option<usize>) -> bool
             is_used_between(order, name, 0, at) || is_used_between(order, name, at + 1, end)
         }
     }
+}
+
+/// A durable name is bound to a topic.
+fn bind_to(
+    durables: &mut BTreeMap<DurableName, Dest>,
+    name: &DurableName,
+    topic: &Dest,
+) -> Result<(), AllocError>
+    ensures { OnOk result (durables.new.entries ≡ insert_entry name_cmp durables.old.entries name.now topic.now) }
+{
+    let topic = topic.clone()?;
+    durables.insert(name.clone()?, topic)?;
+    Ok(())
 }
 
 /// The messages of a line are held no more.
@@ -226,11 +241,13 @@ impl Tables {
         ensures same { IfOk result (λ r. IsErr r → self.new ≡ self.old) }
         ensures tallied { OnOk result (IsTallied (number + 1) self.new) }
     {
-        if let Err(fault) = self.bind(number, &sub)? {
-            return Ok(Err(fault));
+        match self.bind(number, &sub) {
+            Ok(Ok(())) => {
+                self.order.add(sub)?;
+                Ok(Ok(()))
+            }
+            refused => refused,
         }
-        self.order.add(sub)?;
-        Ok(Ok(()))
     }
 
     /// The durable name of a subscription that is to begin is bound to its topic, unless it has none or the name is bound so
@@ -257,8 +274,7 @@ impl Tables {
                 if self.durables.len() >= MOST_NAMES {
                     return Ok(Err(Fault::TooManyEntries));
                 }
-                self.durables
-                    .insert(name.clone()?, sub.destination.clone()?)?;
+                bind_to(&mut self.durables, name, &sub.destination)?;
                 Ok(Ok(()))
             }
         }
