@@ -6,6 +6,7 @@ pub mod NameLists
 pub mod SnapshotParts
 pub mod SnapshotEntries
 pub mod SnapshotSubscriptions
+pub mod SubscriptionParts
 pub mod SnapshotNames
 pub mod SnapshotStates
 pub mod SnapshotForms
