@@ -32,7 +32,7 @@ after_name f d =
     own_line_at (takes_own f d.0) d.1 >>= λ w. keyed_at nat_cmp delivery_at w.1 >>= λ u. whole f d.0 ((w.0, u.0), u.1)
 
 -- what fails at first fails
-fails_at : {A B : Type 0} (e : DecodeFault) (read : Option A) (next : A → Option B) → Fails e read → Fails e (read >>= next)
+pub fails_at : {A B : Type 0} (e : DecodeFault) (read : Option A) (next : A → Option B) → Fails e read → Fails e (read >>= next)
 fails_at faults.NoSpelling read next none = ap (λ o. o >>= next) none
 fails_at (faults.Memory x) read next none = none
 

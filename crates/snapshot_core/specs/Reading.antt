@@ -76,6 +76,13 @@ given_at bytes = do
   text ← text_at bytes
   if nat_lt 0 (length text.0) then Some text else None
 
+-- a durable name: that of its client, and its own
+unfoldable pub full_name_at : Reader Name
+full_name_at bytes = do
+  client ← given_at bytes
+  own ← given_at client.1
+  Some ((client.0, own.0), own.1)
+
 -- a durable name with its topic and its line
 unfoldable pub durable_at : Reader (Name × (List ℕ × List Message))
 durable_at bytes = do
