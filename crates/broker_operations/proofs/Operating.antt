@@ -11,7 +11,7 @@ use Rattle.command_core.specs.declared.fault.Fault.TheVariants.{DurableSubscript
 use Rattle.broker_state.specs.declared.subscription.Subscription.{Subscription}
 use Rattle.broker_state.specs.Lists.{changed, with_first}
 use Rattle.broker_state.specs.Names.{Name}
-use Rattle.broker_state.specs.Operations.{acknowledged, awaits, begun_for, executed, client_of, ended, ended_one, forgotten, given_up, given_up_for, is_named, is_of, name_for, or_same, settled_by, subscribed, topic_of, unsubscribed, uses, without, without_named}
+use Rattle.broker_state.specs.Operations.{acknowledged, awaits, begun_for, executed, client_of, ended, ended_one, forgotten, given_up, is_named, is_of, name_for, or_same, settled_by, subscribed, topic_of, unsubscribed, uses, without, without_named}
 use Rattle.broker_state.specs.Parts.{IsFirst, IsGivenAt, NonePass, but_at, without_at}
 use Rattle.broker_state.specs.States.{State}
 use Rattle.broker_state.specs.Waiting.{Shared, returned}
