@@ -20,7 +20,7 @@ use std::marker::Model;
 
 /// The broker: it carries out commands one after another, numbered from 0, and answers each. Contracts see its state
 /// and whether it is broken. It breaks where memory is refused within a command, and stays so for good.
-#[derive(Debug, Drop)]
+#[derive(Drop)]
 pub struct Broker {
     count: u64,
     tables: Tables,

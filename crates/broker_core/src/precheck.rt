@@ -19,14 +19,14 @@ use line_core::{Flight, Message, SettleFault, size};
 use std::alloc::{AllocError, Global};
 
 /// A subscription of the session, with the bytes of its deliveries in place of their messages.
-#[derive(Debug, Drop)]
+#[derive(Drop)]
 struct PrecheckFlight {
     mode: AckMode,
     deliveries: Flight<u64>,
 }
 
 /// What decides whether members are refused: how much would be held, and the subscriptions of the session.
-#[derive(Debug, Drop)]
+#[derive(Drop)]
 struct Precheck {
     held: Held,
     flights: Vec<PrecheckFlight>,

@@ -11,10 +11,11 @@ use Rattle.command_core.specs.declared.fault.Fault.TheVariants.{DurableSubscript
 use Rattle.broker_state.specs.declared.subscription.Subscription.{Subscription}
 use Rattle.broker_state.specs.Lists.{changed, with_first}
 use Rattle.broker_state.specs.Names.{Name}
-use Rattle.broker_state.specs.Operations.{acknowledged, awaits, begun_for, executed, client_of, ended, ended_one, forgotten, given_up, given_up_for, is_named, is_of, name_for, or_same, settled_by, subscribed, topic_of, unsubscribed, uses, without, without_named}
+use Rattle.broker_state.specs.Operations.{acknowledged, awaits, begun_for, executed, client_of, ended, ended_one, forgotten, given_up, is_named, is_of, name_for, or_same, settled_by, subscribed, topic_of, unsubscribed, uses, without, without_named}
 use Rattle.broker_state.specs.Parts.{IsFirst, IsGivenAt, NonePass, but_at, without_at}
 use Rattle.broker_state.specs.States.{State}
 use Rattle.broker_state.specs.Waiting.{Shared, returned}
+use Rattle.broker_operations.specs.Places.{place_for}
 use Rattle.broker_state.proofs.Ending.{same_state, filter-all_others, filter-first, filter-none, filter-others, length-removed, take-removed}
 use Rattle.broker_state.proofs.Firsts.{any_first, any_none, changed_first, picked_first, picked_none}
 
@@ -31,15 +32,48 @@ without_one s removed sub others subs shared same left back =
     ∙ ap (λ l. record s { shared = returned s.shared removed; subscriptions = l }) left
     ∙ ap (λ x. without s x others) same
 
+-- whether there is a place for one more subscription
+module _ (subs : List Subscription) (session : ℕ) (id : List ℕ) where
+  pub place_taken : (at : ℕ) → IsFirst (is_named session id) subs at → place_for subs session id ≡ Err SubscriptionIdInUse
+  place_taken at first = rw (any_first (is_named session id) subs at first) refl
+
+  pub places_taken : NonePass (is_named session id) subs → nat_le 16 (count_by (is_of session) subs) ≡ true → place_for subs session id ≡ Err TooManyEntries
+  places_taken none many = rw (any_none (is_named session id) subs none, many) refl
+
+  pub place_free : NonePass (is_named session id) subs → nat_le 16 (count_by (is_of session) subs) ≡ false → place_for subs session id ≡ Ok tt
+  place_free none few = rw (any_none (is_named session id) subs none, few) refl
+
 module _ (s : State) (session : ℕ) (id destination : List ℕ) (mode : AckMode) (durable : Option (List ℕ)) where
-  pub subscribed_twice : (at : ℕ) → IsFirst (is_named session id) s.subscriptions at → subscribed s session id destination mode durable ≡ Err SubscriptionIdInUse
-  subscribed_twice at first = rw (any_first (is_named session id) s.subscriptions at first) refl
+  abbrev begun_new : Result State Fault
+  begun_new = begun_for s session id destination mode (name_for (client_of s session) destination durable)
 
-  pub subscribed_too_often : NonePass (is_named session id) s.subscriptions → nat_le 16 (count_by (is_of session) s.subscriptions) ≡ true → subscribed s session id destination mode durable ≡ Err TooManyEntries
-  subscribed_too_often none many = rw (any_none (is_named session id) s.subscriptions none, many) refl
+  abbrev place_by : Bool → Bool → Result (Unit {0}) Fault
+  place_by taken many = cond taken (Err SubscriptionIdInUse) (cond many (Err TooManyEntries) (Ok tt))
 
-  pub subscribed_new : NonePass (is_named session id) s.subscriptions → nat_le 16 (count_by (is_of session) s.subscriptions) ≡ false → subscribed s session id destination mode durable ≡ begun_for s session id destination mode (name_for (client_of s session) destination durable)
-  subscribed_new none few = rw (any_none (is_named session id) s.subscriptions none, few) refl
+  abbrev subscribed_by : Bool → Bool → Result State Fault
+  subscribed_by taken many = cond taken (Err SubscriptionIdInUse) (cond many (Err TooManyEntries) begun_new)
+
+  refused_by : (taken many : Bool) (fault : Fault) → place_by taken many ≡ Err fault → subscribed_by taken many ≡ Err fault
+  refused_by true many fault is =
+      let same : SubscriptionIdInUse ≡ fault = cc in
+      ap (λ (f : Fault). Err f) same
+  refused_by false true fault is =
+      let same : TooManyEntries ≡ fault = cc in
+      ap (λ (f : Fault). Err f) same
+  refused_by false false fault is = absurd cc
+
+  new_by : (taken many : Bool) → place_by taken many ≡ Ok tt → subscribed_by taken many ≡ begun_new
+  new_by true many is = absurd cc
+  new_by false true is = absurd cc
+  new_by false false is = refl
+
+  pub subscribed_refused : (fault : Fault) → place_for s.subscriptions session id ≡ Err fault → subscribed s session id destination mode durable ≡ Err fault
+  subscribed_refused fault is =
+      refused_by (list_any (is_named session id) s.subscriptions) (nat_le 16 (count_by (is_of session) s.subscriptions)) fault is
+
+  pub subscribed_new : place_for s.subscriptions session id ≡ Ok tt → subscribed s session id destination mode durable ≡ begun_new
+  subscribed_new is =
+      new_by (list_any (is_named session id) s.subscriptions) (nat_le 16 (count_by (is_of session) s.subscriptions)) is
 
 module _ (s : State) (session : ℕ) (id : List ℕ) where
   pub unsubscribed_none : NonePass (is_named session id) s.subscriptions → unsubscribed s session id ≡ Err UnknownSubscription
@@ -95,11 +129,10 @@ module _ (s : State) (name : Name) where
   given_up_is known used is in_use =
       ap (λ b. given_by b (list_any (uses name) s.subscriptions)) is ∙ ap (given_by known) in_use
 
--- a durable name of a client is given up once the subscription in a place has ended, by whether it is known and used
-pub given_up_left : (s : State) (place : Option ℕ) → IfSome place (λ at. at < length s.subscriptions) → (known used : Bool) (client : Option (List ℕ)) (mine name : List ℕ) → client ≡ Some mine → is_some (topic_of (mine, name) s.durables) ≡ known → list_any (uses (mine, name)) (but_at s.subscriptions place) ≡ used → given_up_for (without_at s place) client name ≡ given_by (without_at s place) (mine, name) known used
-given_up_left s place within known used client mine name is found in_use =
-    ap (λ o. given_up_for (without_at s place) o name) is
-    ∙ given_up_is (without_at s place) (mine, name) known used (ap (λ d. is_some (topic_of (mine, name) d)) (left_at s place within).1 ∙ found) (ap (list_any (uses (mine, name))) (left_at s place within).0 ∙ in_use)
+-- a durable name is given up once the subscription in a place has ended, by whether it is known and used
+pub given_up_at : (s : State) (place : Option ℕ) → IfSome place (λ at. at < length s.subscriptions) → (known used : Bool) (name : Name) → is_some (topic_of name s.durables) ≡ known → list_any (uses name) (but_at s.subscriptions place) ≡ used → given_up (without_at s place) name ≡ given_by (without_at s place) name known used
+given_up_at s place within known used name found in_use =
+    given_up_is (without_at s place) name known used (ap (λ d. is_some (topic_of name d)) (left_at s place within).1 ∙ found) (ap (list_any (uses name)) (left_at s place within).0 ∙ in_use)
 
 -- an UNSUBSCRIBE by id alone
 pub ended_nowhere : (s : State) (session : ℕ) (id : Option (List ℕ)) → IsGivenAt session id s.subscriptions None → executed s session (Unsubscribe id None) ≡ Err UnknownSubscription

@@ -1,2 +1,4 @@
 pub mod Orders
+pub mod Places
+pub mod Returns
 pub mod Tables

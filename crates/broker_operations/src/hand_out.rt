@@ -1,6 +1,6 @@
 //! What waits is handed out.
 
-ghost use Rattle.std.specs.Prelude.{◌≡◌, ◌+◌, ◌-◌, ◌++◌, ◌<◌, ◌≤◌, ◌^◌, ℕ, List, IfOk, OnOk, Some, drop, false, if◌then◌else◌, length, not, remove, slice_get, true};
+ghost use Rattle.std.specs.Prelude.{◌≡◌, ◌+◌, ◌-◌, ◌++◌, ◌∷◌, ◌<◌, ◌≤◌, ◌^◌, [], ℕ, List, IfOk, OnOk, Some, drop, false, if◌then◌else◌, length, not, remove, slice_get, true};
 ghost use Rattle.line_core.specs.Flights.{IsOver};
 ghost use Rattle.line_core.specs.Lines.{first_of};
 ghost use Rattle.broker_state.specs.HandOut.{ack_of, can_take, delivered, handed_to, is_auto, message_out, settled, waiting};
@@ -48,6 +48,15 @@ fn reply(
     Ok(Out::new(number, sub.session, frame))
 }
 
+/// A message is unacknowledged by that number of its delivery.
+fn keep(sub: &mut Subscription, delivery: u64, message: &Message) -> Result<(), AllocError>
+    requires { IsOver delivery sub.old.unacknowledged }
+    ensures { OnOk result (sub.new ≡ record sub.old { unacknowledged = sub.old.unacknowledged ++ (delivery, message.now) ∷ [] }) }
+{
+    let copy = message.clone()?;
+    sub.unacknowledged.add(delivery, copy)
+}
+
 /// A message goes to a subscription, by that number of its delivery; gives the MESSAGE. With `auto` it is held no more.
 fn deliver(
     alloc: Global,
@@ -71,10 +80,8 @@ fn deliver(
             reply(alloc, number, sub, delivery, message)
         }
         AckMode::Client | AckMode::ClientIndividual => {
-            let copy = message.clone()?;
-            let out = reply(alloc, number, sub, delivery, message)?;
-            sub.unacknowledged.add(delivery, copy)?;
-            Ok(out)
+            keep(sub, delivery, &message)?;
+            reply(alloc, number, sub, delivery, message)
         }
     }
 }

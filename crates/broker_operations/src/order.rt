@@ -8,7 +8,7 @@ use std::marker::Model;
 
 /// What tells subscriptions apart: the session, and a slot that no other subscription has. Who is served gets a new slot,
 /// behind the others.
-#[derive(Clone, Copy, Debug, PartialEq, Eq, Hash)]
+#[derive(Clone, Copy, PartialEq, Eq, Hash)]
 pub struct Key {
     pub session: u64,
     pub slot: u128,
@@ -16,7 +16,7 @@ pub struct Key {
 
 /// The subscriptions in waiting order: the first one that can be served is served next, and then waits last. Contracts
 /// see the list of them, and how many slots were given.
-#[derive(Debug, Drop)]
+#[derive(Drop)]
 pub struct Order {
     all: IndexMap<Key, Subscription>,
     added: u128,

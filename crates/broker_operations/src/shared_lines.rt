@@ -10,6 +10,7 @@ ghost use Rattle.line_core.specs.Lines.{first_of};
 ghost use Rattle.broker_state.specs.Lists.{is_none};
 ghost use Rattle.broker_state.specs.Names.{name_cmp, text_cmp};
 ghost use Rattle.broker_state.specs.States.{weight_of_subscription};
+ghost use Rattle.broker_operations.specs.Returns.{returned_to};
 ghost use Rattle.broker_state.specs.Waiting.{left_line, left_shared, line_at, line_for, returned, weight_of_shared, with_message};
 
 use crate::keyed_lines::{self, Side};
@@ -22,7 +23,7 @@ use std::marker::Model;
 
 /// The lines that stay when a subscription ends: those of durable names, and those of queues. Contracts see both lists of
 /// lines by rising key.
-#[derive(Debug, Drop)]
+#[derive(Drop)]
 pub struct SharedLines {
     names: BTreeMap<DurableName, Line>,
     queues: BTreeMap<Dest, Line>,
@@ -37,7 +38,7 @@ impl Model for SharedLines {
 }
 
 /// What vanishes with a subscription that ends: what waited in its own line, and what it has not acknowledged of it.
-#[derive(Debug, Drop)]
+#[derive(Drop)]
 pub(crate) struct Gone {
     pub line: Line,
     pub deliveries: Vec<(u64, Message)>,
@@ -152,23 +153,45 @@ impl SharedLines {
             + sum_by (λ delivery. weight delivery.1) gone.deliveries.items
             ≡ weight_of_shared weight self.old + weight_of_subscription weight sub) }
     {
-        let deliveries = sub.unacknowledged.into_vec();
-        match &sub.durable {
+        let Subscription {
+            destination,
+            durable,
+            line,
+            unacknowledged,
+            ..
+        } = sub;
+        let deliveries = self.return_deliveries(
+            alloc,
+            &durable,
+            &destination,
+            unacknowledged.into_vec(),
+        )?;
+        Ok(Gone { line, deliveries })
+    }
+
+    /// The messages of deliveries stand in the line of that durable name or else of that queue again; gives those of a
+    /// line of a subscription's own, which stays as it is. Where memory is refused, the line may be gone, and the others
+    /// stand.
+    fn return_deliveries(
+        &mut self,
+        alloc: Global,
+        durable: &Option<DurableName>,
+        destination: &Dest,
+        deliveries: Vec<(u64, Message)>,
+    ) -> Result<Vec<(u64, Message)>, AllocError>
+        ensures shared { OnOk result (self.new ≡ returned_to self.old durable.now destination.now deliveries.items) }
+        ensures weight { IfOk result (λ gone. (weight : Message → ℕ) → weight_of_shared weight self.new
+            + sum_by (λ delivery. weight delivery.1) gone.items
+            ≡ weight_of_shared weight self.old + sum_by (λ delivery. weight delivery.1) deliveries.items) }
+    {
+        match durable {
             Some(name) => keyed_lines::put_back(alloc, &mut self.names, name, deliveries)?,
-            None if sub.destination.is_queue() => {
-                keyed_lines::put_back(alloc, &mut self.queues, &sub.destination, deliveries)?;
+            None if destination.is_queue() => {
+                keyed_lines::put_back(alloc, &mut self.queues, destination, deliveries)?;
             }
-            None => {
-                return Ok(Gone {
-                    line: sub.line,
-                    deliveries,
-                });
-            }
+            None => return Ok(deliveries),
         }
-        Ok(Gone {
-            line: sub.line,
-            deliveries: Vec::new(alloc),
-        })
+        Ok(Vec::new(alloc))
     }
 
     /// Takes the line under that durable name out, where there is one.

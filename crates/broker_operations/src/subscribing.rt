@@ -1,13 +1,16 @@
 //! Subscriptions and sessions begin and end.
 
 ghost use Rattle.std.specs.Prelude.{◌≡◌, ◌+◌, ◌-◌, ◌<◌, ◌≤◌, ◌^◌, [], ℕ, IfOk, IfSome, IsErr, MatchOption, OnOk, Some, count_by, drop, length, remove, slice_get, take};
+ghost use Rattle.std.specs.BTreeMap.{insert_entry};
 ghost use Rattle.std.specs.List.{list_any, sum_by};
 ghost use Rattle.line_core.specs.declared.message.Message.{Message};
 ghost use Rattle.command_core.specs.Operations.{IsGiven};
 ghost use Rattle.command_core.specs.declared.command.Op.TheVariants.{Unsubscribe};
-ghost use Rattle.broker_state.specs.Operations.{begun, executed, client_in, ended, forgotten, given_up_for, is_named, is_of, name_for, restarted, subscribed, uses, with_subscription, without};
+ghost use Rattle.broker_state.specs.Names.{name_cmp};
+ghost use Rattle.broker_state.specs.Operations.{begun, executed, client_in, ended, forgotten, given_up, given_up_for, is_named, is_of, name_for, restarted, subscribed, uses, with_subscription, without};
 ghost use Rattle.broker_state.specs.Parts.{IsFirst, IsGivenAt, NonePass, but_at, leaving, without_at};
 ghost use Rattle.broker_state.specs.States.{bytes, one};
+ghost use Rattle.broker_operations.specs.Places.{place_for};
 ghost use Rattle.broker_operations.specs.Tables.{IsTallied, state_of};
 ghost use Rattle.broker_state.specs.declared.subscription.Subscription.{Subscription};
 
@@ -56,6 +59,19 @@ fn count_of(order: &Order, session: u64) -> usize
     count
 }
 
+/// Whether a session may have one more subscription, of that id: refused where it has one of that id, or 16.
+fn find_place(order: &Order, session: u64, id: &HeaderText) -> Result<(), Fault>
+    ensures { result ≡ place_for order.now.subscriptions session id.now }
+{
+    if let Some(_taken) = find_named(order, session, id) {
+        return Err(Fault::SubscriptionIdInUse);
+    }
+    if count_of(order, session) >= MOST_SUBSCRIPTIONS {
+        return Err(Fault::TooManyEntries);
+    }
+    Ok(())
+}
+
 /// Whether the subscription is that of the durable name.
 fn uses(sub: &Subscription, name: &DurableName) -> bool
     ensures { result ≡ uses name.now sub.now }
@@ -91,6 +107,19 @@ fn is_used(order: &Order, name: &DurableName, but: Option<usize>) -> bool
             is_used_between(order, name, 0, at) || is_used_between(order, name, at + 1, end)
         }
     }
+}
+
+/// A durable name is bound to a topic.
+fn bind_to(
+    durables: &mut BTreeMap<DurableName, Dest>,
+    name: &DurableName,
+    topic: &Dest,
+) -> Result<(), AllocError>
+    ensures { OnOk result (durables.new.entries ≡ insert_entry name_cmp durables.old.entries name.now topic.now) }
+{
+    let topic = topic.clone()?;
+    durables.insert(name.clone()?, topic)?;
+    Ok(())
 }
 
 /// The messages of a line are held no more.
@@ -182,28 +211,24 @@ impl Tables {
         ensures same { IfOk result (λ r. IsErr r → self.new ≡ self.old) }
         ensures tallied { OnOk result (IsTallied (number + 1) self.new) }
     {
-        if let Some(_taken) = find_named(&self.order, session, &id) {
-            return Ok(Err(Fault::SubscriptionIdInUse));
+        if let Err(fault) = find_place(&self.order, session, &id) {
+            return Ok(Err(fault));
         }
-        if count_of(&self.order, session) >= MOST_SUBSCRIPTIONS {
-            return Ok(Err(Fault::TooManyEntries));
+        match self.name_for(session, &destination, durable)? {
+            Ok(durable) => self.begin(
+                number,
+                Subscription {
+                    session,
+                    id,
+                    destination,
+                    mode,
+                    durable,
+                    line: Line::new(alloc),
+                    unacknowledged: Flight::new(alloc),
+                },
+            ),
+            Err(fault) => Ok(Err(fault)),
         }
-        let durable = match self.name_for(session, &destination, durable)? {
-            Ok(durable) => durable,
-            Err(fault) => return Ok(Err(fault)),
-        };
-        self.begin(
-            number,
-            Subscription {
-                session,
-                id,
-                destination,
-                mode,
-                durable,
-                line: Line::new(alloc),
-                unacknowledged: Flight::new(alloc),
-            },
-        )
     }
 
     /// A subscription begins and waits last. Refused where it has a durable name that somebody uses or that is another
@@ -216,11 +241,13 @@ impl Tables {
         ensures same { IfOk result (λ r. IsErr r → self.new ≡ self.old) }
         ensures tallied { OnOk result (IsTallied (number + 1) self.new) }
     {
-        if let Err(fault) = self.bind(number, &sub)? {
-            return Ok(Err(fault));
+        match self.bind(number, &sub) {
+            Ok(Ok(())) => {
+                self.order.add(sub)?;
+                Ok(Ok(()))
+            }
+            refused => refused,
         }
-        self.order.add(sub)?;
-        Ok(Ok(()))
     }
 
     /// The durable name of a subscription that is to begin is bound to its topic, unless it has none or the name is bound so
@@ -247,8 +274,7 @@ impl Tables {
                 if self.durables.len() >= MOST_NAMES {
                     return Ok(Err(Fault::TooManyEntries));
                 }
-                self.durables
-                    .insert(name.clone()?, sub.destination.clone()?)?;
+                bind_to(&mut self.durables, name, &sub.destination)?;
                 Ok(Ok(()))
             }
         }
@@ -302,18 +328,38 @@ impl Tables {
         ensures same { IfOk result (λ r. IsErr r → self.new ≡ self.old) }
         ensures tallied { OnOk result (IsTallied number self.new) }
     {
-        let Some(client) = self.client_of(session)? else {
-            return Ok(Err(Fault::NoClientId));
-        };
-        let name = DurableName::new(client, name);
-        if !self.durables.contains_key(&name) {
+        match self.client_of(session)? {
+            Some(client) => {
+                let name = DurableName::new(client, name);
+                self.give_up_name(alloc, number, at, &name)
+            }
+            None => Ok(Err(Fault::NoClientId)),
+        }
+    }
+
+    /// The subscription in that place ends, where one is given, and then a durable name is given up, with its line.
+    /// Refused where the name is unknown or another subscription uses it; then nothing changes.
+    fn give_up_name(
+        &mut self,
+        alloc: Global,
+        number: u64,
+        at: Option<usize>,
+        name: &DurableName,
+    ) -> Result<Result<(), Fault>, AllocError>
+        requires tallied { IsTallied number self.old }
+        requires place { IfSome at (λ i. i < length self.old.order.subscriptions) }
+        ensures given_up { IfOk result (λ r. given_up (without_at (state_of number self.old) at) name.now ≡ leaving r (state_of number self.new)) }
+        ensures same { IfOk result (λ r. IsErr r → self.new ≡ self.old) }
+        ensures tallied { OnOk result (IsTallied number self.new) }
+    {
+        if !self.durables.contains_key(name) {
             return Ok(Err(Fault::DurableSubscription));
         }
-        if is_used(&self.order, &name, at) {
+        if is_used(&self.order, name, at) {
             return Ok(Err(Fault::DurableSubscription));
         }
         self.end_given(alloc, number, at)?;
-        self.forget(alloc, number, &name);
+        self.forget(alloc, number, name);
         Ok(Ok(()))
     }
 

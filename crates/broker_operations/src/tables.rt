@@ -15,7 +15,7 @@ use std::collections::BTreeMap;
 
 /// The open sessions, the durable names, the lines that stay and the subscriptions, and how much is held, so that nobody
 /// needs to count it.
-#[derive(Debug, Drop)]
+#[derive(Drop)]
 pub struct Tables {
     pub next_delivery: u64,
     pub sessions: BTreeMap<u64, Option<GivenName>>,

@@ -6,6 +6,8 @@ pub mod NameLists
 pub mod SnapshotParts
 pub mod SnapshotEntries
 pub mod SnapshotSubscriptions
+pub mod SubscriptionParts
+pub mod EntryParts
 pub mod SnapshotNames
 pub mod SnapshotStates
 pub mod SnapshotForms

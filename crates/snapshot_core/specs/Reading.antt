@@ -6,6 +6,7 @@ use Rattle.std.specs.List.{list_all}
 use Rattle.std.specs.Map.{keys_of}
 use Rattle.std.specs.Ordering.{is_lt, nat_cmp}
 use Rattle.std.specs.declared.cmp.Ordering.{Ordering}
+use Rattle.command_core.specs.declared.ack_mode.AckMode.{AckMode}
 use Rattle.command_core.specs.Destinations.{is_queue}
 use Rattle.command_core.specs.Reading.{◌>>=◌, Reader, destination_at, many_at, mode_at, name_at, number_at, sending_at, text_at}
 use Rattle.line_core.specs.declared.message.Message.{Message}
@@ -75,6 +76,13 @@ given_at bytes = do
   text ← text_at bytes
   if nat_lt 0 (length text.0) then Some text else None
 
+-- a durable name: that of its client, and its own
+unfoldable pub full_name_at : Reader Name
+full_name_at bytes = do
+  client ← given_at bytes
+  own ← given_at client.1
+  Some ((client.0, own.0), own.1)
+
 -- a durable name with its topic and its line
 unfoldable pub durable_at : Reader (Name × (List ℕ × List Message))
 durable_at bytes = do
@@ -102,6 +110,29 @@ named_by (Some client) (Some own) = Some (Some (client, own))
 abbrev pub own_line_at : Bool → Reader (List Message)
 own_line_at true bytes = waiting_at bytes
 own_line_at false bytes = Some ([], bytes)
+
+-- its session, id, destination and mode
+unfoldable pub front_at : Reader (ℕ × List ℕ × List ℕ × AckMode)
+front_at bytes = do
+  session ← number_at w64 bytes
+  id ← text_at session.1
+  destination ← destination_at id.1
+  mode ← mode_at destination.1
+  Some ((session.0, id.0, destination.0, mode.0), mode.1)
+
+-- its durable name, of which its own part is read
+unfoldable pub durable_name_at : Option (List ℕ) → Reader (Option Name)
+durable_name_at client bytes = do
+  own ← name_at bytes
+  durable ← named_by client own.0
+  Some (durable, own.1)
+
+-- the line of its own, where it has one, and what is not acknowledged
+unfoldable pub had_at : Bool → Reader (List Message × List (ℕ × Message))
+had_at own bytes = do
+  waiting ← own_line_at own bytes
+  unacknowledged ← keyed_at nat_cmp delivery_at waiting.1
+  Some ((waiting.0, unacknowledged.0), unacknowledged.1)
 
 unfoldable pub subscription_at : List (ℕ × Option (List ℕ)) → Reader Subscription
 subscription_at sessions bytes = do

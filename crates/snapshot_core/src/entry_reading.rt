@@ -6,7 +6,7 @@ ghost use Rattle.std.specs.Map.{keys_of};
 ghost use Rattle.std.specs.Ordering.{nat_cmp};
 ghost use Rattle.command_core.specs.Reading.{Gives, name_at};
 ghost use Rattle.broker_core.specs.Names.{name_cmp, text_cmp};
-ghost use Rattle.snapshot_core.specs.Reading.{durable_at, given_at, keyed_at, listed_at, queue_at, session_at};
+ghost use Rattle.snapshot_core.specs.Reading.{durable_at, full_name_at, given_at, keyed_at, listed_at, queue_at, session_at};
 
 use crate::list_reading::listed_of;
 use crate::message_reading::line_of;
@@ -62,19 +62,26 @@ pub fn sessions_of(
     Ok((map_of(alloc, sessions)?, rest))
 }
 
+/// A durable name: that of its client, and its own.
+#[tactic(auto, unfolding(crate::specs::Reading::full_name_at))]
+fn full_name_of(alloc: Global, bytes: &[u8]) -> Result<(DurableName, &[u8]), DecodeFault>
+    ensures { Gives (λ x. (x.0, x.1.now)) result (full_name_at bytes.now) }
+{
+    let (client, rest) = given_of(alloc, bytes)?;
+    let (own, rest) = given_of(alloc, rest)?;
+    Ok((DurableName::new(client, own), rest))
+}
+
 /// A durable name with its topic and its line.
-#[tactic(auto, unfolding(crate::specs::Reading::durable_at))]
 fn durable_of(
     alloc: Global,
     bytes: &[u8],
 ) -> Result<((DurableName, (Dest, Line)), &[u8]), DecodeFault>
     ensures { Gives (λ x. (x.0, x.1.now)) result (durable_at bytes.now) }
 {
-    let (client, rest) = given_of(alloc, bytes)?;
-    let (own, rest) = given_of(alloc, rest)?;
-    let (topic, rest) = destination_of(alloc, rest)?;
-    let (line, rest) = line_of(alloc, rest)?;
-    Ok(((DurableName::new(client, own), (topic, line)), rest))
+    let (name, rest) = full_name_of(alloc, bytes)?;
+    let (bound, rest) = line_to_of(alloc, rest)?;
+    Ok(((name, bound), rest))
 }
 
 /// Durable names with their topics and lines, behind their count.
@@ -103,9 +110,9 @@ pub fn durables_of(
     Ok((durables, rest))
 }
 
-/// A queue with its line.
+/// A destination with the line of messages to it.
 #[tactic(auto, unfolding(crate::specs::Reading::queue_at))]
-fn queue_of(alloc: Global, bytes: &[u8]) -> Result<((Dest, Line), &[u8]), DecodeFault>
+fn line_to_of(alloc: Global, bytes: &[u8]) -> Result<((Dest, Line), &[u8]), DecodeFault>
     ensures { Gives (λ x. (x.0, x.1.now)) result (queue_at bytes.now) }
 {
     let (destination, rest) = destination_of(alloc, bytes)?;
@@ -118,6 +125,6 @@ fn queue_of(alloc: Global, bytes: &[u8]) -> Result<((Dest, Line), &[u8]), Decode
 pub fn queues_of(alloc: Global, bytes: &[u8]) -> Result<(BTreeMap<Dest, Line>, &[u8]), DecodeFault>
     ensures { Gives (λ x. (x.0.entries, x.1.now)) result (keyed_at text_cmp queue_at bytes.now) }
 {
-    let (queues, rest) = listed_of(alloc, bytes, |rest| queue_of(alloc, rest))?;
+    let (queues, rest) = listed_of(alloc, bytes, |rest| line_to_of(alloc, rest))?;
     Ok((map_of(alloc, queues)?, rest))
 }

@@ -16,7 +16,7 @@ use std::alloc::{AllocError, Global};
 use std::collections::BTreeMap;
 
 /// The topics of durable names, and the lines of those that have messages.
-#[derive(Debug, Drop)]
+#[derive(Drop)]
 pub struct NameTables {
     pub topics: BTreeMap<DurableName, Dest>,
     pub lines: BTreeMap<DurableName, Line>,

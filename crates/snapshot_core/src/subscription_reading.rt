@@ -1,16 +1,19 @@
 //! Subscriptions, read from the front of bytes, as `reading` says.
 
-ghost use Rattle.std.specs.Prelude.{◌≡◌, option_map};
+ghost use Rattle.std.specs.Prelude.{◌≡◌, ◌||◌, is_some, not, option_map};
+ghost use Rattle.command_core.specs.Destinations.{is_queue};
 ghost use Rattle.command_core.specs.Reading.{Gives};
 ghost use Rattle.broker_core.specs.Operations.{client_in as client_among};
-ghost use Rattle.snapshot_core.specs.Reading.{listed_at, named_by, own_line_at, subscription_at};
+ghost use Rattle.snapshot_core.specs.Reading.{durable_name_at, front_at, had_at, listed_at, named_by, own_line_at, subscription_at};
 
 use crate::entry_reading::optional_name_of;
 use crate::list_reading::listed_of;
 use crate::message_reading::{flight_of, line_of};
 use broker_core::{DurableName, GivenName, Subscription};
-use command_core::{DecodeFault, destination_of, mode_of, text_of, u64_of};
-use line_core::Line;
+use command_core::{
+    AckMode, DecodeFault, Dest, HeaderText, destination_of, mode_of, text_of, u64_of,
+};
+use line_core::{Flight, Line, Message};
 use std::alloc::Global;
 use std::collections::BTreeMap;
 
@@ -51,8 +54,58 @@ fn own_line_of(alloc: Global, is_own: bool, bytes: &[u8]) -> Result<(Line, &[u8]
     }
 }
 
+/// What a subscription begins with: its session, id, destination and mode.
+#[tactic(auto, unfolding(crate::specs::Reading::front_at))]
+fn front_of(
+    alloc: Global,
+    bytes: &[u8],
+) -> Result<((u64, HeaderText, Dest, AckMode), &[u8]), DecodeFault>
+    ensures { Gives (λ x. (x.0, x.1.now)) result (front_at bytes.now) }
+{
+    let (session, rest) = u64_of(bytes)?;
+    let (id, rest) = text_of(alloc, rest)?;
+    let (destination, rest) = destination_of(alloc, rest)?;
+    let (mode, rest) = mode_of(rest)?;
+    Ok(((session, id, destination, mode), rest))
+}
+
+/// The durable name of a subscription of that session, where it has one.
+#[tactic(auto, unfolding(crate::specs::Reading::durable_name_at))]
+fn durable_name_of<'a>(
+    alloc: Global,
+    sessions: &BTreeMap<u64, Option<GivenName>>,
+    session: u64,
+    bytes: &'a [u8],
+) -> Result<(Option<DurableName>, &'a [u8]), DecodeFault>
+    ensures { Gives (λ x. (x.0, x.1.now)) result (durable_name_at (client_among sessions.now.entries session) bytes.now) }
+{
+    let (own, rest) = optional_name_of(alloc, bytes)?;
+    let durable = durable_of(client_in(sessions, session), own)?;
+    Ok((durable, rest))
+}
+
+/// What a subscription has: the line of its own, where it has one, and what it has not acknowledged.
+#[tactic(auto, unfolding(crate::specs::Reading::had_at))]
+fn had_of(
+    alloc: Global,
+    is_own: bool,
+    bytes: &[u8],
+) -> Result<((Line, Flight<Message>), &[u8]), DecodeFault>
+    ensures { Gives (λ x. (x.0, x.1.now)) result (had_at is_own bytes.now) }
+{
+    let (line, rest) = own_line_of(alloc, is_own, bytes)?;
+    let (unacknowledged, rest) = flight_of(alloc, rest)?;
+    Ok(((line, unacknowledged), rest))
+}
+
+/// Whether a subscription to that destination, with that durable name, has a line of its own.
+fn has_own_line(durable: &Option<DurableName>, destination: &Dest) -> bool
+    ensures { result ≡ not (is_some durable.now || is_queue destination.now) }
+{
+    !(durable.is_some() || destination.is_queue())
+}
+
 /// A subscription of one of these sessions.
-#[tactic(auto, unfolding(crate::specs::Reading::subscription_at))]
 fn subscription_of<'a>(
     alloc: Global,
     sessions: &BTreeMap<u64, Option<GivenName>>,
@@ -60,15 +113,10 @@ fn subscription_of<'a>(
 ) -> Result<(Subscription, &'a [u8]), DecodeFault>
     ensures { Gives (λ x. (x.0, x.1.now)) result (subscription_at sessions.now.entries bytes.now) }
 {
-    let (session, rest) = u64_of(bytes)?;
-    let (id, rest) = text_of(alloc, rest)?;
-    let (destination, rest) = destination_of(alloc, rest)?;
-    let (mode, rest) = mode_of(rest)?;
-    let (own, rest) = optional_name_of(alloc, rest)?;
-    let durable = durable_of(client_in(sessions, session), own)?;
-    let is_own = !(durable.is_some() || destination.is_queue());
-    let (line, rest) = own_line_of(alloc, is_own, rest)?;
-    let (unacknowledged, rest) = flight_of(alloc, rest)?;
+    let ((session, id, destination, mode), rest) = front_of(alloc, bytes)?;
+    let (durable, rest) = durable_name_of(alloc, sessions, session, rest)?;
+    let is_own = has_own_line(&durable, &destination);
+    let ((line, unacknowledged), rest) = had_of(alloc, is_own, rest)?;
     let subscription = Subscription {
         session,
         id,

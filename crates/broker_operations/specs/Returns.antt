@@ -1,0 +1,10 @@
+use Rattle.std.specs.Prelude.{List, ℕ, Option, None, Some, if◌then◌else◌}
+use Rattle.line_core.specs.declared.message.Message.{Message}
+use Rattle.command_core.specs.Destinations.{is_queue}
+use Rattle.broker_state.specs.Names.{Name, name_cmp, text_cmp}
+use Rattle.broker_state.specs.Waiting.{Shared, with_deliveries}
+
+-- the lines that stay once the messages of deliveries stand there again: in that of the durable name, or else of the queue
+abbrev pub returned_to : Shared → Option Name → List ℕ → List (ℕ × Message) → Shared
+returned_to shared (Some name) to deliveries = record shared { names = with_deliveries name_cmp name deliveries shared.names }
+returned_to shared None to deliveries = if is_queue to then record shared { queues = with_deliveries text_cmp to deliveries shared.queues } else shared
