@@ -1,4 +1,5 @@
 use Rattle.area_core.proofs.Unwritten.{quiet_yet}
+use Rattle.std.proofs.Common.{arith}
 use Rattle.area_core.proofs.area.Area.block_len.Goals as goal
 
 pub returns-then-left-lt10-clause-quiet : goal.returns-then-left-lt10-clause-quiet
@@ -12,3 +13,9 @@ returns-then-count-eq0-clause-quiet g c honest = c.fetch_number.ensures.quiet ho
 
 pub returns-clause-quiet : goal.returns-clause-quiet
 returns-clause-quiet g c honest = c.fetch_number.ensures.quiet honest
+
+pub returns-clause-some : goal.returns-clause-some
+returns-clause-some g c = omega arith
+
+pub returns-clause-fits : goal.returns-clause-fits
+returns-clause-fits g c = omega arith

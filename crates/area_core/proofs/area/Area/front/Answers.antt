@@ -44,3 +44,16 @@ returns-in_err-snapshot-clause-quiet g c honest = quiet_then g.D.Disk c.args.dis
 
 pub returns-clause-quiet : goal.returns-clause-quiet
 returns-clause-quiet g c honest = quiet_then g.D.Disk c.args.disk.now c.fetch_number.new.disk c.fetch_bytes.new.disk (quiet_then g.D.Disk c.args.disk.now c.header.new.disk c.fetch_number.new.disk (c.header.ensures.quiet honest) (c.fetch_number.ensures.quiet (c.header.ensures.honest honest))) (c.fetch_bytes.ensures.quiet (c.fetch_number.ensures.honest (c.header.ensures.honest honest)))
+
+pub returns-then-length-size-clause-refused : goal.returns-then-length-size-clause-refused
+returns-then-length-size-clause-refused g c honest =
+    let same : g.D.Disk.content c.header.new.disk ≡ g.D.Disk.content c.args.disk.now = (c.header.ensures.quiet honest).content in
+    record {
+      size = c.in_ok-size.size;
+      selector = c.in_ok-size.selector;
+      journal = c.in_ok-size.ensures.journal honest;
+      at = c.begins-base.ensures;
+      count = c.in_ok-length.length;
+      told = ap (λ (l : List ℕ). take 8 (drop c.begins-base.result l)) (sym same) ∙ c.in_ok-length.ensures.number (c.header.ensures.honest honest);
+      long = omega (arith, c.if-length-size.true);
+    }
