@@ -7,4 +7,5 @@ pub mod RecordsRead
 pub mod Formatted
 pub mod Single
 pub mod Switches
+pub mod Unwritten
 pub mod Walked

@@ -22,3 +22,8 @@ returns-clause-formatted g c honest image is =
     let most : 32 + 2 * size < 2 ^ 64 = search rules in
     subst (λ (l : List ℕ). Reads size 0 first_snapshot [] l) (sym (c.in_ok-sync.ensures.stable honest_2 image is ∙ second ∙ ap (λ (l : List ℕ). patched 0 head l) first))
     (formatted size content head front is_head is_front least fits most)
+
+pub returns-clause-only : goal.returns-clause-only
+returns-clause-only g c honest image is =
+    let honest_2 = c.write_at-2.ensures.honest (c.write_at.ensures.honest honest) in
+    c.in_ok-sync.ensures.stable honest_2 image is ∙ sym (c.sync.ensures.content honest_2)

@@ -1,4 +1,5 @@
-use Rattle.std.proofs.Common.{ℕ, List, sym, ◌∙◌, subst, arith}
+use Rattle.std.proofs.Common.{ℕ, List, refl, sym, ◌∙◌, subst, arith}
+use Rattle.area_core.proofs.Unwritten.{quiet_yet}
 use Rattle.area_core.proofs.Walked.{quiet_then}
 use Rattle.recover_core.specs.Walks.{HasEnded, HasWalked}
 use Rattle.recover_core.proofs.Walking.{measure, read_of, too_large}
@@ -39,3 +40,26 @@ pub returns-clause-read : goal.returns-clause-read
 returns-clause-read g c honest w =
     read_of c.loop-more.area c.loop-more.broker.state (g.D.Disk.content c.args.disk.now)
     (c.loop-more.invariant.ended honest w c.loop-more-test.false) (omega (arith, c.if-count-gt-MOST_COUNTED.false, c.count.ensures))
+
+pub loop-more-init : goal.loop-more-init
+loop-more-init g c = record {
+  walked = λ honest w is. w;
+  ended = λ honest w is. absurd (cc is);
+  place = (refl, refl, refl);
+  broker = c.requires.whole;
+  quiet = λ honest. quiet_yet g.D.Disk c.args.disk.now (g.met.D.Disk.only_now c.args.disk.now);
+  size = refl;
+  failures = refl;
+  honest = λ h. h;
+  was_honest = λ h. h;
+}
+
+pub returns-in_err-more-clause-quiet : goal.returns-in_err-more-clause-quiet
+returns-in_err-more-clause-quiet g c honest =
+    quiet_then g.D.Disk c.args.disk.now c.loop-more.disk c.read_block.new.disk (c.loop-more.invariant.quiet honest) (c.read_block.ensures.quiet (c.loop-more.invariant.honest honest))
+
+pub returns-then-count-gt-MOST_COUNTED-clause-quiet : goal.returns-then-count-gt-MOST_COUNTED-clause-quiet
+returns-then-count-gt-MOST_COUNTED-clause-quiet g c honest = c.loop-more.invariant.quiet honest
+
+pub returns-clause-quiet : goal.returns-clause-quiet
+returns-clause-quiet g c honest = c.loop-more.invariant.quiet honest

@@ -1,9 +1,9 @@
-use Rattle.std.proofs.Common.{rules, ◌≡◌, ◌+◌, ◌≤◌, [], ◌∷◌, ◌++◌, ℕ, List, length, take, drop, refl, sym, ◌∙◌, ap, subst, arith}
+use Rattle.std.proofs.Common.{◌≡◌, ◌+◌, ℕ, List, length, take, drop, sym, ◌∙◌, ap, arith}
 use Rattle.std.specs.Int.{w64, to_be_bytes}
-use Rattle.area_core.specs.Areas.{front}
 use Rattle.area_core.specs.Journals.{is_odd, start}
 use Rattle.area_core.proofs.Areas.{length-fresh}
 use Rattle.area_core.proofs.Walked.{front_read}
+use Rattle.area_core.proofs.Walked.{quiet_then}
 use Rattle.area_core.proofs.area.Area.front.Goals as goal
 
 pub returns-clause-front : goal.returns-clause-front
@@ -28,4 +28,32 @@ returns-clause-front g c honest =
       whole = front_read base content v first second;
       gate = omega (arith, size, length-fresh v);
       each = tt;
+    }
+
+pub returns-in_err-size-clause-quiet : goal.returns-in_err-size-clause-quiet
+returns-in_err-size-clause-quiet g c honest = c.header.ensures.quiet honest
+
+pub returns-in_err-length-clause-quiet : goal.returns-in_err-length-clause-quiet
+returns-in_err-length-clause-quiet g c honest = quiet_then g.D.Disk c.args.disk.now c.header.new.disk c.fetch_number.new.disk (c.header.ensures.quiet honest) (c.fetch_number.ensures.quiet (c.header.ensures.honest honest))
+
+pub returns-then-length-size-clause-quiet : goal.returns-then-length-size-clause-quiet
+returns-then-length-size-clause-quiet g c honest = quiet_then g.D.Disk c.args.disk.now c.header.new.disk c.fetch_number.new.disk (c.header.ensures.quiet honest) (c.fetch_number.ensures.quiet (c.header.ensures.honest honest))
+
+pub returns-in_err-snapshot-clause-quiet : goal.returns-in_err-snapshot-clause-quiet
+returns-in_err-snapshot-clause-quiet g c honest = quiet_then g.D.Disk c.args.disk.now c.fetch_number.new.disk c.fetch_bytes.new.disk (quiet_then g.D.Disk c.args.disk.now c.header.new.disk c.fetch_number.new.disk (c.header.ensures.quiet honest) (c.fetch_number.ensures.quiet (c.header.ensures.honest honest))) (c.fetch_bytes.ensures.quiet (c.fetch_number.ensures.honest (c.header.ensures.honest honest)))
+
+pub returns-clause-quiet : goal.returns-clause-quiet
+returns-clause-quiet g c honest = quiet_then g.D.Disk c.args.disk.now c.fetch_number.new.disk c.fetch_bytes.new.disk (quiet_then g.D.Disk c.args.disk.now c.header.new.disk c.fetch_number.new.disk (c.header.ensures.quiet honest) (c.fetch_number.ensures.quiet (c.header.ensures.honest honest))) (c.fetch_bytes.ensures.quiet (c.fetch_number.ensures.honest (c.header.ensures.honest honest)))
+
+pub returns-then-length-size-clause-refused : goal.returns-then-length-size-clause-refused
+returns-then-length-size-clause-refused g c honest =
+    let same : g.D.Disk.content c.header.new.disk ≡ g.D.Disk.content c.args.disk.now = (c.header.ensures.quiet honest).content in
+    record {
+      size = c.in_ok-size.size;
+      selector = c.in_ok-size.selector;
+      journal = c.in_ok-size.ensures.journal honest;
+      at = c.begins-base.ensures;
+      count = c.in_ok-length.length;
+      told = ap (λ (l : List ℕ). take 8 (drop c.begins-base.result l)) (sym same) ∙ c.in_ok-length.ensures.number (c.header.ensures.honest honest);
+      long = omega (arith, c.if-length-size.true);
     }

@@ -1,10 +1,10 @@
-use Rattle.std.proofs.Common.{rules, ◌≡◌, ◌≢◌, ◌+◌, ◌≤◌, ◌<◌, [], ◌∷◌, ◌++◌, ℕ, List, length, take, drop, get_or, refl, sym, ◌∙◌, ap, subst, arith}
+use Rattle.std.proofs.Common.{rules, ◌≡◌, ◌≢◌, ◌+◌, ◌≤◌, [], ◌∷◌, ℕ, List, length, take, drop, sym, ◌∙◌, ap, arith}
 use Rattle.std.specs.Int.{w64, to_be_bytes}
-use Rattle.area_core.specs.Areas.{IsBlock, IsArea, front, records}
+use Rattle.area_core.specs.Areas.{IsBlock, records}
 use Rattle.area_core.specs.Journals.{is_odd, start}
 use Rattle.area_core.proofs.Areas.{all_push, length-pushed}
 use Rattle.area_core.proofs.Journals.{start_most}
-use Rattle.area_core.proofs.Walked.{single, closes, block_next, is_block}
+use Rattle.area_core.proofs.Walked.{quiet_then, single, closes, block_next, is_block}
 use Rattle.area_core.proofs.area.Area.next_block.Goals as goal
 
 pub returns-then-gate-ne1-clause-block : goal.returns-then-gate-ne1-clause-block
@@ -51,3 +51,21 @@ returns-clause-block g c honest snapshot blocks past =
       gate = omega (arith, past.gate, size, long, length-pushed snapshot blocks cs);
       each = all_push IsBlock blocks cs past.each (is_block cs some c.in_ok-commands.ensures.each);
     }
+
+pub returns-in_err-fetch-clause-quiet : goal.returns-in_err-fetch-clause-quiet
+returns-in_err-fetch-clause-quiet g c honest = c.fetch.ensures.quiet honest
+
+pub returns-then-gate-ne1-clause-quiet : goal.returns-then-gate-ne1-clause-quiet
+returns-then-gate-ne1-clause-quiet g c honest = c.fetch.ensures.quiet honest
+
+pub returns-in_err-count-clause-quiet : goal.returns-in_err-count-clause-quiet
+returns-in_err-count-clause-quiet g c honest = quiet_then g.D.Disk c.args.disk.now c.fetch.new.disk c.block_len.new.disk (c.fetch.ensures.quiet honest) (c.block_len.ensures.quiet (c.fetch.ensures.honest honest))
+
+pub returns-in_err-bytes-clause-quiet : goal.returns-in_err-bytes-clause-quiet
+returns-in_err-bytes-clause-quiet g c honest = quiet_then g.D.Disk c.args.disk.now c.block_len.new.disk c.fetch_bytes.new.disk (quiet_then g.D.Disk c.args.disk.now c.fetch.new.disk c.block_len.new.disk (c.fetch.ensures.quiet honest) (c.block_len.ensures.quiet (c.fetch.ensures.honest honest))) (c.fetch_bytes.ensures.quiet (c.block_len.ensures.honest (c.fetch.ensures.honest honest)))
+
+pub returns-in_err-commands-clause-quiet : goal.returns-in_err-commands-clause-quiet
+returns-in_err-commands-clause-quiet g c honest = quiet_then g.D.Disk c.args.disk.now c.block_len.new.disk c.fetch_bytes.new.disk (quiet_then g.D.Disk c.args.disk.now c.fetch.new.disk c.block_len.new.disk (c.fetch.ensures.quiet honest) (c.block_len.ensures.quiet (c.fetch.ensures.honest honest))) (c.fetch_bytes.ensures.quiet (c.block_len.ensures.honest (c.fetch.ensures.honest honest)))
+
+pub returns-clause-quiet : goal.returns-clause-quiet
+returns-clause-quiet g c honest = quiet_then g.D.Disk c.args.disk.now c.block_len.new.disk c.fetch_bytes.new.disk (quiet_then g.D.Disk c.args.disk.now c.fetch.new.disk c.block_len.new.disk (c.fetch.ensures.quiet honest) (c.block_len.ensures.quiet (c.fetch.ensures.honest honest))) (c.fetch_bytes.ensures.quiet (c.block_len.ensures.honest (c.fetch.ensures.honest honest)))

@@ -1,8 +1,9 @@
-use Rattle.std.proofs.Common.{rules, ◌≡◌, ℕ, ◌+◌, ◌%◌, ◌≤◌, List, [], length, drop, refl, sym, ◌∙◌, subst, ap, arith}
+use Rattle.std.proofs.Common.{ℕ, ◌+◌, ◌%◌, List, [], sym, subst, arith}
 use Rattle.disk_core.proofs.Runs.{weaker}
 use Rattle.area_core.specs.Journals.{Reads}
 use Rattle.area_core.proofs.Areas.{length-fresh}
 use Rattle.area_core.proofs.Switches.{keeps_both, switched}
+use Rattle.area_core.proofs.Unwritten.{untouched}
 use Rattle.area_core.proofs.area.Area.switch.Goals as goal
 
 pub returns-in_err-put-clause-any_moment : goal.returns-in_err-put-clause-any_moment
@@ -22,3 +23,11 @@ returns-clause-after g c honest snapshot blocks next held idle image is =
       reads = subst (λ (l : List ℕ). Reads it.size ((it.selector + 1) % 256) next [] l) (sym (c.in_ok-put.ensures.stable honest image is)) (switched it.size it.selector next content (held content here).reads.journal (idle content here).idle);
       gate = omega (arith, (idle content here).written, length-fresh next);
     }
+
+pub returns-then-self-clause-any_moment : goal.returns-then-self-clause-any_moment
+returns-then-self-clause-any_moment g c honest = untouched g.D.Disk c.args.disk.now (g.met.D.Disk.only_now c.args.disk.now) _ (λ image is snapshot blocks next held idle. record {
+  selector = c.args.self.now.selector;
+  journal = (held image is).reads.journal;
+  live = (held image is).reads.area;
+  idle = (idle image is).idle;
+})

@@ -1,10 +1,11 @@
-use Rattle.std.proofs.Common.{rules, ◌≡◌, ℕ, ◌+◌, ◌≤◌, List, [], length, drop, refl, sym, ◌∙◌, subst, ap, arith}
+use Rattle.std.proofs.Common.{rules, ◌≡◌, ℕ, ◌+◌, ◌≤◌, List, [], length, drop, refl, sym, subst, ap, arith}
 use Rattle.disk_core.proofs.Runs.{weaker}
 use Rattle.area_core.specs.Areas.{closed, IsArea}
 use Rattle.area_core.specs.Journals.{is_odd, other, start}
 use Rattle.area_core.proofs.Areas.{length-closed}
 use Rattle.area_core.proofs.Journals.{start_most}
 use Rattle.area_core.proofs.Switches.{keeps_live, idle_is}
+use Rattle.area_core.proofs.Unwritten.{untouched}
 use Rattle.area_core.proofs.area.Area.write_snapshot.Goals as goal
 
 pub returns-in_err-put-clause-any_moment : goal.returns-in_err-put-clause-any_moment
@@ -34,3 +35,12 @@ returns-clause-idle g c honest image is =
           (idle_is it.size c.idle_begins.result base snapshot c.deref.result.now (g.D.Disk.content c.args.disk.now) c.idle_begins.ensures within room are);
       written = refl;
     }
+
+pub returns-then-self-clause-any_moment : goal.returns-then-self-clause-any_moment
+returns-then-self-clause-any_moment g c honest = untouched g.D.Disk c.args.disk.now (g.met.D.Disk.only_now c.args.disk.now) _ (λ image is snapshot blocks held. held image is)
+
+pub returns-then-size-self-clause-any_moment : goal.returns-then-size-self-clause-any_moment
+returns-then-size-self-clause-any_moment g c honest = untouched g.D.Disk c.args.disk.now (g.met.D.Disk.only_now c.args.disk.now) _ (λ image is snapshot blocks held. held image is)
+
+pub returns-in_err-bytes-clause-any_moment : goal.returns-in_err-bytes-clause-any_moment
+returns-in_err-bytes-clause-any_moment g c honest = untouched g.D.Disk c.args.disk.now (g.met.D.Disk.only_now c.args.disk.now) _ (λ image is snapshot blocks held. held image is)
