@@ -1,37 +1,47 @@
 //! The record of a command: how it stands in the journal.
 
-ghost use Rattle.std.specs.Prelude.{◌≡◌, ◌≤◌, ◌++◌, IfOk, OnOk, length};
+ghost use Rattle.std.specs.Prelude.{◌≡◌, ◌<◌, ◌≤◌, ◌^◌, ◌∷◌, ◌++◌, IfOk, OnOk, length};
+ghost use Rattle.std.specs.Int.{w64, to_be_bytes};
 ghost use Rattle.std.specs.List.{AllByRecursion};
-ghost use Rattle.command_core.specs.Spellings.{Spells, IsMember, IsOperation};
+ghost use Rattle.command_core.specs.Spellings.{Spells, IsMember, IsOperation, IsSent};
 ghost use Rattle.command_core.specs.Spellings as records;
-ghost use Rattle.command_core.specs.declared.command.Op.TheVariants.{Subscribe};
+ghost use Rattle.command_core.specs.declared.command.Op.TheVariants.{Subscribe, Unsubscribe};
 
 use crate::ack_mode::AckMode;
 use crate::command::{Command, End, Op};
 use crate::destination::Dest;
 use crate::header_text::HeaderText;
 use crate::member::Member;
+use crate::sending::Sending;
 use crate::sizes::{op_size, option_size};
 use crate::writing::{mode_byte, put_destination, put_optional, put_sending, put_text};
 use std::alloc::{AllocError, Global};
+
+// A kind and a number of eight bytes.
+fn put_numbered(out: &mut Vec<u8>, kind: u8, number: u64) -> Result<(), AllocError>
+    ensures put { OnOk result (out.new.items ≡ out.old.items ++ kind ∷ to_be_bytes w64 number) }
+    ensures form { number < 2 ^ 64 }
+{
+    out.push(kind)?;
+    out.extend_from_slice(&number.to_be_bytes())
+}
+
+fn put_message(out: &mut Vec<u8>, sending: &Sending) -> Result<(), AllocError>
+    ensures put { OnOk result (out.new.items ≡ out.old.items ++ 2 ∷ records.sending sending.now) }
+    ensures form { OnOk result (IsSent sending.now) }
+{
+    out.push(2)?;
+    put_sending(out, sending)
+}
 
 fn put_member(out: &mut Vec<u8>, member: &Member) -> Result<(), AllocError>
     ensures put { OnOk result (out.new.items ≡ out.old.items ++ records.member member.now) }
     ensures form { OnOk result (IsMember member.now) }
 {
     match member {
-        Member::Send(sending) => {
-            out.push(2)?;
-            put_sending(out, sending)
-        }
-        Member::Ack(delivery) => {
-            out.push(5)?;
-            out.extend_from_slice(&delivery.to_be_bytes())
-        }
-        Member::Nack(delivery) => {
-            out.push(6)?;
-            out.extend_from_slice(&delivery.to_be_bytes())
-        }
+        Member::Send(sending) => put_message(out, sending),
+        Member::Ack(delivery) => put_numbered(out, 5, *delivery),
+        Member::Nack(delivery) => put_numbered(out, 6, *delivery),
     }
 }
 
@@ -74,6 +84,19 @@ fn put_subscription(
     put_optional(out, durable)
 }
 
+fn put_unsubscription(
+    out: &mut Vec<u8>,
+    id: &Option<HeaderText>,
+    durable: &Option<HeaderText>,
+) -> Result<(), AllocError>
+    ensures put { OnOk result (out.new.items ≡ out.old.items ++ records.operation (Unsubscribe id.now durable.now)) }
+    ensures form { OnOk result (IsOperation (Unsubscribe id.now durable.now)) }
+{
+    out.push(4)?;
+    put_optional(out, id)?;
+    put_optional(out, durable)
+}
+
 fn put_operation(out: &mut Vec<u8>, op: &Op) -> Result<(), AllocError>
     ensures put { OnOk result (out.new.items ≡ out.old.items ++ records.operation op.now) }
     ensures form { OnOk result (IsOperation op.now) }
@@ -83,29 +106,16 @@ fn put_operation(out: &mut Vec<u8>, op: &Op) -> Result<(), AllocError>
             out.push(1)?;
             put_optional(out, client_id)
         }
-        Op::Send(sending) => {
-            out.push(2)?;
-            put_sending(out, sending)
-        }
+        Op::Send(sending) => put_message(out, sending),
         Op::Subscribe {
             id,
             destination,
             mode,
             durable,
         } => put_subscription(out, id, destination, *mode, durable),
-        Op::Unsubscribe { id, durable } => {
-            out.push(4)?;
-            put_optional(out, id)?;
-            put_optional(out, durable)
-        }
-        Op::Ack(delivery) => {
-            out.push(5)?;
-            out.extend_from_slice(&delivery.to_be_bytes())
-        }
-        Op::Nack(delivery) => {
-            out.push(6)?;
-            out.extend_from_slice(&delivery.to_be_bytes())
-        }
+        Op::Unsubscribe { id, durable } => put_unsubscription(out, id, durable),
+        Op::Ack(delivery) => put_numbered(out, 5, *delivery),
+        Op::Nack(delivery) => put_numbered(out, 6, *delivery),
         Op::Commit(members) => {
             out.push(7)?;
             put_members(out, members.as_slice())

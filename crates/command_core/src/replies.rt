@@ -3,7 +3,7 @@
 ghost use Rattle.std.specs.Prelude.{◌≡◌, ◌<◌, ◌≤◌, ◌^◌, ◌∷◌, ◌++◌, [], IfOk, IfSome, OnOk, codes, length, string_bytes};
 ghost use Rattle.std.specs.Fmt.{decimal};
 ghost use Rattle.frame_core.specs.Writable.{Writable};
-ghost use Rattle.command_core.specs.Replies.{ack_header, connected, error_frame, message_frame, own_headers, receipt_frame, receipt_header};
+ghost use Rattle.command_core.specs.Replies.{ack_header, connected, error_frame, message_frame, message_id, own_headers, receipt_frame, receipt_header};
 ghost use Rattle.command_core.specs.Texts.{IsHeaderText};
 
 use crate::destination::Dest;
@@ -13,11 +13,41 @@ use crate::sending::Sending;
 use frame_core::{Bytes, Frame, Headers, Text, Verb};
 use std::alloc::{AllocError, Global};
 
-fn header(alloc: Global, name: &str, value: String) -> Result<(Text, Text), AllocError>
-    ensures { IfOk result (λ h. h ≡ (name.now, string_bytes value)) }
+/// Adds a header behind the others.
+fn add_header(
+    alloc: Global,
+    headers: &mut Vec<(Text, Text)>,
+    name: &str,
+    value: String,
+) -> Result<(), AllocError>
+    ensures { OnOk result (headers.new.items ≡ headers.old.items ++ (name.now, string_bytes value) ∷ []) }
 {
     let name = String::from_str(alloc, name)?;
-    Ok((Text::new(name), Text::new(value)))
+    headers.push((Text::new(name), Text::new(value)))?;
+    Ok(())
+}
+
+fn add_text(
+    alloc: Global,
+    headers: &mut Vec<(Text, Text)>,
+    name: &str,
+    value: &str,
+) -> Result<(), AllocError>
+    ensures { OnOk result (headers.new.items ≡ headers.old.items ++ (name.now, value.now) ∷ []) }
+{
+    add_header(alloc, headers, name, String::from_str(alloc, value)?)
+}
+
+/// Adds a header whose value is a number in decimal.
+fn add_number(
+    alloc: Global,
+    headers: &mut Vec<(Text, Text)>,
+    name: &str,
+    value: u64,
+) -> Result<(), AllocError>
+    ensures { OnOk result (headers.new.items ≡ headers.old.items ++ (name.now, decimal value) ∷ []) }
+{
+    add_header(alloc, headers, name, format!(in alloc; "{value}")?)
 }
 
 /// The CONNECTED that opens a session of that number (STOMP 1.2, "CONNECTED").
@@ -25,11 +55,10 @@ pub fn connected_reply(alloc: Global, session: u64) -> Result<Frame, AllocError>
     ensures value { IfOk result (λ frame. frame ≡ connected session) }
     ensures form { IfOk result (λ frame. Writable frame) }
 {
-    let headers = vec![in alloc;
-        header(alloc, "version", String::from_str(alloc, "1.2")?)?,
-        header(alloc, "session", format!(in alloc; "{session}")?)?,
-        header(alloc, "heart-beat", String::from_str(alloc, "0,0")?)?,
-    ]?;
+    let mut headers = Vec::with_capacity(alloc, 3)?;
+    add_text(alloc, &mut headers, "version", "1.2")?;
+    add_number(alloc, &mut headers, "session", session)?;
+    add_text(alloc, &mut headers, "heart-beat", "0,0")?;
     Ok(Frame {
         verb: Verb::Connected,
         headers: Headers::new(headers),
@@ -42,8 +71,8 @@ pub fn receipt_reply(alloc: Global, receipt: HeaderText) -> Result<Frame, AllocE
     ensures value { IfOk result (λ frame. frame ≡ receipt_frame receipt) }
     ensures form { IfOk result (λ frame. Writable frame) }
 {
-    let id = receipt.into_text();
-    let headers = vec![in alloc; header(alloc, "receipt-id", id.into_string())?]?;
+    let mut headers = Vec::with_capacity(alloc, 1)?;
+    add_receipt(alloc, &mut headers, Some(receipt))?;
     Ok(Frame {
         verb: Verb::Receipt,
         headers: Headers::new(headers),
@@ -61,7 +90,7 @@ fn add_receipt(
 {
     if let Some(id) = receipt {
         let id = id.into_text();
-        headers.push(header(alloc, "receipt-id", id.into_string())?)?;
+        add_header(alloc, headers, "receipt-id", id.into_string())?;
     }
     Ok(())
 }
@@ -76,8 +105,7 @@ pub fn error_reply(
     ensures form { IfOk result (λ frame. Writable frame) }
 {
     let mut headers = Vec::with_capacity(alloc, 2)?;
-    let text = String::from_str(alloc, fault_text(fault))?;
-    headers.push(header(alloc, "message", text)?)?;
+    add_text(alloc, &mut headers, "message", fault_text(fault))?;
     add_receipt(alloc, &mut headers, receipt)?;
     Ok(Frame {
         verb: Verb::Error,
@@ -94,66 +122,80 @@ fn add_ack(
     ensures added { OnOk result (headers.new.items ≡ headers.old.items ++ ack_header delivery) }
     ensures fits { OnOk result (IfSome delivery (λ number. number < 2 ^ 64)) }
 {
-    if let Some(number) = delivery {
-        let number = format!(in alloc; "{number}")?;
-        headers.push(header(alloc, "ack", number)?)?;
+    match delivery {
+        None => Ok(()),
+        Some(number) => add_number(alloc, headers, "ack", number),
     }
-    Ok(())
 }
 
-/// The header that tells the length of a body.
-fn length_header(alloc: Global, body: &[u8]) -> Result<(Text, Text), AllocError>
-    ensures { IfOk result (λ h. h ≡ (codes "content-length", decimal (length body.now))) }
-{
-    let length = format!(in alloc; "{}", body.len())?;
-    header(alloc, "content-length", length)
-}
-
-/// The headers that tell to whom a message goes, and which one it is.
-fn naming_headers(
+/// Adds the header that tells which message it is.
+fn add_id(
     alloc: Global,
+    headers: &mut Vec<(Text, Text)>,
+    command: u64,
+    place: u32,
+) -> Result<(), AllocError>
+    ensures { OnOk result (headers.new.items ≡ headers.old.items ++ (codes "message-id", message_id command place) ∷ []) }
+{
+    let id = format!(in alloc; "{command}.{place}")?;
+    add_header(alloc, headers, "message-id", id)
+}
+
+/// Adds the headers that tell to whom a message goes, and which one it is.
+fn add_names(
+    alloc: Global,
+    headers: &mut Vec<(Text, Text)>,
     subscription: &HeaderText,
-    name: String,
+    command: u64,
+    place: u32,
     destination: &Dest,
-) -> Result<Vec<(Text, Text)>, AllocError>
-    ensures headers { IfOk result (λ headers. headers.items ≡ (codes "subscription", subscription.now) ∷ (codes "message-id", string_bytes name) ∷ (codes "destination", destination.now) ∷ []) }
+) -> Result<(), AllocError>
+    ensures added { OnOk result (headers.new.items ≡ headers.old.items ++ (codes "subscription", subscription.now) ∷ (codes "message-id", message_id command place) ∷ (codes "destination", destination.now) ∷ []) }
     ensures form { OnOk result (IsHeaderText subscription.now) }
 {
-    let headers = vec![in alloc;
-        header(
-            alloc,
-            "subscription",
-            String::from_str(alloc, subscription.as_str())?
-        )?,
-        header(alloc, "message-id", name)?,
-        header(
-            alloc,
-            "destination",
-            String::from_str(alloc, destination.as_str())?
-        )?,
-    ]?;
-    Ok(headers)
+    add_text(alloc, headers, "subscription", subscription.as_str())?;
+    add_id(alloc, headers, command, place)?;
+    add_text(alloc, headers, "destination", destination.as_str())
 }
 
-/// The broker's own headers of a MESSAGE, in room for that many more.
-fn message_headers(
+/// Adds the broker's own headers of a MESSAGE.
+fn add_own_headers(
     alloc: Global,
+    headers: &mut Vec<(Text, Text)>,
     subscription: &HeaderText,
-    name: String,
+    command: u64,
+    place: u32,
     delivery: Option<u64>,
     sending: &Sending,
-    more: usize,
-) -> Result<Vec<(Text, Text)>, AllocError>
-    requires { more ≤ 64 }
-    ensures headers { IfOk result (λ headers. headers.items ≡ own_headers subscription.now (string_bytes name) delivery sending.now) }
+) -> Result<(), AllocError>
+    ensures added { OnOk result (headers.new.items ≡ headers.old.items ++ own_headers subscription.now (message_id command place) delivery sending.now) }
     ensures fits { OnOk result (IfSome delivery (λ number. number < 2 ^ 64)) }
     ensures form { OnOk result (IsHeaderText subscription.now) }
 {
-    let mut headers = naming_headers(alloc, subscription, name, sending.destination())?;
-    headers.reserve(more + 2)?;
-    add_ack(alloc, &mut headers, delivery)?;
-    headers.push(length_header(alloc, sending.body().as_slice())?)?;
-    Ok(headers)
+    add_names(
+        alloc,
+        headers,
+        subscription,
+        command,
+        place,
+        sending.destination(),
+    )?;
+    add_ack(alloc, headers, delivery)?;
+    let length = sending.body().as_slice().len() as u64;
+    add_number(alloc, headers, "content-length", length)
+}
+
+/// The MESSAGE of these headers and those that were sent, with the body that was.
+fn message(mut headers: Vec<(Text, Text)>, sending: Sending) -> Result<Frame, AllocError>
+    ensures { IfOk result (λ frame. frame ≡ record { verb = Verb.Message; headers = headers.items ++ sending.headers; body = sending.body }) }
+{
+    let (_, kept, body) = sending.into_parts();
+    headers.append(&mut kept.into_vec())?;
+    Ok(Frame {
+        verb: Verb::Message,
+        headers: Headers::new(headers),
+        body,
+    })
 }
 
 /// The MESSAGE that gives what was sent to a subscription of that id (STOMP 1.2, "MESSAGE"): the message's number is that
@@ -169,15 +211,15 @@ pub fn message_reply(
     ensures value { IfOk result (λ frame. frame ≡ message_frame subscription.now command place delivery sending) }
     ensures form { IfOk result (λ frame. Writable frame) }
 {
-    let name = format!(in alloc; "{command}.{place}")?;
-    let more = sending.headers().as_slice().len();
-    let mut headers = message_headers(alloc, subscription, name, delivery, &sending, more)?;
-    let (_, kept, body) = sending.into_parts();
-    let mut kept = kept.into_vec();
-    headers.append(&mut kept)?;
-    Ok(Frame {
-        verb: Verb::Message,
-        headers: Headers::new(headers),
-        body,
-    })
+    let mut headers = Vec::with_capacity(alloc, sending.headers().as_slice().len() + 5)?;
+    add_own_headers(
+        alloc,
+        &mut headers,
+        subscription,
+        command,
+        place,
+        delivery,
+        &sending,
+    )?;
+    message(headers, sending)
 }

@@ -1,4 +1,5 @@
-use Rattle.std.proofs.Common.{rules, ◌≡◌, arith, sym, subst}
+use Rattle.std.proofs.Common.{rules, ◌≡◌, ◌++◌, ◌∙◌, arith, sym, subst}
+use Rattle.std.proofs.lemmas.Result.{IfOk-weaker}
 use Rattle.frame_core.specs.declared.frame.Verb.TheVariants.{Message}
 use Rattle.frame_core.specs.Writable.{Writable}
 use Rattle.command_core.specs.Replies.{message_frame}
@@ -7,5 +8,5 @@ use Rattle.command_core.proofs.replies.message_reply.Goals as goal
 
 pub returns-clause-form : goal.returns-clause-form
 returns-clause-form c =
-    let is : record { verb = Message; headers = c.new.result; body = c.into_parts-kept.result.2 } ≡ message_frame c.args.subscription.now c.args.command c.args.place c.args.delivery c.args.sending = search rules in
-    subst Writable (sym is) (message_writable _ _ _ _ _ (search rules) (omega arith) (omega arith) (search rules) c.into_parts-kept.ensures.form)
+    let told : record { verb = Message; headers = c.add_own_headers.new.headers.items ++ c.args.sending.headers; body = c.args.sending.body } ≡ message_frame c.args.subscription.now c.args.command c.args.place c.args.delivery c.args.sending = search rules in
+    IfOk-weaker c.message.result _ _ (λ frame is. subst Writable (sym (is ∙ told)) (message_writable _ _ _ _ _ c.in_ok-add_own_headers.ensures.form (omega arith) (omega arith) c.in_ok-add_own_headers.ensures.fits c.headers.ensures.form)) c.message.ensures

@@ -1,5 +1,8 @@
-use Rattle.std.proofs.Common.{◌≡◌, ◌++◌, arith, ℕ, Vec, Global}
+use Rattle.std.proofs.Common.{◌≡◌, ◌++◌, arith, flat_map, subst, List, ℕ, Vec, Global}
+use Rattle.std.proofs.lemmas.List.{take_all}
+use Rattle.std.proofs.lemmas.Result.{err_from_is_err_and}
 use Rattle.std.proofs.lemmas.Grind.{common_steps}
+use Rattle.frame_core.specs.Streams.{Reads}
 use Rattle.frame_core.proofs.Pieces.{pieces_read, pieces_fail}
 use Rattle.frame_core.proofs.reader.read_pieces.Goals as goal
 
@@ -22,3 +25,13 @@ loop-piece-preserved c =
         k.0.1,
       );
     }
+
+pub returns-in_err-fed-clause-memory : goal.returns-in_err-fed-clause-memory
+returns-in_err-fed-clause-memory c =
+    let p = err_from_is_err_and c.from_residual.result c.from_residual.ensures.1 in
+    rw (p.1, p.2) (c.in_err-fed.ensures.memory c.loop-piece.invariant.unfailed)
+
+pub returns-clause-stream : goal.returns-clause-stream
+returns-clause-stream c =
+    let P : List (Vec ℕ Global) → Type 0 = λ pieces. Reads (flat_map (λ (piece : Vec ℕ Global). piece.items) pieces) c.loop-piece.frames.items c.loop-piece.reader.rest in
+    (c.loop-piece.reader.rest, subst P (take_all c.loop-piece.piece-index c.args.pieces.now (omega arith)) c.loop-piece.invariant.reads)
