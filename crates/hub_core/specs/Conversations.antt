@@ -73,7 +73,7 @@ IsNext New c = role_of c.op ≡ Opens
 IsNext (Open number) c = (c.session ≡ number) × (role_of c.op ≢ Opens)
 IsNext Over c = ⊥
 
--- the session's number as a command of that role has it: an Open has none yet, and so has one of no session
+-- the session's number as a command of that role has it: 0 of an Open, which has none yet, and where no session is open
 abbrev pub session_of : Progress → Role → ℕ
 session_of progress Opens = 0
 session_of (Open number) role = number
