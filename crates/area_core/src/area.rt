@@ -4,7 +4,7 @@ ghost use Rattle.std.specs.Prelude.{◌≡◌, ◌+◌, ◌*◌, ◌%◌, ◌<�
 ghost use Rattle.area_core.specs.Journals.{is_odd, other, start};
 
 /// The live area of a journal, at its first closed gate. It holds no disk.
-#[derive(Debug, Drop)]
+#[derive(Drop)]
 pub struct Area {
     pub(crate) size: u64,
     pub(crate) selector: u8,

@@ -10,7 +10,7 @@ use std::marker::Model;
 /// The name of a durable subscription: that of its client (`client-id` of CONNECT) and its own
 /// (`activemq.subscriptionName` of SUBSCRIBE), neither empty. Names stand by the client's, and then by their own. Contracts
 /// see the pair of their bytes.
-#[derive(Debug, Drop)]
+#[derive(Drop)]
 pub struct DurableName {
     client: GivenName,
     name: GivenName,

@@ -9,7 +9,7 @@ use std::marker::Model;
 
 /// A name that a client gives itself, or a durable subscription of its own: header text that is not empty. Contracts see it
 /// as the list of its bytes.
-#[derive(Clone, Debug, Drop)]
+#[derive(Clone, Drop)]
 pub struct GivenName {
     text: HeaderText,
 }

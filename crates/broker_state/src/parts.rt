@@ -8,7 +8,7 @@ use line_core::Line;
 use std::collections::BTreeMap;
 
 /// The parts of a state, as they are read from a snapshot: nothing is known of how they go together.
-#[derive(Debug, Drop)]
+#[derive(Drop)]
 pub struct Parts {
     /// How many commands were carried out.
     pub count: u64,

@@ -6,7 +6,7 @@ use command_core::{AckMode, Dest, HeaderText};
 use line_core::{Flight, Line, Message};
 
 /// A subscription of a session (STOMP 1.2, "SUBSCRIBE").
-#[derive(Debug, Drop)]
+#[derive(Drop)]
 pub struct Subscription {
     /// The number of the session.
     pub session: u64,

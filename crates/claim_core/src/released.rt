@@ -10,7 +10,7 @@ use std::marker::Model;
 
 /// An output that may leave, since its number is under a mark that was read. Only `Ring::release` makes one. Contracts
 /// see it as the output.
-#[derive(Debug, Drop)]
+#[derive(Drop)]
 pub struct Released {
     out: Out,
 }

@@ -12,7 +12,7 @@ use crate::sending::Sending;
 use std::marker::Model;
 
 /// How a session ends.
-#[derive(Clone, Copy, Debug, PartialEq, Eq)]
+#[derive(Clone, Copy, PartialEq, Eq)]
 pub enum End {
     /// The client said DISCONNECT.
     Bye,
@@ -23,7 +23,7 @@ pub enum End {
 }
 
 /// What a session asks the broker for.
-#[derive(Debug, Drop)]
+#[derive(Drop)]
 pub enum Op {
     /// It begins, for a client that may have named itself for durable subscriptions.
     Open {
@@ -76,7 +76,7 @@ impl From<Member> for Op {
 /// Of an Open the session is 0, since its number is given by the broker, and no receipt goes with an Open (STOMP 1.2,
 /// "Header receipt") nor with the end of a lost connection. A client's name and a durable one are not empty, a durable
 /// name comes with a topic alone, and what ends a subscription has an id or a name.
-#[derive(Debug, Drop)]
+#[derive(Drop)]
 pub struct Command {
     session: u64,
     op: Op,

@@ -12,7 +12,7 @@ use thiserror::Error;
 
 /// A valid destination: `/topic/` or `/queue/` and a name of 1 to 200 bytes, each an ASCII letter, a digit, `.`, `-`,
 /// `_` or `/`. STOMP 1.2 leaves the form to the server ("SEND"). Contracts see it as the list of its bytes.
-#[derive(Clone, Debug, Drop)]
+#[derive(Clone, Drop)]
 pub struct Dest {
     text: Text,
 }

@@ -9,7 +9,7 @@ use std::marker::Model;
 
 /// A text that may stand in a header: UTF-8 without NUL, at most 8,192 bytes. Contracts see it as the list of its
 /// bytes.
-#[derive(Clone, Debug, Drop)]
+#[derive(Clone, Drop)]
 pub struct HeaderText {
     text: Text,
 }

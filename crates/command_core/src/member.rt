@@ -6,7 +6,7 @@ use crate::sending::Sending;
 use std::marker::Model;
 
 /// What may be a part of a transaction (STOMP 1.2, "BEGIN").
-#[derive(Debug, Drop)]
+#[derive(Drop)]
 pub enum Member {
     /// A message goes out.
     Send(Sending),
@@ -17,7 +17,7 @@ pub enum Member {
 }
 
 /// The members of a transaction, in their order: at most 64. Contracts see the list of them.
-#[derive(Debug, Drop)]
+#[derive(Drop)]
 pub struct Members {
     all: Vec<Member>,
 }

@@ -8,7 +8,7 @@ use std::marker::Model;
 
 /// An output: a frame that a command gives, and the session that it goes to. Contracts see it as its three parts. Its
 /// frame can be written.
-#[derive(Debug, Drop)]
+#[derive(Drop)]
 pub struct Out {
     number: u64,
     session: u64,

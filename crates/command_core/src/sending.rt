@@ -11,7 +11,7 @@ use std::marker::Model;
 
 /// What is sent where: a destination, the headers that go on with the message, and a body (STOMP 1.2, "SEND"). At most
 /// 64 headers, each a name that isn't empty and a value, both fit for a header; at most 65,536 bytes of body.
-#[derive(Debug, Drop)]
+#[derive(Drop)]
 pub struct Sending {
     destination: Dest,
     headers: Headers,

@@ -7,7 +7,7 @@ ghost use Rattle.disk_core.specs.Memory.{none_held, byte_after, crashed, noted, 
 use std::alloc::AllocError;
 
 /// A range of bytes of a disk.
-#[derive(Clone, Copy, Debug)]
+#[derive(Clone, Copy)]
 pub struct Span {
     pub at: usize,
     pub len: usize,

@@ -8,7 +8,7 @@ ghost use Rattle.engine_core.specs.ScriptLines.{AreHexDigits, IsCount, IsCountAn
 use itoa::Buffer;
 
 /// What a line of a script says.
-#[derive(Clone, Copy, Debug)]
+#[derive(Clone, Copy)]
 pub enum ScriptLine<'a> {
     /// Nothing: the line is empty.
     Blank,

@@ -9,7 +9,7 @@ use crate::text::Text;
 
 /// A command of STOMP 1.2 ("Standard Headers" and the sections on client and server frames). The first eleven come
 /// from clients, the last four from servers.
-#[derive(Clone, Copy, Debug, PartialEq, Eq)]
+#[derive(Clone, Copy, PartialEq, Eq)]
 pub enum Verb {
     Connect,
     Stomp,
@@ -100,7 +100,7 @@ impl Verb {
 
 /// One frame of STOMP 1.2 as it is meant: names and values without their escapes, and of a repeated header all of
 /// them, of which the first counts.
-#[derive(Clone, Debug, PartialEq, Eq, Drop)]
+#[derive(Clone, PartialEq, Eq, Drop)]
 pub struct Frame {
     pub verb: Verb,
     pub headers: Headers,

@@ -7,7 +7,7 @@ use std::marker::Model;
 
 /// The headers of a frame in the order in which they stand there, repeated ones too. Contracts see them as the list
 /// of their names and values.
-#[derive(Clone, Debug, Drop)]
+#[derive(Clone, Drop)]
 pub struct Headers {
     all: Vec<(Text, Text)>,
 }

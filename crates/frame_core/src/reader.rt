@@ -25,7 +25,7 @@ pub enum FeedFault {
 }
 
 /// What a piece gave: the frames that it ended, and the fault behind them, if it has the byte that decides one.
-#[derive(Debug, Drop)]
+#[derive(Drop)]
 pub struct Fed {
     pub frames: Vec<Frame>,
     pub fault: Option<FrameFault>,

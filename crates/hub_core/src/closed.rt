@@ -1,7 +1,7 @@
 //! What is left of a hub.
 
 /// What is left of a hub that was closed: the disk of its journal, and numbers of commands.
-#[derive(Debug, Drop)]
+#[derive(Drop)]
 pub struct Closed<D> {
     /// The hub's first number.
     pub base: u64,

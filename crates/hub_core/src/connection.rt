@@ -19,7 +19,7 @@ use std::alloc::{AllocError, Global};
 use ws_core::{Link, Received};
 
 /// What a worker does with its connection.
-#[derive(Clone, Copy, Debug, PartialEq, Eq)]
+#[derive(Clone, Copy, PartialEq, Eq)]
 pub enum Stage {
     /// It reads, appends and sends.
     Running,

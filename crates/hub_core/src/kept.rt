@@ -5,7 +5,7 @@ use command_core::Out;
 use frame_core::Verb;
 
 /// The output that was taken out of an outbox and is not sent yet.
-#[derive(Debug, Drop)]
+#[derive(Drop)]
 pub enum Kept {
     Nothing,
     /// Its number was not under the mark when that was last read.
@@ -15,7 +15,7 @@ pub enum Kept {
 }
 
 /// What one call of `relay` did.
-#[derive(Clone, Copy, Debug, PartialEq, Eq)]
+#[derive(Clone, Copy, PartialEq, Eq)]
 pub enum Relayed {
     /// The output of that command was sent, a frame of that verb.
     Sent { number: u64, verb: Verb },

@@ -24,7 +24,7 @@ pub enum SettleFault {
 
 /// The deliveries that wait for their acknowledgement, by rising number, each with its item: the message, or what else
 /// is to be known of it. Contracts see it as the list of the numbers and items.
-#[derive(Debug, Drop)]
+#[derive(Drop)]
 pub struct Flight<T: Drop> {
     deliveries: Vec<(u64, T)>,
 }

@@ -12,7 +12,7 @@ use std::marker::Model;
 
 /// The messages that wait in one place, by rising number: a message goes behind those of smaller numbers and of its own.
 /// Contracts see it as the list of them.
-#[derive(Debug, Drop)]
+#[derive(Drop)]
 pub struct Line {
     messages: VecDeque<Message>,
 }

@@ -10,14 +10,14 @@ use frame_core::Text;
 
 /// The number of a message: that of the command that sent it, and the message's place among the members of that
 /// command, which is 0 for a plain SEND.
-#[derive(Clone, Copy, Debug, PartialEq, Eq, PartialOrd, Ord)]
+#[derive(Clone, Copy, PartialEq, Eq, PartialOrd, Ord)]
 pub struct MessageNumber {
     pub command: u64,
     pub place: u32,
 }
 
 /// A message: its number, and what was sent where.
-#[derive(Clone, Debug, Drop)]
+#[derive(Clone, Drop)]
 pub struct Message {
     pub number: MessageNumber,
     pub sending: Sending,

@@ -7,7 +7,7 @@ pub trait Bell: Drop {
 }
 
 /// A bell that does nothing, for a taker that looks by itself.
-#[derive(Clone, Copy, Debug)]
+#[derive(Clone, Copy)]
 pub struct Silent;
 
 impl Bell for Silent {

@@ -15,7 +15,7 @@ use std::alloc::Global;
 pub const VERSION: u8 = 1;
 
 /// What a journal shows of itself.
-#[derive(Debug, Drop)]
+#[derive(Drop)]
 pub struct Seen {
     /// The version of its header.
     pub version: u8,

@@ -5,7 +5,7 @@ use command_core::Command;
 use outbox_core::{OutSender, Silent};
 
 /// A command that waits for the next flush, and the connection that it came from.
-#[derive(Debug, Drop)]
+#[derive(Drop)]
 pub struct Waiting {
     pub connection: u8,
     pub command: Command,

@@ -4,7 +4,7 @@ use crate::notice::Notice;
 use command_core::{HeaderText, Op};
 
 /// Why a connection is closed (RFC 6455, section 7.4.1).
-#[derive(Clone, Copy, Debug, PartialEq, Eq)]
+#[derive(Clone, Copy, PartialEq, Eq)]
 pub enum CloseCode {
     /// The client has said DISCONNECT: 1000.
     NormalClosure,
@@ -28,7 +28,7 @@ impl CloseCode {
 }
 
 /// What is to be done for a session.
-#[derive(Debug, Drop)]
+#[derive(Drop)]
 pub enum Act {
     /// A command for the broker, and the receipt that it asks for.
     Do(Op, Option<HeaderText>),

@@ -8,7 +8,7 @@ use frame_core::Frame;
 use std::marker::Model;
 
 /// An ERROR frame for the client, which can be written. Contracts see the frame.
-#[derive(Debug, Drop)]
+#[derive(Drop)]
 pub struct Notice {
     frame: Frame,
 }

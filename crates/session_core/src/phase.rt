@@ -3,7 +3,7 @@
 use tx_core::OpenTx;
 
 /// Where a session stands.
-#[derive(Debug, Drop)]
+#[derive(Drop)]
 pub enum Phase {
     /// It expects a CONNECT or STOMP frame.
     New,

@@ -36,7 +36,7 @@ const SCRIPT_DISK: u64 = 2_097_184;
 const HEADER: u64 = 32;
 
 /// Why the program did not do what it was asked for.
-#[derive(Debug, Drop)]
+#[derive(Drop)]
 pub enum Failure {
     /// The words ask for nothing that the program does, or for help; the error holds the text for the user.
     CommandLine(clap::Error),

@@ -12,7 +12,7 @@ use std::marker::Model;
 /// The open transactions of a session (STOMP 1.2, "BEGIN"), in the order in which they were begun: at most four, of
 /// different names, each of at most 64 members that take at most 262,144 bytes. Contracts see the list of their names
 /// and members.
-#[derive(Debug, Drop)]
+#[derive(Drop)]
 pub struct OpenTx {
     all: Vec<Transaction>,
 }

@@ -12,7 +12,7 @@ use std::alloc::{AllocError, Global};
 use std::marker::Model;
 
 /// A transaction: its name and its members, and how many bytes these take. Contracts see the name and the members.
-#[derive(Debug, Drop)]
+#[derive(Drop)]
 pub struct Transaction {
     name: HeaderText,
     members: Vec<Member>,

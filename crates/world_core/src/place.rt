@@ -1,7 +1,7 @@
 //! How far a world has come.
 
 /// The device call that was made last of the list in progress.
-#[derive(Clone, Copy, Debug, PartialEq, Eq)]
+#[derive(Clone, Copy, PartialEq, Eq)]
 pub enum Place {
     /// No list is in progress, and any may begin.
     Rest,
@@ -28,7 +28,7 @@ pub enum Place {
 }
 
 /// Which part of a life it is.
-#[derive(Clone, Copy, Debug, PartialEq, Eq)]
+#[derive(Clone, Copy, PartialEq, Eq)]
 pub enum Phase {
     /// Sessions and flusher run.
     Running,

@@ -12,7 +12,7 @@ use frame_core::{Frame, Verb};
 use std::alloc::Global;
 
 /// What one read of a link gave.
-#[derive(Debug, Drop)]
+#[derive(Drop)]
 pub enum Received {
     /// The next bytes of the peer's STOMP stream. A frame may be cut over several of these.
     Bytes(Vec<u8>),
