@@ -100,7 +100,7 @@ impl Verb {
 
 /// One frame of STOMP 1.2 as it is meant: names and values without their escapes, and of a repeated header all of
 /// them, of which the first counts.
-#[derive(Clone, PartialEq, Eq, Drop)]
+#[derive(Drop)]
 pub struct Frame {
     pub verb: Verb,
     pub headers: Headers,
