@@ -1,7 +1,7 @@
 //! How much a broker holds.
 
 /// How much the broker holds. A message counts in each line and for each subscription where it stands.
-#[derive(Clone, Copy, PartialEq, Eq)]
+#[derive(Clone, Copy)]
 pub struct Held {
     /// The messages that wait or are not acknowledged, at most 4,096.
     pub messages: u64,

@@ -1,7 +1,7 @@
 //! How deliveries are acknowledged.
 
 /// How the messages of a subscription are acknowledged (STOMP 1.2, "SUBSCRIBE ack Header").
-#[derive(Clone, Copy, PartialEq, Eq)]
+#[derive(Clone, Copy)]
 pub enum AckMode {
     /// `auto`: a message counts as received once it is sent.
     Auto,

@@ -12,7 +12,7 @@ use crate::sending::Sending;
 use std::marker::Model;
 
 /// How a session ends.
-#[derive(Clone, Copy, PartialEq, Eq)]
+#[derive(Clone, Copy)]
 pub enum End {
     /// The client said DISCONNECT.
     Bye,

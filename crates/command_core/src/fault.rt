@@ -10,7 +10,7 @@ use std::fmt;
 
 /// Why a frame or a command is refused. Its code and text stand in the `message` header of an ERROR frame (STOMP 1.2,
 /// "ERROR").
-#[derive(Clone, Copy, Debug, PartialEq, Eq)]
+#[derive(Clone, Copy, Debug)]
 pub enum Fault {
     /// Bytes that are no frame.
     MalformedFrame,

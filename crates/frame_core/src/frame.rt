@@ -9,7 +9,7 @@ use crate::text::Text;
 
 /// A command of STOMP 1.2 ("Standard Headers" and the sections on client and server frames). The first eleven come
 /// from clients, the last four from servers.
-#[derive(Clone, Copy, PartialEq, Eq)]
+#[derive(Clone, Copy)]
 pub enum Verb {
     Connect,
     Stomp,

@@ -15,7 +15,7 @@ use std::alloc::Global;
 use ws_core::{Link, LinkFault};
 
 /// What one act, or the entry that is kept, came to.
-#[derive(Clone, Copy, PartialEq, Eq)]
+#[derive(Clone, Copy)]
 pub enum Step {
     /// A command was appended.
     Appended,
@@ -28,7 +28,7 @@ pub enum Step {
 }
 
 /// What the acts of a turn came to.
-#[derive(Clone, Copy, PartialEq, Eq)]
+#[derive(Clone, Copy)]
 pub struct Carried {
     /// A command was appended.
     pub appended: bool,

@@ -15,7 +15,7 @@ pub enum Kept {
 }
 
 /// What one call of `relay` did.
-#[derive(Clone, Copy, PartialEq, Eq)]
+#[derive(Clone, Copy)]
 pub enum Relayed {
     /// The output of that command was sent, a frame of that verb.
     Sent { number: u64, verb: Verb },

@@ -6,7 +6,7 @@ ghost use Rattle.hub_core.specs.Conversations.{IsNext, after, role_of, session_o
 use command_core::{Command, Op};
 
 /// What a command is to its session.
-#[derive(Clone, Copy, PartialEq, Eq)]
+#[derive(Clone, Copy)]
 pub enum Role {
     Opens,
     Talks,
@@ -26,7 +26,7 @@ impl Role {
 }
 
 /// Which commands of a connection's session were appended.
-#[derive(Clone, Copy, PartialEq, Eq)]
+#[derive(Clone, Copy)]
 pub enum Progress {
     /// None.
     New,

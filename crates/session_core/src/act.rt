@@ -4,7 +4,7 @@ use crate::notice::Notice;
 use command_core::{HeaderText, Op};
 
 /// Why a connection is closed (RFC 6455, section 7.4.1).
-#[derive(Clone, Copy, PartialEq, Eq)]
+#[derive(Clone, Copy)]
 pub enum CloseCode {
     /// The client has said DISCONNECT: 1000.
     NormalClosure,

@@ -4,7 +4,7 @@ use command_core::Command;
 use frame_core::Bytes;
 
 /// A list of device calls.
-#[derive(Clone, Copy, Debug, PartialEq, Eq)]
+#[derive(Clone, Copy, Debug)]
 pub enum CallList {
     /// A block is added: written, synced, and its gate written and synced.
     Append,
@@ -18,7 +18,7 @@ pub enum CallList {
 }
 
 /// A device call.
-#[derive(Clone, Copy, Debug, PartialEq, Eq)]
+#[derive(Clone, Copy, Debug)]
 pub enum CallKind {
     Read,
     Write,
@@ -27,7 +27,7 @@ pub enum CallKind {
 
 /// The next call of a list, and whether it succeeds. A write that fails leaves its range unsynced; a sync that fails makes
 /// nothing stable.
-#[derive(Clone, Copy, Debug, PartialEq, Eq)]
+#[derive(Clone, Copy, Debug)]
 pub struct Call {
     pub list: CallList,
     pub kind: CallKind,

@@ -3,7 +3,7 @@
 use tungstenite::{CloseCode, CloseFrame, Utf8Bytes};
 
 /// Why the broker closes a connection (RFC 6455, section 7.4.1).
-#[derive(Clone, Copy, PartialEq, Eq)]
+#[derive(Clone, Copy)]
 pub enum CloseReason {
     /// The client has said DISCONNECT: 1000.
     NormalClosure,

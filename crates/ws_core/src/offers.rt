@@ -8,7 +8,7 @@ ghost use Rattle.ws_core.specs.Offers.{choice_of, has_stomp, is_stomp, is_blank,
 use http::HeaderMap;
 
 /// What a handshake answers to the subprotocols that the client offers.
-#[derive(Clone, Copy, PartialEq, Eq)]
+#[derive(Clone, Copy)]
 pub enum Choice {
     /// `v12.stomp`.
     Stomp,
