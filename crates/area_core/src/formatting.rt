@@ -12,8 +12,8 @@ use crate::put::closed;
 use disk_core::Disk;
 use std::alloc::{AllocError, Global};
 
-// The header's 32 bytes, by which the first area is live.
-fn header_of(alloc: Global, area_bytes: u64) -> Result<Vec<u8>, AllocError>
+/// The 32 bytes of the header of a journal with areas of so many bytes, by which the first area is live.
+pub fn header_of(alloc: Global, area_bytes: u64) -> Result<Vec<u8>, AllocError>
     ensures { IfOk result (λ bytes. bytes.items ≡ header area_bytes ++ replicate 16 0) }
 {
     let mut out = Vec::with_capacity(alloc, 32)?;

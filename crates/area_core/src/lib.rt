@@ -16,5 +16,6 @@ mod switch;
 
 pub use area::Area;
 pub use faults::{AreaFault, FormatFault, ReadFault};
-pub use formatting::format;
+pub use formatting::{format, header_of};
 pub use law::an_image_has_one_reading;
+pub use put::closed;

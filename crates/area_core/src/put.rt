@@ -55,8 +55,8 @@ pub(crate) fn put_behind_gate<D: Disk>(
     put(disk, gate, &[1])
 }
 
-// How many bytes, the bytes, and a closed gate.
-pub(crate) fn closed(alloc: Global, bytes: &[u8]) -> Result<Vec<u8>, AllocError>
+/// How many bytes these are, in eight, the bytes, and a closed gate.
+pub fn closed(alloc: Global, bytes: &[u8]) -> Result<Vec<u8>, AllocError>
     ensures { IfOk result (λ v. v.items ≡ closed bytes.now) }
 {
     let mut out = Vec::with_capacity(alloc, bytes.len().saturating_add(9))?;

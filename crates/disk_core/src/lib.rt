@@ -19,3 +19,4 @@ pub use faults::DeviceFault;
 pub use file::{FileDisk, OpenError};
 pub use fuse::FuseDisk;
 pub use memory::MemDisk;
+pub use span::{is_image, overwrite, release};

@@ -43,8 +43,8 @@ pub(crate) fn put_back(bytes: &mut [u8], held: &[Option<u8>], fill: Option<u8>)
     }
 }
 
-// Writes over a range of a disk, and holds what it held.
-pub(crate) fn overwrite(bytes: &mut [u8], held: &mut [Option<u8>], at: usize, new: &[u8])
+/// Writes over a range of a disk's bytes, and holds what they were, where nothing is held of them yet.
+pub fn overwrite(bytes: &mut [u8], held: &mut [Option<u8>], at: usize, new: &[u8])
     requires sizes { length held.old ≡ length bytes.old }
     requires within { at + length new.now ≤ length bytes.old }
     ensures bytes { bytes.new ≡ patched at new.now bytes.old }
@@ -55,8 +55,8 @@ pub(crate) fn overwrite(bytes: &mut [u8], held: &mut [Option<u8>], at: usize, ne
     bytes[at..end].copy_from_slice(new);
 }
 
-// Lets what is held go.
-pub(crate) fn release(held: &mut [Option<u8>])
+/// Lets go of all that is held: what is written is stable.
+pub fn release(held: &mut [Option<u8>])
     ensures { held.new ≡ none_held (length held.old) }
 {
     held.fill(None);
@@ -91,8 +91,8 @@ pub(crate) fn put_all_back(
     }
 }
 
-// Whether a stop may leave these bytes: as many, and the same wherever nothing is held.
-pub(crate) fn is_image(bytes: &[u8], held: &[Option<u8>], image: &[u8]) -> bool
+/// Whether a stop may leave these bytes of a disk: as many, and the same wherever nothing is held.
+pub fn is_image(bytes: &[u8], held: &[Option<u8>], image: &[u8]) -> bool
     requires { length held.now ≡ length bytes.now }
     ensures { IsTrue result ↔ IsImage bytes.now held.now image.now }
 {

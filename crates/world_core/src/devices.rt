@@ -8,13 +8,13 @@ ghost use Rattle.world_core.specs.Keeping.{IsKept};
 ghost use Rattle.world_core.specs.Parts.{disk_of, value_of};
 ghost use Rattle.world_core.specs.Touches.{IsDue, IsTouched, begun};
 
-use crate::bytes::{overwrite, release};
 use crate::calls::{phase_after, place_after, stored_after};
 use crate::parts::Parts;
 use crate::recovering::restarted_broker;
 use crate::seat::renew;
 use crate::{Call, CallKind, Event, Phase, Place};
 use broker_core::Broker;
+use disk_core::{overwrite, release};
 use std::alloc::{AllocError, Global};
 use std::snapshot::Snapshot;
 

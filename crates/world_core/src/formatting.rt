@@ -1,23 +1,11 @@
 //! The disk of the first world.
 
-ghost use Rattle.std.specs.Prelude.{◌≡◌, ◌+◌, ◌≤◌, ◌++◌, IfOk, length, replicate};
+ghost use Rattle.std.specs.Prelude.{◌≡◌, ◌+◌, ◌≤◌, IfOk, length};
 ghost use Rattle.disk_core.specs.Images.{patched};
-ghost use Rattle.area_core.specs.Journals.{header};
 ghost use Rattle.world_core.specs.Schedules.{opened_once};
 
-use crate::patches::closed;
+use area_core::{closed, header_of};
 use std::alloc::{AllocError, Global};
-
-// The header's 32 bytes, by which the first area is live.
-fn header_of(alloc: Global, size: u64) -> Result<Vec<u8>, AllocError>
-    ensures { IfOk result (λ bytes. bytes.items ≡ header size ++ replicate 16 0) }
-{
-    let mut out = Vec::with_capacity(alloc, 32)?;
-    out.extend_from_slice(b"STOMPJ01")?;
-    out.extend_from_slice(&size.to_be_bytes())?;
-    out.extend_from_slice(&[0; 16])?;
-    Ok(out)
-}
 
 fn put_at(bytes: &mut [u8], at: usize, new: &[u8])
     requires { at + length new.now ≤ length bytes.old }

@@ -1,7 +1,7 @@
 //! What the writes of the lists write.
 
 ghost use Rattle.std.specs.Prelude.{◌≡◌, ◌+◌, ◌<◌, ◌≤◌, IfOk, IfSome, None, length, slice_index};
-ghost use Rattle.area_core.specs.Areas.{closed, commands, records};
+ghost use Rattle.area_core.specs.Areas.{commands, records};
 ghost use Rattle.area_core.specs.Journals.{is_odd, start};
 ghost use Rattle.world_core.specs.Calls.{batch};
 ghost use Rattle.world_core.specs.Keeping.{IsKept};
@@ -12,6 +12,7 @@ ghost use Rattle.world_core.specs.Touches.{IsDue, IsNoPatch, IsPatch};
 use crate::Place;
 use crate::parts::Parts;
 use crate::recovering::{gate_in, restarted_snapshot};
+use area_core::closed;
 use command_core::Entry;
 use std::alloc::{AllocError, Global};
 
@@ -30,17 +31,6 @@ fn records_of(alloc: Global, entries: &[Entry<()>]) -> Result<Vec<u8>, AllocErro
     for entry in entries {
         out.extend_from_slice(entry.bytes())?;
     }
-    Ok(out)
-}
-
-// How many bytes these are, in eight, the bytes, and a closed gate.
-pub(crate) fn closed(alloc: Global, bytes: &[u8]) -> Result<Vec<u8>, AllocError>
-    ensures { IfOk result (λ out. out.items ≡ closed bytes.now) }
-{
-    let mut out = Vec::new(alloc);
-    out.extend_from_slice(&(bytes.len() as u64).to_be_bytes())?;
-    out.extend_from_slice(bytes)?;
-    out.push(0)?;
     Ok(out)
 }
 

@@ -7,10 +7,10 @@ ghost use Rattle.world_core.specs.Events.{CanClaim, IsReady, MayClaim, last_of, 
 ghost use Rattle.world_core.specs.Keeping.{IsKept};
 ghost use Rattle.world_core.specs.Parts.{value_of};
 
-use crate::bytes::{is_image, release};
 use crate::parts::{Parts, are_there, is_clear, is_running, is_set};
 use crate::{Event, Phase, Place, Seat};
 use command_core::{Command, Entry};
+use disk_core::{is_image, release};
 use frame_core::Bytes;
 use std::alloc::{AllocError, Global};
 
