@@ -1,3 +1,4 @@
+pub mod Faults
 pub mod Going
 pub mod Journals
 pub mod Placed

@@ -1,7 +1,8 @@
 //! How waiting commands come into the ring: each by its connection's seat, in their order.
 
-ghost use Rattle.std.specs.Prelude.{◌≡◌, ◌+◌, ℕ, [], ◌∷◌, ◌++◌, OnOk, IfOk, IfSome, Ok};
+ghost use Rattle.std.specs.Prelude.{◌≡◌, ◌+◌, ℕ, [], ◌∷◌, ◌++◌, OnOk, IfErr, IfOk, IfSome, Ok};
 ghost use Rattle.command_core.specs.Commands.{CommandValue};
+ghost use Rattle.script_journal.specs.Faults.{IsOfRing};
 ghost use Rattle.script_journal.specs.Placed.{ArePlaced, AreSeatsOf, IsPlaced, commands_of};
 
 use crate::waiting::{ScriptBox, ScriptRing, ScriptSeat, Waiting};
@@ -24,6 +25,7 @@ pub fn append_all(
     requires { AreSeatsOf ring.now seats.old.items }
     ensures seats { AreSeatsOf ring.now seats.new.items }
     ensures placed { OnOk result (ArePlaced first seats.new.items (commands_of waiting.items)) }
+    ensures fault { IfErr result IsOfRing }
 {
     let mut next = first;
     for command in waiting {
@@ -44,6 +46,7 @@ fn append_one(
     ensures seats { AreSeatsOf ring.now seats.new.items }
     ensures next { IfOk result (λ next. next ≡ ticket + 1) }
     ensures placed { OnOk result (IsPlaced seats.new.items ticket waiting.command) }
+    ensures fault { IfErr result IsOfRing }
     ensures others { OnOk result ((t : ℕ) (c : CommandValue) → IsPlaced seats.old.items t c → IsPlaced seats.new.items t c) }
 {
     let Waiting {
@@ -73,6 +76,7 @@ fn append_at(
     requires { seat.old.ring ≡ ring.now }
     ensures ring { seat.new.ring ≡ seat.old.ring }
     ensures next { IfOk result (λ next. next ≡ ticket + 1) }
+    ensures fault { IfErr result IsOfRing }
     ensures own { OnOk result (seat.new.own ≡ seat.old.own ++ (ticket, entry.command) ∷ []) }
 {
     let Some(next) = ticket.checked_add(1) else {

@@ -9,6 +9,8 @@ ghost use Rattle.disk_core.specs.Images.{IsImage};
 ghost use Rattle.recover_core.specs.Standing.{StandFor, Stands};
 ghost use Rattle.recover_core.specs.Stores.{disk_of, is_broken, opened_by};
 ghost use Rattle.recover_core.specs.Told.{IsOpenTold};
+ghost use Rattle.flush_core.specs.declared.faults.FlushFault.TheVariants.{Broken};
+ghost use Rattle.script_journal.specs.Faults.{IsNotOfDisk};
 ghost use Rattle.script_journal.specs.Journals.{StandsAfterFront};
 ghost use Rattle.script_journal.specs.Placed.{commands_of};
 
@@ -71,7 +73,8 @@ impl Journal {
 
     /// How many messages are held. `None` once a step failed.
     pub fn held(&self) -> Option<u64>
-        ensures { IfSome result (λ messages. messages ≡ held_messages self.now.state) }
+        ensures held { IfSome result (λ messages. messages ≡ held_messages self.now.state) }
+        ensures some { self.now.durable ≡ true → IsSome result }
     {
         if !self.whole || self.flusher.is_broken() {
             return None;
@@ -122,6 +125,7 @@ impl Journal {
     pub fn release(&mut self, connection: u8, out: Out) -> Result<Released, FlushFault>
         ensures same { self.new ≡ self.old }
         ensures released { IfOk result (λ released. released ≡ out) }
+        ensures refused { IfErr result (λ fault. fault ≡ Broken) }
     {
         let place = connection as usize;
         if !self.whole || place >= self.seats.len() {
@@ -135,7 +139,8 @@ impl Journal {
 
     /// The disk, unless a step failed.
     pub fn into_disk(self) -> Option<MemDisk>
-        ensures { IfSome result (λ disk. Stands disk.content self.state) }
+        ensures stands { IfSome result (λ disk. Stands disk.content self.state) }
+        ensures some { self.durable ≡ true → IsSome result }
     {
         if !self.whole || self.flusher.is_broken() {
             return None;
@@ -152,7 +157,8 @@ impl Journal {
         calls: u64,
         fill: Option<u8>,
     ) -> Result<MemDisk, FlushFault>
-        ensures { IfOk result (λ disk. ∥ StandsAfterFront self.state (commands_of waiting.items) disk.content ∥₁) }
+        ensures stands { IfOk result (λ disk. ∥ StandsAfterFront self.state (commands_of waiting.items) disk.content ∥₁) }
+        ensures fault { IfErr result IsNotOfDisk }
     {
         if !self.whole || self.flusher.is_broken() {
             return Err(FlushFault::Broken);

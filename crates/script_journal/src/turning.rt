@@ -1,7 +1,9 @@
 //! How commands come out of the ring: in turns of the flusher.
 
-ghost use Rattle.std.specs.Prelude.{◌≡◌, List, IfErr, IfOk, OnOk, length, true};
+ghost use Rattle.std.specs.Prelude.{◌≡◌, List, IfErr, IfOk, OnOk, length, false, true};
 ghost use Rattle.command_core.specs.Commands.{CommandValue};
+ghost use Rattle.disk_core.specs.Faults.{IsOneMore};
+ghost use Rattle.script_journal.specs.Faults.{IsCausedBy, IsNotOfDisk};
 ghost use Rattle.script_journal.specs.Going.{HasGone, HasGoneFront, HasGoneSomeWay, IsIdle};
 ghost use Rattle.script_journal.specs.Placed.{AgreeAll, AreSeatsOf, commands_of};
 
@@ -26,6 +28,7 @@ pub fn take_all<D: Disk>(
     requires idle { IsIdle flusher.old }
     ensures taken { OnOk result ((more : List CommandValue) × (length more ≡ count) × HasGone flusher.old flusher.new more) }
     ensures fallen { IfErr result (λ fault. HasGoneSomeWay flusher.old flusher.new) }
+    ensures cause { IfErr result (IsCausedBy (D.failures flusher.old.disk) (D.failures flusher.new.disk)) }
 {
     let mut left = count;
     for _turn in 0..count {
@@ -55,11 +58,15 @@ fn take_until_stop<D: Disk>(
     requires idle { IsIdle flusher.old }
     ensures all { IfOk result (λ all. all ≡ true → (more : List CommandValue) × (length more ≡ count) × HasGone flusher.old flusher.new more) }
     ensures some { IfOk result (λ all. HasGoneSomeWay flusher.old flusher.new) }
+    ensures stopped { IfOk result (λ all. all ≡ false → IsOneMore (D.failures flusher.old.disk) (D.failures flusher.new.disk)) }
+    ensures fault { IfErr result IsNotOfDisk }
 {
     match take_all(alloc, ring, flusher, count) {
         Ok(()) => Ok(true),
         Err(FlushFault::Device) => Ok(false),
-        Err(fault) => Err(fault),
+        Err(FlushFault::Full) => Err(FlushFault::Full),
+        Err(FlushFault::Broken) => Err(FlushFault::Broken),
+        Err(FlushFault::Memory(refused)) => Err(FlushFault::Memory(refused)),
     }
 }
 
@@ -78,6 +85,8 @@ pub fn go<D: Disk>(
     ensures seats { AreSeatsOf ring.now seats.new.items }
     ensures all { IfOk result (λ all. all ≡ true → HasGone flusher.old flusher.new (commands_of waiting.items)) }
     ensures some { IfOk result (λ all. HasGoneFront flusher.old flusher.new (commands_of waiting.items)) }
+    ensures stopped { IfOk result (λ all. all ≡ false → IsOneMore (D.failures flusher.old.disk) (D.failures flusher.new.disk)) }
+    ensures fault { IfErr result IsNotOfDisk }
 {
     let first = flusher.next();
     let count = waiting.len() as u64;

@@ -1,0 +1,26 @@
+-- Which faults come from where.
+use Rattle.std.specs.Prelude.{◌≡◌, ℕ}
+use Rattle.disk_core.specs.Faults.{IsOneMore}
+use Rattle.flush_core.specs.declared.faults.FlushFault.{FlushFault}
+use Rattle.flush_core.specs.declared.faults.FlushFault.TheVariants.{Device, Full, Broken, Memory}
+
+-- what keeps a command from the ring: memory is refused, or the ring refuses it
+abbrev pub IsOfRing : FlushFault → Type 0
+IsOfRing Device = ⊥
+IsOfRing Full = ⊥
+IsOfRing Broken = Unit {0}
+IsOfRing (Memory refused) = Unit {0}
+
+-- it is not the disk that failed
+abbrev pub IsNotOfDisk : FlushFault → Type 0
+IsNotOfDisk Device = ⊥
+IsNotOfDisk Full = Unit {0}
+IsNotOfDisk Broken = Unit {0}
+IsNotOfDisk (Memory refused) = Unit {0}
+
+-- the disk failed just where that is the fault
+abbrev pub IsCausedBy : ℕ → ℕ → FlushFault → Type 0
+IsCausedBy before now Device = IsOneMore before now
+IsCausedBy before now Full = now ≡ before
+IsCausedBy before now Broken = now ≡ before
+IsCausedBy before now (Memory refused) = now ≡ before
