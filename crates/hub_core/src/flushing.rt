@@ -1,6 +1,7 @@
 //! What the flusher's thread does.
 
 ghost use Rattle.std.specs.Prelude.{◌≡◌, IfOk, OnErr, true, false};
+ghost use Rattle.flush_core.specs.Faults.{IsFlushCaused};
 ghost use Rattle.hub_core.specs.Flushes.{Flushes};
 
 use crate::gate::Gate;
@@ -14,7 +15,7 @@ use std::alloc::Global;
 const FLUSHER: u32 = u32::MAX;
 
 /// Makes so many turns of the flusher, those that its gate held up counted, and answers the mark then. Outputs of sessions
-/// that have no outbox are dropped. A fault ends it at once.
+/// that have no outbox are dropped. A fault ends it at once: `Device` just where a call of the disk failed.
 pub fn flush_loop<D: Disk, B: Bell, G: Gate>(
     alloc: Global,
     ring: &BrokerRing<OutSender<B>>,
@@ -26,6 +27,7 @@ pub fn flush_loop<D: Disk, B: Bell, G: Gate>(
     requires settled { flusher.old.broken ≡ false → flusher.old.settled ≡ flusher.old.stored }
     ensures mark { IfOk result (λ mark. mark ≡ flusher.new.seat.published) }
     ensures flushes { Flushes flusher.old flusher.new }
+    ensures cause { IsFlushCaused (D.failures flusher.old.disk) (D.failures flusher.new.disk) result }
     ensures stops { OnErr result ((flusher.new.broken ≡ true) × (flusher.new.seat.stopped ≡ true)) }
 {
     for turn in 0..turns {
@@ -46,6 +48,7 @@ fn flush<D: Disk, B: Bell, G: Gate>(
     requires ring { flusher.old.seat.ring ≡ ring.now }
     requires settled { flusher.old.broken ≡ false → flusher.old.settled ≡ flusher.old.stored }
     ensures flushes { Flushes flusher.old flusher.new }
+    ensures cause { IsFlushCaused (D.failures flusher.old.disk) (D.failures flusher.new.disk) result }
     ensures stops { OnErr result ((flusher.new.broken ≡ true) × (flusher.new.seat.stopped ≡ true)) }
 {
     let before = flusher.mark();
