@@ -211,14 +211,12 @@ fn headers_of(alloc: Global, bytes: &[u8]) -> Result<(Headers, &[u8]), DecodeFau
     Ok((Headers::new(headers), rest))
 }
 
-// A body: how many bytes, in four, at most 65,536, and so many bytes.
-fn body_of(alloc: Global, bytes: &[u8]) -> Result<(Bytes, &[u8]), DecodeFault>
-    ensures read { Gives (λ x. (x.0, x.1.now)) result (counted_at 65536 bytes.now) }
-    ensures short { IfOk result (λ x. length x.0 ≤ 65536) }
+// The bytes of a body: at most 65,536, behind their count.
+fn body_of(bytes: &[u8]) -> Result<(&[u8], &[u8]), DecodeFault>
+    ensures read { Gives (λ x. (x.0.now, x.1.now)) result (counted_at 65536 bytes.now) }
+    ensures short { IfOk result (λ x. length x.0.now ≤ 65536) }
 {
-    let (body, rest) = counted_of(bytes, 65_536)?;
-    let body = Bytes::new(Vec::from_slice(alloc, body)?);
-    Ok((body, rest))
+    counted_of(bytes, 65_536)
 }
 
 /// What is sent: destination, at most 64 headers such as a message keeps, a body of at most 65,536 bytes.
@@ -228,6 +226,7 @@ pub fn sending_of(alloc: Global, bytes: &[u8]) -> Result<(Sending, &[u8]), Decod
 {
     let (destination, rest) = destination_of(alloc, bytes)?;
     let (headers, rest) = headers_of(alloc, rest)?;
-    let (body, rest) = body_of(alloc, rest)?;
+    let (body, rest) = body_of(rest)?;
+    let body = Bytes::new(Vec::from_slice(alloc, body)?);
     Ok((Sending::new(destination, headers, body), rest))
 }
