@@ -133,8 +133,9 @@ fn put_command(out: &mut Vec<u8>, command: &Command) -> Result<(), AllocError>
     ensures put { OnOk result (out.new.items ≡ out.old.items ++ records.record_of command.now) }
     ensures form { OnOk result (Spells (records.record_of command.now) command.now) }
 {
+    let asked = command.receipt();
     out.extend_from_slice(&command.session().to_be_bytes())?;
-    put_optional(out, command.receipt())?;
+    put_optional(out, asked)?;
     put_operation(out, command.op())
 }
 
