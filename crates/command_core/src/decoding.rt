@@ -1,6 +1,6 @@
 //! Commands, read from their records.
 
-ghost use Rattle.std.specs.Prelude.{◌≡◌, ◌≤◌, ◌&&◌, ℕ, IfOk, IfErr, is_some, length, take};
+ghost use Rattle.std.specs.Prelude.{◌≡◌, ◌≤◌, ◌&&◌, ℕ, IfOk, IfErr, is_some, length, nat_lt, take};
 ghost use Rattle.std.specs.Int.{w64};
 ghost use Rattle.command_core.specs.declared.decode_fault.DecodeFault.{DecodeFault};
 ghost use Rattle.command_core.specs.Commands.{CommandValue};
@@ -109,12 +109,19 @@ fn member_of(alloc: Global, bytes: &[u8]) -> Result<(Member, &[u8]), DecodeFault
     }
 }
 
+// Whether so many members are more than a transaction has.
+fn is_too_many(count: u16) -> bool
+    ensures { result ≡ nat_lt 64 count }
+{
+    count > 64
+}
+
 #[tactic(auto, unfolding(crate::specs::Reading::list_at))]
 fn members_of(alloc: Global, bytes: &[u8]) -> Result<(Members, &[u8]), DecodeFault>
     ensures { Gives (λ x. (x.0, x.1.now)) result (list_at member_at bytes.now) }
 {
     let (count, rest) = u16_of(bytes)?;
-    if count > 64 {
+    if is_too_many(count) {
         return Err(DecodeFault::NoSpelling);
     }
     let (members, rest) = many_of(alloc, u32::from(count), rest, |rest| member_of(alloc, rest))?;

@@ -1,6 +1,6 @@
 //! Text that may stand in a header.
 
-ghost use Rattle.std.specs.Prelude.{◌≡◌, ◌↔◌, IsTrue};
+ghost use Rattle.std.specs.Prelude.{◌≡◌, ◌≤◌, ◌↔◌, IsTrue, length};
 ghost use Rattle.frame_core.specs.Writable.{HasNoNul};
 ghost use Rattle.command_core.specs.Texts.{IsHeaderText};
 
@@ -26,6 +26,12 @@ impl Model for HeaderText {
     ghost invariant = { λ a. IsHeaderText a.text };
 }
 
+fn is_short(text: &str) -> bool
+    ensures { IsTrue result ↔ (length text.now ≤ 8192) }
+{
+    text.len() <= 8192
+}
+
 fn has_no_nul(text: &str) -> bool
     ensures { IsTrue result ↔ HasNoNul text.now }
 {
@@ -36,7 +42,7 @@ fn has_no_nul(text: &str) -> bool
 pub fn is_header_text(text: &str) -> bool
     ensures { IsTrue result ↔ IsHeaderText text.now }
 {
-    text.len() <= 8192 && has_no_nul(text)
+    is_short(text) && has_no_nul(text)
 }
 
 impl HeaderText {
