@@ -1,9 +1,15 @@
--- Reading one after the other, as a loop does.
-use Rattle.std.proofs.Common.{◌≡◌, ℕ, suc, ◌-◌, ◌+◌, ◌≤◌, ◌<◌, List, [], ◌∷◌, ◌++◌, Option, Some, None, refl, sym, ap, ◌∙◌, append_assoc, arith}
+-- Reading a number, and reading one after the other, as a loop does.
+use Rattle.std.proofs.Common.{◌≡◌, ℕ, suc, ◌-◌, ◌+◌, ◌≤◌, ◌<◌, List, [], ◌∷◌, ◌++◌, length, take, drop, Option, Some, None, refl, sym, ap, ◌∙◌, append_assoc, arith}
+use Rattle.std.specs.Int.{Width, byte_len, from_be_bytes}
+use Rattle.std.proofs.lemmas.Bool.{le-ltb}
 use Rattle.std.proofs.lemmas.List.{append-nil}
 use Rattle.command_core.specs.declared.decode_fault.DecodeFault.{DecodeFault}
 use Rattle.command_core.specs.declared.decode_fault.DecodeFault.TheVariants as faults
-use Rattle.command_core.specs.Reading.{◌>>=◌, Fails, Reader, many_at}
+use Rattle.command_core.specs.Reading.{◌>>=◌, Fails, Reader, number_at, many_at}
+
+-- so many bytes as a number has, and the others
+pub number_read : (w : Width) (bytes front rest : List ℕ) (n : ℕ) → byte_len w ≤ length bytes → front ≡ take (byte_len w) bytes → rest ≡ drop (byte_len w) bytes → n ≡ from_be_bytes w front → number_at w bytes ≡ Some (n, rest)
+number_read w bytes front rest n long first others value = rw (le-ltb _ _ long, value, first, others) refl
 
 -- what was read before, and what is still read
 abbrev pub with_front : {A : Type 0} → List A → Option (List A × List ℕ) → Option (List A × List ℕ)

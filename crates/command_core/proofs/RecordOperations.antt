@@ -33,6 +33,11 @@ chosen_by b k false x y z P is when otherwise e = otherwise e
 chosen : {A : Type 0} (b k : ℕ) (x y : Option A) (z : A) (P : Type 0) → (b ≡ k → x ≡ Some z → P) → (y ≡ Some z → P) → cond (eqb b k) x y ≡ Some z → P
 chosen b k x y z P when otherwise e = chosen_by b k (eqb b k) x y z P refl when otherwise e
 
+-- the kind that has nothing behind it
+pub note_read : (bytes rest : List ℕ) (kind : ℕ) → byte_at bytes ≡ Some (kind, rest) → kind ≡ 8 → operation_at bytes ≡ Some (Note, rest)
+unfolding operation_at
+note_read bytes rest kind e is = rw (e, is) refl
+
 -- a kind that is read as that one
 kind_is : (bytes rest : List ℕ) (b k : ℕ) → Takes bytes (b ∷ []) rest → b ≡ k → Takes bytes (k ∷ []) rest
 kind_is bytes rest b k taken is = subst (λ (n : ℕ). Takes bytes (n ∷ []) rest) is taken

@@ -161,6 +161,19 @@ destination_text d form =
       form = record { no_nul = dest_no_nul d form; short = omega (arith, length-drop 7 d) };
     }
 
+no_destination : (b : Bool) (d : List ℕ) → is_destination d ≡ b → (IsDestination d → ⊥) → is_destination d ≡ false
+no_destination true d e none = absurd (none (record { valid = e }))
+no_destination false d e none = e
+
+-- what is no destination is not read
+pub none_read_as_destination : (bytes text rest : List ℕ) → text_at bytes ≡ Some (text, rest) → (IsDestination text → ⊥) → destination_at bytes ≡ None
+unfolding destination_at
+none_read_as_destination bytes text rest e none = rw (e, no_destination (is_destination text) text refl none) refl
+
+pub destination_read : (bytes text rest : List ℕ) → text_at bytes ≡ Some (text, rest) → IsDestination text → destination_at bytes ≡ Some (text, rest)
+unfolding destination_at
+destination_read bytes text rest e form = rw (e, form.valid) refl
+
 pub destination_format : Format counted IsDestination destination_at
 unfolding destination_at
 destination_format =

@@ -18,6 +18,10 @@ pub bytes_are : (bytes : List ℕ) → ((i : ℕ) → get_or bytes i 0 < 256) �
 bytes_are [] fits = tt
 bytes_are (b ∷ bytes) fits = (fits 0, bytes_are bytes (λ i. fits (suc i)))
 
+-- three put behind one another
+pub put_three : (old one two now a b c : List ℕ) → one ≡ old ++ a → two ≡ one ++ b → now ≡ two ++ c → now ≡ old ++ (a ++ b ++ c)
+put_three old one two now a b c p q r = r ∙ ap (λ bytes. bytes ++ c) (q ∙ ap (λ bytes. bytes ++ b) p ∙ append_assoc old a b) ∙ append_assoc old (a ++ b) c
+
 -- what stands behind what was there, of the elements so far, and of one more
 pub put_more : {X : Type 0} (f : X → List ℕ) (old head front now : List ℕ) (xs : List X) (i : ℕ) (x : X) → i < length xs → x ≡ get_or xs i x → front ≡ old ++ (head ++ flat_map f (take i xs)) → now ≡ front ++ f x
     → now ≡ old ++ (head ++ flat_map f (take (i + 1) xs))

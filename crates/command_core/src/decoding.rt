@@ -1,15 +1,17 @@
 //! Commands, read from their records.
 
-ghost use Rattle.std.specs.Prelude.{◌≡◌, ◌≤◌, ◌&&◌, ℕ, IfOk, IfErr, is_some, length, take};
+ghost use Rattle.std.specs.Prelude.{◌≡◌, ◌≤◌, ◌&&◌, ℕ, IfOk, IfErr, is_some, length, nat_lt, take};
 ghost use Rattle.std.specs.Int.{w64};
 ghost use Rattle.command_core.specs.declared.decode_fault.DecodeFault.{DecodeFault};
 ghost use Rattle.command_core.specs.Commands.{CommandValue};
+ghost use Rattle.command_core.specs.Destinations.{is_queue};
 ghost use Rattle.command_core.specs.Reading.{Gives, fault_at, end_at, subscribe_at, unsubscribe_at, member_at, list_at, operation_at, command_at};
 ghost use Rattle.command_core.specs.Reading.{fits as fits_with};
 ghost use Rattle.command_core.specs.Spellings.{Spells};
 
 use crate::command::{Command, End, Op};
 use crate::decode_fault::DecodeFault;
+use crate::destination::Dest;
 use crate::fault::Fault;
 use crate::header_text::HeaderText;
 use crate::member::{Member, Members};
@@ -46,6 +48,13 @@ fn end_of(bytes: &[u8]) -> Result<(End, &[u8]), DecodeFault>
     }
 }
 
+// Whether a durable name comes with a queue, as none may.
+fn is_of_queue(durable: &Option<HeaderText>, destination: &Dest) -> bool
+    ensures { result ≡ (is_some durable.now && is_queue destination.now) }
+{
+    durable.is_some() && destination.is_queue()
+}
+
 #[tactic(auto, unfolding(crate::specs::Reading::subscribe_at))]
 fn subscribe_of(alloc: Global, bytes: &[u8]) -> Result<(Op, &[u8]), DecodeFault>
     ensures { Gives (λ x. (x.0, x.1.now)) result (subscribe_at bytes.now) }
@@ -54,7 +63,7 @@ fn subscribe_of(alloc: Global, bytes: &[u8]) -> Result<(Op, &[u8]), DecodeFault>
     let (destination, rest) = destination_of(alloc, rest)?;
     let (mode, rest) = mode_of(rest)?;
     let (durable, rest) = name_of(alloc, rest)?;
-    if durable.is_some() && destination.is_queue() {
+    if is_of_queue(&durable, &destination) {
         return Err(DecodeFault::NoSpelling);
     }
     let op = Op::Subscribe {
@@ -100,12 +109,19 @@ fn member_of(alloc: Global, bytes: &[u8]) -> Result<(Member, &[u8]), DecodeFault
     }
 }
 
+// Whether so many members are more than a transaction has.
+fn is_too_many(count: u16) -> bool
+    ensures { result ≡ nat_lt 64 count }
+{
+    count > 64
+}
+
 #[tactic(auto, unfolding(crate::specs::Reading::list_at))]
 fn members_of(alloc: Global, bytes: &[u8]) -> Result<(Members, &[u8]), DecodeFault>
     ensures { Gives (λ x. (x.0, x.1.now)) result (list_at member_at bytes.now) }
 {
     let (count, rest) = u16_of(bytes)?;
-    if count > 64 {
+    if is_too_many(count) {
         return Err(DecodeFault::NoSpelling);
     }
     let (members, rest) = many_of(alloc, u32::from(count), rest, |rest| member_of(alloc, rest))?;

@@ -128,14 +128,23 @@ fn put_operation(out: &mut Vec<u8>, op: &Op) -> Result<(), AllocError>
     }
 }
 
+// A command: the session, the receipt that it asks for, the operation.
+fn put_command(out: &mut Vec<u8>, command: &Command) -> Result<(), AllocError>
+    ensures put { OnOk result (out.new.items ≡ out.old.items ++ records.record_of command.now) }
+    ensures form { OnOk result (Spells (records.record_of command.now) command.now) }
+{
+    let asked = command.receipt();
+    out.extend_from_slice(&command.session().to_be_bytes())?;
+    put_optional(out, asked)?;
+    put_operation(out, command.op())
+}
+
 /// The record of a command, which is its one spelling. It fails only where memory for the whole record is refused.
 pub fn encode(alloc: Global, command: &Command) -> Result<Vec<u8>, AllocError>
     ensures { IfOk result (λ spelling. Spells spelling.items command.now) }
 {
     let size = 8 + option_size(command.receipt()) + op_size(command.op());
     let mut out = Vec::with_capacity(alloc, size as usize)?;
-    out.extend_from_slice(&command.session().to_be_bytes())?;
-    put_optional(&mut out, command.receipt())?;
-    put_operation(&mut out, command.op())?;
+    put_command(&mut out, command)?;
     Ok(out)
 }

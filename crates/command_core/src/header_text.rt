@@ -1,6 +1,7 @@
 //! Text that may stand in a header.
 
-ghost use Rattle.std.specs.Prelude.{◌≡◌, ◌↔◌, IsTrue};
+ghost use Rattle.std.specs.Prelude.{◌≡◌, ◌≤◌, ◌↔◌, IsTrue, length};
+ghost use Rattle.frame_core.specs.Writable.{HasNoNul};
 ghost use Rattle.command_core.specs.Texts.{IsHeaderText};
 
 use frame_core::Text;
@@ -25,11 +26,23 @@ impl Model for HeaderText {
     ghost invariant = { λ a. IsHeaderText a.text };
 }
 
+fn is_short(text: &str) -> bool
+    ensures { IsTrue result ↔ (length text.now ≤ 8192) }
+{
+    text.len() <= 8192
+}
+
+fn has_no_nul(text: &str) -> bool
+    ensures { IsTrue result ↔ HasNoNul text.now }
+{
+    !text.as_bytes().contains(&0)
+}
+
 /// Whether the text may stand in a header: it has no NUL, and at most 8,192 bytes.
 pub fn is_header_text(text: &str) -> bool
     ensures { IsTrue result ↔ IsHeaderText text.now }
 {
-    text.len() <= 8192 && !text.as_bytes().contains(&0)
+    is_short(text) && has_no_nul(text)
 }
 
 impl HeaderText {

@@ -29,37 +29,30 @@ pub(crate) fn byte_of(bytes: &[u8]) -> Result<(u8, &[u8]), DecodeFault>
 pub(crate) fn u16_of(bytes: &[u8]) -> Result<(u16, &[u8]), DecodeFault>
     ensures { Gives (λ x. (x.0, x.1.now)) result (number_at w16 bytes.now) }
 {
-    if bytes.len() < 2 {
-        return Err(DecodeFault::NoSpelling);
+    match bytes.split_first_chunk::<2>() {
+        None => Err(DecodeFault::NoSpelling),
+        Some((front, rest)) => Ok((u16::from_be_bytes(*front), rest)),
     }
-    let (front, rest) = bytes.split_at(2);
-    Ok((u16::from_be_bytes([front[0], front[1]]), rest))
 }
 
 /// A number of four bytes.
 pub fn u32_of(bytes: &[u8]) -> Result<(u32, &[u8]), DecodeFault>
     ensures { Gives (λ x. (x.0, x.1.now)) result (number_at w32 bytes.now) }
 {
-    if bytes.len() < 4 {
-        return Err(DecodeFault::NoSpelling);
+    match bytes.split_first_chunk::<4>() {
+        None => Err(DecodeFault::NoSpelling),
+        Some((front, rest)) => Ok((u32::from_be_bytes(*front), rest)),
     }
-    let (front, rest) = bytes.split_at(4);
-    let number = u32::from_be_bytes([front[0], front[1], front[2], front[3]]);
-    Ok((number, rest))
 }
 
 /// A number of eight bytes.
 pub fn u64_of(bytes: &[u8]) -> Result<(u64, &[u8]), DecodeFault>
     ensures { Gives (λ x. (x.0, x.1.now)) result (number_at w64 bytes.now) }
 {
-    if bytes.len() < 8 {
-        return Err(DecodeFault::NoSpelling);
+    match bytes.split_first_chunk::<8>() {
+        None => Err(DecodeFault::NoSpelling),
+        Some((front, rest)) => Ok((u64::from_be_bytes(*front), rest)),
     }
-    let (front, rest) = bytes.split_at(8);
-    let number = u64::from_be_bytes([
-        front[0], front[1], front[2], front[3], front[4], front[5], front[6], front[7],
-    ]);
-    Ok((number, rest))
 }
 
 // At most so many bytes, behind their count.
@@ -218,6 +211,14 @@ fn headers_of(alloc: Global, bytes: &[u8]) -> Result<(Headers, &[u8]), DecodeFau
     Ok((Headers::new(headers), rest))
 }
 
+// The bytes of a body: at most 65,536, behind their count.
+fn body_of(bytes: &[u8]) -> Result<(&[u8], &[u8]), DecodeFault>
+    ensures read { Gives (λ x. (x.0.now, x.1.now)) result (counted_at 65536 bytes.now) }
+    ensures short { IfOk result (λ x. length x.0.now ≤ 65536) }
+{
+    counted_of(bytes, 65_536)
+}
+
 /// What is sent: destination, at most 64 headers such as a message keeps, a body of at most 65,536 bytes.
 #[tactic(auto, unfolding(crate::specs::Reading::sending_at))]
 pub fn sending_of(alloc: Global, bytes: &[u8]) -> Result<(Sending, &[u8]), DecodeFault>
@@ -225,7 +226,7 @@ pub fn sending_of(alloc: Global, bytes: &[u8]) -> Result<(Sending, &[u8]), Decod
 {
     let (destination, rest) = destination_of(alloc, bytes)?;
     let (headers, rest) = headers_of(alloc, rest)?;
-    let (body, rest) = counted_of(rest, 65_536)?;
+    let (body, rest) = body_of(rest)?;
     let body = Bytes::new(Vec::from_slice(alloc, body)?);
     Ok((Sending::new(destination, headers, body), rest))
 }

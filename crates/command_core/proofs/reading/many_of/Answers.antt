@@ -21,3 +21,6 @@ loop-preserved g c =
 pub returns-clause-read : goal.returns-clause-read
 returns-clause-read g c one reads =
     is_done one c.loop.items.items c.args.count c.loop.counter c.loop.rest.now (many_at one c.args.count c.args.bytes.now) c.loop-test.false (c.loop.invariant.read one reads)
+
+pub returns-clause-count : goal.returns-clause-count
+returns-clause-count g c = omega (arith, c.loop.invariant.count)
