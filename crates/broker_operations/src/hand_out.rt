@@ -7,7 +7,7 @@ ghost use Rattle.broker_state.specs.HandOut.{ack_of, can_take, delivered, handed
 ghost use Rattle.broker_state.specs.Lists.{is_none};
 ghost use Rattle.broker_state.specs.States.{State, bytes, one};
 ghost use Rattle.broker_state.specs.Waiting.{line_for, weight_of_shared};
-ghost use Rattle.broker_operations.specs.Handing.{IsHanded};
+ghost use Rattle.broker_operations.specs.Handing.{IsHanded, IsLast};
 ghost use Rattle.line_core.specs.declared.message.Message.{Message};
 ghost use Rattle.std.specs.List.{sum_by};
 ghost use Rattle.broker_state.specs.Settles.{SettlesSo};
@@ -203,19 +203,19 @@ impl Tables {
             &mut self.shared,
             &mut self.held,
         )?;
-        self.wait_last(sub)?;
-        Ok(out)
+        self.wait_last(sub, out)
     }
 
-    /// A subscription that was served waits last, and the next delivery has another number.
-    fn wait_last(&mut self, sub: Subscription) -> Result<(), AllocError>
+    /// A subscription that was served waits last, and the next delivery has another number; gives the MESSAGE.
+    fn wait_last(&mut self, sub: Subscription, out: Out) -> Result<Out, AllocError>
         requires number { self.old.next_delivery < 2 ^ 63 }
-        requires slots { self.old.order.added + 1 < 2 ^ 128 }
-        ensures subscriptions { OnOk result (self.new.order.subscriptions ≡ self.old.order.subscriptions ++ sub ∷ []) }
-        ensures added { OnOk result (self.new.order.added ≡ self.old.order.added + 1) }
-        ensures others { OnOk result (self.new ≡ record self.old { next_delivery = self.old.next_delivery + 1; order = self.new.order }) }
+        requires slots { self.old.order.added < 2 ^ 66 }
+        ensures waits { IfOk result (λ given. IsLast self.old sub out self.new given) }
     {
         self.next_delivery += 1;
-        self.order.add(sub)
+        match self.order.add(sub) {
+            Ok(()) => Ok(out),
+            Err(refused) => Err(refused),
+        }
     }
 }

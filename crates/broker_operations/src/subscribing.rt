@@ -258,10 +258,10 @@ impl Tables {
         ensures tallied { OnOk result (IsTallied (number + 1) self.new) }
     {
         match self.bind(number, &sub) {
-            Ok(Ok(())) => {
-                self.order.add(sub)?;
-                Ok(Ok(()))
-            }
+            Ok(Ok(())) => match self.order.add(sub) {
+                Ok(()) => Ok(Ok(())),
+                Err(refused) => Err(refused),
+            },
             refused => refused,
         }
     }
