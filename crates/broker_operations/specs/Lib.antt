@@ -1,3 +1,4 @@
+pub mod Handing
 pub mod Orders
 pub mod Places
 pub mod Returns

@@ -1,11 +1,13 @@
 //! What waits is handed out.
 
-ghost use Rattle.std.specs.Prelude.{◌≡◌, ◌+◌, ◌-◌, ◌++◌, ◌∷◌, ◌<◌, ◌≤◌, ◌^◌, [], ℕ, List, IfOk, OnOk, Some, drop, false, if◌then◌else◌, length, not, remove, slice_get, true};
+ghost use Rattle.std.specs.Prelude.{◌≡◌, ◌+◌, ◌-◌, ◌++◌, ◌∷◌, ◌<◌, ◌≤◌, ◌^◌, [], ℕ, List, IfOk, OnOk, Some, drop, false, if◌then◌else◌, length, nat_lt, not, remove, slice_get, true};
 ghost use Rattle.line_core.specs.Flights.{IsOver};
 ghost use Rattle.line_core.specs.Lines.{first_of};
 ghost use Rattle.broker_state.specs.HandOut.{ack_of, can_take, delivered, handed_to, is_auto, message_out, settled, waiting};
 ghost use Rattle.broker_state.specs.Lists.{is_none};
-ghost use Rattle.broker_state.specs.States.{State, bytes};
+ghost use Rattle.broker_state.specs.States.{State, bytes, one};
+ghost use Rattle.broker_state.specs.Waiting.{line_for, weight_of_shared};
+ghost use Rattle.broker_operations.specs.Handing.{IsHanded, IsLast};
 ghost use Rattle.line_core.specs.declared.message.Message.{Message};
 ghost use Rattle.std.specs.List.{sum_by};
 ghost use Rattle.broker_state.specs.Settles.{SettlesSo};
@@ -13,6 +15,7 @@ ghost use Rattle.command_core.specs.Outs.{OutValue};
 ghost use Rattle.broker_operations.specs.Tables.{IsTallied, state_of};
 ghost use Rattle.broker_state.specs.declared.subscription.Subscription.{Subscription};
 
+use crate::shared_lines::SharedLines;
 use crate::tables::Tables;
 use broker_state::{Held, LAST_DELIVERY, Subscription};
 use command_core::{AckMode, Out, message_reply};
@@ -86,6 +89,26 @@ fn deliver(
     }
 }
 
+/// The least message of a subscription's line, which has one, goes to the subscription, by that number of its delivery;
+/// gives the MESSAGE. With `auto` it is held no more.
+fn hand_to(
+    alloc: Global,
+    number: u64,
+    sub: &mut Subscription,
+    delivery: u64,
+    shared: &mut SharedLines,
+    held: &mut Held,
+) -> Result<Out, AllocError>
+    requires waits { is_none (line_for shared.old sub.old) ≡ false }
+    requires over { IsOver delivery sub.old.unacknowledged }
+    requires messages { weight_of_shared one shared.old + sum_by one sub.old.line ≤ held.old.messages }
+    requires bytes { weight_of_shared bytes shared.old + sum_by bytes sub.old.line ≤ held.old.bytes }
+    ensures handed { IfOk result (λ out. IsHanded number delivery shared.old sub.old held.old shared.new sub.new held.new out) }
+{
+    let message = shared.take_for(sub)?;
+    deliver(alloc, number, sub, delivery, message, held)
+}
+
 impl Tables {
     /// Hands out what waits, one delivery after another, until nothing can be handed out; adds the MESSAGEs in their
     /// order. The waiting order is gone through once: who could not be served before those behind it were can't be served
@@ -138,6 +161,13 @@ impl Tables {
         Ok(true)
     }
 
+    /// Whether there is a number for one more delivery.
+    fn has_number(&self) -> bool
+        ensures { result ≡ nat_lt self.now.next_delivery (2 ^ 63) }
+    {
+        self.next_delivery < LAST_DELIVERY
+    }
+
     /// Whether the subscription in that place can be served.
     fn can_serve(&self, at: usize) -> bool
         requires { at < length self.now.order.subscriptions }
@@ -145,7 +175,7 @@ impl Tables {
             → result ≡ can_take (state_of number self.now) sub }
     {
         let sub = self.order.get(at);
-        self.next_delivery < LAST_DELIVERY && sub.has_room() && self.shared.has_message(sub)
+        self.has_number() && sub.has_room() && self.shared.has_message(sub)
     }
 
     /// The subscription in that place, which can be served, gets the least message of its line, and then waits last; gives
@@ -164,11 +194,28 @@ impl Tables {
         ensures tallied { OnOk result (IsTallied (number + 1) self.new) }
     {
         let mut sub = self.order.remove(at);
-        let message = self.shared.take_for(&mut sub)?;
         let delivery = self.next_delivery;
-        let out = deliver(alloc, number, &mut sub, delivery, message, &mut self.held)?;
+        let out = hand_to(
+            alloc,
+            number,
+            &mut sub,
+            delivery,
+            &mut self.shared,
+            &mut self.held,
+        )?;
+        self.wait_last(sub, out)
+    }
+
+    /// A subscription that was served waits last, and the next delivery has another number; gives the MESSAGE.
+    fn wait_last(&mut self, sub: Subscription, out: Out) -> Result<Out, AllocError>
+        requires number { self.old.next_delivery < 2 ^ 63 }
+        requires slots { self.old.order.added < 2 ^ 66 }
+        ensures waits { IfOk result (λ given. IsLast self.old sub out self.new given) }
+    {
         self.next_delivery += 1;
-        self.order.add(sub)?;
-        Ok(out)
+        match self.order.add(sub) {
+            Ok(()) => Ok(out),
+            Err(refused) => Err(refused),
+        }
     }
 }

@@ -1,7 +1,8 @@
 //! Messages are sent.
 
-ghost use Rattle.std.specs.Prelude.{◌≡◌, ◌<◌, ◌≤◌, ◌&&◌, ◌^◌, ℕ, IfOk, IsErr, OnOk, count_by, map};
+ghost use Rattle.std.specs.Prelude.{◌≡◌, ◌+◌, ◌<◌, ◌≤◌, ◌&&◌, ◌^◌, ℕ, IfOk, IsErr, OnOk, count_by, false, map};
 ghost use Rattle.std.specs.Str.{bytes_eq};
+ghost use Rattle.command_core.specs.Destinations.{is_queue};
 ghost use Rattle.broker_state.specs.Operations.{copied, copied_to_names, sent, fanned_out};
 ghost use Rattle.broker_state.specs.Parts.{copies_to, find_room, leaving};
 ghost use Rattle.broker_operations.specs.Tables.{IsTallied, state_of};
@@ -53,6 +54,14 @@ pub fn copies_to(tables: &Tables, to: &Dest) -> u64
     if to.is_queue() {
         return 1;
     }
+    copies_to_topic(tables, to)
+}
+
+/// How many copies of a message to that topic are to be kept.
+fn copies_to_topic(tables: &Tables, to: &Dest) -> u64
+    ensures { result ≡ count_by (λ durable. bytes_eq durable.1 to.now) tables.now.durables.entries
+        + count_by (λ sub. is_own sub && bytes_eq sub.destination to.now) tables.now.order.subscriptions }
+{
     names_of(&tables.durables, to) + listeners_of(&tables.order, to)
 }
 
@@ -135,11 +144,22 @@ impl Tables {
         ensures held { OnOk result (self.new.held ≡ self.old.held) }
         ensures added { OnOk result (self.new.order.added ≡ self.old.order.added) }
     {
-        if !message.sending.destination().is_queue() {
-            copy_to_names(alloc, &self.durables, &mut self.shared, &message)?;
-            return copy_to_listeners(&mut self.order, &message);
+        if message.sending.destination().is_queue() {
+            self.shared.put_in_queue(alloc, message)
+        } else {
+            self.copy_to_topic(alloc, &message)
         }
-        let to = message.sending.destination().clone()?;
-        self.shared.put_in_queue(alloc, to, message)
+    }
+
+    /// A message goes into the lines of its topic's durable names, and into those of the topic's subscriptions that have a
+    /// line of their own.
+    fn copy_to_topic(&mut self, alloc: Global, message: &Message) -> Result<(), AllocError>
+        requires topic { is_queue message.now.sending.destination ≡ false }
+        ensures fanned_out { OnOk result ((number : ℕ) → state_of number self.new ≡ fanned_out (state_of number self.old) message.now) }
+        ensures held { OnOk result (self.new.held ≡ self.old.held) }
+        ensures added { OnOk result (self.new.order.added ≡ self.old.order.added) }
+    {
+        copy_to_names(alloc, &self.durables, &mut self.shared, message)?;
+        copy_to_listeners(&mut self.order, message)
     }
 }

@@ -1,6 +1,6 @@
 //! The lines that stay when a subscription ends.
 
-ghost use Rattle.std.specs.Prelude.{◌≡◌, ◌+◌, [], IfOk, OnOk, Some, drop, false, not, ℕ};
+ghost use Rattle.std.specs.Prelude.{◌≡◌, ◌+◌, [], IfOk, None, OnOk, Some, drop, false, not, ℕ};
 ghost use Rattle.std.specs.BTreeMap.{is_at};
 ghost use Rattle.std.specs.List.{sum_by};
 ghost use Rattle.std.specs.List.Sorted.{IsStrictlySortedBy};
@@ -118,16 +118,14 @@ impl SharedLines {
         Ok(message.unwrap())
     }
 
-    /// Puts a message into the line of that queue. Where memory is refused, that line is gone, and the others stand.
-    pub(crate) fn put_in_queue(
-        &mut self,
-        alloc: Global,
-        to: Dest,
-        message: Message,
-    ) -> Result<(), AllocError>
-        ensures shared { OnOk result (self.new ≡ record self.old { queues = with_message text_cmp to message self.old.queues }) }
+    /// Puts a message into the line of the queue that it was sent to. Where memory is refused, that line is gone, and the
+    /// others stand.
+    pub(crate) fn put_in_queue(&mut self, alloc: Global, message: Message) -> Result<(), AllocError>
+        ensures shared { OnOk result (self.new
+            ≡ record self.old { queues = with_message text_cmp message.sending.destination message self.old.queues }) }
         ensures weight { OnOk result ((weight : Message → ℕ) → weight_of_shared weight self.new ≡ weight_of_shared weight self.old + weight message) }
     {
+        let to = message.sending.destination().clone()?;
         keyed_lines::put(alloc, &mut self.queues, to, message, Side::Back)
     }
 
@@ -185,13 +183,50 @@ impl SharedLines {
             ≡ weight_of_shared weight self.old + sum_by (λ delivery. weight delivery.1) deliveries.items) }
     {
         match durable {
-            Some(name) => keyed_lines::put_back(alloc, &mut self.names, name, deliveries)?,
-            None if destination.is_queue() => {
-                keyed_lines::put_back(alloc, &mut self.queues, destination, deliveries)?;
-            }
-            None => return Ok(deliveries),
+            Some(name) => self.return_to_name(alloc, name, deliveries),
+            None => self.return_to_queue(alloc, destination, deliveries),
         }
-        Ok(Vec::new(alloc))
+    }
+
+    /// The messages of deliveries stand in the line of that durable name again; nothing is given. Where memory is refused,
+    /// the line may be gone, and the others stand.
+    fn return_to_name(
+        &mut self,
+        alloc: Global,
+        name: &DurableName,
+        deliveries: Vec<(u64, Message)>,
+    ) -> Result<Vec<(u64, Message)>, AllocError>
+        ensures shared { OnOk result (self.new ≡ returned_to self.old (Some name.now) [] deliveries.items) }
+        ensures weight { IfOk result (λ gone. (weight : Message → ℕ) → weight_of_shared weight self.new
+            + sum_by (λ delivery. weight delivery.1) gone.items
+            ≡ weight_of_shared weight self.old + sum_by (λ delivery. weight delivery.1) deliveries.items) }
+    {
+        match keyed_lines::put_back(alloc, &mut self.names, name, deliveries) {
+            Ok(()) => Ok(Vec::new(alloc)),
+            Err(refused) => Err(refused),
+        }
+    }
+
+    /// The messages of deliveries stand in the line of that queue again; gives those of a topic, whose lines stay as they
+    /// are. Where memory is refused, the line may be gone, and the others stand.
+    fn return_to_queue(
+        &mut self,
+        alloc: Global,
+        destination: &Dest,
+        deliveries: Vec<(u64, Message)>,
+    ) -> Result<Vec<(u64, Message)>, AllocError>
+        ensures shared { OnOk result (self.new ≡ returned_to self.old None destination.now deliveries.items) }
+        ensures weight { IfOk result (λ gone. (weight : Message → ℕ) → weight_of_shared weight self.new
+            + sum_by (λ delivery. weight delivery.1) gone.items
+            ≡ weight_of_shared weight self.old + sum_by (λ delivery. weight delivery.1) deliveries.items) }
+    {
+        if !destination.is_queue() {
+            return Ok(deliveries);
+        }
+        match keyed_lines::put_back(alloc, &mut self.queues, destination, deliveries) {
+            Ok(()) => Ok(Vec::new(alloc)),
+            Err(refused) => Err(refused),
+        }
     }
 
     /// Takes the line under that durable name out, where there is one.

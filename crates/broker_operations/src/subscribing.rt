@@ -1,8 +1,9 @@
 //! Subscriptions and sessions begin and end.
 
-ghost use Rattle.std.specs.Prelude.{◌≡◌, ◌+◌, ◌-◌, ◌<◌, ◌≤◌, ◌^◌, [], ℕ, IfOk, IfSome, IsErr, MatchOption, OnOk, Some, count_by, drop, length, remove, slice_get, take};
+ghost use Rattle.std.specs.Prelude.{◌≡◌, ◌+◌, ◌-◌, ◌<◌, ◌≤◌, ◌^◌, ◌&&◌, [], ℕ, IfOk, IfSome, IsErr, MatchOption, OnOk, Some, count_by, drop, length, nat_le, not, remove, slice_get, take};
 ghost use Rattle.std.specs.BTreeMap.{insert_entry};
 ghost use Rattle.std.specs.List.{list_any, sum_by};
+ghost use Rattle.std.specs.Str.{bytes_eq};
 ghost use Rattle.line_core.specs.declared.message.Message.{Message};
 ghost use Rattle.command_core.specs.Operations.{IsGiven};
 ghost use Rattle.command_core.specs.declared.command.Op.TheVariants.{Unsubscribe};
@@ -107,6 +108,21 @@ fn is_used(order: &Order, name: &DurableName, but: Option<usize>) -> bool
             is_used_between(order, name, 0, at) || is_used_between(order, name, at + 1, end)
         }
     }
+}
+
+/// Whether a durable name that is bound to that topic may be used for a subscription of that destination: it has to be the
+/// same topic, and nobody else may use the name.
+fn may_be_used(order: &Order, name: &DurableName, topic: &Dest, destination: &Dest) -> bool
+    ensures { result ≡ (bytes_eq topic.now destination.now && not (list_any (uses name.now) order.now.subscriptions)) }
+{
+    *topic == *destination && !is_used(order, name, None)
+}
+
+/// Whether as many durable names are bound as there may be.
+fn are_full(durables: &BTreeMap<DurableName, Dest>) -> bool
+    ensures { result ≡ nat_le 256 (length durables.now.entries) }
+{
+    durables.len() >= MOST_NAMES
 }
 
 /// A durable name is bound to a topic.
@@ -242,10 +258,10 @@ impl Tables {
         ensures tallied { OnOk result (IsTallied (number + 1) self.new) }
     {
         match self.bind(number, &sub) {
-            Ok(Ok(())) => {
-                self.order.add(sub)?;
-                Ok(Ok(()))
-            }
+            Ok(Ok(())) => match self.order.add(sub) {
+                Ok(()) => Ok(Ok(())),
+                Err(refused) => Err(refused),
+            },
             refused => refused,
         }
     }
@@ -265,13 +281,13 @@ impl Tables {
         };
         match self.durables.get(name) {
             Some(topic) => {
-                if *topic != sub.destination || is_used(&self.order, name, None) {
+                if !may_be_used(&self.order, name, topic, &sub.destination) {
                     return Ok(Err(Fault::DurableSubscription));
                 }
                 Ok(Ok(()))
             }
             None => {
-                if self.durables.len() >= MOST_NAMES {
+                if are_full(&self.durables) {
                     return Ok(Err(Fault::TooManyEntries));
                 }
                 bind_to(&mut self.durables, name, &sub.destination)?;

@@ -1,6 +1,6 @@
 use Rattle.std.proofs.Common.{◌∙◌, ap, sym}
 use Rattle.std.proofs.lemmas.Result.{IfOk-weaker}
-use Rattle.broker_state.specs.Operations.{given_up, given_up_for}
+use Rattle.broker_state.specs.Operations.{given_up_for}
 use Rattle.broker_state.specs.Parts.{without_at}
 use Rattle.broker_operations.specs.Tables.{state_of}
 use Rattle.broker_operations.proofs.tables.Tables.give_up.Goals as goal
