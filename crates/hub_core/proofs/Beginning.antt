@@ -1,6 +1,6 @@
 -- The hub of a journal that was just opened.
-use Rattle.std.proofs.Common.{◌≡◌, ℕ, List, [], ◌∷◌, ◌++◌, arith, drop, Option, Some, None, IfSome, IsSome, Result, Ok, Err, IfOk, IfErr, false, length, refl, sym, ap, subst, ◌∙◌}
-use Rattle.std.specs.Prelude.{slice_get, option_to_list, MatchOption}
+use Rattle.std.proofs.Common.{◌≡◌, ℕ, List, [], Option, Some, None, IfSome, IsSome, Result, Ok, Err, IfOk, IfErr, false, length, refl, sym, ap, subst, ◌∙◌}
+use Rattle.std.specs.Prelude.{slice_get}
 use Rattle.disk_core.specs.declared.disk.Disk.{Ghosts}
 use Rattle.atomic_table.specs.Seated.{TableId}
 use Rattle.broker_core.specs.Operations.{restarted}
@@ -49,18 +49,6 @@ pub whole : {D : Type 0} (h : HubValue D) (f : Flushed D) (ring : TableId) (base
 whole h f ring base seats is is_first count numbers =
     let At : HubValue _ → Type 0 = λ x. IsWhole x f in
     subst At (sym is) (record { flusher = refl; first = is_first; count = count; numbers = numbers })
-
-ended : {A : Type 0} (l : List A) → l ≡ drop 1 l → l ≡ []
-ended [] e = refl
-ended (x ∷ xs) e = absurd (omega (arith, ap length e))
-
--- the first of a hub's seats is handed out, where there is one
-pub handed : {D : Type 0} (seat : Option SessionSeatValue) (old it : HubValue D) (rest : List SessionSeatValue) → it ≡ old → it.seats ≡ option_to_list seat ++ rest → rest ≡ drop 1 it.seats
-    → MatchOption seat ((old.seats ≡ []) × (record it { seats = rest } ≡ old)) (λ first. (old.seats ≡ first ∷ rest) × (record it { seats = rest } ≡ record old { seats = rest }))
-handed None old it rest is all behind =
-    let none : it.seats ≡ [] = ended it.seats (all ∙ behind) in
-    (ap (λ (h : HubValue _). h.seats) (sym is) ∙ none, (λ i. record it { seats = sym all i }) ∙ is)
-handed (Some first) old it rest is all behind = (ap (λ (h : HubValue _). h.seats) (sym is) ∙ all, ap (λ (h : HubValue _). record h { seats = rest }) is)
 
 -- what is so of the flusher of each hub that begins so
 pub of_hub : {D E : Type 0} (r : Result (HubValue D) E) (disk : D) (opened : Option BrokerValue) (P : Flushed D → Type 0) → IfOk r (λ h. Begins h disk opened)
