@@ -4,6 +4,7 @@ use Rattle.std.proofs.Math.Logic.{∥∥₁_map}
 use Rattle.std.proofs.lemmas.List.Elements.{All-append, All-weaker}
 use mathlib.Core.Option.{some}
 use lib.ListN.{get_elem?}
+use Rattle.atomic_table.specs.Seated.{TableId}
 use Rattle.command_core.specs.Commands.{CommandValue}
 use Rattle.broker_core.specs.States.{State}
 use Rattle.claim_core.specs.declared.ending.RingEnd.{RingEnd}
@@ -14,21 +15,23 @@ use Rattle.world_core.specs.Promises.{HoldsOn, IsAfterSome}
 use Rattle.world_core.specs.Promises as promises
 use Rattle.world_core.specs.Schedules.{life_of}
 use Rattle.world_core.specs.Worlds.{DiskValue}
-use Rattle.hub_core.specs.Closings.{Closes, most_seen, shown}
+use Rattle.hub_core.specs.Closings.{Closes, closed, most_seen, shown}
 use Rattle.hub_core.specs.Hubs.{HubValue, IsHub}
 
--- all seats are of the hub's ring: those that it has itself, and those that came back
-pub seated : {D : Type 0} (h it : HubValue D) (given all : List SessionSeatValue) → it ≡ h → IsHub it → All (λ (s : SessionSeatValue). s.ring ≡ h.ring) given
-    → all ≡ h.seats ++ given → All (λ (s : SessionSeatValue). s.ring ≡ it.ring) all
-seated h it given all is kept here all_is =
-    let At : List SessionSeatValue → Type 0 = λ l. All (λ (s : SessionSeatValue). s.ring ≡ it.ring) l in
-    let Given : HubValue _ → Type 0 = λ x. All (λ (s : SessionSeatValue). s.ring ≡ x.ring) given in
-    let own : At it.seats = All-weaker (λ (s : SessionSeatValue). s ≡ new_session it.ring it.base s.number) (λ (s : SessionSeatValue). s.ring ≡ it.ring) (λ s new. ap (λ (t : SessionSeatValue). t.ring) new) it.seats kept.0 in
-    subst At (sym (all_is ∙ ap (λ (x : HubValue _). x.seats ++ given) (sym is))) (All-append (λ (s : SessionSeatValue). s.ring ≡ it.ring) it.seats given own (subst Given (sym is) here))
+-- all seats are of the ring: the hub's own, and those that came back
+pub seated : (ring : TableId) (own given all : List SessionSeatValue) → All (λ (s : SessionSeatValue). s.ring ≡ ring) own → All (λ (s : SessionSeatValue). s.ring ≡ ring) given
+    → all ≡ own ++ given → All (λ (s : SessionSeatValue). s.ring ≡ ring) all
+seated ring own given all here back all_is =
+    let At : List SessionSeatValue → Type 0 = λ l. All (λ (s : SessionSeatValue). s.ring ≡ ring) l in
+    subst At (sym all_is) (All-append (λ (s : SessionSeatValue). s.ring ≡ ring) own given here back)
 
 -- and none is missing
-pub counted : (own given all : List SessionSeatValue) (f seat : FlushSeatValue) → all ≡ own ++ given → length given + length own ≡ f.seats → seat ≡ f → length all ≡ seat.seats
-counted own given all f seat all_is count seat_is = omega (arith, ap length all_is, length-append own given, count, ap (λ (s : FlushSeatValue). s.seats) seat_is)
+pub counted : (own given all : List SessionSeatValue) (count : ℕ) → all ≡ own ++ given → length given + length own ≡ count → length all ≡ count
+counted own given all count all_is is = omega (arith, ap length all_is, length-append own given, is)
+
+-- those that a hub has itself are of its ring
+pub at_hub : {D : Type 0} (h : HubValue D) → IsHub h → All (λ (s : SessionSeatValue). s.ring ≡ h.ring) h.seats
+at_hub h kept = All-weaker (λ (s : SessionSeatValue). s ≡ new_session h.ring h.base s.number) (λ (s : SessionSeatValue). s.ring ≡ h.ring) (λ s new. ap (λ (t : SessionSeatValue). t.ring) new) h.seats kept.0
 
 most_least : (least : ℕ) (seats : List SessionSeatValue) → least ≤ most_seen least seats
 most_least least [] = omega arith
@@ -60,7 +63,7 @@ holds images f seats history end law ended between disk =
 
 pub closes : {D : Type 0} (honest : D → Type 0) (images : D → List ℕ → Type 0) (f : Flushed D) (disk : D) (seat : FlushSeatValue) (seats : List SessionSeatValue) (history : List CommandValue) (end : RingEnd)
     → Law images → IsFlusher honest images f → disk ≡ f.disk → seat ≡ f.seat → Ends seats seat history end
-    → Closes honest images seats f history (record { base = end.base; claimed = end.claimed; taken = end.taken; mark = end.mark; disk = disk })
+    → Closes honest images seats f history (closed end disk)
 closes {D} honest images f disk seat seats history end law kept disk_is seat_is ended =
     let Of : FlushSeatValue → Type 0 = λ s. Ends seats s history end in
     let At : D → Type 0 = λ d. honest d → (disk : DiskValue) → HoldsOn (life_of (shown history seats f disk)) (images d) in

@@ -5,6 +5,9 @@ use Rattle.command_core.specs.Commands.{CommandValue}
 use Rattle.command_core.specs.declared.command.Op.{Op}
 use Rattle.claim_core.specs.Counts.{Pair}
 use Rattle.claim_core.specs.Seats.{SessionSeatValue}
+use Rattle.claim_core.specs.Appends.{Refuses}
+use Rattle.claim_core.specs.declared.refusals.Refused.{Refused}
+use Rattle.claim_core.specs.declared.refusals.Refused.TheVariants.{Stopped, Exhausted, Busy}
 use Rattle.hub_core.specs.declared.progress.Progress.{Progress}
 use Rattle.hub_core.specs.declared.progress.Progress.TheVariants.{New, Open, Over}
 use Rattle.hub_core.specs.declared.progress.Role.{Role}
@@ -75,6 +78,12 @@ spoken p ticket c old new next ring number own = record {
 -- where nothing is added to them it stands where it stood
 pub silent : (p : Progress) (old new : SessionSeatValue) → new.ring ≡ old.ring → new.number ≡ old.number → new.own ≡ old.own → Continues p old p new
 silent p old new ring number own = record { ring = ring; number = number; speaks = λ before is. (is.0, own ∙ is.1, is.2) }
+
+-- nothing is added to them where the ring refuses
+pub unsaid : (p : Progress) (window : ℕ) (refused : Refused) (old new : SessionSeatValue) → Refuses window old new refused → Continues p old p new
+unsaid p window Stopped old new is = silent p old new (ap (λ (s : SessionSeatValue). s.ring) is) (ap (λ (s : SessionSeatValue). s.number) is) (ap (λ (s : SessionSeatValue). s.own) is)
+unsaid p window Exhausted old new is = silent p old new (ap (λ (s : SessionSeatValue). s.ring) is.2) (ap (λ (s : SessionSeatValue). s.number) is.2) (ap (λ (s : SessionSeatValue). s.own) is.2)
+unsaid p window (Busy mark) old new is = silent p old new (ap (λ (s : SessionSeatValue). s.ring) is.3) (ap (λ (s : SessionSeatValue). s.number) is.3) (ap (λ (s : SessionSeatValue). s.own) is.3)
 
 -- it may be left where it stands
 pub left : (p : Progress) (was : Progress) (old new : SessionSeatValue) → Continues was old p new → Continues was old Over new

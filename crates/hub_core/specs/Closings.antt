@@ -60,6 +60,10 @@ pub record Tells {D : Type 0} (closed : Closed D) (w : WorldValue) : Type 0 wher
 abbrev pub end_of : {D : Type 0} → Closed D → RingEnd
 end_of closed = record { base = closed.base; claimed = closed.claimed; taken = closed.taken; mark = closed.mark }
 
+-- what is told of an end with those numbers, and that disk
+abbrev pub closed : {D : Type 0} → RingEnd → D → Closed D
+closed end disk = record { base = end.base; claimed = end.claimed; taken = end.taken; mark = end.mark; disk = disk }
+
 -- A hub has ended, with these seats and this flusher, and there was this one history: each caller's commands stand in it
 -- at the caller's own tickets, each once, in the order of its calls; what the flusher took begins it, and what it stored
 -- begins that. The disk is the flusher's. What is promised of a world is so of the one shown, by the images of that disk:

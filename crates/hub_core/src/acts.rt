@@ -85,6 +85,6 @@ impl Acts {
         requires first { self.old.again ≡ None }
         ensures { self.new ≡ record self.old { again = Some act } }
     {
-        self.again = Some(act);
+        drop(self.again.replace(act));
     }
 }

@@ -135,10 +135,11 @@ impl<B: Bell> Connection<B> {
     {
         match refused {
             Refused::Busy(mark) => {
-                self.entry = Some(entry);
+                drop(self.entry.replace(entry));
                 Step::Full(mark)
             }
             Refused::Stopped | Refused::Exhausted => {
+                drop(entry);
                 self.stage = Stage::Closing(Ended::Stopped);
                 Step::Rest
             }

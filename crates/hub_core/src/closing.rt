@@ -1,12 +1,14 @@
 //! How a hub ends.
 
 ghost use Rattle.std.specs.Prelude.{◌≡◌, ◌+◌, ◌≤◌, ◌++◌, List, length, All, IfOk, IfErr, IsOk};
+ghost use Rattle.std.specs.VecDeque.{deque_capacity};
 ghost use Rattle.command_core.specs.Commands.{CommandValue};
-ghost use Rattle.hub_core.specs.Closings.{Closes};
+ghost use Rattle.claim_core.specs.Endings.{Ends};
+ghost use Rattle.hub_core.specs.Closings.{Closes, closed};
 
 use crate::closed::Closed;
 use crate::hub::Hub;
-use claim_core::BrokerSeat;
+use claim_core::{BrokerRing, BrokerSeat, FlushSeat, RingEnd};
 use disk_core::Disk;
 use flush_core::Flusher;
 use outbox_core::{Bell, OutSender};
@@ -35,21 +37,57 @@ impl<D: Disk + Drop, B: Bell> Hub<D, B> {
         ensures refused { IfErr result (λ back. back.0 ≡ flusher.disk) }
     {
         shown_worlds_hold::<D>();
+        let (ring, own) = self.into_seats();
         let (disk, seat) = flusher.into_parts();
-        let mut all = self.seats;
-        let mut given = VecDeque::from_vec(seats);
-        if let Err(refused) = all.append(&mut given) {
-            return Err((disk, refused));
-        }
-        match self.ring.close(Vec::from(all), seat) {
-            Ok(end) => Ok(Closed {
-                base: end.base,
-                claimed: end.claimed,
-                taken: end.taken,
-                mark: end.mark,
-                disk,
-            }),
+        match end_ring(ring, own, seats, seat) {
+            Ok(end) => Ok(told(end, disk)),
             Err(refused) => Err((disk, refused)),
         }
+    }
+}
+
+// Ends a ring with all its seats: the hub's own, and behind them those that came back.
+fn end_ring<B: Bell>(
+    ring: BrokerRing<OutSender<B>>,
+    own: VecDeque<BrokerSeat<OutSender<B>>>,
+    given: Vec<BrokerSeat<OutSender<B>>>,
+    seat: FlushSeat<OutSender<B>>,
+) -> Result<RingEnd, AllocError>
+    requires flusher { seat.ring ≡ ring }
+    requires own { All (λ seat. seat.ring ≡ ring) own.items }
+    requires given { All (λ seat. seat.ring ≡ ring) given.items }
+    requires all { length given.items + length own.items ≡ seat.seats }
+    ensures ends { IfOk result (λ end. (history : List CommandValue) × Ends (own.items ++ given.items) seat history end) }
+    ensures room { seat.seats ≤ deque_capacity own → IsOk result }
+{
+    match join(own, given) {
+        Ok(all) => ring.close(all, seat),
+        Err(refused) => Err(refused),
+    }
+}
+
+// All seats in one list. No memory is taken where there is room for them beside the hub's own.
+fn join<S: Drop>(own: VecDeque<S>, given: Vec<S>) -> Result<Vec<S>, AllocError>
+    ensures all { IfOk result (λ all. all.items ≡ own.items ++ given.items) }
+    ensures room { length own.items + length given.items ≤ deque_capacity own → IsOk result }
+{
+    let mut all = own;
+    let mut given = VecDeque::from_vec(given);
+    match all.append(&mut given) {
+        Ok(()) => Ok(Vec::from(all)),
+        Err(refused) => Err(refused),
+    }
+}
+
+// What is told of a ring's end, with the disk.
+fn told<D>(end: RingEnd, disk: D) -> Closed<D>
+    ensures { result ≡ closed end disk }
+{
+    Closed {
+        base: end.base,
+        claimed: end.claimed,
+        taken: end.taken,
+        mark: end.mark,
+        disk,
     }
 }

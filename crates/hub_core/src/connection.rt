@@ -16,6 +16,7 @@ use command_core::{Command, Entry, HeaderText, Op};
 use outbox_core::{Bell, OutSender, OutTaker, outbox};
 use session_core::{Act, Session};
 use std::alloc::{AllocError, Global};
+use std::mem;
 use ws_core::{Link, Received};
 
 /// What a worker does with its connection.
@@ -95,7 +96,7 @@ impl<B: Bell> Connection<B> {
             }
         };
         match self.session.feed(alloc, bytes.as_slice()) {
-            Ok(acts) => self.acts = Acts::all(acts),
+            Ok(acts) => drop(mem::replace(&mut self.acts, Acts::all(acts))),
             Err(_) => self.stage = Stage::Closing(Ended::Lost),
         }
     }
@@ -134,7 +135,7 @@ impl<B: Bell> Connection<B> {
         match Entry::new(alloc, Command::new(session, op, receipt), sender) {
             Ok(entry) => {
                 if taker.is_some() {
-                    self.outbox = taker;
+                    drop(mem::replace(&mut self.outbox, taker));
                 }
                 Ok(entry)
             }

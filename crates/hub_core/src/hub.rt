@@ -1,6 +1,7 @@
 //! The hub: an opened journal, and the ring before it.
 
-ghost use Rattle.std.specs.Prelude.{◌≡◌, ◌≤◌, ◌^◌, ◌∷◌, [], None, Some, IfSome, IsSome, IfOk, IfErr, MatchOption, false, length};
+ghost use Rattle.std.specs.Prelude.{◌≡◌, ◌≤◌, ◌^◌, ◌∷◌, [], All, None, Some, IfSome, IsSome, IfOk, IfErr, MatchOption, false, length};
+ghost use Rattle.std.specs.VecDeque.{deque_capacity};
 ghost use Rattle.broker_core.specs.Operations.{restarted};
 ghost use Rattle.broker_core.specs.States.{State};
 ghost use Rattle.claim_core.specs.Seats.{new_session};
@@ -25,10 +26,10 @@ use std::marker::Model;
 /// Contracts see which ring it is, its first ticket, and what was not handed out.
 #[derive(Drop)]
 pub struct Hub<D: Disk, B: Bell> {
-    pub(crate) ring: BrokerRing<OutSender<B>>,
+    ring: BrokerRing<OutSender<B>>,
     base: u64,
     // With room for all 32, so that closing needs none.
-    pub(crate) seats: VecDeque<BrokerSeat<OutSender<B>>>,
+    seats: VecDeque<BrokerSeat<OutSender<B>>>,
     flusher: Option<Flusher<D, B>>,
 }
 
@@ -136,10 +137,28 @@ impl<D: Disk, B: Bell> Hub<D, B> {
 }
 
 impl<D: Disk + Drop, B: Bell> Hub<D, B> {
+    // The ring, and the seats that were not handed out, with room for all. The flusher is let go, where it was not handed out.
+    pub(crate) fn into_seats(self) -> (BrokerRing<OutSender<B>>, VecDeque<BrokerSeat<OutSender<B>>>)
+        ensures parts { (result.0 ≡ self.ring) × (result.1.items ≡ self.seats) }
+        ensures seated { All (λ seat. seat.ring ≡ self.ring) self.seats }
+        ensures room { 32 ≤ deque_capacity result.1 }
+    {
+        let Hub {
+            ring,
+            base: _,
+            seats,
+            flusher,
+        } = self;
+        drop(flusher);
+        (ring, seats)
+    }
+
     /// The ring alone, to be shared by threads. What was not handed out is let go.
     pub fn into_ring(self) -> BrokerRing<OutSender<B>>
         ensures { result ≡ self.ring }
     {
-        self.ring
+        let (ring, seats) = self.into_seats();
+        drop(seats);
+        ring
     }
 }

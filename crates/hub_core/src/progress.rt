@@ -1,7 +1,8 @@
 //! How far the conversation of one connection with the broker has come.
 
-ghost use Rattle.std.specs.Prelude.{◌≡◌, true, false};
+ghost use Rattle.std.specs.Prelude.{◌≡◌, ◌≢◌, true, false};
 ghost use Rattle.hub_core.specs.Conversations.{IsNext, after, role_of, session_of};
+ghost use Rattle.hub_core.specs.declared.progress.Role.TheVariants.{Opens};
 
 use command_core::{Command, Op};
 
@@ -23,6 +24,14 @@ impl Role {
             _ => Role::Talks,
         }
     }
+}
+
+// Whether a command of that session and role goes on with the session of that number.
+fn goes_on(number: u64, session: u64, role: Role) -> bool
+    ensures yes { result ≡ true → (session ≡ number) × (role ≢ Opens) }
+    ensures no { result ≡ false → (session ≡ number) × (role ≢ Opens) → ⊥ }
+{
+    session == number && role != Role::Opens
 }
 
 /// Which commands of a connection's session were appended.
@@ -56,7 +65,7 @@ impl Progress {
         let role = Role::of(command.op());
         match self {
             Progress::New => role == Role::Opens,
-            Progress::Open(number) => command.session() == number && role != Role::Opens,
+            Progress::Open(number) => goes_on(number, command.session(), role),
             Progress::Over => false,
         }
     }

@@ -39,7 +39,7 @@ pub fn relay<B, L: Link>(
             verb: released.frame().verb,
         }),
         Err(fault) => {
-            *kept = Kept::Unsent(released);
+            drop(mem::replace(kept, Kept::Unsent(released)));
             Err(fault)
         }
     }
@@ -70,7 +70,7 @@ fn find<B>(
     match ring.release(seat, out) {
         Ok(released) => Ok(released),
         Err((out, _)) => {
-            *kept = Kept::Waits(out);
+            drop(mem::replace(kept, Kept::Waits(out)));
             Err(Relayed::Waits)
         }
     }

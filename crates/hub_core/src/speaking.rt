@@ -21,9 +21,14 @@ pub fn speak<B: Drop>(
 {
     let role = Role::of(entry.command().op());
     if !progress.admits(entry.command()) {
+        drop(entry);
         return Ok(None);
     }
-    let ticket = ring.append(seat, entry)?;
-    *progress = progress.after(role, ticket);
-    Ok(Some(ticket))
+    match ring.append(seat, entry) {
+        Ok(ticket) => {
+            *progress = progress.after(role, ticket);
+            Ok(Some(ticket))
+        }
+        Err(back) => Err(back),
+    }
 }

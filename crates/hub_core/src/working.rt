@@ -34,7 +34,9 @@ pub fn worker<B: Bell, M: Ringers<B>, L: Link, G: Gate>(
     ensures asked { (more : List Pair) × (seat.new.own ≡ seat.old.own ++ more) × IsConversation more }
 {
     let mut connection = Connection::new(alloc);
-    connection.run(alloc, ring, seat, link, ringers, gate, turns)
+    let ended = connection.run(alloc, ring, seat, link, ringers, gate, turns);
+    drop(connection);
+    ended
 }
 
 impl<B: Bell> Connection<B> {

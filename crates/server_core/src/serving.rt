@@ -109,7 +109,11 @@ where
     {
         match TcpListener::bind(rt, ("127.0.0.1", port)) {
             Ok(listener) => Server::listening(alloc, rt, hub, listener, port),
-            Err(_) => Err(ServeFault::CannotOpen),
+            Err(refused) => {
+                drop(refused);
+                drop(hub);
+                Err(ServeFault::CannotOpen)
+            }
         }
     }
 }
@@ -130,14 +134,24 @@ impl<R: Wait + Clone + Drop> Server<R> {
         let mut seats = Vec::new(alloc);
         match add_seats(&mut seats, &mut hub) {
             Ok(()) => {}
-            Err(fault) => return Err(fault),
+            Err(fault) => {
+                drop(seats);
+                drop(hub);
+                drop(listener);
+                return Err(fault);
+            }
         }
         match hub.flusher() {
             Some(flusher) => {
                 let ring = hub.into_ring();
                 Server::flushing(alloc, rt, ring, listener, port, seats, flusher)
             }
-            None => Err(ServeFault::CannotOpen),
+            None => {
+                drop(seats);
+                drop(hub);
+                drop(listener);
+                Err(ServeFault::CannotOpen)
+            }
         }
     }
 
@@ -164,7 +178,11 @@ impl<R: Wait + Clone + Drop> Server<R> {
                 seats,
                 flusher,
             }),
-            Err(fault) => Err(fault),
+            Err(fault) => {
+                drop(seats);
+                drop(flusher);
+                Err(fault)
+            }
         }
     }
 }
@@ -182,7 +200,10 @@ impl<R: Drop> Server<R> {
         };
         match self.seats.pop() {
             Some(seat) => Ok(Some(Worker { shared, seat })),
-            None => Ok(None),
+            None => {
+                drop(shared);
+                Ok(None)
+            }
         }
     }
 }
@@ -204,17 +225,23 @@ impl<R: Wait + Clock + Drop> Server<R> {
     /// Ends the server: the outboxes go with the flusher, which wakes the workers of their sessions, and these have a second
     /// to tell their clients that the broker stops.
     pub fn close(self) {
-        let shared = self.shared;
-        drop(self.flusher);
+        let Server {
+            shared,
+            port: _,
+            seats,
+            flusher,
+        } = self;
+        drop(flusher);
         thread::sleep(&shared.rt, Duration::from_millis(FAREWELL));
+        drop(shared);
+        drop(seats);
     }
 }
 
 impl<R: Net + Wait + Clock + Clone + Drop> Worker<R> {
     /// Accepts a connection, serves it to its end, and accepts the next. It does not return.
     pub fn run(self, alloc: Global) {
-        let shared = self.shared;
-        let mut seat = self.seat;
+        let Worker { shared, mut seat } = self;
         for _connection in shared.rt.forever() {
             match shared.listener.accept() {
                 Ok((socket, _)) => serve_one(alloc, &shared, &mut seat, socket),

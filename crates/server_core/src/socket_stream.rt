@@ -27,6 +27,19 @@ fn ends_a_read(event: &Event) -> bool {
     event.token() == BELL || event.is_readable() || event.is_read_closed() || event.is_error()
 }
 
+// Has the poll look at the socket, with a doorbell beside it, and makes room for what it tells.
+fn waits(
+    alloc: Global,
+    poll: &Poll,
+    socket: &mut TcpStream,
+) -> io::Result<(Events<Global>, Arc<Doorbell>)> {
+    let interests = Interest::READABLE | Interest::WRITABLE;
+    poll.registry().register(socket, SOCKET, interests)?;
+    let bell = Doorbell::new(poll.registry(), BELL)?;
+    let events = Events::with_capacity(alloc, 4)?;
+    Ok((events, Arc::new(alloc, bell)?))
+}
+
 /// A connected socket, with what its worker waits by.
 ///
 /// A read waits until the socket has bytes or has ended, the doorbell was rung, or the time is up; in the last two cases it
@@ -47,16 +60,16 @@ impl<T: Net + Clock + Drop> SocketStream<T> {
         socket.set_nonblocking(true)?;
         let poll = Poll::new(&rt)?;
         let mut socket = TcpStream::from_std(socket);
-        let interests = Interest::READABLE | Interest::WRITABLE;
-        poll.registry().register(&mut socket, SOCKET, interests)?;
-        let bell = Doorbell::new(poll.registry(), BELL)?;
-        Ok(SocketStream {
-            socket,
-            poll,
-            events: Events::with_capacity(alloc, 4)?,
-            bell: Arc::new(alloc, bell)?,
-            clock: rt,
-        })
+        match waits(alloc, &poll, &mut socket) {
+            Ok((events, bell)) => Ok(SocketStream {
+                socket,
+                poll,
+                events,
+                bell,
+                clock: rt,
+            }),
+            Err(error) => Err(error),
+        }
     }
 
     /// What ends a wait of its reads.

@@ -13,3 +13,6 @@ flush-requires-clause-settled g c = c.loop-turn.invariant.0.settled c.requires.s
 
 pub returns-in_err-flush-clause-flushes : goal.returns-in_err-flush-clause-flushes
 returns-in_err-flush-clause-flushes g c = more _ _ _ c.loop-turn.invariant.0 c.in_err-flush.ensures.flushes
+
+pub returns-clause-mark : goal.returns-clause-mark
+returns-clause-mark g c = c.mark.ensures.mark
