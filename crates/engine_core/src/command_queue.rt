@@ -1,6 +1,6 @@
 //! The queue between the connections and the broker: what waits for the next flush, and what a flush prints.
 
-ghost use Rattle.std.specs.Prelude.{◌≡◌, ◌≢◌, ◌++◌, ◌<◌, ◌≤◌, ◌^◌, OnOk, IfOk, IfErr, IfSome, string_bytes, nat_eq, count_by, ◌+◌, length};
+ghost use Rattle.std.specs.Prelude.{◌≡◌, ◌≢◌, ◌++◌, ◌<◌, ◌≤◌, ◌^◌, OnOk, IfOk, IfErr, IfSome, IsSome, string_bytes, nat_eq, count_by, ◌+◌, length, true};
 ghost use Rattle.frame_core.specs.Writable.{Writable};
 ghost use Rattle.command_core.specs.Commands.{Fits};
 ghost use Rattle.command_core.specs.Operations.{IsOp};
@@ -90,7 +90,8 @@ impl CommandQueue {
 
     /// The disk, unless the journal failed. What waits is dropped.
     pub fn into_disk(self) -> Option<MemDisk>
-        ensures { IfSome result (λ disk. Stands disk.content self.state) }
+        ensures stands { IfSome result (λ disk. Stands disk.content self.state) }
+        ensures some { self.durable ≡ true → IsSome result }
     {
         self.journal.into_disk()
     }

@@ -43,7 +43,7 @@ impl Model for RunningScript {
 }
 
 impl RunningScript {
-    ghost use Rattle.std.specs.Prelude.{◌≡◌, [], IfOk, IfErr, OnOk, IfSome, true, string_bytes};
+    ghost use Rattle.std.specs.Prelude.{◌≡◌, [], IfOk, IfErr, OnOk, IfSome, IsSome, true, string_bytes};
     ghost use Rattle.recover_core.specs.Standing.{Stands};
     ghost use Rattle.engine_core.specs.Queues.{flush_text, flushed};
     ghost use Rattle.engine_core.specs.Running.{beginning, Loses, Receives, LosesTooFar, ReceivesTooFar};
@@ -74,7 +74,8 @@ impl RunningScript {
 
     /// The disk, unless the journal failed. What waits and the connections are dropped.
     pub fn into_disk(self) -> Option<MemDisk>
-        ensures { IfSome result (λ disk. Stands disk.content self.queue.state) }
+        ensures stands { IfSome result (λ disk. Stands disk.content self.queue.state) }
+        ensures some { self.queue.durable ≡ true → IsSome result }
     {
         self.queue.into_disk()
     }
