@@ -151,7 +151,8 @@ impl<D: Disk, B: Bell> Flusher<D, B> {
         ensures parts { (result.0 ≡ self.disk) × (result.1 ≡ self.seat) }
         ensures kept { IsFlusher D.honest D.images self }
     {
-        (self.journal.into_disk(), self.seat)
+        let Flusher { journal, seat, .. } = self;
+        (journal.into_disk(), seat)
     }
 
     /// The disk, as it is. The seat, the boxes and the outputs that wait are let go.
@@ -159,7 +160,8 @@ impl<D: Disk, B: Bell> Flusher<D, B> {
         ensures disk { result ≡ self.disk }
         ensures held { D.honest result → HoldBetween (D.images result) self.opening self.seat }
     {
-        self.journal.into_disk()
+        let Flusher { journal, .. } = self;
+        journal.into_disk()
     }
 
     /// The same flusher over a disk that passes so many more calls and then fails.
@@ -168,23 +170,41 @@ impl<D: Disk, B: Bell> Flusher<D, B> {
         ensures calls { calls_left result.disk ≡ calls }
         ensures same { IsSame self result }
     {
+        let Flusher {
+            journal,
+            broker,
+            seat,
+            opening,
+            batch,
+            bytes,
+            done,
+            stored,
+            settled,
+            boxes,
+            ended,
+            past,
+            waiting,
+            left,
+            spare,
+            broken,
+        } = self;
         Flusher {
-            journal: self.journal.fuse(calls),
-            broker: self.broker,
-            seat: self.seat,
-            opening: self.opening,
-            batch: self.batch,
-            bytes: self.bytes,
-            done: self.done,
-            stored: self.stored,
-            settled: self.settled,
-            boxes: self.boxes,
-            ended: self.ended,
-            past: self.past,
-            waiting: self.waiting,
-            left: self.left,
-            spare: self.spare,
-            broken: self.broken,
+            journal: journal.fuse(calls),
+            broker,
+            seat,
+            opening,
+            batch,
+            bytes,
+            done,
+            stored,
+            settled,
+            boxes,
+            ended,
+            past,
+            waiting,
+            left,
+            spare,
+            broken,
         }
     }
 }
