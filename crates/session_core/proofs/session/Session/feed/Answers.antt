@@ -27,3 +27,39 @@ pub returns-clause-forms : goal.returns-clause-forms
 returns-clause-forms c =
     let e : c.refuse.new.acts.items ≡ acts_of c.replace-phase.result c.in-Ok.fed.frames.items ++ refused c.in_ok-phase.phase c.from.result None = search rules in
     fault_form c.replace-phase.result c.in_ok-phase.phase c.in-Ok.fed.frames.items c.from.result c.refuse.new.acts.items e
+
+pub returns-in-Err-clause-ended : goal.returns-in-Err-clause-ended
+returns-in-Err-clause-ended c = search rules
+
+pub returns-in_err-phase-clause-ended : goal.returns-in_err-phase-clause-ended
+returns-in_err-phase-clause-ended c = search rules
+
+pub returns-in_default-clause-acts : goal.returns-in_default-clause-acts
+returns-in_default-clause-acts c = search rules
+
+pub returns-in_err-map_err-clause-ended : goal.returns-in_err-map_err-clause-ended
+returns-in_err-map_err-clause-ended c = search rules
+
+pub returns-clause-acts : goal.returns-clause-acts
+returns-clause-acts c = search rules
+
+pub returns-in-Failed-clause-stays : goal.returns-in-Failed-clause-stays
+returns-in-Failed-clause-stays c = search rules
+
+pub invariant_of-self : goal.invariant_of-self
+invariant_of-self c = search rules
+
+pub returns-in-Err-clause-err : goal.returns-in-Err-clause-err
+returns-in-Err-clause-err c = search rules
+
+pub invariant_of-self-in_err-phase : goal.invariant_of-self-in_err-phase
+invariant_of-self-in_err-phase c = search rules
+
+pub returns-in_err-phase-clause-err : goal.returns-in_err-phase-clause-err
+returns-in_err-phase-clause-err c = search rules
+
+pub invariant_of-self-in_err-map_err : goal.invariant_of-self-in_err-map_err
+invariant_of-self-in_err-map_err c = search rules
+
+pub returns-in_err-map_err-clause-err : goal.returns-in_err-map_err-clause-err
+returns-in_err-map_err-clause-err c = search rules
