@@ -1,4 +1,5 @@
 use Rattle.std.proofs.Common.{◌∙◌, arith}
+use Rattle.std.proofs.lemmas.Grind.{common_steps}
 use Rattle.broker_operations.specs.Tables.{state_of}
 use Rattle.broker_operations.proofs.Operating.{ended_front}
 use Rattle.broker_operations.proofs.tables.Tables.restart.Goals as goal
@@ -17,3 +18,6 @@ loop-self-preserved c =
       shared = front.0 ∙ c.loop-self.invariant.shared;
       next = front.3 ∙ c.loop-self.invariant.next;
     }
+
+pub returns-clause-restarted : goal.returns-clause-restarted
+returns-clause-restarted c = grind (arith, common_steps)
