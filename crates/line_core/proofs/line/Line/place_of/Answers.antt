@@ -1,4 +1,4 @@
-use Rattle.std.proofs.Common.{◌≡◌, ◌∙◌, false, true, sym, ap, arith, drop}
+use Rattle.std.proofs.Common.{◌≡◌, ◌∙◌, false, true, sym, ap, arith, drop, rules}
 use Rattle.std.specs.Cmp.{Some-then}
 use Rattle.std.specs.List.{AllByRecursion}
 use Rattle.std.specs.Ordering.{is_lt, is_some_and, nat_cmp}
@@ -24,3 +24,6 @@ returns-clause-place c =
           rw (← c.self.view_is) (stands_behind number last line count (omega arith) c.self.invariant none_behind (omega arith) is)
       | else-count-gt0-via-else-count-gt0 w ↦ rw (← c.self.view_is) (stands_first number line count none_behind (omega arith))
     ]
+
+pub returns-then-lt-clause-place : goal.returns-then-lt-clause-place
+returns-then-lt-clause-place c = search rules
