@@ -4,6 +4,7 @@ use Rattle.std.specs.Fmt.{decimal}
 use Rattle.std.proofs.lemmas.Bool.{cases_lt}
 use Rattle.engine_core.specs.ScriptLines.{IsOfNoForm, IsLoss, IsCrash}
 use Rattle.broker_core.specs.States.{State}
+use Rattle.disk_core.specs.Memory.{Memory}
 use Rattle.recover_core.specs.Standing.{Stands}
 use Rattle.engine_core.specs.Running.{ScriptValue, beginning}
 use Rattle.engine_core.specs.Scripts.{BeginsWith, HasDisk, Opens, open_text, Crashes, GoesBy, GoesOn, IsNotUnderstood, IsStopped, OnRunning, Prints, RunsOn}
@@ -68,3 +69,9 @@ pub opened : (s : Script) (content text : List ℕ) (state : State) → HasDisk 
 opened (Running r) content text state stands begins same = record { state = state; reopens = begins r.queue.state stands; same_text = same; after = refl }
 opened (Stopped disk) content text state is begins same = record { state = state; reopens = λ s stands. begins s (subst (λ c. Stands c s) (sym is) stands); same_text = same; after = refl }
 opened Over content text state is begins same = absurd is
+
+-- what the disk was opened as that a script has
+pub opened_as : (s t : Script) (disk : Memory) (text : List ℕ) → HasDisk s disk.content → Opens (Stopped disk) text t → Opens s text t
+opened_as (Running r) t disk text stands o = record { state = o.state; reopens = o.reopens r.queue.state stands; same_text = o.same_text; after = o.after }
+opened_as (Stopped d) t disk text is o = record { state = o.state; reopens = λ s stands. o.reopens s (subst (λ c. Stands c s) (sym is) stands); same_text = o.same_text; after = o.after }
+opened_as Over t disk text is o = absurd is

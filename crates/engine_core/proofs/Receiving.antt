@@ -1,14 +1,14 @@
 -- What a connection receives, from what its parts do.
-use Rattle.std.proofs.Common.{◌≡◌, List, [], ℕ, refl, ap, ◌∙◌, subst}
+use Rattle.std.proofs.Common.{◌≡◌, List, [], ℕ, Option, refl, ap, ◌∙◌, subst}
 use Rattle.std.specs.BTreeMap.{insert_entry, is_at}
 use Rattle.std.specs.List.{fold}
 use Rattle.std.specs.Map.{remove_entry}
 use Rattle.std.specs.Ordering.{nat_cmp}
 use Rattle.engine_core.specs.declared.running_script.Connection.{Connection}
 use Rattle.session_core.specs.declared.act.Act.{Act}
-use Rattle.session_core.specs.Sessions.{Hearing, Hears}
-use Rattle.engine_core.specs.Queues.{QueueValue, Progress, acted}
-use Rattle.engine_core.specs.Running.{connection_at, Receives}
+use Rattle.session_core.specs.Sessions.{Hearing, Hears, loss_of}
+use Rattle.engine_core.specs.Queues.{QueueValue, Progress, acted, acted_on}
+use Rattle.engine_core.specs.Running.{connection_at, Loses, Receives}
 
 pub received : (connections : List (ℕ × Connection)) (queue after : QueueValue) (n : ℕ) (bytes start text : List ℕ) (taken : Connection) (others all : List (ℕ × Connection)) (acts : List Act) (session : Hearing) (number : ℕ)
     → taken ≡ connection_at n (record { connections = connections; queue = queue })
@@ -28,4 +28,21 @@ received connections queue after n bytes start text taken others all acts sessio
       done = done ∙ ap (from taken) none ∙ ap (λ (c : Connection). from c []) is_taken;
       same_text = refl;
       after = ap (λ cs. record { connections = cs; queue = after }) (inserted ∙ ap (λ (os : List (ℕ × Connection)). insert_entry nat_cmp os n (record { session = session; number = number })) are_others);
+    }
+
+-- what the loss of a connection brings
+pub lost_by : (connections : List (ℕ × Connection)) (queue after : QueueValue) (n : ℕ) (start text : List ℕ) (taken : Connection) (others : List (ℕ × Connection)) (act : Option Act) (number : ℕ)
+    → taken ≡ connection_at n (record { connections = connections; queue = queue })
+    → others ≡ remove_entry (is_at (nat_cmp n)) connections
+    → act ≡ loss_of taken.session.phase
+    → start ≡ []
+    → record { number = number; queue = after; text = text } ≡ acted_on n (record { number = taken.number; queue = queue; text = start }) act
+    → Loses (record { connections = connections; queue = queue }) n text (record { connections = others; queue = after })
+lost_by connections queue after n start text taken others act number is_taken are_others is_loss none done =
+    let from : ℕ → List ℕ → Option Act → Progress = λ number text. acted_on n (record { number = number; queue = queue; text = text }) in
+    record {
+      progress = record { number = number; queue = after; text = text };
+      done = done ∙ ap (λ t. from taken.number t act) none ∙ ap (from taken.number []) is_loss ∙ ap (λ (c : Connection). from c.number [] (loss_of c.session.phase)) is_taken;
+      same_text = refl;
+      after = ap (λ (os : List (ℕ × Connection)). record { connections = os; queue = after }) are_others;
     }

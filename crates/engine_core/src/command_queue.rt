@@ -45,8 +45,8 @@ const MOST_WAITING: usize = 8;
 const LAST_COUNT: u64 = 1 << 60;
 
 impl CommandQueue {
-    ghost use Rattle.engine_core.specs.Queues.{QueueValue, flushed, flush_text, with_room, room_text, CountsTooFar, number_for, as_command, is_full};
-    ghost use Rattle.std.specs.Prelude.{[]};
+    ghost use Rattle.engine_core.specs.Queues.{QueueValue, flushed, flush_text, with_room, room_text, CountsTooFar, number_for, as_command, is_full, with_command};
+    ghost use Rattle.std.specs.Prelude.{[], List, Option, ℕ};
 
     /// A queue in which nothing waits, over a journal that was just opened. No memory is taken.
     pub fn over(alloc: Global, journal: Journal) -> CommandQueue
@@ -121,18 +121,103 @@ impl CommandQueue {
         ensures counts { OnOk result (CountsTooFar connection self.old → ⊥) }
         ensures err { IfErr result (λ fault. fault ≡ QueueFault.CountTooLarge → CountsTooFar connection self.old) }
     {
+        match self.make_room(alloc, connection, text) {
+            Ok(()) => self.add(connection, number, op, receipt),
+            Err(fault) => {
+                drop(receipt);
+                drop(op);
+                Err(fault)
+            }
+        }
+    }
+
+    // Flushes first where as many commands of the connection wait as may; one more may be counted then.
+    fn make_room(
+        &mut self,
+        alloc: Global,
+        connection: u8,
+        text: &mut String,
+    ) -> Result<(), QueueFault>
+        ensures queue { OnOk result (self.new ≡ with_room connection self.old) }
+        ensures text { OnOk result (string_bytes text.new ≡ string_bytes text.old ++ room_text connection self.old) }
+        ensures durable { OnOk result (self.new.durable ≡ true) }
+        ensures few { OnOk result (self.new.state.count < 2 ^ 60) }
+        ensures err { IfErr result (λ fault. fault ≡ QueueFault.CountTooLarge → CountsTooFar connection self.old) }
+    {
         if self.is_full(connection) {
             self.flush(alloc, text)?;
         }
+        self.count_more()
+    }
+
+    // Whether one more command may be counted.
+    fn count_more(&self) -> Result<(), QueueFault>
+        ensures durable { OnOk result (self.now.durable ≡ true) }
+        ensures few { OnOk result (self.now.state.count < 2 ^ 60) }
+        ensures err { IfErr result (λ fault. fault ≡ QueueFault.CountTooLarge → 2 ^ 60 ≤ self.now.state.count) }
+    {
         if !self.journal.is_durable() {
             return Err(QueueFault::Storing(FlushFault::Broken));
         }
-        if self.journal.count() >= LAST_COUNT {
+        let is_too_far = self.journal.count() >= LAST_COUNT;
+        if is_too_far {
             return Err(QueueFault::CountTooLarge);
         }
-        let next = self.journal.count() + self.waiting.len() as u64;
-        let (number, session) = match op {
-            Op::Open { .. } => (next, 0),
+        Ok(())
+    }
+
+    // Has an operation wait as a command; answers the number of the connection's session.
+    fn add(
+        &mut self,
+        connection: u8,
+        number: u64,
+        op: Op,
+        receipt: Option<HeaderText>,
+    ) -> Result<u64, QueueFault>
+        requires form { Fits op 0 receipt × IsOp op }
+        requires durable { self.old.durable ≡ true }
+        requires few { self.old.state.count < 2 ^ 60 }
+        ensures number { IfOk result (λ n. n ≡ number_for op number self.old) }
+        ensures queue { OnOk result (self.new ≡ as_command connection op receipt number self.old) }
+        ensures err { IfErr result (λ fault. fault ≢ QueueFault.CountTooLarge) }
+    {
+        match self.number_session(connection, number, &op) {
+            Ok((number, session)) => {
+                match self.push(connection, Command::new(session, op, receipt)) {
+                    Ok(()) => Ok(number),
+                    Err(fault) => Err(fault),
+                }
+            }
+            Err(fault) => {
+                drop(receipt);
+                drop(op);
+                Err(fault)
+            }
+        }
+    }
+
+    // The number of the connection's session once the operation is a command, and the session that the command names: an
+    // Open names none, and its session gets the command's number.
+    fn number_session(
+        &mut self,
+        connection: u8,
+        number: u64,
+        op: &Op,
+    ) -> Result<(u64, u64), QueueFault>
+        requires few { self.old.state.count < 2 ^ 60 }
+        ensures number { IfOk result (λ numbers. numbers.0 ≡ number_for op.now number self.old) }
+        ensures fits { IfOk result (λ numbers. (receipt : Option (List ℕ)) → Fits op.now 0 receipt → Fits op.now numbers.1 receipt) }
+        ensures queue { IfOk result (λ numbers. (receipt : Option (List ℕ))
+            → as_command connection op.now receipt number self.old ≡ with_command connection (record { session = numbers.1; op = op.now; receipt = receipt }) self.new) }
+        ensures same { (self.new.durable ≡ self.old.durable) × (self.new.state ≡ self.old.state) }
+        ensures err { IfErr result (λ fault. fault ≢ QueueFault.CountTooLarge) }
+    {
+        match op {
+            Op::Open { .. } => {
+                let next = self.journal.count() + self.waiting.len() as u64;
+                self.openers.insert(next, connection)?;
+                Ok((next, 0))
+            }
             Op::Send(_)
             | Op::Subscribe { .. }
             | Op::Unsubscribe { .. }
@@ -140,17 +225,24 @@ impl CommandQueue {
             | Op::Nack(_)
             | Op::Commit(_)
             | Op::Note
-            | Op::End(_) => (number, number),
-        };
-        if let Op::Open { .. } = op {
-            self.openers.insert(next, connection)?;
+            | Op::End(_) => Ok((number, number)),
         }
-        let command = Command::new(session, op, receipt);
-        self.waiting.push(Waiting {
+    }
+
+    // Has a command wait.
+    fn push(&mut self, connection: u8, command: Command) -> Result<(), QueueFault>
+        requires few { self.old.state.count < 2 ^ 60 }
+        ensures queue { OnOk result (self.new ≡ with_command connection command self.old) }
+        ensures err { IfErr result (λ fault. fault ≢ QueueFault.CountTooLarge) }
+    {
+        let waiting = Waiting {
             connection,
             command,
-        })?;
-        Ok(number)
+        };
+        match self.waiting.push(waiting) {
+            Ok(()) => Ok(()),
+            Err(refused) => Err(QueueFault::from(refused)),
+        }
     }
 }
 

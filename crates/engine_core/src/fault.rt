@@ -10,22 +10,17 @@ use recover_core::OpenFault;
 use session_core::SessionFault;
 use std::alloc::{AllocError, AllocFailed};
 use std::{error, fmt};
-use thiserror::Error;
 
 /// Why a line of a script isn't carried out.
-#[derive(Debug, Drop, Error)]
+#[derive(Drop)]
 pub enum QueueFault {
     /// Memory was refused.
-    #[error("no memory")]
     Memory(AllocError),
     /// As many commands have been carried out as may be: 2^60.
-    #[error("J5 count too large")]
     CountTooLarge,
     /// The disk was not opened.
-    #[error("{0}")]
     Opening(OpenFault),
     /// Commands were not stored and carried out, or the journal failed before.
-    #[error("{0}")]
     Storing(FlushFault),
 }
 

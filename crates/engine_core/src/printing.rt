@@ -1,8 +1,10 @@
 //! What a script prints for the frames that go to its connections.
 
-ghost use Rattle.std.specs.Prelude.{◌≡◌, ◌≢◌, ◌++◌, IfErr, OnOk, string_bytes};
+ghost use Rattle.std.specs.Prelude.{◌≡◌, ◌≢◌, ◌++◌, ◌∷◌, [], IfErr, OnOk, string_bytes};
+ghost use Rattle.std.specs.Fmt.{decimal};
 ghost use Rattle.std.specs.List.{flat_map};
 ghost use Rattle.frame_core.specs.Writable.{Writable};
+ghost use Rattle.engine_core.specs.PercentTexts.{encoded};
 ghost use Rattle.engine_core.specs.Queues.{line_for, line_of_out};
 
 use crate::fault::QueueFault;
@@ -24,9 +26,25 @@ pub fn print_frame(
     ensures { OnOk result (string_bytes text.new ≡ string_bytes text.old ++ line_for connection frame.now) }
 {
     let bytes = write_frame(alloc, frame)?;
+    let printed = print_bytes(alloc, text, connection, bytes.as_slice());
+    drop(bytes);
+    printed
+}
+
+// Adds a line: the connection's number, a blank, and bytes as text.
+fn print_bytes(
+    alloc: Global,
+    text: &mut String,
+    connection: u8,
+    bytes: &[u8],
+) -> Result<(), AllocError>
+    ensures { OnOk result (string_bytes text.new ≡ string_bytes text.old ++ (decimal connection ++ 32 ∷ (encoded bytes.now ++ 10 ∷ []))) }
+{
     let number = format!(in alloc; "{connection} ")?;
-    text.push_str(number.as_str())?;
-    encode_text(text, bytes.as_slice())?;
+    let begun = text.push_str(number.as_str());
+    drop(number);
+    begun?;
+    encode_text(text, bytes)?;
     text.push('\n')?;
     Ok(())
 }
@@ -65,7 +83,13 @@ fn print_out(
         Some(connection) => *connection,
         None => 0,
     };
-    let released = journal.release(connection, out)?;
-    print_frame(alloc, text, connection, released.frame())?;
-    Ok(())
+    match journal.release(connection, out) {
+        Ok(released) => {
+            let printed = print_frame(alloc, text, connection, released.frame());
+            drop(released);
+            printed?;
+            Ok(())
+        }
+        Err(fault) => Err(QueueFault::Storing(fault)),
+    }
 }

@@ -56,9 +56,24 @@ pub fn run_script<R: Read, W: Write>(
     // only where the next line prints. Where the disk is not opened at the start, nothing is read or written.
     ensures err { IfErr result (λ fault. StopsOver disk.content fault (R.remaining reader.old) (R.remaining reader.new) (W.contents writer.old) (W.contents writer.new)) }
 {
-    let mut piece = vec![in alloc; 0u8; PIECE]?;
-    let mut run = begin(alloc, disk)?;
-    read_to_end(alloc, &mut run, piece.as_mut_slice(), reader, writer)
+    match vec![in alloc; 0u8; PIECE] {
+        Ok(mut piece) => match begin(alloc, disk) {
+            Ok(mut run) => {
+                let ended = read_to_end(alloc, &mut run, piece.as_mut_slice(), reader, writer);
+                drop(run);
+                drop(piece);
+                ended
+            }
+            Err(fault) => {
+                drop(piece);
+                Err(ScriptFault::Opening(fault))
+            }
+        },
+        Err(refused) => {
+            drop(disk);
+            Err(ScriptFault::from(refused))
+        }
+    }
 }
 
 /// A run before the first read.
@@ -214,7 +229,9 @@ fn end_line<W: Write>(
             line: run.lines + 1,
         }),
         Some(text) => {
-            write_text(writer, text.as_str())?;
+            let written = write_text(writer, text.as_str());
+            drop(text);
+            written?;
             run.begun.clear();
             run.lines += 1;
             Ok(())

@@ -1,13 +1,13 @@
 //! A script while its disk runs: its connections and the queue.
 
-ghost use Rattle.std.specs.Prelude.{◌≡◌, ◌≢◌, ◌≤◌, ◌^◌, IfErr, IfOk, string_bytes, unwrap_or};
+ghost use Rattle.std.specs.Prelude.{◌≡◌, ◌≢◌, ◌≤◌, ◌^◌, IfErr, IfOk, IfSome, IsSomeAnd, List, OnOk, string_bytes, unwrap_or};
 ghost use Rattle.std.specs.List.{AllByRecursion, fold};
-ghost use Rattle.session_core.specs.Sessions.{HasForm};
+ghost use Rattle.session_core.specs.Sessions.{HasForm, Hearing, Hears};
 ghost use Rattle.std.specs.BTreeMap.{is_at};
 ghost use Rattle.std.specs.Map.{lookup, remove_entry};
 ghost use Rattle.std.specs.Ordering.{nat_cmp};
 ghost use Rattle.engine_core.specs.Connections.{new_connection};
-ghost use Rattle.engine_core.specs.Queues.{Progress, acted, IsTooFar, GoTooFar};
+ghost use Rattle.engine_core.specs.Queues.{Progress, acted, acted_on, IsTooFar, GoTooFar};
 
 use crate::command_queue::CommandQueue;
 use crate::fault::QueueFault;
@@ -94,15 +94,19 @@ impl RunningScript {
         ensures ok { IfOk result (λ text. Receives self.old n bytes.now (string_bytes text) self.new) }
         ensures err { IfErr result (λ fault. fault ≡ QueueFault.CountTooLarge → ReceivesTooFar self.old n bytes.now) }
     {
-        let Connection {
-            mut session,
-            number,
-        } = take_connection(alloc, &mut self.connections, n);
-        let acts = session.feed(alloc, bytes)?;
+        let mut connection = take_connection(alloc, &mut self.connections, n);
         let mut text = String::new(alloc);
-        let number = do_acts(alloc, &mut self.queue, n, number, acts, &mut text)?;
-        self.connections.insert(n, Connection { session, number })?;
-        Ok(text)
+        match hear(alloc, &mut self.queue, n, &mut connection, bytes, &mut text) {
+            Ok(()) => {
+                self.connections.insert(n, connection)?;
+                Ok(text)
+            }
+            Err(fault) => {
+                drop(text);
+                drop(connection);
+                Err(fault)
+            }
+        }
     }
 
     /// A connection is gone; answers what is printed.
@@ -114,12 +118,16 @@ impl RunningScript {
             mut session,
             number,
         } = take_connection(alloc, &mut self.connections, n);
+        let act = session.lost();
+        drop(session);
         let mut text = String::new(alloc);
-        let Some(act) = session.lost() else {
-            return Ok(text);
-        };
-        do_act(alloc, &mut self.queue, n, number, act, &mut text)?;
-        Ok(text)
+        match do_loss(alloc, &mut self.queue, n, number, act, &mut text) {
+            Ok(_) => Ok(text),
+            Err(fault) => {
+                drop(text);
+                Err(fault)
+            }
+        }
     }
 }
 
@@ -134,6 +142,47 @@ fn take_connection(alloc: Global, connections: &mut BTreeMap<u8, Connection>, n:
             session: Session::new(alloc),
             number: 0,
         },
+    }
+}
+
+/// Has a connection's session hear bytes, and does what they ask for.
+fn hear(
+    alloc: Global,
+    queue: &mut CommandQueue,
+    n: u8,
+    connection: &mut Connection,
+    bytes: &[u8],
+    text: &mut String,
+) -> Result<(), QueueFault>
+    ensures ok { OnOk result ((acts : List Act) × Hears connection.old.session bytes.now acts connection.new.session
+        × (record { number = connection.new.number; queue = queue.new; text = string_bytes text.new }
+        ≡ fold (acted n) (record { number = connection.old.number; queue = queue.old; text = string_bytes text.old }) acts)) }
+    ensures err { IfErr result (λ fault. fault ≡ QueueFault.CountTooLarge → (acts : List Act) × (session : Hearing) × Hears connection.old.session bytes.now acts session
+        × GoTooFar n (record { number = connection.old.number; queue = queue.old; text = string_bytes text.old }) acts) }
+{
+    let acts = connection.session.feed(alloc, bytes)?;
+    let number = do_acts(alloc, queue, n, connection.number, acts, text)?;
+    connection.number = number;
+    Ok(())
+}
+
+/// Does what the loss of a connection asks for, where it asks for something; answers the number of its session then.
+fn do_loss(
+    alloc: Global,
+    queue: &mut CommandQueue,
+    connection: u8,
+    number: u64,
+    act: Option<Act>,
+    text: &mut String,
+) -> Result<u64, QueueFault>
+    requires { IfSome act HasForm }
+    ensures ok { IfOk result (λ n. record { number = n; queue = queue.new; text = string_bytes text.new }
+        ≡ acted_on connection (record { number = number; queue = queue.old; text = string_bytes text.old }) act) }
+    ensures err { IfErr result (λ fault. fault ≡ QueueFault.CountTooLarge → IsSomeAnd act (IsTooFar connection queue.old)) }
+{
+    match act {
+        Some(act) => do_act(alloc, queue, connection, number, act, text),
+        None => Ok(number),
     }
 }
 

@@ -53,13 +53,29 @@ impl Script {
         ensures ok { IfOk result (λ text. Opens self.old (string_bytes text) self.new) }
         ensures err { IfErr result (λ fault. fault ≢ QueueFault.CountTooLarge) }
     {
-        let Some(disk) = into_disk(mem::replace(self, Script::Over)) else {
-            return Err(QueueFault::Storing(FlushFault::Broken));
-        };
+        match into_disk(mem::replace(self, Script::Over)) {
+            Some(disk) => self.begin_anew(alloc, disk),
+            None => Err(QueueFault::Storing(FlushFault::Broken)),
+        }
+    }
+
+    // Begins with what a disk stands for.
+    fn begin_anew(&mut self, alloc: Global, disk: MemDisk) -> Result<String, QueueFault>
+        ensures ok { IfOk result (λ text. Opens (Script.Stopped disk) (string_bytes text) self.new) }
+        ensures err { IfErr result (λ fault. fault ≢ QueueFault.CountTooLarge) }
+    {
         let mut text = String::new(alloc);
-        let journal = open_journal(alloc, disk, &mut text)?;
-        *self = Script::Running(RunningScript::over(alloc, journal));
-        Ok(text)
+        match open_journal(alloc, disk, &mut text) {
+            Ok(journal) => {
+                let running = Script::Running(RunningScript::over(alloc, journal));
+                drop(mem::replace(self, running));
+                Ok(text)
+            }
+            Err(fault) => {
+                drop(text);
+                Err(fault)
+            }
+        }
     }
 
     /// The disk stops within a flush, of which nothing is printed; `None` where it has stopped before.
@@ -74,12 +90,15 @@ impl Script {
         ensures err { IfErr result (λ fault. fault ≢ QueueFault.CountTooLarge) }
     {
         match mem::replace(self, Script::Over) {
-            Script::Running(script) => {
-                *self = Script::Stopped(script.crash(alloc, calls, fill)?);
-                Ok(Some(String::new(alloc)))
-            }
+            Script::Running(script) => match script.crash(alloc, calls, fill) {
+                Ok(disk) => {
+                    drop(mem::replace(self, Script::Stopped(disk)));
+                    Ok(Some(String::new(alloc)))
+                }
+                Err(fault) => Err(fault),
+            },
             stopped => {
-                *self = stopped;
+                drop(mem::replace(self, stopped));
                 Ok(None)
             }
         }
@@ -144,10 +163,15 @@ fn open_journal(alloc: Global, disk: MemDisk, text: &mut String) -> Result<Journ
     ensures small { IfOk result (λ journal. journal.state.count ≤ 2 ^ 61) }
     ensures err { IfErr result (λ fault. fault ≢ QueueFault.CountTooLarge) }
 {
-    let journal = Journal::open(alloc, disk)?;
-    match tell(alloc, &journal, text) {
-        Ok(()) => Ok(journal),
-        Err(fault) => Err(fault),
+    match Journal::open(alloc, disk) {
+        Ok(journal) => match tell(alloc, &journal, text) {
+            Ok(()) => Ok(journal),
+            Err(fault) => {
+                drop(journal);
+                Err(fault)
+            }
+        },
+        Err(fault) => Err(QueueFault::Opening(fault)),
     }
 }
 
@@ -161,6 +185,8 @@ fn tell(alloc: Global, journal: &Journal, text: &mut String) -> Result<(), Queue
     };
     let count = journal.count();
     let line = format!(in alloc; "open {count} {held}\n")?;
-    text.push_str(line.as_str())?;
+    let told = text.push_str(line.as_str());
+    drop(line);
+    told?;
     Ok(())
 }

@@ -33,8 +33,8 @@ returns-in-None-clause-err g c =
     let none = subst (λ s. IsNotUnderstood s line) begun.same.0 (option_none (IsNotUnderstood c.begin_line.new.run.script line) (λ text. Prints c.begin_line.new.run.script line (string_bytes text) c.perform.new.self) c.in_ok-perform.field-0 c.in-None.is c.in_ok-perform.ensures.ok) in
     stops_at_no_form c.args.run.now c.args.bytes.now line _ _ c.requires.begun c.requires.bytes (c.as_slice.ensures.value ∙ begun.ok.0) none (ap (λ n. n + 1) begun.same.1)
 
-pub returns-in_ok-write_text-in-Some-clause-ok : goal.returns-in_ok-write_text-in-Some-clause-ok
-returns-in_ok-write_text-in-Some-clause-ok g c =
+pub returns-in_ok-written-in-Some-clause-ok : goal.returns-in_ok-written-in-Some-clause-ok
+returns-in_ok-written-in-Some-clause-ok g c =
     let begun = c.in_ok-begin_line.ensures in
     let text = c.in-Some.text in
     let line = c.as_slice.result.now in
@@ -43,15 +43,15 @@ returns-in_ok-write_text-in-Some-clause-ok g c =
     (subst IsLine (sym c.as_slice.ensures.value) begun.ok.1)
     (subst (λ s. Prints s line (string_bytes text) c.perform.new.self) begun.same.0 some)
     c.clear.ensures.items (ap (λ n. n + 1) begun.same.1)
-    (subst (λ t. Appends (g.W.Write.contents c.args.writer.now) (g.W.Write.contents c.write_text.new.writer) t) c.as_str.ensures.value c.in_ok-write_text-in-Some.ensures.ok)
+    (subst (λ t. Appends (g.W.Write.contents c.args.writer.now) (g.W.Write.contents c.write_text-written.new.writer) t) c.as_str.ensures.value c.in_ok-written-in-Some.ensures.ok)
 
-pub returns-in_err-write_text-in-Some-clause-err : goal.returns-in_err-write_text-in-Some-clause-err
-returns-in_err-write_text-in-Some-clause-err g c =
+pub returns-in_err-written-in-Some-clause-err : goal.returns-in_err-written-in-Some-clause-err
+returns-in_err-written-in-Some-clause-err g c =
     let begun = c.in_ok-begin_line.ensures in
     let text = c.in-Some.text in
     let line = c.as_slice.result.now in
-    let p = err_from_is_err_and c.from_residual-in_err-write_text-in-Some.result c.from_residual-in_err-write_text-in-Some.ensures.1 in
+    let p = err_from_is_err_and c.from_residual-in_err-written-in-Some.result c.from_residual-in_err-written-in-Some.ensures.1 in
     let some = option_some (IsNotUnderstood c.begin_line.new.run.script line) (λ t. Prints c.begin_line.new.run.script line (string_bytes t) c.perform.new.self) c.in_ok-perform.field-0 text c.in-Some.is c.in_ok-perform.ensures.ok in
-    rw (p.1, p.2, c.in_err-write_text-in-Some.ensures.err) (stops_at_writer c.args.run.now c.args.bytes.now line (string_bytes text) c.perform.new.self (c.as_slice.ensures.value ∙ begun.ok.0)
+    rw (p.1, p.2, c.in_err-written-in-Some.ensures.err) (stops_at_writer c.args.run.now c.args.bytes.now line (string_bytes text) c.perform.new.self (c.as_slice.ensures.value ∙ begun.ok.0)
     (subst IsLine (sym c.as_slice.ensures.value) begun.ok.1)
     (subst (λ s. Prints s line (string_bytes text) c.perform.new.self) begun.same.0 some))
