@@ -53,11 +53,16 @@ fn append_one(
         connection,
         command,
     } = waiting;
-    let Ok(entry) = Entry::new(alloc, command, None) else {
-        return Err(FlushFault::Memory(AllocError));
+    let entry = match Entry::new(alloc, command, None) {
+        Ok(entry) => entry,
+        Err(refused) => {
+            drop(refused);
+            return Err(FlushFault::Memory(AllocError));
+        }
     };
     let place = connection as usize;
     if place >= seats.len() {
+        drop(entry);
         return Err(FlushFault::Broken);
     }
     match append_at(ring, &mut seats[place], ticket, entry) {
@@ -80,6 +85,7 @@ fn append_at(
     ensures own { OnOk result (seat.new.own ≡ seat.old.own ++ (ticket, entry.command) ∷ []) }
 {
     let Some(next) = ticket.checked_add(1) else {
+        drop(entry);
         return Err(FlushFault::Broken);
     };
     match ticket_of(ring.append(seat, entry)) {
@@ -99,6 +105,9 @@ fn ticket_of(answer: Result<u64, (Entry<ScriptBox>, Refused)>) -> Option<u64>
 {
     match answer {
         Ok(ticket) => Some(ticket),
-        Err(_) => None,
+        Err(refused) => {
+            drop(refused);
+            None
+        }
     }
 }

@@ -101,6 +101,7 @@ impl Journal {
         ensures failed { OnErr result (self.new.durable ≡ false) }
     {
         if !self.whole {
+            drop(waiting);
             return Err(FlushFault::Broken);
         }
         self.whole = false;
@@ -142,10 +143,12 @@ impl Journal {
         ensures stands { IfSome result (λ disk. Stands disk.content self.state) }
         ensures some { self.durable ≡ true → IsSome result }
     {
-        if !self.whole || self.flusher.is_broken() {
+        let Journal { flusher, whole, .. } = self;
+        if !whole || flusher.is_broken() {
+            drop(flusher);
             return None;
         }
-        Some(self.flusher.into_disk())
+        Some(flusher.into_disk())
     }
 
     /// Has waiting commands go through the ring while so many calls of the disk pass; the disk then stops, and has the fill
@@ -160,19 +163,29 @@ impl Journal {
         ensures stands { IfOk result (λ disk. ∥ StandsAfterFront self.state (commands_of waiting.items) disk.content ∥₁) }
         ensures fault { IfErr result IsNotOfDisk }
     {
-        if !self.whole || self.flusher.is_broken() {
-            return Err(FlushFault::Broken);
-        }
         let Journal {
             ring,
             mut seats,
             flusher,
-            ..
+            whole,
         } = self;
+        if !whole || flusher.is_broken() {
+            drop(waiting);
+            drop(flusher);
+            drop(seats);
+            drop(ring);
+            return Err(FlushFault::Broken);
+        }
         let mut fused = flusher.fuse(calls);
-        match go(alloc, &ring, &mut seats, &mut fused, waiting) {
+        let went = go(alloc, &ring, &mut seats, &mut fused, waiting);
+        drop(seats);
+        drop(ring);
+        match went {
             Ok(_) => Ok(stopped(fused, fill)),
-            Err(fault) => Err(fault),
+            Err(fault) => {
+                drop(fused);
+                Err(fault)
+            }
         }
     }
 }

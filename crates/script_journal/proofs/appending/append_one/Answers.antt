@@ -9,8 +9,8 @@ append_at-requires c = c.requires c.args.waiting.connection c.index_mut.result.n
 pub returns-in-Ok-append_at-clause-seats : goal.returns-in-Ok-append_at-clause-seats
 returns-in-Ok-append_at-clause-seats c = still_ring _ _ _ _ _ (at_index c.args.seats.now.items c.args.waiting.connection c.index_mut.result.now (omega (arith, c.if-place-len.false, c.len.ensures)) c.index_mut.ensures.value) c.append_at.ensures.ring c.requires
 
-pub returns-in-Err-clause-seats : goal.returns-in-Err-clause-seats
-returns-in-Err-clause-seats c = still_ring _ _ _ _ _ (at_index c.args.seats.now.items c.args.waiting.connection c.index_mut.result.now (omega (arith, c.if-place-len.false, c.len.ensures)) c.index_mut.ensures.value) c.append_at.ensures.ring c.requires
+pub returns-in-Err-append_at-clause-seats : goal.returns-in-Err-append_at-clause-seats
+returns-in-Err-append_at-clause-seats c = still_ring _ _ _ _ _ (at_index c.args.seats.now.items c.args.waiting.connection c.index_mut.result.now (omega (arith, c.if-place-len.false, c.len.ensures)) c.index_mut.ensures.value) c.append_at.ensures.ring c.requires
 
 pub returns-in-Ok-append_at-clause-placed : goal.returns-in-Ok-append_at-clause-placed
 returns-in-Ok-append_at-clause-placed c = placed_here _ _ _ _ _ _ (at_index c.args.seats.now.items c.args.waiting.connection c.index_mut.result.now (omega (arith, c.if-place-len.false, c.len.ensures)) c.index_mut.ensures.value) (c.in-Ok-append_at.ensures.own ∙ ap (λ e. c.index_mut.result.now.own ++ (c.args.ticket, e.command) ∷ []) c.in-Ok.ensures.ok)
