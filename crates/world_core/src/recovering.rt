@@ -25,7 +25,10 @@ fn copy_of(alloc: Global, content: &[u8]) -> Result<MemDisk, AllocError>
     let mut disk = MemDisk::new(alloc, content.len() as u64)?;
     match disk.write_at(0, content) {
         Ok(()) => Ok(disk),
-        Err(_) => Err(AllocError),
+        Err(_) => {
+            drop(disk);
+            Err(AllocError)
+        }
     }
 }
 

@@ -208,7 +208,10 @@ impl Parts {
         ensures ok { IfOk result (λ answer. IsTold (value_of self.old) (Event.Release j n) answer (value_of self.new)) }
         ensures err { OnErr result (value_of self.new ≡ value_of self.old) }
     {
-        if !are_there(self.phase) || !self.has_seen(j, n) {
+        if !are_there(self.phase) {
+            return Ok(false);
+        }
+        if !self.has_seen(j, n) {
             return Ok(false);
         }
         self.released.push(n)?;
