@@ -9,8 +9,7 @@ use std::alloc::{AllocError, Global};
 
 fn put_at(bytes: &mut [u8], at: usize, new: &[u8])
     requires { at + length new.now ≤ length bytes.old }
-    ensures patched { bytes.new ≡ patched at new.now bytes.old }
-    ensures len { length bytes.new ≡ length bytes.old }
+    ensures { bytes.new ≡ patched at new.now bytes.old }
 {
     bytes[at..at + new.len()].copy_from_slice(new);
 }
