@@ -1,5 +1,6 @@
 -- A call that is made on the disk is the event.
-use Rattle.std.proofs.Common.{◌≡◌, ◌≢◌, ◌⊎◌, ◌+◌, ◌≤◌, ℕ, Bool, true, false, List, ◌++◌, Option, Some, None, IfSome, IsSomeAnd, length, arith, refl, sym, ◌∙◌, ap, subst}
+use Rattle.std.proofs.Common.{◌≡◌, ◌≢◌, ◌⊎◌, ◌+◌, ◌≤◌, ℕ, Bool, true, false, List, [], ◌++◌, map, Option, Some, None, IfSome, Result, Ok, Err, IfOk, IsSomeAnd, length, arith, refl, sym, ◌∙◌, ap, subst}
+use Rattle.command_core.specs.Commands.{CommandValue}
 use Rattle.broker_core.specs.Operations.{restarted}
 use Rattle.broker_core.specs.States.{State}
 use Rattle.recover_core.specs.Standing.{Stands}
@@ -7,13 +8,16 @@ use Rattle.recover_core.specs.Told.{IsTooLarge, IsTooLong}
 use Rattle.disk_core.specs.Images.{patched}
 use Rattle.disk_core.specs.Memory.{held_over}
 use Rattle.world_core.specs.declared.event.Call.{Call}
+use Rattle.world_core.specs.declared.event.CallKind.{CallKind}
 use Rattle.world_core.specs.declared.event.CallKind.TheVariants.{Read, Write, Sync}
 use Rattle.world_core.specs.declared.event.CallList.{CallList}
 use Rattle.world_core.specs.declared.event.CallList.TheVariants.{Append, Snapshot, Switch, Open}
 use Rattle.world_core.specs.declared.event.Event.TheVariants.{Device, Open as Opens}
 use Rattle.world_core.specs.declared.patches.Patch.{Patch as Patched}
+use Rattle.world_core.specs.declared.place.Phase.TheVariants.{Running}
 use Rattle.world_core.specs.declared.place.Place.{Place}
 use Rattle.world_core.specs.declared.place.Place.TheVariants.{Rest, Broken, BlockWritten, BlockSynced, GateWritten, OpenSynced, OpenRead, SnapshotWritten, SnapshotSynced, SelectorWritten, Opened}
+use Rattle.world_core.specs.declared.seat.Seat.{Seat}
 use Rattle.world_core.specs.Answers.{IsTold}
 use Rattle.world_core.specs.Calls.{MayLead, Patch, append_syncs, append_writes, called, leads, open_reads, open_syncs, open_writes, patch, phase_after, place_after, stored_after, synced, with_disk, wrote}
 use Rattle.world_core.specs.Events.{reopened}
@@ -128,8 +132,20 @@ read_it w ok list to is r x = (read_freely w list to is r, refl)
 pub synced_it : (w v : WorldValue) (list : CallList) (to : Place) → leads w list Sync ≡ Some to → v ≡ with_disk w (synced w.disk) → IsTouched w Sync true to true v
 synced_it w v list to is new r x = (synced_freely w list to is r, new)
 
-pub synced_nothing : (w : WorldValue) (list : CallList) (to : Place) → leads w list Sync ≡ Some to → IsTouched w Sync false to true w
-synced_nothing w list to is r x = (synced_freely w list to is r, refl)
+pub synced_if : (w v : WorldValue) (ok : Bool) (list : CallList) (to : Place) → leads w list Sync ≡ Some to → (ok ≡ true → v ≡ with_disk w (synced w.disk)) → (ok ≡ false → v ≡ w) → IsTouched w Sync ok to true v
+synced_if w v true list to is all none = synced_it w v list to is (all refl)
+synced_if w v false list to is all none = λ r x. (synced_freely w list to is r, none refl)
+
+-- a call of that kind
+
+pub touches_read : (w : WorldValue) (call : Call) (to : Place) → call.kind ≡ Read → leads w call.list call.kind ≡ Some to → IsTouched w call.kind call.ok to true w
+touches_read w call to is there = subst (λ (k : CallKind). leads w call.list k ≡ Some to → IsTouched w k call.ok to true w) (sym is) (read_it w call.ok call.list to) there
+
+pub touches_write : {E : Type 0} (res : Result Bool E) (w v : WorldValue) (call : Call) (to : Place) → call.kind ≡ Write → IfOk res (λ answer. IsTouched w Write call.ok to answer v) → IfOk res (λ answer. IsTouched w call.kind call.ok to answer v)
+touches_write res w v call to is touched = subst (λ (k : CallKind). IfOk res (λ answer. IsTouched w k call.ok to answer v)) (sym is) touched
+
+pub touches_sync : (w v : WorldValue) (call : Call) (to : Place) → call.kind ≡ Sync → leads w call.list call.kind ≡ Some to → (call.ok ≡ true → v ≡ with_disk w (synced w.disk)) → (call.ok ≡ false → v ≡ w) → IsTouched w call.kind call.ok to true v
+touches_sync w v call to is there all none = subst (λ (k : CallKind). leads w call.list k ≡ Some to → IsTouched w k call.ok to true v) (sym is) (λ l. synced_if w v call.ok call.list to l all none) there
 
 -- and the event
 
@@ -160,10 +176,22 @@ opens w v state k is state_is new r x =
     let stays : restarted r.state ≡ r.state = ap restarted same ∙ at.2.again ∙ sym same in
     (is, new ∙ ap (λ (s : State). reopened w s) (state_is r.state (read_stands w.disk.size w.disk.content r x) ∙ stays))
 
+pub opens_if : {E : Type 0} (res : Result Bool E) (w v : WorldValue) (state : State) → IsKept w → w.place ≡ Opened → ((s : State) → Stands w.disk.content s → state ≡ restarted s)
+    → IfOk res (λ begun. (begun ≡ true) × (v ≡ reopened w state)) → IfOk res (λ answer. IsTold w Opens answer v)
+opens_if (Err e) w v state k is state_is begun = begun
+opens_if (Ok b) w v state k is state_is begun = subst (λ (a : Bool). IsTold w Opens a v) (sym begun.0) (opens w v state k is state_is begun.1)
+
 pub cannot_fail : (w : WorldValue) (content : List ℕ) → IsKept w → w.place ≡ Opened → content ≡ w.disk.content → (IsTooLarge content ⊎ IsTooLong content) → ⊥
 cannot_fail w content k is same why =
     let at : IsAt (log_of w) w.disk Opened = subst (λ (p : Place). IsAt (log_of w) w.disk p) is k.at in
     no_restart content why w.disk.size at.2.reading (subst (λ (l : List ℕ). IsRead w.disk.size l at.2.reading) (sym same) at.2.is_read) at.2.can
+
+-- what begins anew
+pub begins : (w : WorldValue) (s opening : State) (base : ℕ) (history : List CommandValue) (ready : List Bool) (seats : List Seat) (released : List ℕ) → base ≡ s.count → opening ≡ s → history ≡ [] → ready ≡ []
+    → seats ≡ map (λ (seat : Seat). record { own = []; seen = s.count }) w.seats → released ≡ []
+    → record w { base = base; opening = opening; history = history; ready = ready; taken = base; stored = base; mark = base; seats = seats; stopped = false; released = released; phase = Running; place = Rest } ≡ begun w s
+begins w s opening base history ready seats released b o h f a n =
+    λ i. record w { base = b i; opening = o i; history = h i; ready = f i; taken = b i; stored = b i; mark = b i; seats = a i; stopped = false; released = n i; phase = Running; place = Rest }
 
 pub begun_is : (w : WorldValue) (earlier : List ℕ) (s : State) → earlier ≡ w.earlier ++ w.released → begun (record w { earlier = earlier }) s ≡ reopened w s
 begun_is w earlier s is = ap (λ (l : List ℕ). record (reopened w s) { earlier = l }) is

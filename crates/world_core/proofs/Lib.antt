@@ -8,3 +8,4 @@ pub mod Recovered
 pub mod Schedules
 pub mod SessionEvents
 pub mod Shown
+pub mod Telling

@@ -1,5 +1,5 @@
 -- What the code that reads journals says of the bytes that it read.
-use Rattle.std.proofs.Common.{◌≡◌, ◌⊎◌, ⊎_elim, ℕ, ◌+◌, ◌<◌, ◌≤◌, ◌^◌, false, List, [], ◌∷◌, ◌++◌, Option, Some, IfSome, length, sym, ◌∙◌, ap, subst, arith}
+use Rattle.std.proofs.Common.{◌≡◌, ◌⊎◌, ⊎_elim, ℕ, ◌+◌, ◌<◌, ◌≤◌, ◌^◌, false, List, [], ◌∷◌, ◌++◌, Option, Some, None, IfSome, Result, Ok, Err, IfOk, Vec, Global, length, sym, ◌∙◌, ap, subst, arith}
 use Rattle.command_core.specs.Commands.{CommandValue}
 use Rattle.broker_core.specs.Operations.{restarted}
 use Rattle.broker_core.specs.States.{BrokerValue, State}
@@ -80,3 +80,17 @@ found_state o b c is state = subst (λ (q : Option BrokerValue). IfSome q (λ br
 
 pub found_low : (o : Option BrokerValue) (b : BrokerValue) → o ≡ Some b → IfSome o (λ broker. (broker.state.count ≤ 2 ^ 61) × (broker.broken ≡ false)) → b.state.count ≤ 2 ^ 61
 found_low o b is low = (subst (λ (q : Option BrokerValue). IfSome q (λ broker. (broker.state.count ≤ 2 ^ 61) × (broker.broken ≡ false))) is low).0
+
+-- a snapshot that fits is one of a restart, and where it doesn't fit there is none
+pub within_some : {E : Type 0} (res : Result (Option (Vec ℕ Global)) E) (size : ℕ) (content : List ℕ) (state : State) → ((s : State) → Stands content s → state ≡ restarted s) → state.count ≤ 2 ^ 61
+    → IfOk res (λ found. IfSome found (λ snapshot. Spells snapshot.items state × (length snapshot.items + 9 ≤ size)))
+    → IfOk res (λ found. IfSome found (λ snapshot. (r : Reading) → IsRead size content r → CanRestart size r × (snapshot.items ≡ snapshot_of (restarted r.state))))
+within_some (Err e) size content state is low m = m
+within_some (Ok None) size content state is low m = m
+within_some (Ok (Some v)) size content state is low m = can_restart content state v.items m.0 is low size m.1
+
+pub within_none : {E : Type 0} (res : Result (Option (Vec ℕ Global)) E) (size : ℕ) (content : List ℕ) (state : State) → ((s : State) → Stands content s → state ≡ restarted s)
+    → IfOk res (λ found. found ≡ None → (spelling : List ℕ) × Spells spelling state × (size < length spelling + 9))
+    → IfOk res (λ found. found ≡ None → (r : Reading) → IsRead size content r → CanRestart size r → ⊥)
+within_none (Err e) size content state is m = m
+within_none (Ok o) size content state is m = λ none. let s = m none in does_not_fit content state s.0 s.1 is size s.2

@@ -1,9 +1,10 @@
 //! Device calls on the parts of a world, and the end of an opening.
 
-ghost use Rattle.std.specs.Prelude.{◌≡◌, ◌+◌, ◌≤◌, IfOk, OnErr, Some, length};
+ghost use Rattle.std.specs.Prelude.{◌≡◌, ◌+◌, ◌≤◌, IfOk, OnErr, Some, false, length, true};
 ghost use Rattle.broker_core.specs.States.{State};
 ghost use Rattle.world_core.specs.Answers.{IsTold};
-ghost use Rattle.world_core.specs.Calls.{leads, patch, with_disk, wrote};
+ghost use Rattle.world_core.specs.Calls.{leads, patch, synced, with_disk, wrote};
+ghost use Rattle.world_core.specs.Events.{reopened};
 ghost use Rattle.world_core.specs.Keeping.{IsKept};
 ghost use Rattle.world_core.specs.Parts.{disk_of, value_of};
 ghost use Rattle.world_core.specs.Touches.{IsDue, IsTouched, begun};
@@ -42,6 +43,17 @@ impl Parts {
         Ok(true)
     }
 
+    // Makes all stable, where it succeeds.
+    fn sync(&mut self, ok: bool)
+        requires sizes { length self.old.held.items ≡ length self.old.content.items }
+        ensures ok { ok ≡ true → value_of self.new ≡ with_disk (value_of self.old) (synced (disk_of self.old)) }
+        ensures failed { ok ≡ false → value_of self.new ≡ value_of self.old }
+    {
+        if ok {
+            release(&mut self.held);
+        }
+    }
+
     // Makes a call on the disk that leads to a place when it succeeds, where it may come.
     fn touch(&mut self, alloc: Global, call: Call, to: Place) -> Result<bool, AllocError>
         requires kept { IsKept (value_of self.old) }
@@ -53,9 +65,7 @@ impl Parts {
             CallKind::Read => Ok(true),
             CallKind::Write => self.write(alloc, call.ok, to),
             CallKind::Sync => {
-                if call.ok {
-                    release(&mut self.held);
-                }
+                self.sync(call.ok);
                 Ok(true)
             }
         }
@@ -97,6 +107,16 @@ impl Parts {
         self.place = Place::Rest;
     }
 
+    // It begins, and the released numbers go to the earlier ones.
+    fn begin_behind(&mut self, broker: &Broker) -> Result<bool, AllocError>
+        ensures ok { IfOk result (λ begun. (begun ≡ true) × (value_of self.new ≡ reopened (value_of self.old) broker.now.state)) }
+        ensures err { OnErr result (value_of self.new ≡ value_of self.old) }
+    {
+        self.earlier.extend_from_slice(&self.released)?;
+        self.begin(broker);
+        Ok(true)
+    }
+
     pub(crate) fn open(&mut self, alloc: Global) -> Result<bool, AllocError>
         requires { IsKept (value_of self.old) }
         ensures ok { IfOk result (λ answer. IsTold (value_of self.old) Event.Open answer (value_of self.new)) }
@@ -106,11 +126,13 @@ impl Parts {
             Place::Opened => {}
             _ => return Ok(false),
         }
-        let Some(broker) = restarted_broker(alloc, &self.content)? else {
-            return Ok(false);
-        };
-        self.earlier.extend_from_slice(&self.released)?;
-        self.begin(&broker);
-        Ok(true)
+        match restarted_broker(alloc, &self.content)? {
+            Some(broker) => {
+                let begun = self.begin_behind(&broker);
+                drop(broker);
+                begun
+            }
+            None => Ok(false),
+        }
     }
 }

@@ -1,11 +1,12 @@
 //! What is read of the bytes of a disk, by the code that reads journals.
 
-ghost use Rattle.std.specs.Prelude.{◌≡◌, ◌+◌, ◌*◌, ◌<◌, ◌≤◌, ◌^◌, ◌⊎◌, IfOk, IfSome, MatchOption, None, OnOk, false, length, true, ℕ};
+ghost use Rattle.std.specs.Prelude.{◌≡◌, ◌+◌, ◌*◌, ◌<◌, ◌≤◌, ◌^◌, ◌⊎◌, IfOk, IfSome, MatchOption, None, OnOk, IsTrue, List, false, length, true, ℕ};
 ghost use Rattle.broker_core.specs.Operations.{restarted};
 ghost use Rattle.broker_core.specs.States.{State};
 ghost use Rattle.recover_core.specs.Standing.{Stands};
-ghost use Rattle.recover_core.specs.Told.{IsTooLarge, IsTooLong};
-ghost use Rattle.snapshot_core.specs.Snapshots.{snapshot_of};
+ghost use Rattle.recover_core.specs.Stores.{opened_by};
+ghost use Rattle.recover_core.specs.Told.{IsOpenTold, IsTooLarge, IsTooLong};
+ghost use Rattle.snapshot_core.specs.Snapshots.{Spells, snapshot_of};
 ghost use Rattle.world_core.specs.Calls.{CanRestart};
 ghost use Rattle.world_core.specs.Readings.{IsRead, Reading};
 ghost use Rattle.world_core.specs.Recoveries.{HasEnded, HasPassed, IsReadable};
@@ -13,7 +14,7 @@ ghost use Rattle.world_core.specs.Recoveries.{HasEnded, HasPassed, IsReadable};
 use area_core::{Area, AreaFault};
 use broker_core::Broker;
 use disk_core::{Disk, MemDisk};
-use recover_core::{OpenFault, open};
+use recover_core::{OpenFault, Store, open};
 use snapshot_core::encode_state;
 use std::alloc::{AllocError, Global};
 
@@ -24,7 +25,10 @@ fn copy_of(alloc: Global, content: &[u8]) -> Result<MemDisk, AllocError>
     let mut disk = MemDisk::new(alloc, content.len() as u64)?;
     match disk.write_at(0, content) {
         Ok(()) => Ok(disk),
-        Err(_) => Err(AllocError),
+        Err(_) => {
+            drop(disk);
+            Err(AllocError)
+        }
     }
 }
 
@@ -70,6 +74,27 @@ pub(crate) fn gate_in(alloc: Global, content: &[u8]) -> Result<u64, AllocError>
     Ok(area.used() - 1)
 }
 
+// The broker that a journal was opened with.
+fn broker_of(store: Store<MemDisk>) -> Option<Broker>
+    ensures { result ≡ opened_by store }
+{
+    let mut store = store;
+    let broker = store.broker();
+    drop(store);
+    broker
+}
+
+// The count was too large, or the snapshot did not fit.
+fn is_too_much(fault: &OpenFault) -> bool
+    ensures { IsTrue result → (content : List ℕ) → IsOpenTold fault.now content → IsTooLarge content ⊎ IsTooLong content }
+{
+    match fault {
+        OpenFault::CountTooLarge => true,
+        OpenFault::Area(AreaFault::Full) => true,
+        _ => false,
+    }
+}
+
 // The broker of what a restart leaves of the state that these bytes stand for, or none where its count is too large or its
 // snapshot doesn't fit. A journal is refused for these two and for want of memory alone.
 pub(crate) fn restarted_broker(alloc: Global, content: &[u8]) -> Result<Option<Broker>, AllocError>
@@ -79,11 +104,33 @@ pub(crate) fn restarted_broker(alloc: Global, content: &[u8]) -> Result<Option<B
 {
     let disk = copy_of(alloc, content)?;
     match open(alloc, disk) {
-        Ok(mut store) => Ok(store.broker()),
-        Err((_, OpenFault::CountTooLarge)) => Ok(None),
-        Err((_, OpenFault::Area(AreaFault::Full))) => Ok(None),
-        Err(_) => Err(AllocError),
+        Ok(store) => Ok(broker_of(store)),
+        Err((disk, fault)) => {
+            drop(disk);
+            if is_too_much(&fault) {
+                drop(fault);
+                return Ok(None);
+            }
+            drop(fault);
+            Err(AllocError)
+        }
     }
+}
+
+// A broker's snapshot, or none where it doesn't fit into an area of so many bytes with the gate behind it.
+fn snapshot_within(alloc: Global, broker: &Broker, size: u64) -> Result<Option<Vec<u8>>, AllocError>
+    requires whole { broker.now.broken ≡ false }
+    requires few_sessions { length broker.now.state.sessions < 2 ^ 32 }
+    requires few_subscriptions { length broker.now.state.subscriptions < 2 ^ 32 }
+    ensures some { IfOk result (λ found. IfSome found (λ snapshot. Spells snapshot.items broker.now.state × (length snapshot.items + 9 ≤ size))) }
+    ensures none { IfOk result (λ found. found ≡ None → (spelling : List ℕ) × Spells spelling broker.now.state × (size < length spelling + 9)) }
+{
+    let snapshot = encode_state(alloc, broker)?;
+    if snapshot.len() as u64 + 9 > size {
+        drop(snapshot);
+        return Ok(None);
+    }
+    Ok(Some(snapshot))
 }
 
 // Its snapshot, or none where its count is too large or it doesn't fit into an area of so many bytes.
@@ -97,12 +144,12 @@ pub(crate) fn restarted_snapshot(
         → CanRestart size r × (snapshot.items ≡ snapshot_of (restarted r.state)))) }
     ensures none { IfOk result (λ found. found ≡ None → (r : Reading) → IsRead size content.now r → CanRestart size r → ⊥) }
 {
-    let Some(broker) = restarted_broker(alloc, content)? else {
-        return Ok(None);
-    };
-    let snapshot = encode_state(alloc, &broker)?;
-    if snapshot.len() as u64 + 9 > size {
-        return Ok(None);
+    match restarted_broker(alloc, content)? {
+        Some(broker) => {
+            let snapshot = snapshot_within(alloc, &broker, size);
+            drop(broker);
+            snapshot
+        }
+        None => Ok(None),
     }
-    Ok(Some(snapshot))
 }

@@ -1,11 +1,13 @@
 //! Events of sessions and of the flusher on the parts of a world.
 
-ghost use Rattle.std.specs.Prelude.{◌≡◌, ◌↔◌, ◌<◌, IfOk, IsSomeAnd, IsTrue, OnErr, OnOk, length, slice_get, vec_capacity};
+ghost use Rattle.std.specs.Prelude.{◌≡◌, ◌≢◌, ◌↔◌, ◌-◌, ◌<◌, IfOk, IfSome, IsSomeAnd, IsTrue, MatchOption, None, OnErr, OnOk, Some, false, length, slice_get, slice_set, true, vec_capacity};
+ghost use Rattle.disk_core.specs.Images.{IsImage};
 ghost use Rattle.area_core.specs.Areas.{HasRecord};
 ghost use Rattle.world_core.specs.Answers.{IsTold};
-ghost use Rattle.world_core.specs.Events.{CanClaim, IsReady, MayClaim, last_of, with_number};
+ghost use Rattle.world_core.specs.Events.{CanClaim, IsPending, IsReady, MayClaim, after, last_of, readied, with_number};
 ghost use Rattle.world_core.specs.Keeping.{IsKept};
 ghost use Rattle.world_core.specs.Parts.{value_of};
+ghost use Rattle.world_core.specs.Readings.{Reading};
 
 use crate::parts::{Parts, are_there, is_clear, is_running, is_set};
 use crate::{Event, Phase, Place, Seat};
@@ -13,6 +15,7 @@ use command_core::{Command, Entry};
 use disk_core::{is_image, release};
 use frame_core::Bytes;
 use std::alloc::{AllocError, Global};
+use std::mem;
 
 // A seat claims only while fewer of its commands than these are not under the mark that it saw.
 const WINDOW: usize = 8;
@@ -30,7 +33,10 @@ fn entry_of(alloc: Global, command: Command) -> Result<Entry<()>, AllocError>
             let _record = entry.bytes();
             Ok(entry)
         }
-        Err(_) => Err(AllocError),
+        Err(back) => {
+            drop(back);
+            Err(AllocError)
+        }
     }
 }
 
@@ -87,6 +93,25 @@ impl Parts {
         Ok(())
     }
 
+    // The seat's next command is this entry's.
+    fn put_claim(&mut self, j: usize, entry: Entry<()>) -> Result<(), AllocError>
+        requires kept { IsKept (value_of self.old) }
+        requires seat { j < length self.old.seats.items }
+        ensures ok { OnOk result ((r : Reading) → value_of self.new ≡ after (value_of self.old) r (Event.Claim j entry.command)) }
+        ensures err { OnErr result (value_of self.new ≡ value_of self.old) }
+    {
+        match self.note_claim(j) {
+            Ok(()) => {
+                self.history.push_reserved(entry);
+                Ok(())
+            }
+            Err(fault) => {
+                drop(entry);
+                Err(fault)
+            }
+        }
+    }
+
     pub(crate) fn claim(
         &mut self,
         alloc: Global,
@@ -98,29 +123,53 @@ impl Parts {
         ensures err { OnErr result (value_of self.new ≡ value_of self.old) }
     {
         if !self.can_claim(j) {
+            drop(command);
             return Ok(false);
         }
         let entry = entry_of(alloc, command)?;
-        self.note_claim(j)?;
-        self.history.push_reserved(entry);
+        self.put_claim(j, entry)?;
         Ok(true)
+    }
+
+    // Where it is noted whether a command is ready, if it is not.
+    fn clear_at(&self, number: u64) -> Option<usize>
+        ensures { MatchOption result (slice_get self.now.ready.items (number - self.now.base) ≢ Some false)
+            (λ at. (at ≡ number - self.now.base) × (slice_get self.now.ready.items at ≡ Some false)) }
+    {
+        let at = number.saturating_sub(self.base) as usize;
+        if is_clear(&self.ready, at) {
+            return Some(at);
+        }
+        None
+    }
+
+    // Where it is noted whether a seat's last command is ready, if it is not.
+    fn pending(&self, j: usize) -> Option<usize>
+        ensures some { IfSome result (λ at. IsSomeAnd (slice_get self.now.seats.items j) (λ seat. IsPending (value_of self.now) (last_of seat.own))) }
+        ensures none { result ≡ None → IsSomeAnd (slice_get self.now.seats.items j) (λ seat. IsPending (value_of self.now) (last_of seat.own)) → ⊥ }
+        ensures within { IfSome result (λ at. at < length self.now.ready.items) }
+        ensures at { IfSome result (λ at. slice_set self.now.ready.items at true ≡ readied (value_of self.now) (slice_get self.now.seats.items j)) }
+    {
+        if j >= self.seats.len() {
+            return None;
+        }
+        let number = self.seats[j].own.last()?;
+        self.clear_at(number)
     }
 
     pub(crate) fn ready(&mut self, j: usize) -> bool
         ensures { IsTold (value_of self.old) (Event.Ready j) result (value_of self.new) }
     {
-        if !is_running(self.phase) || j >= self.seats.len() {
+        if !is_running(self.phase) {
             return false;
         }
-        let Some(number) = self.seats[j].own.last() else {
-            return false;
-        };
-        let at = number.saturating_sub(self.base) as usize;
-        if !is_clear(&self.ready, at) {
-            return false;
+        match self.pending(j) {
+            Some(at) => {
+                self.ready[at] = true;
+                true
+            }
+            None => false,
         }
-        self.ready[at] = true;
-        true
     }
 
     pub(crate) fn take(&mut self) -> bool
@@ -148,14 +197,21 @@ impl Parts {
         true
     }
 
+    // There is a seat of that number that saw a mark over n.
+    fn has_seen(&self, j: usize, n: u64) -> bool
+        ensures { IsTrue result ↔ IsSomeAnd (slice_get self.now.seats.items j) (λ seat. n < seat.seen) }
+    {
+        j < self.seats.len() && n < self.seats[j].seen
+    }
+
     pub(crate) fn release(&mut self, j: usize, n: u64) -> Result<bool, AllocError>
         ensures ok { IfOk result (λ answer. IsTold (value_of self.old) (Event.Release j n) answer (value_of self.new)) }
         ensures err { OnErr result (value_of self.new ≡ value_of self.old) }
     {
-        if !are_there(self.phase) || j >= self.seats.len() {
+        if !are_there(self.phase) {
             return Ok(false);
         }
-        if n >= self.seats[j].seen {
+        if !self.has_seen(j, n) {
             return Ok(false);
         }
         self.released.push(n)?;
@@ -172,14 +228,23 @@ impl Parts {
         true
     }
 
+    // A crash may leave the disk with these bytes.
+    fn may_read_as(&self, image: &[u8]) -> bool
+        requires { length self.now.held.items ≡ length self.now.content.items }
+        ensures { IsTrue result ↔ IsImage self.now.content.items self.now.held.items image.now }
+    {
+        is_image(&self.content, &self.held, image)
+    }
+
     pub(crate) fn crash(&mut self, image: Bytes) -> bool
         requires { IsKept (value_of self.old) }
         ensures { IsTold (value_of self.old) (Event.Crash image) result (value_of self.new) }
     {
-        if !is_image(&self.content, &self.held, image.as_slice()) {
+        if !self.may_read_as(image.as_slice()) {
+            drop(image);
             return false;
         }
-        self.content = image.into_vec();
+        drop(mem::replace(&mut self.content, image.into_vec()));
         release(&mut self.held);
         self.phase = Phase::Crashed;
         self.place = Place::Broken;

@@ -1,0 +1,23 @@
+-- What a test that answers by a Bool says.
+use Rattle.std.proofs.Common.{◌≡◌, ◌<◌, ◌≤◌, ℕ, Bool, true, false, nat_lt, List, get_or, length, Option, IsSomeAnd, slice_get, refl, sym, subst}
+use Rattle.std.specs.Prelude.{◌↔◌, IsTrue}
+use Rattle.std.proofs.lemmas.Bool.{ltb-true, lt-ltb, le-ltb}
+use Rattle.std.proofs.lemmas.Option.{slice_get_past, slice_get_read}
+use Rattle.world_core.specs.declared.seat.Seat.{Seat}
+
+pub holds_where : (b : Bool) (P : Type 0) → (IsTrue b ↔ P) → b ≡ true → P
+holds_where b P iff is = iff.0 is
+
+pub fails_where : (b : Bool) (P : Type 0) → (IsTrue b ↔ P) → b ≡ false → P → ⊥
+fails_where b P iff is p = let e : b ≡ true = iff.1 p in cc
+
+-- what a seat has seen
+pub seen_where : (seats : List Seat) (j n : ℕ) (seat : Seat) → j < length seats → seat ≡ get_or seats j seat → IsTrue (nat_lt n seat.seen) ↔ IsSomeAnd (slice_get seats j) (λ s. n < s.seen)
+seen_where seats j n seat low is =
+    subst (λ (o : Option Seat). IsTrue (nat_lt n seat.seen) ↔ IsSomeAnd o (λ s. n < s.seen)) (sym (slice_get_read seats (length seats) j seat refl low is))
+    (ltb-true n seat.seen, lt-ltb n seat.seen)
+
+pub seen_past : (seats : List Seat) (j n count : ℕ) → length seats ≤ j → count ≤ j → IsTrue (nat_lt j count) ↔ IsSomeAnd (slice_get seats j) (λ s. n < s.seen)
+seen_past seats j n count past high =
+    subst (λ (o : Option Seat). IsTrue (nat_lt j count) ↔ IsSomeAnd o (λ s. n < s.seen)) (sym (slice_get_past seats j past))
+    (λ low. absurd (let past : nat_lt j count ≡ false = le-ltb j count high in cc), λ none. absurd none)
