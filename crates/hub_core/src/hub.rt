@@ -149,7 +149,11 @@ impl<D: Disk + Drop, B: Bell> Hub<D, B> {
             seats,
             flusher,
         } = self;
-        drop(flusher);
+        match flusher {
+            // Its own crate lets go of all that it has.
+            Some(flusher) => drop(flusher.into_disk()),
+            None => {}
+        }
         (ring, seats)
     }
 

@@ -31,7 +31,10 @@ fn goes_on(number: u64, session: u64, role: Role) -> bool
     ensures yes { result ≡ true → (session ≡ number) × (role ≢ Opens) }
     ensures no { result ≡ false → (session ≡ number) × (role ≢ Opens) → ⊥ }
 {
-    session == number && role != Role::Opens
+    match role {
+        Role::Opens => false,
+        _ => session == number,
+    }
 }
 
 /// Which commands of a connection's session were appended.
