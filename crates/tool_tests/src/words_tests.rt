@@ -40,6 +40,45 @@ impl Write for Failing {
     }
 }
 
+/// A script that comes a byte at a time, with an interruption before each.
+#[derive(Drop)]
+struct Trickle {
+    script: Vec<u8>,
+    calls: usize,
+}
+
+impl Read for Trickle {
+    fn read(&mut self, buf: &mut [u8]) -> io::Result<usize> {
+        self.calls = self.calls.wrapping_add(1);
+        if self.calls % 2 == 1 {
+            return Err(io::Error::from(ErrorKind::Interrupted));
+        }
+        let at = (self.calls / 2).saturating_sub(1);
+        if buf.is_empty() || at >= self.script.len() {
+            return Ok(0);
+        }
+        buf[0] = self.script[at];
+        Ok(1)
+    }
+}
+
+/// A stream that cannot be written, and how often that was tried.
+#[derive(Drop)]
+struct Full {
+    writes: usize,
+}
+
+impl Write for Full {
+    fn write(&mut self, _buf: &[u8]) -> io::Result<usize> {
+        self.writes = self.writes.wrapping_add(1);
+        Err(io::Error::from(ErrorKind::StorageFull))
+    }
+
+    fn flush(&mut self) -> io::Result<()> {
+        Ok(())
+    }
+}
+
 pub fn expect(
     rt: &(impl Abort + Files<File = File>),
     alloc: Global,
@@ -318,6 +357,40 @@ fn a_stream_that_fails_is_told(rt: HostRuntime) -> Result<(), Fail> {
         tool(&rt, alloc, &words, &mut nothing, &mut written, &mut Failing),
         1
     );
+    Ok(())
+}
+
+#[test]
+fn a_script_comes_in_short_reads_with_interruptions(rt: HostRuntime) -> Result<(), Fail> {
+    let alloc = rt.alloc();
+    let blank = "\n".repeat(alloc, 5_000)?;
+    let script = format!(in alloc; "{CONNECT}{FLUSH}{blank}{SEND_WITH_RECEIPT}{FLUSH}")?;
+    let mut reader = Trickle {
+        script: Vec::from_slice(alloc, script.as_bytes())?,
+        calls: 0,
+    };
+    let mut written = Vec::new(alloc);
+    let mut told = Vec::new(alloc);
+    let words = ["stompd", "script"];
+    let ended = tool(&rt, alloc, &words, &mut reader, &mut written, &mut told);
+    let printed = format!(in alloc; "{CONNECTED}{RECEIPT}")?;
+    assert_eq!(rt; String::from_utf8(written)?.as_str(), printed.as_str());
+    assert!(rt; told.is_empty());
+    assert_eq!(rt; ended, 0);
+    Ok(())
+}
+
+#[test]
+fn a_write_that_fails_is_not_tried_again(rt: HostRuntime) -> Result<(), Fail> {
+    let alloc = rt.alloc();
+    let script = format!(in alloc; "{CONNECT}{FLUSH}{SEND_WITH_RECEIPT}{FLUSH}")?;
+    let mut reader = script.as_bytes();
+    let mut writer = Full { writes: 0 };
+    let mut told = Vec::new(alloc);
+    let words = ["stompd", "script"];
+    let ended = tool(&rt, alloc, &words, &mut reader, &mut writer, &mut told);
+    assert_eq!(rt; writer.writes, 1);
+    assert_eq!(rt; ended, 1);
     Ok(())
 }
 
