@@ -1,3 +1,4 @@
+use Rattle.std.proofs.Common.{rules}
 use Rattle.area_core.proofs.Unwritten.{quiet_yet}
 use Rattle.area_core.proofs.Walked.{quiet_then}
 use Rattle.area_core.proofs.header.header.Goals as goal
@@ -28,3 +29,12 @@ returns-in_err-fetch-3-clause-quiet g c honest = quiet_then g.D.Disk c.args.disk
 
 pub returns-clause-quiet : goal.returns-clause-quiet
 returns-clause-quiet g c honest = quiet_then g.D.Disk c.args.disk.now c.fetch_number.new.disk c.fetch-3.new.disk (quiet_then g.D.Disk c.args.disk.now c.fetch-2.new.disk c.fetch_number.new.disk (quiet_then g.D.Disk c.args.disk.now c.fetch.new.disk c.fetch-2.new.disk (c.fetch.ensures.quiet honest) (c.fetch-2.ensures.quiet (c.fetch.ensures.honest honest))) (c.fetch_number.ensures.quiet (c.fetch-2.ensures.honest (c.fetch.ensures.honest honest)))) (c.fetch-3.ensures.quiet (c.fetch_number.ensures.honest (c.fetch-2.ensures.honest (c.fetch.ensures.honest honest))))
+
+pub returns-clause-journal : goal.returns-clause-journal
+returns-clause-journal g c = search rules
+
+pub returns-clause-most : goal.returns-clause-most
+returns-clause-most g c = search rules
+
+pub returns-clause-room : goal.returns-clause-room
+returns-clause-room g c = search rules

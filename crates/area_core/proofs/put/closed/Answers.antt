@@ -1,0 +1,5 @@
+use Rattle.std.proofs.Common.{rules}
+use Rattle.area_core.proofs.put.closed.Goals as goal
+
+pub returns : goal.returns
+returns c = search rules
