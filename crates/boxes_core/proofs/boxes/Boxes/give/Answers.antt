@@ -18,3 +18,9 @@ returns-clause-given g c =
     let updates : (q : ℕ) → box_of q (c.get_mut.follows.lender c.give.new.self).entries ≡ cond (is_at (nat_cmp c.args.out.session) q) (Some c.give.new.self) (box_of q c.args.self.now) = search rules in
     let given = answered c.give.result c.in-Some.sender.now c.give.new.self c.args.out c.give.ensures.given c.give.ensures.full c.give.ensures.back in
     box_given c.args.out c.args.self.now (c.get_mut.follows.lender c.give.new.self).entries c.in-Some.sender.now c.give.new.self found updates given
+
+pub returns-in_default-clause-left : goal.returns-in_default-clause-left
+returns-in_default-clause-left g c = search rules
+
+pub returns-in_default-clause-room : goal.returns-in_default-clause-room
+returns-in_default-clause-room g c = search rules
