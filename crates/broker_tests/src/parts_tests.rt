@@ -38,15 +38,34 @@ fn parts_with(alloc: Global, count: u64, line: Line) -> Result<Parts, Fail> {
     Ok(parts)
 }
 
+// How many commands the broker has carried out and how many messages it holds, before it answers so.
+fn answers_of(
+    alloc: Global,
+    broker: &mut Broker,
+    events: &[Event<'_>],
+    expected: &str,
+) -> Result<(u64, u64), Fail> {
+    let held = (broker.count(), broker.held().messages);
+    answers(alloc, broker, events, expected)?;
+    Ok(held)
+}
+
+fn broker_with_a_message(alloc: Global) -> Result<Broker, Fail> {
+    let line = line_of(alloc, 1, "/queue/q")?;
+    let parts = parts_with(alloc, 2, line)?;
+    match Broker::from_parts(alloc, parts)? {
+        Some(broker) => Ok(broker),
+        None => Err(Fail::from("no broker has these parts")),
+    }
+}
+
 #[test]
 fn a_broker_goes_on_from_its_parts(rt: HostRuntime) -> Result<(), Fail> {
-    let alloc = rt.alloc();
-    let parts = parts_with(alloc, 2, line_of(alloc, 1, "/queue/q")?)?;
-    let mut broker = Broker::from_parts(alloc, parts)?.ok_or("a broker has these parts")?;
-    let (count, messages) = (broker.count(), broker.held().messages);
     let listen = [Event::Subscribe(0, "s", "/queue/q", AckMode::Auto)];
-    answers(alloc, &mut broker, &listen, "0 MESSAGE s 1.0; 0 held")?;
-    assert_eq!(rt; (count, messages), (2, 1));
+    let mut broker = broker_with_a_message(rt.alloc())?;
+    let held = answers_of(rt.alloc(), &mut broker, &listen, "0 MESSAGE s 1.0; 0 held");
+    drop(broker);
+    assert_eq!(rt; held?, (2, 1));
     Ok(())
 }
 
@@ -86,12 +105,31 @@ fn durable_name(alloc: Global, client: &str, name: &str) -> Result<DurableName, 
     Ok(DurableName::new(given_name(alloc, client)?, given_name(alloc, name)?))
 }
 
+// Whether the name tells the client and the name that it was made of.
+fn tells(name: &DurableName, client: &str, own: &str) -> bool {
+    name.client().as_text().as_str() == client && name.name().as_text().as_str() == own
+}
+
+// Whether the client's name comes before that of the other client.
+fn stands_before(
+    alloc: Global,
+    first: &DurableName,
+    client: &str,
+    name: &str,
+) -> Result<bool, Fail> {
+    let second = durable_name(alloc, client, name)?;
+    let is_before = *first < second && *first != second;
+    drop(second);
+    Ok(is_before)
+}
+
 #[test]
 fn durable_names_stand_by_client_and_then_by_name(rt: HostRuntime) -> Result<(), Fail> {
     let first = durable_name(rt.alloc(), "a", "y")?;
-    let second = durable_name(rt.alloc(), "b", "x")?;
-    assert_eq!(rt; first.client().as_text().as_str(), "a");
-    assert_eq!(rt; first.name().as_text().as_str(), "y");
-    assert!(rt; first < second && first != second);
+    let tells_all = tells(&first, "a", "y");
+    let is_before = stands_before(rt.alloc(), &first, "b", "x");
+    drop(first);
+    let is_before = is_before?;
+    assert!(rt; tells_all && is_before);
     Ok(())
 }

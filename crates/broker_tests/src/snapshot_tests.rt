@@ -4,20 +4,16 @@ use snapshot_core::{decode_state, encode_state};
 use std::alloc::{AllocError, Global};
 use std::test::Fail;
 
-// The broker after the commands of these records.
-fn broker_after(alloc: Global, records: &[&[u8]]) -> Result<Broker, Fail> {
-    let mut broker = Broker::new(alloc);
-    for record in records {
-        let (command, _) = decode(alloc, record)?;
-        if broker.count() >= 1 << 62 {
-            return Err(Fail::from("too many commands"));
-        }
-        let _outs = broker.step(alloc, command)?;
+fn carry_out(alloc: Global, broker: &mut Broker, record: &[u8]) -> Result<(), Fail> {
+    if broker.count() >= 1 << 62 {
+        return Err(Fail::from("too many commands"));
     }
-    Ok(broker)
+    let (command, _) = decode(alloc, record)?;
+    let _outs = broker.step(alloc, command)?;
+    Ok(())
 }
 
-// Its snapshot.
+// The snapshot of a broker.
 fn snapshot(alloc: Global, broker: &Broker) -> Result<Vec<u8>, Fail> {
     if broker.is_broken() {
         return Err(Fail::from("a broken broker"));
@@ -26,6 +22,48 @@ fn snapshot(alloc: Global, broker: &Broker) -> Result<Vec<u8>, Fail> {
         return Err(Fail::from("more than the test made"));
     }
     Ok(encode_state(alloc, broker)?)
+}
+
+// The snapshot after the commands of these records, and that of the last one so many times.
+fn snapshot_of(
+    alloc: Global,
+    broker: &mut Broker,
+    records: &[&[u8]],
+    times: usize,
+    last: &[u8],
+) -> Result<Vec<u8>, Fail> {
+    for record in records {
+        carry_out(alloc, broker, record)?;
+    }
+    for _ in 0..times {
+        carry_out(alloc, broker, last)?;
+    }
+    snapshot(alloc, broker)
+}
+
+// The same of a new broker.
+fn snapshot_after(
+    alloc: Global,
+    records: &[&[u8]],
+    times: usize,
+    last: &[u8],
+) -> Result<Vec<u8>, Fail> {
+    let mut broker = Broker::new(alloc);
+    let bytes = snapshot_of(alloc, &mut broker, records, times, last);
+    drop(broker);
+    bytes
+}
+
+// Whether the snapshot of such a broker is these bytes.
+fn snapshot_is(
+    alloc: Global,
+    records: &[&[u8]],
+    times: usize,
+    last: &[u8],
+    bytes: &[u8],
+) -> Result<bool, Fail> {
+    let written = snapshot_after(alloc, records, times, last)?;
+    Ok(written.as_slice() == bytes)
 }
 
 fn is_no_state(alloc: Global, bytes: &[u8]) -> bool {
@@ -45,10 +83,7 @@ fn goes_both_ways(alloc: Global, bytes: &[u8]) -> Result<bool, Fail> {
 fn the_first_state_is_32_zero_bytes(rt: HostRuntime) -> Result<(), Fail> {
     let alloc = rt.alloc();
     let zeros = [0; 33];
-    assert_eq!(rt;
-        snapshot(alloc, &Broker::new(alloc))?.as_slice(),
-        &zeros[..32]
-    );
+    assert!(rt; snapshot_is(alloc, &[], 0, &[], &zeros[..32])?);
     assert!(rt; goes_both_ways(alloc, &zeros[..32])?);
     assert!(rt; is_no_state(alloc, &zeros));
     assert!(rt; is_no_state(alloc, &zeros[..31]));
@@ -152,50 +187,70 @@ const STATE: [(&[u8], &str); 66] = [
     (b"\0\0\0\x01b", "xxxx."),
 ];
 
-// The bytes of the parts, and what is said of each.
-fn joined(alloc: Global) -> Result<(Vec<u8>, Vec<u8>), AllocError> {
+// The bytes of the parts.
+fn joined(alloc: Global) -> Result<Vec<u8>, AllocError> {
     let mut bytes = Vec::new(alloc);
-    let mut marks = Vec::new(alloc);
-    for (part, beside) in &STATE {
+    for (part, _) in &STATE {
         bytes.extend_from_slice(part)?;
-        marks.extend_from_slice(beside.as_bytes())?;
     }
-    Ok((bytes, marks))
+    Ok(bytes)
+}
+
+fn is_after_all_commands(alloc: Global, bytes: &[u8]) -> Result<bool, Fail> {
+    Ok(snapshot_is(alloc, &COMMANDS, 0, &[], bytes)? && goes_both_ways(alloc, bytes)?)
 }
 
 #[test]
 fn a_state_of_every_part_is_written_and_read(rt: HostRuntime) -> Result<(), Fail> {
-    let alloc = rt.alloc();
-    let (bytes, _) = joined(alloc)?;
-    let broker = broker_after(alloc, &COMMANDS)?;
-    assert_eq!(rt; snapshot(alloc, &broker)?.as_slice(), bytes.as_slice());
-    assert!(rt; goes_both_ways(alloc, &bytes)?);
+    let bytes = joined(rt.alloc())?;
+    let is_so = is_after_all_commands(rt.alloc(), bytes.as_slice());
+    drop(bytes);
+    assert!(rt; is_so?);
     Ok(())
+}
+
+// Whether the bytes with that one greater are read as a state that is written so.
+fn goes_both_ways_with(alloc: Global, bytes: &mut [u8], at: usize) -> Result<bool, Fail> {
+    let Some(byte) = bytes.get_mut(at) else {
+        return Err(Fail::from("a mark of no byte"));
+    };
+    let was = *byte;
+    *byte = was.wrapping_add(1);
+    let is_state = goes_both_ways(alloc, bytes)?;
+    if let Some(byte) = bytes.get_mut(at) {
+        *byte = was;
+    }
+    Ok(is_state)
+}
+
+// The first byte of which something else comes than the marks say, or how many bytes are marked.
+fn marked(alloc: Global, bytes: &mut [u8]) -> Result<usize, Fail> {
+    let mut at = 0_usize;
+    for (_, marks) in &STATE {
+        for mark in marks.as_bytes() {
+            if goes_both_ways_with(alloc, bytes, at)? != (*mark == b'.') {
+                return Ok(at);
+            }
+            at = at.wrapping_add(1);
+        }
+    }
+    Ok(at)
 }
 
 #[test]
 fn each_byte_of_a_state_is_read(rt: HostRuntime) -> Result<(), Fail> {
-    let alloc = rt.alloc();
-    let (mut bytes, marks) = joined(alloc)?;
-    assert_eq!(rt; bytes.len(), marks.len());
-    for (at, mark) in marks.iter().enumerate() {
-        let Some(byte) = bytes.get_mut(at) else {
-            return Err(Fail::from("a mark of no byte"));
-        };
-        let was = *byte;
-        *byte = was.wrapping_add(1);
-        assert_eq!(rt; goes_both_ways(alloc, &bytes)?, *mark == b'.');
-        if let Some(byte) = bytes.get_mut(at) {
-            *byte = was;
-        }
-    }
+    let mut bytes = joined(rt.alloc())?;
+    let length = bytes.len();
+    let count = marked(rt.alloc(), bytes.as_mut_slice());
+    drop(bytes);
+    assert_eq!(rt; count?, length);
     Ok(())
 }
 
 #[test]
 fn a_part_of_a_state_is_none(rt: HostRuntime) -> Result<(), Fail> {
     let alloc = rt.alloc();
-    let (mut bytes, _) = joined(alloc)?;
+    let mut bytes = joined(alloc)?;
     for length in 0..bytes.len() {
         assert!(rt; is_no_state(alloc, &bytes[..length]));
     }
@@ -296,20 +351,28 @@ fn with_own_line(alloc: Global, deliveries: u32) -> Result<Vec<u8>, AllocError> 
     Ok(bytes)
 }
 
+// A session, and its subscription; and a message to it.
+const LISTENING: [&[u8]; 2] = [
+    b"\0\0\0\0\0\0\0\0\0\x01\0",
+    b"\0\0\0\0\0\0\0\0\0\x03\0\0\0\x01s\0\0\0\x08/topic/t\x01\0",
+];
+
+const MESSAGE: &[u8] = b"\0\0\0\0\0\0\0\0\0\x02\0\0\0\x08/topic/t\0\0\0\0\0\x01m";
+
+fn is_after_seventeen(alloc: Global, bytes: &[u8]) -> Result<bool, Fail> {
+    Ok(snapshot_is(alloc, &LISTENING, 17, MESSAGE, bytes)? && goes_both_ways(alloc, bytes)?)
+}
+
 #[test]
 fn messages_wait_where_sixteen_are_not_acknowledged(rt: HostRuntime) -> Result<(), Fail> {
-    let alloc = rt.alloc();
-    let mut records: Vec<&[u8]> = Vec::new(alloc);
-    records.push(b"\0\0\0\0\0\0\0\0\0\x01\0")?;
-    records.push(b"\0\0\0\0\0\0\0\0\0\x03\0\0\0\x01s\0\0\0\x08/topic/t\x01\0")?;
-    for _ in 0..17 {
-        records.push(b"\0\0\0\0\0\0\0\0\0\x02\0\0\0\x08/topic/t\0\0\0\0\0\x01m")?;
-    }
-    let broker = broker_after(alloc, &records)?;
-    let bytes = with_own_line(alloc, 16)?;
-    assert_eq!(rt; snapshot(alloc, &broker)?.as_slice(), bytes.as_slice());
-    assert!(rt; goes_both_ways(alloc, &bytes)?);
+    let bytes = with_own_line(rt.alloc(), 16)?;
+    let is_so = is_after_seventeen(rt.alloc(), bytes.as_slice());
+    drop(bytes);
+    assert!(rt; is_so?);
     // One less, and the message could be handed out.
-    assert!(rt; is_no_state(alloc, &with_own_line(alloc, 15)?));
+    let fewer = with_own_line(rt.alloc(), 15)?;
+    let is_none = is_no_state(rt.alloc(), fewer.as_slice());
+    drop(fewer);
+    assert!(rt; is_none);
     Ok(())
 }

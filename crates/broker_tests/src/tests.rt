@@ -172,18 +172,14 @@ fn last_of(alloc: Global, broker: &mut Broker, events: &[Event<'_>]) -> Result<V
     Ok(outs)
 }
 
-/// Carries one out again and again, and gives how many outputs there are in all.
-pub(crate) fn many(
-    alloc: Global,
-    broker: &mut Broker,
-    event: &Event<'_>,
-    times: usize,
-) -> Result<usize, Fail> {
-    let mut count: usize = 0;
-    for _ in 0..times {
-        count = count.wrapping_add(execute(alloc, broker, event)?.len());
+/// Carries each out so many times.
+fn prepare(alloc: Global, broker: &mut Broker, before: &[(Event<'_>, usize)]) -> Result<(), Fail> {
+    for (event, times) in before {
+        for _ in 0..*times {
+            let _outs = execute(alloc, broker, event)?;
+        }
     }
-    Ok(count)
+    Ok(())
 }
 
 // An output: the session and the verb; of a MESSAGE the subscription and the message, else the last header's value.
@@ -232,13 +228,42 @@ pub(crate) fn answers(
     }
 }
 
-/// Has a new broker answer so: of each row the last event, behind all rows before.
-pub(crate) fn answers_all(alloc: Global, rows: &[(&[Event<'_>], &str)]) -> Result<(), Fail> {
-    let mut broker = Broker::new(alloc);
+/// What is answered: of each row the last event, behind all rows before.
+pub(crate) type Rows<'a> = &'a [(&'a [Event<'a>], &'a str)];
+
+/// Has a broker answer so.
+pub(crate) fn answers_rows(alloc: Global, broker: &mut Broker, rows: Rows<'_>) -> Result<(), Fail> {
     for (events, expected) in rows {
-        answers(alloc, &mut broker, events, expected)?;
+        answers(alloc, broker, events, expected)?;
     }
     Ok(())
+}
+
+fn prepared_answers(
+    alloc: Global,
+    broker: &mut Broker,
+    before: &[(Event<'_>, usize)],
+    rows: Rows<'_>,
+) -> Result<(), Fail> {
+    prepare(alloc, broker, before)?;
+    answers_rows(alloc, broker, rows)
+}
+
+/// Has a new broker answer so, after each of `before` was carried out so many times.
+pub(crate) fn answers_after(
+    alloc: Global,
+    before: &[(Event<'_>, usize)],
+    rows: Rows<'_>,
+) -> Result<(), Fail> {
+    let mut broker = Broker::new(alloc);
+    let ended = prepared_answers(alloc, &mut broker, before, rows);
+    drop(broker);
+    ended
+}
+
+/// Has a new broker answer so.
+pub(crate) fn answers_all(alloc: Global, rows: Rows<'_>) -> Result<(), Fail> {
+    answers_after(alloc, &[], rows)
 }
 
 #[test]
@@ -271,15 +296,19 @@ fn a_topic_reaches_all_who_listen_to_it(rt: HostRuntime) -> Result<(), Fail> {
 
 #[test]
 fn sixteen_may_be_unacknowledged(rt: HostRuntime) -> Result<(), Fail> {
-    let mut broker = Broker::new(rt.alloc());
     let mode = AckMode::ClientIndividual;
-    let events = [Event::Connect, Event::Subscribe(0, "s", "/queue/q", mode)];
-    answers(rt.alloc(), &mut broker, &events, "0 held")?;
-    let count = many(rt.alloc(), &mut broker, &Event::Send(0, "/queue/q"), 17)?;
-    let event = [Event::Ack(0, 3)];
-    answers(rt.alloc(), &mut broker, &event, "0 MESSAGE s 18.0; 16 held")?;
-    assert_eq!(rt; count, 16);
-    Ok(())
+    let before = [
+        (Event::Connect, 1),
+        (Event::Subscribe(0, "s", "/queue/q", mode), 1),
+        (Event::Send(0, "/queue/q"), 15),
+    ];
+    let send = [Event::Send(0, "/queue/q")];
+    let rows: [(&[Event<'_>], &str); 3] = [
+        (&send, "0 MESSAGE s 17.0; 16 held"),
+        (&send, "17 held"),
+        (&[Event::Ack(0, 3)], "0 MESSAGE s 18.0; 16 held"),
+    ];
+    answers_after(rt.alloc(), &before, &rows)
 }
 
 #[test]
@@ -336,25 +365,20 @@ fn subscriptions_are_known_by_their_ids(rt: HostRuntime) -> Result<(), Fail> {
 
 #[test]
 fn no_more_than_4096_messages_are_held(rt: HostRuntime) -> Result<(), Fail> {
-    let mut broker = Broker::new(rt.alloc());
-    let _ = many(rt.alloc(), &mut broker, &Event::Connect, 2)?;
-    let silent = many(rt.alloc(), &mut broker, &Event::Send(0, "/queue/q"), 4095)?;
+    let before = [(Event::Connect, 2), (Event::Send(0, "/queue/q"), 4094)];
+    let one_more = [Event::Send(0, "/queue/q")];
     let two_more = [
         Event::Subscribe(1, "a", "/topic/t", AckMode::Auto),
         Event::Subscribe(1, "b", "/topic/t", AckMode::Auto),
         Event::Send(1, "/topic/t"),
     ];
-    let one_more = [Event::Send(0, "/queue/q")];
-    let rows: [(&[Event<'_>], &str); 3] = [
+    let rows: [(&[Event<'_>], &str); 4] = [
+        (&one_more, "4095 held"),
         (&two_more, "1 ERROR E12 no room for the message ; 4095 held"),
         (&one_more, "4096 held"),
         (&one_more, "0 ERROR E12 no room for the message ; 4096 held"),
     ];
-    for (events, expected) in &rows {
-        answers(rt.alloc(), &mut broker, events, expected)?;
-    }
-    assert_eq!(rt; silent, 0);
-    Ok(())
+    answers_after(rt.alloc(), &before, &rows)
 }
 
 #[test]
