@@ -1,0 +1,5 @@
+use Rattle.std.proofs.Common.{rules}
+use Rattle.broker_core.proofs.broker.Broker.new.Goals as goal
+
+pub returns : goal.returns
+returns c = search rules
