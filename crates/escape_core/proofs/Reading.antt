@@ -1,7 +1,9 @@
-use Rattle.std.proofs.Common.{◌≡◌, ◌≢◌, ℕ, List, [], ◌∷◌, ◌++◌, Option, Some, None, Bool, true, false, cond, inl, inr, length, get_or, drop, ◌<◌, ◌+◌, refl, sym, is_some, eqb, ap, ◌∙◌, subst, append_assoc, append-nil}
+use Rattle.std.proofs.Common.{◌≡◌, ◌≢◌, ℕ, List, [], ◌∷◌, ◌++◌, Option, Some, None, Bool, true, false, cond, inl, inr, length, get_or, take, drop, ◌<◌, ◌≤◌, ◌+◌, refl, sym, is_some, eqb, not, ap, ◌∙◌, subst, append_assoc, append-nil}
 use Rattle.std.specs.List.{AllByRecursion}
+use Rattle.std.specs.Option.{IsSome}
 use Rattle.std.proofs.lemmas.Bool.{cases_eq, ne_eqb, false≢true}
-use Rattle.std.proofs.lemmas.List.{drop_more}
+use Rattle.std.proofs.lemmas.Grind.{flat_map-append}
+use Rattle.std.proofs.lemmas.List.{drop_more, drop_all, take_more}
 use Rattle.escape_core.specs.Escapes.{code_of, escaped, escape_of, behind, unescaped}
 
 -- this text, and then what the rest means, if anything
@@ -81,6 +83,30 @@ read_plain bytes text next in_escape then_in_escape i lt was is ne n h =
     let moved = after-behind text (get_or bytes i 0) (unescaped (drop (i + 1) bytes)) in
     h ∙ ap (after text) (ap unescaped whole ∙ plain) ∙ moved ∙ rw (n, rest) refl
 
+-- a backslash that begins an escape is still to be read
+pub read_backslash : (bytes text : List ℕ) (was : Bool) (i : ℕ) → i < length bytes → was ≡ false → get_or bytes i 0 ≡ 92 → IsReadTo bytes text was i → IsReadTo bytes text true (i + 1)
+read_backslash bytes text was i lt old e h =
+    let whole : left was i bytes ≡ 92 ∷ drop (i + 1) bytes = rw (old, drop_more bytes i 0 lt, e) refl in
+    h ∙ ap (λ rest. after text (unescaped rest)) whole
+
+known-after : (text : List ℕ) (e : Option ℕ) (rest : Option (List ℕ)) → is_some (after text (behind e rest)) ≡ true → IsSome e
+known-after text None rest h = absurd (false≢true h)
+known-after text (Some b) rest h = search
+
+-- where the bytes mean a text, each escape has a meaning
+pub known_escape : (bytes text : List ℕ) (was : Bool) (i : ℕ) → i < length bytes → was ≡ true → is_some (unescaped bytes) ≡ true → IsReadTo bytes text was i
+    → IsSome (escape_of (get_or bytes i 0))
+known_escape bytes text was i lt old known h =
+    let whole : left was i bytes ≡ 92 ∷ get_or bytes i 0 ∷ drop (i + 1) bytes = rw (old, drop_more bytes i 0 lt) refl in
+    known-after text (escape_of (get_or bytes i 0)) (unescaped (drop (i + 1) bytes)) (ap is_some (sym (h ∙ ap (λ rest. after text (unescaped rest)) whole)) ∙ known)
+
+-- bytes that mean a text mean what was read of them, once all is read
+pub read_end : (bytes text : List ℕ) (was : Bool) (i : ℕ) → length bytes ≤ i → is_some (unescaped bytes) ≡ true → IsReadTo bytes text was i → unescaped bytes ≡ Some text
+read_end bytes text true i le known h =
+    let none : unescaped bytes ≡ None = h ∙ rw (drop_all i bytes le) refl in
+    absurd (false≢true (ap is_some (sym none) ∙ known))
+read_end bytes text false i le known h = h ∙ rw (drop_all i bytes le) (after_end text)
+
 -- bytes with no backslash mean themselves
 pub unescaped_whole : (text : List ℕ) → AllByRecursion (λ b. b ≢ 92) text → unescaped text ≡ Some text
 unescaped_whole [] h = refl
@@ -124,3 +150,16 @@ defined_next bytes was is i lt old new h =
 pub none_from_undefined : (text : Option (List ℕ)) → is_some text ≡ false → text ≡ None
 none_from_undefined None h = refl
 none_from_undefined (Some text) h = absurd (false≢true (sym h))
+
+-- one byte more is written
+pub escaped_next : (text written next : List ℕ) (i : ℕ) → i < length text → written ≡ escaped (take i text) → next ≡ written ++ code_of (get_or text i 0)
+    → next ≡ escaped (take (i + 1) text)
+escaped_next text written next i lt h n =
+    let b = get_or text i 0 in
+    let whole = flat_map-append code_of (take i text) (b ∷ []) ∙ ap (λ code. escaped (take i text) ++ code) (append-nil (code_of b)) in
+    rw (take_more text i 0 lt) (n ∙ rw h (sym whole))
+
+-- bytes that end in no escape are read to their end
+pub defined_end : (bytes : List ℕ) (in_escape : Bool) (i : ℕ) → length bytes ≤ i → IsDefinedTo bytes in_escape i → not in_escape ≡ is_some (unescaped bytes)
+defined_end bytes true i le h = sym (h ∙ rw (drop_all i bytes le) refl)
+defined_end bytes false i le h = sym (h ∙ rw (drop_all i bytes le) refl)

@@ -2,8 +2,8 @@
 
 #![tactic(auto)]
 
-ghost use Rattle.std.specs.Prelude.{◌≡◌, ◌↔◌, Some, None, IfOk, List, ℕ, is_some};
-ghost use Rattle.escape_core.specs.Escapes.{escaped, unescaped, escape_of};
+ghost use Rattle.std.specs.Prelude.{◌++◌, ◌≡◌, ◌↔◌, Some, None, IfOk, List, ℕ, is_some};
+ghost use Rattle.escape_core.specs.Escapes.{code_of, escaped, unescaped, escape_of};
 
 use std::alloc::{AllocError, Global};
 use thiserror::Error;
@@ -32,6 +32,19 @@ fn meaning_of(c: u8) -> Option<u8>
     }
 }
 
+/// Writes a byte of a text: CR, LF, colon and backslash as their escapes, every other byte as itself.
+fn push_escaped(written: &mut Vec<u8>, b: u8) -> Result<(), AllocError>
+    ensures { IfOk result (λ _. written.new.items ≡ written.old.items ++ code_of b) }
+{
+    match b {
+        b'\r' => written.extend_from_slice(b"\\r"),
+        b'\n' => written.extend_from_slice(b"\\n"),
+        b':' => written.extend_from_slice(b"\\c"),
+        b'\\' => written.extend_from_slice(b"\\\\"),
+        plain => Ok(written.push(plain)?),
+    }
+}
+
 /// The text as it is written in a header: CR, LF, colon and backslash as their escapes, every other byte as itself
 /// (STOMP 1.2, "Value Encoding"). Room for the longest result, two bytes for each of the text's, is taken at once;
 /// where it is refused, that is the error.
@@ -40,13 +53,7 @@ pub fn escape(alloc: Global, text: &[u8]) -> Result<Vec<u8>, AllocError>
 {
     let mut written = Vec::with_capacity(alloc, text.len().saturating_mul(2))?;
     for b in text {
-        match *b {
-            b'\r' => written.extend_from_slice(b"\\r")?,
-            b'\n' => written.extend_from_slice(b"\\n")?,
-            b':' => written.extend_from_slice(b"\\c")?,
-            b'\\' => written.extend_from_slice(b"\\\\")?,
-            plain => written.push(plain)?,
-        }
+        push_escaped(&mut written, *b)?;
     }
     Ok(written)
 }
