@@ -1,6 +1,8 @@
-use crate::words_tests::{CONNECTED, expect, expect_lines, text_of};
+use crate::words_tests::{CONNECTED, Parts, expect, expect_lines, expect_parts, text_of_parts};
 use std::alloc::Global;
+use std::fs::File;
 use std::process::Abort;
+use std::rt::Files;
 use std::test::Fail;
 
 const CON_0: &str = "0 CONNECT%0Aaccept-version:1.2~";
@@ -12,23 +14,6 @@ const SEND_Y: &str = "0 SEND%0Adestination:/queue/q%0A%0Ay%00";
 const SEND_Z: &str = "0 SEND%0Adestination:/queue/q%0A%0Az%00";
 
 const IN_TRANSACTION: &str = "0 SEND%0Adestination:/queue/q%0Atransaction:t%0A%0Ax%00";
-
-/// Two messages are sent in a transaction after a flush, and wait.
-fn transaction_then(alloc: Global, lines: &[&str]) -> Result<String, Fail> {
-    let mut script = text_of(
-        alloc,
-        &[
-            "0 CONNECT%0Aaccept-version:1.2~",
-            "flush",
-            "0 BEGIN%0Atransaction:t~",
-            IN_TRANSACTION,
-            IN_TRANSACTION,
-            "0 COMMIT%0Atransaction:t~",
-        ],
-    )?;
-    script.push_str(&text_of(alloc, lines)?)?;
-    Ok(script)
-}
 
 #[test]
 fn an_opened_journal_has_what_was_flushed(rt: HostRuntime) -> Result<(), Fail> {
@@ -150,67 +135,112 @@ fn a_durable_subscriber_finds_its_messages_after_a_crash(rt: HostRuntime) -> Res
     )
 }
 
+// After the script `crash` with its calls and fill, and `open`, print this; what came before was printed too.
+fn expect_opened<'a>(
+    rt: &(impl Abort + Files<File = File>),
+    alloc: Global,
+    script: &'a str,
+    crash: (&'a str, &'a str),
+    printed: &'a str,
+    opened: &'a str,
+) -> Result<(), Fail> {
+    let (calls, fill) = crash;
+    let parts = [
+        (script, 1),
+        ("crash ", 1),
+        (calls, 1),
+        (fill, 1),
+        ("\nopen\n", 1),
+    ];
+    let all = [(printed, 1), (opened, 1), ("\n", 1)];
+    expect_parts(rt, alloc, &parts, 0, &all, "")
+}
+
+// Two messages are sent in a transaction after a flush, and wait.
+const TRANSACTION: &str = "0 CONNECT%0Aaccept-version:1.2~
+flush
+0 BEGIN%0Atransaction:t~
+0 SEND%0Adestination:/queue/q%0Atransaction:t%0A%0Ax%00
+0 SEND%0Adestination:/queue/q%0Atransaction:t%0A%0Ax%00
+0 COMMIT%0Atransaction:t~
+";
+
 #[test]
 fn a_crash_leaves_the_transaction_whole_or_not_at_all(rt: HostRuntime) -> Result<(), Fail> {
-    let alloc = rt.alloc();
-    // Which of the fills (none, `00`, `01`, `37`) leave it, after so many calls.
+    let printed = "0 CONNECTED%0Aversion:1.2%0Asession:0%0Aheart-beat:0,0~\n";
+    // Which of the fills leave it, after so many calls.
     let left = [
-        [false, false, false, false],
-        [false, false, false, false],
-        [false, false, true, false],
-        [false, false, true, false],
-        [true, true, true, true],
+        ("0", [false, false, false, false]),
+        ("1", [false, false, false, false]),
+        ("2", [false, false, true, false]),
+        ("3", [false, false, true, false]),
+        ("4", [true, true, true, true]),
     ];
-    for (calls, row) in left.iter().enumerate() {
+    for (calls, row) in &left {
         for (fill, is_left) in ["", " 00", " 01", " 37"].iter().zip(row.iter()) {
-            let crash = format!(in alloc; "crash {calls}{fill}")?;
-            let script = transaction_then(alloc, &[&crash, "open"])?;
             let opened = if *is_left { "open 2 2" } else { "open 1 0" };
-            let printed = format!(in alloc; "{CONNECTED}{opened}\n")?;
-            expect(&rt, alloc, script.as_bytes(), 0, &printed, "")?;
+            expect_opened(&rt, rt.alloc(), TRANSACTION, (calls, fill), printed, opened)?;
         }
     }
     Ok(())
 }
 
+// 33 commands: a batch of 32, and one of one.
+const MANY: Parts<'static> = &[
+    ("0 CONNECT%0Aaccept-version:1.2~\n", 1),
+    ("0 SEND%0Adestination:/queue/q%0A%0Ax%00\n", 7),
+    ("1 CONNECT%0Aaccept-version:1.2~\n", 1),
+    ("1 SEND%0Adestination:/queue/q%0A%0Ax%00\n", 7),
+    ("2 CONNECT%0Aaccept-version:1.2~\n", 1),
+    ("2 SEND%0Adestination:/queue/q%0A%0Ax%00\n", 7),
+    ("3 CONNECT%0Aaccept-version:1.2~\n", 1),
+    ("3 SEND%0Adestination:/queue/q%0A%0Ax%00\n", 7),
+    ("4 CONNECT%0Aaccept-version:1.2~\n", 1),
+];
+
+// The records of a CONNECT and four messages have 262,267 bytes; the fifth is a batch of its own.
+const LONG: Parts<'static> = &[
+    ("0 CONNECT%0Aaccept-version:1.2~\n", 1),
+    ("0 SEND%0Adestination:/queue/q%0A%0A", 1),
+    ("x", 65_536),
+    ("%00\n0 SEND%0Adestination:/queue/q%0A%0A", 1),
+    ("x", 65_536),
+    ("%00\n0 SEND%0Adestination:/queue/q%0A%0A", 1),
+    ("x", 65_536),
+    ("%00\n0 SEND%0Adestination:/queue/q%0A%0A", 1),
+    ("x", 65_536),
+    ("%00\n0 SEND%0Adestination:/queue/q%0A%0A", 1),
+    ("x", 65_536),
+    ("%00\n", 1),
+];
+
+fn expect_calls(
+    rt: &(impl Abort + Files<File = File>),
+    alloc: Global,
+    script: Parts<'_>,
+    calls: &str,
+    opened: &str,
+) -> Result<(), Fail> {
+    let script = text_of_parts(alloc, script)?;
+    let same = expect_opened(rt, alloc, script.as_str(), (calls, ""), "", opened);
+    drop(script);
+    same
+}
+
 #[test]
 fn calls_pass_over_all_batches(rt: HostRuntime) -> Result<(), Fail> {
-    let alloc = rt.alloc();
-    // 33 commands: a batch of 32, and one of one.
-    let mut many = String::new(alloc);
-    for connection in 0..4u8 {
-        many.push_str(&format!(in alloc; "{connection} CONNECT%0Aaccept-version:1.2~\n")?)?;
-        for _ in 0..7u8 {
-            many.push_str(&format!(in alloc;
-                "{connection} SEND%0Adestination:/queue/q%0A%0Ax%00\n"
-            )?)?;
-        }
-    }
-    many.push_str("4 CONNECT%0Aaccept-version:1.2~\n")?;
-    let many = many.replace(alloc, '~', "%0A%0A%00")?;
-    // The records of a CONNECT and four messages have 262,267 bytes; the fifth is a batch of its own.
-    let send = format!(in alloc;
-        "0 SEND%0Adestination:/queue/q%0A%0A{}%00\n",
-        "x".repeat(alloc, 65_536)?
-    )?;
-    let long = format!(in alloc;
-        "0 CONNECT%0Aaccept-version:1.2%0A%0A%00\n{}",
-        send.repeat(alloc, 5)?
-    )?;
     let cases = [
-        (&many, 3u64, "open 0 0"),
-        (&many, 4, "open 32 28"),
-        (&many, 7, "open 32 28"),
-        (&many, 8, "open 33 28"),
-        (&many, 18_446_744_073_709_551_615, "open 33 28"),
-        (&long, 3, "open 0 0"),
-        (&long, 4, "open 5 4"),
-        (&long, 8, "open 6 5"),
+        (MANY, "3", "open 0 0"),
+        (MANY, "4", "open 32 28"),
+        (MANY, "7", "open 32 28"),
+        (MANY, "8", "open 33 28"),
+        (MANY, "18446744073709551615", "open 33 28"),
+        (LONG, "3", "open 0 0"),
+        (LONG, "4", "open 5 4"),
+        (LONG, "8", "open 6 5"),
     ];
-    for (script, calls, opened) in cases {
-        let script = format!(in alloc; "{script}crash {calls}\nopen\n")?;
-        let printed = format!(in alloc; "{opened}\n")?;
-        expect(&rt, alloc, script.as_bytes(), 0, &printed, "")?;
+    for (script, calls, opened) in &cases {
+        expect_calls(&rt, rt.alloc(), script, calls, opened)?;
     }
     Ok(())
 }
@@ -227,46 +257,62 @@ fn after_a_crash_only_open_is_understood(rt: HostRuntime) -> Result<(), Fail> {
         "",
     )?;
     for line in ["flush", "lost 0", "0 x", "crash 0", "opens", " "] {
-        let script = format!(in alloc; "crash 0\n\n{line}\n")?;
+        let script = [("crash 0\n\n", 1), (line, 1), ("\n", 1)];
         let told = "stompd: line 3 not understood\n";
-        expect(&rt, alloc, script.as_bytes(), 1, "", told)?;
+        expect_parts(&rt, alloc, &script, 1, &[], told)?;
     }
-    for line in [
-        "open ",
-        "crash",
-        "crash ",
-        "crash 00",
-        "crash +1",
-        "crash -1",
-        "crash 18446744073709551616",
-        "crash 1 ",
-        "crash 1 0",
-        "crash 1 0g",
-        "crash 1  01",
-        "crash 1 01 ",
-        "crash 1 001",
-        "crash 01 01",
-        "crash x 01",
-    ] {
-        let script = format!(in alloc; "{line}\n")?;
+    for line in &NO_LINES {
         let told = "stompd: line 1 not understood\n";
-        expect(&rt, alloc, script.as_bytes(), 1, "", told)?;
+        expect_parts(&rt, alloc, &[(*line, 1), ("\n", 1)], 1, &[], told)?;
     }
     Ok(())
 }
 
+const NO_LINES: [&str; 15] = [
+    "open ",
+    "crash",
+    "crash ",
+    "crash 00",
+    "crash +1",
+    "crash -1",
+    "crash 18446744073709551616",
+    "crash 1 ",
+    "crash 1 0",
+    "crash 1 0g",
+    "crash 1  01",
+    "crash 1 01 ",
+    "crash 1 001",
+    "crash 01 01",
+    "crash x 01",
+];
+
 #[test]
 fn a_journal_that_is_full_ends_the_script(rt: HostRuntime) -> Result<(), Fail> {
-    let alloc = rt.alloc();
-    let con = "0 CONNECT%0Aaccept-version:1.2%0A%0A%00\n";
-    let send = format!(in alloc;
-        "0 SEND%0Adestination:/queue/q%0A%0A{}%00\n",
-        "x".repeat(alloc, 65_000)?
-    )?;
     let told = "stompd: J4 journal full\n";
-    // 15 messages fit in the area's 1,048,576 bytes, and the next batch of five does not.
-    let script = format!(in alloc; "{con}{}flush\n", send.repeat(alloc, 23)?)?;
-    expect(&rt, alloc, script.as_bytes(), 1, CONNECTED, told)?;
-    let script = format!(in alloc; "{con}{}crash 0\n", send.repeat(alloc, 23)?)?;
-    expect(&rt, alloc, script.as_bytes(), 1, CONNECTED, told)
+    // 15 messages of 65,000 bytes fit in the area's 1,048,576 bytes, and the next batch of five does not.
+    for end in ["flush\n", "crash 0\n"] {
+        expect_full(&rt, rt.alloc(), end, told)?;
+    }
+    Ok(())
+}
+
+// A CONNECT, 23 messages and an end.
+fn expect_full(
+    rt: &(impl Abort + Files<File = File>),
+    alloc: Global,
+    end: &str,
+    told: &str,
+) -> Result<(), Fail> {
+    let message = text_of_parts(
+        alloc,
+        &[
+            ("0 SEND%0Adestination:/queue/q%0A%0A", 1),
+            ("x", 65_000),
+            ("%00\n", 1),
+        ],
+    )?;
+    let script = [(CON_0, 1), ("\n", 1), (message.as_str(), 23), (end, 1)];
+    let same = expect_parts(rt, alloc, &script, 1, &[(CONNECTED, 1), ("\n", 1)], told);
+    drop(message);
+    same
 }

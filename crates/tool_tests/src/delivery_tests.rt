@@ -1,27 +1,22 @@
-use crate::words_tests::{
-    CONNECTED, expect, expect_frames, expect_lines, expect_whole_and_octets, text_of,
-};
+use crate::words_tests::{CONNECT, CONNECTED, expect, expect_frames, expect_lines};
 use std::process::Abort;
 use std::test::Fail;
-
-const CON: &str = "CONNECT%0Aaccept-version:1.2~";
 
 const SQ: &str = "SEND%0Adestination:/queue/q%0A%0Ax%00";
 
 #[test]
 fn a_lost_connection_forgets_the_frame_that_had_begun(rt: HostRuntime) -> Result<(), Fail> {
     let alloc = rt.alloc();
-    let con = format!(in alloc; "0 {CON}")?;
     expect_lines(
         &rt,
         alloc,
-        &[&con, "0 SEND%0Adest", "lost 0", "flush"],
+        &[CONNECT, "0 SEND%0Adest", "lost 0", "flush"],
         &["0 CONNECTED%0Aversion:1.2%0Asession:0%0Aheart-beat:0,0~"],
     )?;
     expect_lines(
         &rt,
         alloc,
-        &[&con, "lost 0", "lost 31", &con, "flush"],
+        &[CONNECT, "lost 0", "lost 31", CONNECT, "flush"],
         &[
             "0 CONNECTED%0Aversion:1.2%0Asession:0%0Aheart-beat:0,0~",
             "0 CONNECTED%0Aversion:1.2%0Asession:2%0Aheart-beat:0,0~",
@@ -102,31 +97,58 @@ fn an_id_is_acknowledged_once(rt: HostRuntime) -> Result<(), Fail> {
     )
 }
 
+const SEVENTEEN_SENT: [&str; 22] = [
+    "0 CONNECT%0Aaccept-version:1.2~",
+    "0 SUBSCRIBE%0Aid:s%0Adestination:/queue/q%0Aack:client-individual~",
+    "0 SEND%0Adestination:/queue/q%0A%0Ax%00",
+    "0 SEND%0Adestination:/queue/q%0A%0Ax%00",
+    "0 SEND%0Adestination:/queue/q%0A%0Ax%00",
+    "0 SEND%0Adestination:/queue/q%0A%0Ax%00",
+    "0 SEND%0Adestination:/queue/q%0A%0Ax%00",
+    "0 SEND%0Adestination:/queue/q%0A%0Ax%00",
+    "0 SEND%0Adestination:/queue/q%0A%0Ax%00",
+    "0 SEND%0Adestination:/queue/q%0A%0Ax%00",
+    "0 SEND%0Adestination:/queue/q%0A%0Ax%00",
+    "0 SEND%0Adestination:/queue/q%0A%0Ax%00",
+    "0 SEND%0Adestination:/queue/q%0A%0Ax%00",
+    "0 SEND%0Adestination:/queue/q%0A%0Ax%00",
+    "0 SEND%0Adestination:/queue/q%0A%0Ax%00",
+    "0 SEND%0Adestination:/queue/q%0A%0Ax%00",
+    "0 SEND%0Adestination:/queue/q%0A%0Ax%00",
+    "0 SEND%0Adestination:/queue/q%0A%0Ax%00",
+    "0 SEND%0Adestination:/queue/q%0A%0Ax%00",
+    "flush",
+    "0 ACK%0Aid:3%0A%0A%00",
+    "flush",
+];
+
+// The last one comes behind the acknowledgement.
+const SEVENTEEN_COME: [&str; 18] = [
+    CONNECTED,
+    "0 MESSAGE%0Asubscription:s%0Amessage-id:2.0%0Adestination:/queue/q%0Aack:0%0Acontent-length:1%0A%0Ax%00",
+    "0 MESSAGE%0Asubscription:s%0Amessage-id:3.0%0Adestination:/queue/q%0Aack:1%0Acontent-length:1%0A%0Ax%00",
+    "0 MESSAGE%0Asubscription:s%0Amessage-id:4.0%0Adestination:/queue/q%0Aack:2%0Acontent-length:1%0A%0Ax%00",
+    "0 MESSAGE%0Asubscription:s%0Amessage-id:5.0%0Adestination:/queue/q%0Aack:3%0Acontent-length:1%0A%0Ax%00",
+    "0 MESSAGE%0Asubscription:s%0Amessage-id:6.0%0Adestination:/queue/q%0Aack:4%0Acontent-length:1%0A%0Ax%00",
+    "0 MESSAGE%0Asubscription:s%0Amessage-id:7.0%0Adestination:/queue/q%0Aack:5%0Acontent-length:1%0A%0Ax%00",
+    "0 MESSAGE%0Asubscription:s%0Amessage-id:8.0%0Adestination:/queue/q%0Aack:6%0Acontent-length:1%0A%0Ax%00",
+    "0 MESSAGE%0Asubscription:s%0Amessage-id:9.0%0Adestination:/queue/q%0Aack:7%0Acontent-length:1%0A%0Ax%00",
+    "0 MESSAGE%0Asubscription:s%0Amessage-id:10.0%0Adestination:/queue/q%0Aack:8%0Acontent-length:1%0A%0Ax%00",
+    "0 MESSAGE%0Asubscription:s%0Amessage-id:11.0%0Adestination:/queue/q%0Aack:9%0Acontent-length:1%0A%0Ax%00",
+    "0 MESSAGE%0Asubscription:s%0Amessage-id:12.0%0Adestination:/queue/q%0Aack:10%0Acontent-length:1%0A%0Ax%00",
+    "0 MESSAGE%0Asubscription:s%0Amessage-id:13.0%0Adestination:/queue/q%0Aack:11%0Acontent-length:1%0A%0Ax%00",
+    "0 MESSAGE%0Asubscription:s%0Amessage-id:14.0%0Adestination:/queue/q%0Aack:12%0Acontent-length:1%0A%0Ax%00",
+    "0 MESSAGE%0Asubscription:s%0Amessage-id:15.0%0Adestination:/queue/q%0Aack:13%0Acontent-length:1%0A%0Ax%00",
+    "0 MESSAGE%0Asubscription:s%0Amessage-id:16.0%0Adestination:/queue/q%0Aack:14%0Acontent-length:1%0A%0Ax%00",
+    "0 MESSAGE%0Asubscription:s%0Amessage-id:17.0%0Adestination:/queue/q%0Aack:15%0Acontent-length:1%0A%0Ax%00",
+    "0 MESSAGE%0Asubscription:s%0Amessage-id:18.0%0Adestination:/queue/q%0Aack:16%0Acontent-length:1%0A%0Ax%00",
+];
+
 #[test]
 fn at_most_sixteen_deliveries_are_unacknowledged(rt: HostRuntime) -> Result<(), Fail> {
-    let alloc = rt.alloc();
-    let mut script = text_of(
-        alloc,
-        &[
-            "0 CONNECT%0Aaccept-version:1.2~",
-            "0 SUBSCRIBE%0Aid:s%0Adestination:/queue/q%0Aack:client-individual~",
-        ],
-    )?;
-    for _ in 0..17 {
-        script.push_str("0 ")?;
-        script.push_str(SQ)?;
-        script.push('\n')?;
-    }
-    script.push_str("flush\n0 ACK%0Aid:3%0A%0A%00\nflush\n")?;
-    let mut printed = String::from_str(alloc, CONNECTED)?;
-    for delivery in 0..17u64 {
-        let command = delivery.saturating_add(2);
-        let message = format!(in alloc;
-            "0 MESSAGE%0Asubscription:s%0Amessage-id:{command}.0%0Adestination:/queue/q%0Aack:{delivery}%0Acontent-length:1%0A%0Ax%00\n"
-        )?;
-        printed.push_str(&message)?;
-    }
-    expect_whole_and_octets(&rt, alloc, &script, &printed)
+    let before = &SEVENTEEN_SENT[..20];
+    expect_lines(&rt, rt.alloc(), before, &SEVENTEEN_COME[..17])?;
+    expect_lines(&rt, rt.alloc(), &SEVENTEEN_SENT, &SEVENTEEN_COME)
 }
 
 #[test]
@@ -187,20 +209,78 @@ fn transactions_begin_and_end(rt: HostRuntime) -> Result<(), Fail> {
     )
 }
 
+const MEMBERS: [&str; 66] = [
+    "BEGIN%0Atransaction:t~",
+    "SEND%0Adestination:/queue/q%0Atransaction:t%0A%0Ax%00",
+    "SEND%0Adestination:/queue/q%0Atransaction:t%0A%0Ax%00",
+    "SEND%0Adestination:/queue/q%0Atransaction:t%0A%0Ax%00",
+    "SEND%0Adestination:/queue/q%0Atransaction:t%0A%0Ax%00",
+    "SEND%0Adestination:/queue/q%0Atransaction:t%0A%0Ax%00",
+    "SEND%0Adestination:/queue/q%0Atransaction:t%0A%0Ax%00",
+    "SEND%0Adestination:/queue/q%0Atransaction:t%0A%0Ax%00",
+    "SEND%0Adestination:/queue/q%0Atransaction:t%0A%0Ax%00",
+    "SEND%0Adestination:/queue/q%0Atransaction:t%0A%0Ax%00",
+    "SEND%0Adestination:/queue/q%0Atransaction:t%0A%0Ax%00",
+    "SEND%0Adestination:/queue/q%0Atransaction:t%0A%0Ax%00",
+    "SEND%0Adestination:/queue/q%0Atransaction:t%0A%0Ax%00",
+    "SEND%0Adestination:/queue/q%0Atransaction:t%0A%0Ax%00",
+    "SEND%0Adestination:/queue/q%0Atransaction:t%0A%0Ax%00",
+    "SEND%0Adestination:/queue/q%0Atransaction:t%0A%0Ax%00",
+    "SEND%0Adestination:/queue/q%0Atransaction:t%0A%0Ax%00",
+    "SEND%0Adestination:/queue/q%0Atransaction:t%0A%0Ax%00",
+    "SEND%0Adestination:/queue/q%0Atransaction:t%0A%0Ax%00",
+    "SEND%0Adestination:/queue/q%0Atransaction:t%0A%0Ax%00",
+    "SEND%0Adestination:/queue/q%0Atransaction:t%0A%0Ax%00",
+    "SEND%0Adestination:/queue/q%0Atransaction:t%0A%0Ax%00",
+    "SEND%0Adestination:/queue/q%0Atransaction:t%0A%0Ax%00",
+    "SEND%0Adestination:/queue/q%0Atransaction:t%0A%0Ax%00",
+    "SEND%0Adestination:/queue/q%0Atransaction:t%0A%0Ax%00",
+    "SEND%0Adestination:/queue/q%0Atransaction:t%0A%0Ax%00",
+    "SEND%0Adestination:/queue/q%0Atransaction:t%0A%0Ax%00",
+    "SEND%0Adestination:/queue/q%0Atransaction:t%0A%0Ax%00",
+    "SEND%0Adestination:/queue/q%0Atransaction:t%0A%0Ax%00",
+    "SEND%0Adestination:/queue/q%0Atransaction:t%0A%0Ax%00",
+    "SEND%0Adestination:/queue/q%0Atransaction:t%0A%0Ax%00",
+    "SEND%0Adestination:/queue/q%0Atransaction:t%0A%0Ax%00",
+    "SEND%0Adestination:/queue/q%0Atransaction:t%0A%0Ax%00",
+    "SEND%0Adestination:/queue/q%0Atransaction:t%0A%0Ax%00",
+    "SEND%0Adestination:/queue/q%0Atransaction:t%0A%0Ax%00",
+    "SEND%0Adestination:/queue/q%0Atransaction:t%0A%0Ax%00",
+    "SEND%0Adestination:/queue/q%0Atransaction:t%0A%0Ax%00",
+    "SEND%0Adestination:/queue/q%0Atransaction:t%0A%0Ax%00",
+    "SEND%0Adestination:/queue/q%0Atransaction:t%0A%0Ax%00",
+    "SEND%0Adestination:/queue/q%0Atransaction:t%0A%0Ax%00",
+    "SEND%0Adestination:/queue/q%0Atransaction:t%0A%0Ax%00",
+    "SEND%0Adestination:/queue/q%0Atransaction:t%0A%0Ax%00",
+    "SEND%0Adestination:/queue/q%0Atransaction:t%0A%0Ax%00",
+    "SEND%0Adestination:/queue/q%0Atransaction:t%0A%0Ax%00",
+    "SEND%0Adestination:/queue/q%0Atransaction:t%0A%0Ax%00",
+    "SEND%0Adestination:/queue/q%0Atransaction:t%0A%0Ax%00",
+    "SEND%0Adestination:/queue/q%0Atransaction:t%0A%0Ax%00",
+    "SEND%0Adestination:/queue/q%0Atransaction:t%0A%0Ax%00",
+    "SEND%0Adestination:/queue/q%0Atransaction:t%0A%0Ax%00",
+    "SEND%0Adestination:/queue/q%0Atransaction:t%0A%0Ax%00",
+    "SEND%0Adestination:/queue/q%0Atransaction:t%0A%0Ax%00",
+    "SEND%0Adestination:/queue/q%0Atransaction:t%0A%0Ax%00",
+    "SEND%0Adestination:/queue/q%0Atransaction:t%0A%0Ax%00",
+    "SEND%0Adestination:/queue/q%0Atransaction:t%0A%0Ax%00",
+    "SEND%0Adestination:/queue/q%0Atransaction:t%0A%0Ax%00",
+    "SEND%0Adestination:/queue/q%0Atransaction:t%0A%0Ax%00",
+    "SEND%0Adestination:/queue/q%0Atransaction:t%0A%0Ax%00",
+    "SEND%0Adestination:/queue/q%0Atransaction:t%0A%0Ax%00",
+    "SEND%0Adestination:/queue/q%0Atransaction:t%0A%0Ax%00",
+    "SEND%0Adestination:/queue/q%0Atransaction:t%0A%0Ax%00",
+    "SEND%0Adestination:/queue/q%0Atransaction:t%0A%0Ax%00",
+    "SEND%0Adestination:/queue/q%0Atransaction:t%0A%0Ax%00",
+    "SEND%0Adestination:/queue/q%0Atransaction:t%0A%0Ax%00",
+    "SEND%0Adestination:/queue/q%0Atransaction:t%0A%0Ax%00",
+    "SEND%0Adestination:/queue/q%0Atransaction:t%0A%0Ax%00",
+    "SEND%0Adestination:/queue/q%0Atransaction:t%0A%0Ax%00",
+];
+
 #[test]
 fn a_transaction_has_at_most_64_members(rt: HostRuntime) -> Result<(), Fail> {
-    let alloc = rt.alloc();
-    let member = "SEND%0Adestination:/queue/q%0Atransaction:t%0A%0Ax%00";
-    let mut frames = vec![in alloc; "BEGIN%0Atransaction:t~"]?;
-    for _ in 0..64 {
-        frames.push(member)?;
-    }
-    expect_frames(&rt, alloc, frames.as_slice(), &[])?;
-    frames.push(member)?;
-    expect_frames(
-        &rt,
-        alloc,
-        frames.as_slice(),
-        &["ERROR%0Amessage:E17 transaction too large~"],
-    )
+    expect_frames(&rt, rt.alloc(), &MEMBERS[..65], &[])?;
+    let fault = "ERROR%0Amessage:E17 transaction too large~";
+    expect_frames(&rt, rt.alloc(), &MEMBERS, &[fault])
 }

@@ -7,15 +7,15 @@ use std::test::Fail;
 use std::{fs, io};
 use tool_core::tool;
 
-const CONNECT: &str = "0 CONNECT%0Aaccept-version:1.2%0A%0A%00\n";
+/// A line in which connection 0 receives a CONNECT. `~` stands for the end of a frame with no body.
+pub const CONNECT: &str = "0 CONNECT%0Aaccept-version:1.2~";
 
-pub const CONNECTED: &str = "0 CONNECTED%0Aversion:1.2%0Asession:0%0Aheart-beat:0,0%0A%0A%00\n";
+/// The line printed for its answer.
+pub const CONNECTED: &str = "0 CONNECTED%0Aversion:1.2%0Asession:0%0Aheart-beat:0,0~";
 
-const SEND_WITH_RECEIPT: &str = "0 SEND%0Adestination:/queue/a%0Areceipt:r1%0A%0Ahi%00\n";
+const SEND_WITH_RECEIPT: &str = "0 SEND%0Adestination:/queue/a%0Areceipt:r1%0A%0Ahi%00";
 
-const RECEIPT: &str = "0 RECEIPT%0Areceipt-id:r1%0A%0A%00\n";
-
-const FLUSH: &str = "flush\n";
+const RECEIPT: &str = "0 RECEIPT%0Areceipt-id:r1~";
 
 /// The longest line that a script may have.
 const LONGEST_LINE: usize = 1_048_576;
@@ -42,12 +42,12 @@ impl Write for Failing {
 
 /// A script that comes a byte at a time, with an interruption before each.
 #[derive(Drop)]
-struct Trickle {
-    script: Vec<u8>,
+struct Trickle<'a> {
+    script: &'a [u8],
     calls: usize,
 }
 
-impl Read for Trickle {
+impl Read for Trickle<'_> {
     fn read(&mut self, buf: &mut [u8]) -> io::Result<usize> {
         self.calls = self.calls.wrapping_add(1);
         if self.calls % 2 == 1 {
@@ -79,6 +79,39 @@ impl Write for Full {
     }
 }
 
+/// Runs the program on the words and the text; the status and what is printed and told are these then.
+fn expect_of(
+    rt: &(impl Abort + Files<File = File>),
+    alloc: Global,
+    words: &[&str],
+    text: &[u8],
+    wanted: (u8, &str, &str),
+) -> Result<(), Fail> {
+    let mut reader = text;
+    let mut written = Vec::new(alloc);
+    let mut told = Vec::new(alloc);
+    let status = tool(rt, alloc, words, &mut reader, &mut written, &mut told);
+    let same = compare(rt, status, written.as_slice(), told.as_slice(), wanted);
+    drop(told);
+    drop(written);
+    same
+}
+
+fn compare(
+    rt: &impl Abort,
+    status: u8,
+    written: &[u8],
+    told: &[u8],
+    wanted: (u8, &str, &str),
+) -> Result<(), Fail> {
+    let (wanted_status, printed, error) = wanted;
+    assert_eq!(rt; str::from_utf8(written)?, printed);
+    assert_eq!(rt; str::from_utf8(told)?, error);
+    assert_eq!(rt; status, wanted_status);
+    Ok(())
+}
+
+/// Runs a script, whose status and what it prints and tells are these then.
 pub fn expect(
     rt: &(impl Abort + Files<File = File>),
     alloc: Global,
@@ -87,15 +120,66 @@ pub fn expect(
     printed: &str,
     told: &str,
 ) -> Result<(), Fail> {
-    let mut reader = script;
-    let mut writer = Vec::new(alloc);
-    let mut errors = Vec::new(alloc);
-    let words = ["stompd", "script"];
-    let ended = tool(rt, alloc, &words, &mut reader, &mut writer, &mut errors);
-    assert_eq!(rt; String::from_utf8(writer)?.as_str(), printed);
-    assert_eq!(rt; String::from_utf8(errors)?.as_str(), told);
-    assert_eq!(rt; ended, status);
+    expect_of(
+        rt,
+        alloc,
+        &["stompd", "script"],
+        script,
+        (status, printed, told),
+    )
+}
+
+/// A text in parts, each so many times. `~` stands for the end of a frame with no body.
+pub type Parts<'a> = &'a [(&'a str, usize)];
+
+fn push_times(text: &mut String, part: &str, times: usize) -> Result<(), Fail> {
+    for _ in 0..times {
+        text.push_str(part)?;
+    }
     Ok(())
+}
+
+fn push_parts(text: &mut String, parts: Parts<'_>) -> Result<(), Fail> {
+    for (part, times) in parts {
+        push_times(text, part, *times)?;
+    }
+    Ok(())
+}
+
+/// The text of the parts.
+pub fn text_of_parts(alloc: Global, parts: Parts<'_>) -> Result<String, Fail> {
+    let mut text = String::new(alloc);
+    push_parts(&mut text, parts)?;
+    Ok(text.replace(alloc, '~', "%0A%0A%00")?)
+}
+
+/// Runs a script in parts, whose status and what it prints and tells are these then.
+pub fn expect_parts(
+    rt: &(impl Abort + Files<File = File>),
+    alloc: Global,
+    script: Parts<'_>,
+    status: u8,
+    printed: Parts<'_>,
+    told: &str,
+) -> Result<(), Fail> {
+    let script = text_of_parts(alloc, script)?;
+    let same = expect_printed(rt, alloc, script.as_bytes(), status, printed, told);
+    drop(script);
+    same
+}
+
+fn expect_printed(
+    rt: &(impl Abort + Files<File = File>),
+    alloc: Global,
+    script: &[u8],
+    status: u8,
+    printed: Parts<'_>,
+    told: &str,
+) -> Result<(), Fail> {
+    let printed = text_of_parts(alloc, printed)?;
+    let same = expect(rt, alloc, script, status, printed.as_str(), told);
+    drop(printed);
+    same
 }
 
 /// How many bytes of a script's text stand for its first octet.
@@ -124,13 +208,12 @@ fn push_octets(cut: &mut String, connection: &str, text: &str) -> Result<(), Fai
     Ok(())
 }
 
-/// The script with each line that a connection receives cut into lines of one octet.
-fn in_octets(alloc: Global, script: &str) -> Result<String, Fail> {
-    let mut cut = String::new(alloc);
+/// Adds the script with each line that a connection receives cut into lines of one octet.
+fn push_in_octets(cut: &mut String, script: &str) -> Result<(), Fail> {
     for line in script.lines() {
         match line.split_once(' ') {
             Some((connection, text)) if connection != "lost" && connection != "crash" => {
-                push_octets(&mut cut, connection, text)?;
+                push_octets(cut, connection, text)?;
             }
             _ => {
                 cut.push_str(line)?;
@@ -138,6 +221,12 @@ fn in_octets(alloc: Global, script: &str) -> Result<String, Fail> {
             }
         }
     }
+    Ok(())
+}
+
+fn in_octets(alloc: Global, script: &str) -> Result<String, Fail> {
+    let mut cut = String::new(alloc);
+    push_in_octets(&mut cut, script)?;
     Ok(cut)
 }
 
@@ -153,26 +242,33 @@ pub fn expect_whole_and_octets(
     expect(rt, alloc, octets.as_bytes(), 0, printed, "")
 }
 
-/// Text after a CONNECT, and a flush: CONNECTED comes first.
-fn expect_after_connect(
-    rt: &(impl Abort + Files<File = File>),
-    alloc: Global,
-    text: &str,
-    printed: &str,
-) -> Result<(), Fail> {
-    let script = format!(in alloc; "{CONNECT}0 {text}\n{FLUSH}")?;
-    let all = format!(in alloc; "{CONNECTED}0 {printed}%0A%0A%00\n")?;
-    expect_whole_and_octets(rt, alloc, &script, &all)
-}
-
-/// Lines, where `~` stands for the end of a frame with no body: a line end, an empty line and a NUL.
-pub fn text_of(alloc: Global, lines: &[&str]) -> Result<String, Fail> {
-    let mut text = String::new(alloc);
+fn push_lines(text: &mut String, connection: &str, lines: &[&str]) -> Result<(), Fail> {
     for line in lines {
+        text.push_str(connection)?;
         text.push_str(line)?;
         text.push('\n')?;
     }
+    Ok(())
+}
+
+/// Lines, where `~` stands for the end of a frame with no body.
+pub fn text_of(alloc: Global, lines: &[&str]) -> Result<String, Fail> {
+    let mut text = String::new(alloc);
+    push_lines(&mut text, "", lines)?;
     Ok(text.replace(alloc, '~', "%0A%0A%00")?)
+}
+
+/// The script as it stands, and with one octet a line, prints these lines.
+fn expect_printed_lines(
+    rt: &(impl Abort + Files<File = File>),
+    alloc: Global,
+    script: &str,
+    printed: &[&str],
+) -> Result<(), Fail> {
+    let printed = text_of(alloc, printed)?;
+    let same = expect_whole_and_octets(rt, alloc, script, printed.as_str());
+    drop(printed);
+    same
 }
 
 /// The script of these lines as it stands, and with one octet a line.
@@ -183,8 +279,24 @@ pub fn expect_lines(
     printed: &[&str],
 ) -> Result<(), Fail> {
     let script = text_of(alloc, script)?;
-    let printed = text_of(alloc, printed)?;
-    expect_whole_and_octets(rt, alloc, &script, &printed)
+    let same = expect_printed_lines(rt, alloc, script.as_str(), printed);
+    drop(script);
+    same
+}
+
+/// A first line, what connection 0 receives or is sent, and a last text.
+fn text_between(alloc: Global, first: &str, frames: &[&str], last: &str) -> Result<String, Fail> {
+    let mut text = String::new(alloc);
+    push_between(&mut text, first, frames, last)?;
+    Ok(text.replace(alloc, '~', "%0A%0A%00")?)
+}
+
+fn push_between(text: &mut String, first: &str, frames: &[&str], last: &str) -> Result<(), Fail> {
+    text.push_str(first)?;
+    text.push('\n')?;
+    push_lines(text, "0 ", frames)?;
+    text.push_str(last)?;
+    Ok(())
 }
 
 /// Frames of connection 0 after a CONNECT, and a flush: CONNECTED comes first, and all goes to connection 0.
@@ -194,88 +306,99 @@ pub fn expect_frames(
     frames: &[&str],
     printed: &[&str],
 ) -> Result<(), Fail> {
-    let mut script = String::from_str(alloc, CONNECT)?;
-    for frame in frames {
-        script.push_str("0 ")?;
-        script.push_str(frame)?;
-        script.push('\n')?;
-    }
-    script.push_str(FLUSH)?;
-    let mut answers = String::from_str(alloc, CONNECTED)?;
-    for answer in printed {
-        answers.push_str("0 ")?;
-        answers.push_str(answer)?;
-        answers.push('\n')?;
-    }
-    let script = script.replace(alloc, '~', "%0A%0A%00")?;
-    let answers = answers.replace(alloc, '~', "%0A%0A%00")?;
-    expect_whole_and_octets(rt, alloc, &script, &answers)
+    let script = text_between(alloc, CONNECT, frames, "flush\n")?;
+    let same = expect_answers(rt, alloc, script.as_str(), printed);
+    drop(script);
+    same
+}
+
+fn expect_answers(
+    rt: &(impl Abort + Files<File = File>),
+    alloc: Global,
+    script: &str,
+    printed: &[&str],
+) -> Result<(), Fail> {
+    let answers = text_between(alloc, CONNECTED, printed, "")?;
+    let same = expect_whole_and_octets(rt, alloc, script, answers.as_str());
+    drop(answers);
+    same
 }
 
 #[test]
 fn a_receipt_comes_with_the_flush_after_its_frame(rt: HostRuntime) -> Result<(), Fail> {
     let alloc = rt.alloc();
-    let connect = "0 CONNECT%0Aaccept-version:1.2,1.1,1.0%0A%0A%00\n";
-    expect_whole_and_octets(&rt, alloc, connect, "")?;
-    let connected = format!(in alloc; "{connect}{FLUSH}")?;
-    expect_whole_and_octets(&rt, alloc, &connected, CONNECTED)?;
-    let sent = format!(in alloc; "{connected}{SEND_WITH_RECEIPT}")?;
-    expect_whole_and_octets(&rt, alloc, &sent, CONNECTED)?;
-    let script = format!(in alloc; "{sent}\n{FLUSH}{FLUSH}")?;
-    let printed = format!(in alloc; "{CONNECTED}{RECEIPT}")?;
-    expect_whole_and_octets(&rt, alloc, &script, &printed)?;
-    expect_after_connect(
+    let connect = "0 CONNECT%0Aaccept-version:1.2,1.1,1.0~";
+    let sent = SEND_WITH_RECEIPT;
+    expect_lines(&rt, alloc, &[connect], &[])?;
+    expect_lines(&rt, alloc, &[connect, "flush"], &[CONNECTED])?;
+    expect_lines(&rt, alloc, &[connect, "flush", sent], &[CONNECTED])?;
+    let script = [connect, "flush", sent, "flush", "flush"];
+    expect_lines(&rt, alloc, &script, &[CONNECTED, RECEIPT])?;
+    expect_frames(
         &rt,
         alloc,
-        r"SEND%0Adestination:/queue/a%0Areceipt:a\cb%0A%0A%00",
-        r"RECEIPT%0Areceipt-id:a\cb",
+        &[r"SEND%0Adestination:/queue/a%0Areceipt:a\cb~"],
+        &[r"RECEIPT%0Areceipt-id:a\cb~"],
     )?;
-    expect_after_connect(
+    expect_frames(
         &rt,
         alloc,
-        "SEND%0Adestination:/queue/a%0Areceipt:%zz%0A%0A%00",
-        "RECEIPT%0Areceipt-id:%25zz",
+        &["SEND%0Adestination:/queue/a%0Areceipt:%zz~"],
+        &["RECEIPT%0Areceipt-id:%25zz~"],
     )
 }
+
+// What connection 0 receives after a CONNECT, and the fault.
+const FAULTS: [(&str, &str); 8] = [
+    ("%00", "ERROR%0Amessage:E1 malformed frame~"),
+    ("HELLO~", "ERROR%0Amessage:E4 unknown command~"),
+    (
+        "RECEIPT%0Areceipt:r7~",
+        "ERROR%0Amessage:E4 unknown command%0Areceipt-id:r7~",
+    ),
+    (
+        "SEND%0Areceipt:r5%0A%0Ahi%00",
+        "ERROR%0Amessage:E5 missing header%0Areceipt-id:r5~",
+    ),
+    (
+        "CONNECT%0Aaccept-version:1.2~",
+        "ERROR%0Amessage:E7 frame not expected here~",
+    ),
+    (
+        "SEND%0Adestination:/queue/~",
+        "ERROR%0Amessage:E8 bad destination~",
+    ),
+    (
+        "ACK%0Aid:0%0A%0Ax%00",
+        "ERROR%0Amessage:E19 body not allowed~",
+    ),
+    (
+        "SEND%0Adestination:/queue/a%0Acontent-length:abc~",
+        "ERROR%0Amessage:E20 bad header value~",
+    ),
+];
 
 #[test]
 fn each_fault_has_its_code(rt: HostRuntime) -> Result<(), Fail> {
     let alloc = rt.alloc();
-    let many = format!(in alloc;
-        "SEND%0Adestination:/queue/a{}%0A%0A%00",
-        "%0Ah:v".repeat(alloc, 64)?
-    )?;
-    let faults = [
-        ("%00", "E1 malformed frame"),
-        (many.as_str(), "E2 frame too large"),
-        ("HELLO%0A%0A%00", "E4 unknown command"),
-        (
-            "RECEIPT%0Areceipt:r7%0A%0A%00",
-            "E4 unknown command%0Areceipt-id:r7",
-        ),
-        (
-            "SEND%0Areceipt:r5%0A%0Ahi%00",
-            "E5 missing header%0Areceipt-id:r5",
-        ),
-        (
-            "CONNECT%0Aaccept-version:1.2%0A%0A%00",
-            "E7 frame not expected here",
-        ),
-        ("SEND%0Adestination:/queue/%0A%0A%00", "E8 bad destination"),
-        ("ACK%0Aid:0%0A%0Ax%00", "E19 body not allowed"),
-        (
-            "SEND%0Adestination:/queue/a%0Acontent-length:abc%0A%0A%00",
-            "E20 bad header value",
-        ),
-    ];
-    for (text, fault) in faults {
-        let printed = format!(in alloc; "ERROR%0Amessage:{fault}")?;
-        expect_after_connect(&rt, alloc, text, &printed)?;
+    for (text, fault) in &FAULTS {
+        expect_frames(&rt, alloc, &[*text], &[*fault])?;
     }
+    let many = [
+        (CONNECT, 1),
+        ("\n0 SEND%0Adestination:/queue/a", 1),
+        ("%0Ah:v", 64),
+        ("~\nflush\n", 1),
+    ];
+    let fault = [
+        (CONNECTED, 1),
+        ("\n0 ERROR%0Amessage:E2 frame too large~\n", 1),
+    ];
+    expect_parts(&rt, alloc, &many, 0, &fault, "")?;
     let escape = r"0 SEND%0Adestination:/queue/a%0Areceipt:r1%0Ax:a\tb%0A%0Ahi%00";
-    let script = format!(in alloc; "{CONNECT}{escape}\n{FLUSH}{SEND_WITH_RECEIPT}{FLUSH}")?;
-    let printed = format!(in alloc; "{CONNECTED}0 ERROR%0Amessage:E3 undefined escape%0A%0A%00\n")?;
-    expect_whole_and_octets(&rt, alloc, &script, &printed)
+    let script = [CONNECT, escape, "flush", SEND_WITH_RECEIPT, "flush"];
+    let fault = "0 ERROR%0Amessage:E3 undefined escape~";
+    expect_lines(&rt, alloc, &script, &[CONNECTED, fault])
 }
 
 #[test]
@@ -298,191 +421,238 @@ fn a_fault_before_the_connect_is_printed_at_once(rt: HostRuntime) -> Result<(), 
 #[test]
 fn a_line_that_says_nothing_ends_the_script(rt: HostRuntime) -> Result<(), Fail> {
     let alloc = rt.alloc();
+    let first = "stompd: line 1 not understood\n";
+    let third = "stompd: line 3 not understood\n";
     let zeros = "00 CONNECT%0Aaccept-version:1.2%0A%0A%00\n".as_bytes();
-    expect(&rt, alloc, zeros, 1, "", "stompd: line 1 not understood\n")?;
-    expect(
-        &rt,
-        alloc,
-        b"0 \n\nflush",
-        1,
-        "",
-        "stompd: line 3 not understood\n",
-    )?;
-    expect(&rt, alloc, b"0\n", 1, "", "stompd: line 1 not understood\n")?;
-    let script = format!(in alloc; "{CONNECT}{FLUSH}32 a\n{SEND_WITH_RECEIPT}{FLUSH}")?;
-    let told = "stompd: line 3 not understood\n";
-    expect(&rt, alloc, script.as_bytes(), 1, CONNECTED, told)?;
-    let longest = format!(in alloc; "0 {}\n", "a".repeat(alloc, LONGEST_LINE - 2)?)?;
-    let fault = "0 ERROR%0Amessage:E2 frame too large%0A%0A%00\n";
-    expect(&rt, alloc, longest.as_bytes(), 0, fault, "")?;
-    let longer = format!(in alloc; "{FLUSH}0 {}\n", "a".repeat(alloc, LONGEST_LINE - 1)?)?;
-    expect(
-        &rt,
-        alloc,
-        longer.as_bytes(),
-        1,
-        "",
-        "stompd: line 2 not understood\n",
-    )
+    expect(&rt, alloc, zeros, 1, "", first)?;
+    expect(&rt, alloc, b"0 \n\nflush", 1, "", third)?;
+    expect(&rt, alloc, b"0\n", 1, "", first)?;
+    let script = [(CONNECT, 1), ("\nflush\n32 a\nflush\n", 1)];
+    let connected = [(CONNECTED, 1), ("\n", 1)];
+    expect_parts(&rt, alloc, &script, 1, &connected, third)
+}
+
+#[test]
+fn a_line_has_at_most_1048576_bytes(rt: HostRuntime) -> Result<(), Fail> {
+    let alloc = rt.alloc();
+    let longest = [("0 ", 1), ("a", LONGEST_LINE - 2), ("\n", 1)];
+    let fault = [("0 ERROR%0Amessage:E2 frame too large~\n", 1)];
+    expect_parts(&rt, alloc, &longest, 0, &fault, "")?;
+    let longer = [("flush\n0 ", 1), ("a", LONGEST_LINE - 1), ("\n", 1)];
+    let told = "stompd: line 2 not understood\n";
+    expect_parts(&rt, alloc, &longer, 1, &[], told)
+}
+
+const SCRIPT: &[u8] =
+    b"0 CONNECT%0Aaccept-version:1.2%0A%0A%00\nflush\n0 SEND%0Adestination:/queue/a%0Areceipt:r1%0A%0Ahi%00\nflush\n";
+
+// Runs a script over these streams.
+fn status_of(
+    rt: &(impl Abort + Files<File = File>),
+    alloc: Global,
+    reader: &mut impl Read,
+    writer: &mut impl Write,
+    errors: &mut impl Write,
+) -> u8 {
+    tool(rt, alloc, &["stompd", "script"], reader, writer, errors)
+}
+
+const STREAM_FAILED: &str = "stompd: input or output failed\n";
+
+fn expect_no_reading(rt: &(impl Abort + Files<File = File>), alloc: Global) -> Result<(), Fail> {
+    let mut written = Vec::new(alloc);
+    let mut told = Vec::new(alloc);
+    let status = status_of(rt, alloc, &mut Failing, &mut written, &mut told);
+    let wanted = (1, "", STREAM_FAILED);
+    let same = compare(rt, status, written.as_slice(), told.as_slice(), wanted);
+    drop(told);
+    drop(written);
+    same
+}
+
+fn expect_no_writing(rt: &(impl Abort + Files<File = File>), alloc: Global) -> Result<(), Fail> {
+    let mut script = SCRIPT;
+    let mut told = Vec::new(alloc);
+    let status = status_of(rt, alloc, &mut script, &mut Failing, &mut told);
+    let same = compare(rt, status, b"", told.as_slice(), (1, "", STREAM_FAILED));
+    drop(told);
+    same
 }
 
 #[test]
 fn a_stream_that_fails_is_told(rt: HostRuntime) -> Result<(), Fail> {
-    let alloc = rt.alloc();
-    let words = ["stompd", "script"];
-    let script = format!(in alloc; "{CONNECT}{FLUSH}")?;
+    expect_no_reading(&rt, rt.alloc())?;
+    expect_no_writing(&rt, rt.alloc())?;
+    let mut written = Vec::new(rt.alloc());
+    let mut script = b"0\n".as_slice();
+    let status = status_of(&rt, rt.alloc(), &mut script, &mut written, &mut Failing);
+    drop(written);
+    assert_eq!(rt; status, 1);
+    Ok(())
+}
+
+// Runs a script that comes a byte at a time.
+fn expect_trickled(
+    rt: &(impl Abort + Files<File = File>),
+    alloc: Global,
+    script: &[u8],
+    printed: &str,
+) -> Result<(), Fail> {
+    let mut reader = Trickle { script, calls: 0 };
     let mut written = Vec::new(alloc);
     let mut told = Vec::new(alloc);
-    assert_eq!(rt;
-        tool(&rt, alloc, &words, &mut Failing, &mut written, &mut told),
-        1
-    );
-    assert_eq!(rt;
+    let status = status_of(rt, alloc, &mut reader, &mut written, &mut told);
+    let same = compare(
+        rt,
+        status,
+        written.as_slice(),
         told.as_slice(),
-        b"stompd: input or output failed\n".as_slice()
+        (0, printed, ""),
     );
-    assert!(rt; written.is_empty());
-    told.clear();
-    let mut reader = script.as_bytes();
-    assert_eq!(rt;
-        tool(&rt, alloc, &words, &mut reader, &mut Failing, &mut told),
-        1
-    );
-    assert_eq!(rt;
-        told.as_slice(),
-        b"stompd: input or output failed\n".as_slice()
-    );
-    let mut nothing = b"0\n".as_slice();
-    assert_eq!(rt;
-        tool(&rt, alloc, &words, &mut nothing, &mut written, &mut Failing),
-        1
-    );
-    Ok(())
+    drop(told);
+    drop(written);
+    same
 }
 
 #[test]
 fn a_script_comes_in_short_reads_with_interruptions(rt: HostRuntime) -> Result<(), Fail> {
     let alloc = rt.alloc();
-    let blank = "\n".repeat(alloc, 5_000)?;
-    let script = format!(in alloc; "{CONNECT}{FLUSH}{blank}{SEND_WITH_RECEIPT}{FLUSH}")?;
-    let mut reader = Trickle {
-        script: Vec::from_slice(alloc, script.as_bytes())?,
-        calls: 0,
-    };
-    let mut written = Vec::new(alloc);
-    let mut told = Vec::new(alloc);
-    let words = ["stompd", "script"];
-    let ended = tool(&rt, alloc, &words, &mut reader, &mut written, &mut told);
-    let printed = format!(in alloc; "{CONNECTED}{RECEIPT}")?;
-    assert_eq!(rt; String::from_utf8(written)?.as_str(), printed.as_str());
-    assert!(rt; told.is_empty());
-    assert_eq!(rt; ended, 0);
-    Ok(())
+    let parts = [
+        (CONNECT, 1),
+        ("\nflush\n", 1),
+        ("\n", 5_000),
+        (SEND_WITH_RECEIPT, 1),
+        ("\nflush\n", 1),
+    ];
+    let printed =
+        "0 CONNECTED%0Aversion:1.2%0Asession:0%0Aheart-beat:0,0%0A%0A%00\n0 RECEIPT%0Areceipt-id:r1%0A%0A%00\n";
+    let script = text_of_parts(alloc, &parts)?;
+    let same = expect_trickled(&rt, alloc, script.as_bytes(), printed);
+    drop(script);
+    same
 }
 
 #[test]
 fn a_write_that_fails_is_not_tried_again(rt: HostRuntime) -> Result<(), Fail> {
     let alloc = rt.alloc();
-    let script = format!(in alloc; "{CONNECT}{FLUSH}{SEND_WITH_RECEIPT}{FLUSH}")?;
-    let mut reader = script.as_bytes();
     let mut writer = Full { writes: 0 };
     let mut told = Vec::new(alloc);
-    let words = ["stompd", "script"];
-    let ended = tool(&rt, alloc, &words, &mut reader, &mut writer, &mut told);
+    let mut script = SCRIPT;
+    let ended = status_of(&rt, alloc, &mut script, &mut writer, &mut told);
+    drop(told);
     assert_eq!(rt; writer.writes, 1);
     assert_eq!(rt; ended, 1);
     Ok(())
 }
 
+// Runs the program on words that ask for nothing: nothing is read or printed, and something is told.
+fn is_refused(rt: &(impl Abort + Files<File = File>), alloc: Global, words: &[&str]) -> bool {
+    let mut reader = b"flush\n".as_slice();
+    let mut written = Vec::new(alloc);
+    let mut told = Vec::new(alloc);
+    let status = tool(rt, alloc, words, &mut reader, &mut written, &mut told);
+    let is_silent = written.is_empty() && !told.is_empty();
+    drop(told);
+    drop(written);
+    status == 2 && is_silent && reader.len() == 6
+}
+
+const NO_REQUESTS: [&[&str]; 9] = [
+    &["stompd", "format", "file"],
+    &["stompd", "show"],
+    &["stompd", "relay"],
+    &["stompd", "serve"],
+    &["stompd", "serve", "file"],
+    &["stompd"],
+    &["stompd", "--help"],
+    &["stompd", "script", "more"],
+    &["stompd", "help"],
+];
+
 #[test]
 fn words_that_ask_for_nothing_are_refused(rt: HostRuntime) -> Result<(), Fail> {
-    let alloc = rt.alloc();
+    for words in &NO_REQUESTS {
+        assert!(rt; is_refused(&rt, rt.alloc(), words));
+    }
     let unknown =
         "error: unrecognized subcommand 'relay'\n\nUsage: stompd <COMMAND>\n\nFor more information, try '--help'.\n";
-    let cases: [&[&str]; 9] = [
-        &["stompd", "format", "file"],
-        &["stompd", "show"],
-        &["stompd", "relay"],
-        &["stompd", "serve"],
-        &["stompd", "serve", "file"],
-        &["stompd"],
-        &["stompd", "--help"],
-        &["stompd", "script", "more"],
-        &["stompd", "help"],
-    ];
-    for words in cases {
-        let mut reader = FLUSH.as_bytes();
-        let mut written = Vec::new(alloc);
-        let mut told = Vec::new(alloc);
-        assert_eq!(rt;
-            tool(&rt, alloc, words, &mut reader, &mut written, &mut told),
-            2
-        );
-        assert!(rt; written.is_empty() && reader.len() == FLUSH.len() && !told.is_empty());
-        if words.last() == Some(&"relay") {
-            assert_eq!(rt; String::from_utf8(told)?.as_str(), unknown);
-        }
-    }
-    Ok(())
+    expect_of(&rt, rt.alloc(), &["stompd", "relay"], b"", (2, "", unknown))
 }
 
 /// A port is a number from 1 to 65,535, and a size one below 2^64, in decimal digits alone; of another nothing is told.
 #[test]
 fn words_with_a_number_that_is_none_are_refused(rt: HostRuntime) -> Result<(), Fail> {
     let alloc = rt.alloc();
-    let silent = (2, "", "");
-    expect_of(&rt, alloc, &["stompd", "serve", "file", "0"], silent)?;
-    expect_of(&rt, alloc, &["stompd", "serve", "file", "65536"], silent)?;
-    expect_of(&rt, alloc, &["stompd", "serve", "file", "+1"], silent)?;
-    expect_of(&rt, alloc, &["stompd", "serve", "file", "1x"], silent)?;
+    for port in ["0", "65536", "+1", "1x"] {
+        expect_of(
+            &rt,
+            alloc,
+            &["stompd", "serve", "file", port],
+            b"",
+            (2, "", ""),
+        )?;
+    }
     let large = "18446744073709551616";
-    expect_of(&rt, alloc, &["stompd", "format", "file", large], silent)
+    expect_of(
+        &rt,
+        alloc,
+        &["stompd", "format", "file", large],
+        b"",
+        (2, "", ""),
+    )
 }
 
-/// Runs the program on the words, with nothing to read.
-fn expect_of(
+const JOURNAL: &str = "stompd_journal_file";
+
+fn expect_format(
     rt: &(impl Abort + Files<File = File>),
     alloc: Global,
-    words: &[&str],
-    wanted: (u8, &str, &str),
+    bytes: &str,
+    status: u8,
+    told: &str,
 ) -> Result<(), Fail> {
-    let mut nothing = b"".as_slice();
-    let mut written = Vec::new(alloc);
-    let mut told = Vec::new(alloc);
-    let status = tool(rt, alloc, words, &mut nothing, &mut written, &mut told);
-    let (wanted_status, printed, error) = wanted;
-    assert_eq!(rt; String::from_utf8(written)?.as_str(), printed);
-    assert_eq!(rt; String::from_utf8(told)?.as_str(), error);
-    assert_eq!(rt; status, wanted_status);
-    Ok(())
+    expect_of(
+        rt,
+        alloc,
+        &["stompd", "format", JOURNAL, bytes],
+        b"",
+        (status, "", told),
+    )
+}
+
+fn expect_show(
+    rt: &(impl Abort + Files<File = File>),
+    alloc: Global,
+    status: u8,
+    printed: &str,
+    told: &str,
+) -> Result<(), Fail> {
+    expect_of(
+        rt,
+        alloc,
+        &["stompd", "show", JOURNAL],
+        b"",
+        (status, printed, told),
+    )
 }
 
 #[test]
 fn a_journal_file_is_made_and_shown(rt: HostRuntime) -> Result<(), Fail> {
     let alloc = rt.alloc();
-    let path = "stompd_journal_file";
-    let _ = fs::remove_file(&rt, path);
-    let small = (1, "", "stompd: J8 disk too small\n");
-    let closed = (1, "", "stompd: cannot open\n");
-    let shown = (0, "version 1\narea 0\nused 41\ncount 0\nheld 0\n", "");
-    expect_of(&rt, alloc, &["stompd", "show", path], closed)?;
-    expect_of(&rt, alloc, &["stompd", "format", path, "8223"], small)?;
-    expect_of(&rt, alloc, &["stompd", "format", path, "31"], small)?;
+    let _ = fs::remove_file(&rt, JOURNAL);
+    let shown = "version 1\narea 0\nused 41\ncount 0\nheld 0\n";
+    expect_show(&rt, alloc, 1, "", "stompd: cannot open\n")?;
+    expect_format(&rt, alloc, "8223", 1, "stompd: J8 disk too small\n")?;
+    expect_format(&rt, alloc, "31", 1, "stompd: J8 disk too small\n")?;
     for bytes in ["", "+8224", "8224 ", "18446744073709551616"] {
-        expect_of(&rt, alloc, &["stompd", "format", path, bytes], (2, "", ""))?;
+        expect_format(&rt, alloc, bytes, 2, "")?;
     }
-    expect_of(
-        &rt,
-        alloc,
-        &["stompd", "format", path, "08224"],
-        (0, "", ""),
-    )?;
-    expect_of(&rt, alloc, &["stompd", "show", path], shown)?;
-    expect_of(&rt, alloc, &["stompd", "format", path, "8224"], closed)?;
-    expect_of(&rt, alloc, &["stompd", "show", path], shown)?;
-    fs::write(&rt, path, [0; 64].as_slice())?;
-    let none = (1, "", "stompd: J1 not a journal\n");
-    expect_of(&rt, alloc, &["stompd", "show", path], none)?;
-    fs::remove_file(&rt, path)?;
+    expect_format(&rt, alloc, "08224", 0, "")?;
+    expect_show(&rt, alloc, 0, shown, "")?;
+    expect_format(&rt, alloc, "8224", 1, "stompd: cannot open\n")?;
+    expect_show(&rt, alloc, 0, shown, "")?;
+    fs::write(&rt, JOURNAL, [0; 64].as_slice())?;
+    expect_show(&rt, alloc, 1, "", "stompd: J1 not a journal\n")?;
+    fs::remove_file(&rt, JOURNAL)?;
     Ok(())
 }

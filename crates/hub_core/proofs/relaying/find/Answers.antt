@@ -1,6 +1,4 @@
-use Rattle.std.proofs.Common.{rules, ◌≡◌, ℕ, ◌≤◌, List, Option, IfOk, IfErr, ◌+◌, ◌-◌, ◌*◌, ◌<◌, length, ◌/◌, ◌%◌, Bool, true, false, nat_eq, nat_lt, [], ◌∷◌, ◌++◌, slice_index_or, slice_set, bit_and, bit_or, Fits, w8, w32, w64, Bor, MutBor}
-use Rattle.claim_core.specs.Seats.{with_seen}
-use Rattle.hub_core.specs.Relays.{passage, Relays, IsRefused, Finds}
+use Rattle.std.proofs.Common.{rules}
 use Rattle.hub_core.proofs.relaying.find.Goals as goal
 
 pub returns-in-Err-clause-none : goal.returns-in-Err-clause-none

@@ -1,7 +1,5 @@
 use Rattle.hub_core.proofs.relaying.relay.Goals as goal
-use Rattle.std.proofs.Common.{rules, ◌≡◌, ℕ, ◌≤◌, List, Option, IfOk, IfErr, ◌+◌, ◌-◌, ◌*◌, ◌<◌, length, ◌/◌, ◌%◌, Bool, true, false, nat_eq, nat_lt, [], ◌∷◌, ◌++◌, slice_index_or, slice_set, bit_and, bit_or, Fits, w8, w32, w64, Bor, MutBor}
-use Rattle.claim_core.specs.Seats.{with_seen}
-use Rattle.hub_core.specs.Relays.{passage, Relays, IsRefused, Finds}
+use Rattle.std.proofs.Common.{rules}
 
 pub returns-in-Err-clause-relays : goal.returns-in-Err-clause-relays
 returns-in-Err-clause-relays g c = c.in-Err.ensures.none (g.L.Link.sent c.args.link.now)

@@ -1,4 +1,4 @@
-use Rattle.std.proofs.Common.{◌∙◌, ap, sym}
+use Rattle.std.proofs.Common.{◌∙◌, ap, sym, rules}
 use Rattle.disk_core.specs.declared.memory.MemDisk.{MemDisk}
 use Rattle.flush_core.specs.Flushed.{Flushed}
 use Rattle.script_journal.proofs.Resting.{new_rest, new_seats}
@@ -11,3 +11,6 @@ invariant_of-result c = λ whole.
     (ap (λ (f : Flushed MemDisk). f.seat) made ∙ c.in-Ok.ensures.flush) (ap (λ (f : Flushed MemDisk). f.broken) made)
     (ap (λ (f : Flushed MemDisk). f.stored) made ∙ sym (ap (λ (f : Flushed MemDisk). f.seat.base) made)) (ap (λ (f : Flushed MemDisk). f.settled) made ∙ sym (ap (λ (f : Flushed MemDisk). f.seat.base) made))
     (ap (λ (f : Flushed MemDisk). f.waiting) made) (ap (λ (f : Flushed MemDisk). f.left) made) (ap (λ (f : Flushed MemDisk). f.opening) made ∙ sym (ap (λ (f : Flushed MemDisk). f.broker.state) made))
+
+pub new-requires-in-Ok-clause-count : goal.new-requires-in-Ok-clause-count
+new-requires-in-Ok-clause-count c = search rules
