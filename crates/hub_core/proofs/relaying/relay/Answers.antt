@@ -9,4 +9,3 @@ returns-in-Err-send-clause-refused g c = search rules
 
 pub returns-in-Ok-send-clause-relays : goal.returns-in-Ok-send-clause-relays
 returns-in-Ok-send-clause-relays g c = search rules
-
