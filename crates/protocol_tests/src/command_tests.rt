@@ -95,8 +95,10 @@ pub fn greeting(alloc: Global) -> Result<Sending, DestFault> {
 
 fn is_told(alloc: Global, frame: &Frame, expected: &str) -> Result<bool, AllocError> {
     let mut told = String::new(alloc);
-    tell_frame(&mut told, frame)?;
-    Ok(told.as_str() == expected)
+    let is_whole = tell_frame(&mut told, frame);
+    let is_right = told.as_str() == expected;
+    drop(told);
+    is_whole.map(|()| is_right)
 }
 
 fn connected_is_told(alloc: Global) -> Result<bool, AllocError> {
@@ -124,13 +126,14 @@ fn error_is_told(alloc: Global) -> Result<bool, AllocError> {
     )
 }
 
-fn message_is_told(alloc: Global) -> Result<bool, DestFault> {
-    let id = r1(alloc)?;
+fn message_is_told(alloc: Global, id: &HeaderText) -> Result<bool, DestFault> {
     let sending = greeting(alloc)?;
-    let frame = message_reply(alloc, &id, 12, 3, Some(40), sending)?;
+    let frame = message_reply(alloc, id, 12, 3, Some(40), sending)?;
     let expected =
         "MESSAGE subscription=r1 message-id=12.3 destination=/queue/a ack=40 content-length=2 'hi' ";
-    Ok(is_told(alloc, &frame, expected)?)
+    let is_right = is_told(alloc, &frame, expected);
+    drop(frame);
+    Ok(is_right?)
 }
 
 #[test]
@@ -138,15 +141,19 @@ fn answers_have_their_headers(rt: HostRuntime) -> Result<(), Fail> {
     assert!(rt; connected_is_told(rt.alloc())?);
     assert!(rt; receipt_is_told(rt.alloc())?);
     assert!(rt; error_is_told(rt.alloc())?);
-    assert!(rt; message_is_told(rt.alloc())?);
+    let id = r1(rt.alloc())?;
+    let is_right = message_is_told(rt.alloc(), &id);
+    drop(id);
+    assert!(rt; is_right?);
     Ok(())
 }
 
 // The kind 1, the destination 4 and 8, the count of headers 2, the body 4 and 2.
 #[test]
 fn an_operation_has_the_size_of_its_record(rt: HostRuntime) -> Result<(), Fail> {
-    let sending = greeting(rt.alloc())?;
-    let size = op_size(&Op::Send(sending));
+    let op = greeting(rt.alloc()).map(Op::Send)?;
+    let size = op_size(&op);
+    drop(op);
     assert!(rt; size == 21);
     Ok(())
 }

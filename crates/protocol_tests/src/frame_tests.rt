@@ -3,7 +3,7 @@
 use crate::telling::{frame as tell_frame, word};
 use command_core::{Fault, fault_text};
 use frame_core::{
-    Bytes, FeedFault, Frame, FrameReader, Headers, Text, Verb, first, read_pieces, writable,
+    Bytes, Fed, FeedFault, Frame, FrameReader, Headers, Text, Verb, first, read_pieces, writable,
     write_frame,
 };
 use std::alloc::{AllocError, Global};
@@ -95,18 +95,30 @@ fn pieces_of(alloc: Global, stream: &[u8], size: usize) -> Result<Vec<Vec<u8>>, 
     Ok(pieces)
 }
 
+// The frames, and the fault behind them.
+fn tell_fed(told: &mut String, fed: &Fed) -> Result<(), AllocError> {
+    for frame in fed.frames.as_slice() {
+        tell_frame(told, frame)?;
+    }
+    match fed.fault {
+        Some(fault) => word(told, fault_text(Fault::from(fault))),
+        None => Ok(()),
+    }
+}
+
 // Whether the stream is read so, in pieces of so many bytes.
 fn is_read(alloc: Global, stream: &[u8], size: usize, expected: &str) -> Result<bool, Fail> {
     let pieces = pieces_of(alloc, stream, size)?;
-    let fed = read_pieces(alloc, pieces.as_slice())?;
+    let fed = read_pieces(alloc, pieces.as_slice());
+    drop(pieces);
+    let fed = fed?;
     let mut told = String::new(alloc);
-    for frame in fed.frames.as_slice() {
-        tell_frame(&mut told, frame)?;
-    }
-    if let Some(fault) = fed.fault {
-        word(&mut told, fault_text(Fault::from(fault)))?;
-    }
-    Ok(told.as_str() == expected)
+    let is_whole = tell_fed(&mut told, &fed);
+    let is_right = told.as_str() == expected;
+    drop(told);
+    drop(fed);
+    is_whole?;
+    Ok(is_right)
 }
 
 #[test]
@@ -147,18 +159,24 @@ pub fn filled(
 // Whether just one frame comes of the stream, or none and the fault.
 fn is_one(alloc: Global, stream: &[u8], is_frame: bool) -> Result<bool, FeedFault> {
     let mut reader = FrameReader::new(alloc);
-    let fed = reader.feed(alloc, stream)?;
-    Ok(match fed.fault {
+    let fed = reader.feed(alloc, stream);
+    drop(reader);
+    let fed = fed?;
+    let is_right = match fed.fault {
         None => is_frame && fed.frames.len() == 1,
         Some(fault) => !is_frame && fed.frames.is_empty() && fault.code() == 2,
-    })
+    };
+    drop(fed);
+    Ok(is_right)
 }
 
 #[test]
 fn frames_have_their_limits(rt: HostRuntime) -> Result<(), Fail> {
     for (front, piece, count, back, is_frame) in &LIMITS {
         let stream = filled(rt.alloc(), front, piece, *count, back)?;
-        assert!(rt; is_one(rt.alloc(), stream.as_slice(), *is_frame)?);
+        let is_right = is_one(rt.alloc(), stream.as_slice(), *is_frame);
+        drop(stream);
+        assert!(rt; is_right?);
     }
     Ok(())
 }
@@ -166,7 +184,9 @@ fn frames_have_their_limits(rt: HostRuntime) -> Result<(), Fail> {
 #[test]
 fn a_million_ends_of_lines_give_nothing(rt: HostRuntime) -> Result<(), Fail> {
     let stream = filled(rt.alloc(), b"", b"\n", 1_000_000, b"")?;
-    assert!(rt; is_read(rt.alloc(), stream.as_slice(), 65_536, "")?);
+    let is_right = is_read(rt.alloc(), stream.as_slice(), 65_536, "");
+    drop(stream);
+    assert!(rt; is_right?);
     Ok(())
 }
 
@@ -247,7 +267,10 @@ fn is_written_with(
     expected: &[u8],
 ) -> Result<bool, AllocError> {
     let frame = frame_with(alloc, verb, header.0, header.1, body)?;
-    Ok(is_written(alloc, &frame, expected)? && first(&frame, header.0) == Some(header.1))
+    let is_written = is_written(alloc, &frame, expected);
+    let has_header = first(&frame, header.0) == Some(header.1);
+    drop(frame);
+    Ok(is_written? && has_header)
 }
 
 #[test]

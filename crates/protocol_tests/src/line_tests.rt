@@ -3,7 +3,7 @@
 use crate::command_tests::greeting;
 use command_core::AckMode;
 use line_core::{Flight, Line, Message, MessageNumber, SettleFault, size};
-use std::alloc::Global;
+use std::alloc::{AllocError, Global};
 use std::test::Fail;
 
 fn message(alloc: Global, command: u64, place: u32) -> Result<Message, Fail> {
@@ -40,20 +40,42 @@ fn is_next(line: &mut Line, command: u64, place: u32) -> bool {
     }
 }
 
+fn put_all(alloc: Global, line: &mut Line) -> Result<(), Fail> {
+    for number in &PUT {
+        put(alloc, line, number)?;
+    }
+    Ok(())
+}
+
+fn put_all_back(alloc: Global, line: &mut Line) -> Result<(), Fail> {
+    for number in &PUT_BACK {
+        put_back(alloc, line, number)?;
+    }
+    Ok(())
+}
+
+// Whether all messages are taken out in their order, and are all that there were.
+fn are_taken(line: &mut Line) -> bool {
+    for (command, place) in &TAKEN {
+        if !is_next(line, *command, *place) {
+            return false;
+        }
+    }
+    line.is_empty()
+}
+
+fn are_in_order(alloc: Global, line: &mut Line) -> Result<bool, Fail> {
+    put_all(alloc, line)?;
+    put_all_back(alloc, line)?;
+    Ok(matches!(line.first(), Some(message) if size(&message.sending) == 10) && are_taken(line))
+}
+
 #[test]
 fn messages_wait_in_the_order_of_their_numbers(rt: HostRuntime) -> Result<(), Fail> {
     let mut line = Line::new(rt.alloc());
-    for number in &PUT {
-        put(rt.alloc(), &mut line, number)?;
-    }
-    for number in &PUT_BACK {
-        put_back(rt.alloc(), &mut line, number)?;
-    }
-    assert!(rt; matches!(line.first(), Some(message) if size(&message.sending) == 10));
-    for (command, place) in &TAKEN {
-        assert!(rt; is_next(&mut line, *command, *place));
-    }
-    assert!(rt; line.is_empty());
+    let is_right = are_in_order(rt.alloc(), &mut line);
+    drop(line);
+    assert!(rt; is_right?);
     Ok(())
 }
 
@@ -75,30 +97,47 @@ const SETTLED: [(AckMode, u64, &[(u64, u64)], &[(u64, u64)]); 4] = [
     ),
 ];
 
-fn is_settled(
-    alloc: Global,
-    mode: AckMode,
-    delivery: u64,
-    settled: &[(u64, u64)],
-    left: &[(u64, u64)],
-) -> Result<bool, Fail> {
+// The deliveries 2, 5 and 9, each with its item.
+fn deliveries(alloc: Global) -> Result<Flight<u64>, AllocError> {
     let mut flight = Flight::new(alloc);
     flight.add(2, 20)?;
     flight.add(5, 50)?;
     flight.add(9, 90)?;
+    Ok(flight)
+}
+
+// Whether just these are settled: nothing where the delivery isn't known.
+fn settles(
+    flight: &mut Flight<u64>,
+    mode: AckMode,
+    delivery: u64,
+    settled: &[(u64, u64)],
+) -> Result<bool, AllocError> {
     let is_known = flight.contains(delivery);
-    let is_right = match flight.settle(mode, delivery) {
-        Ok(out) => is_known && out.as_slice() == settled,
-        Err(SettleFault::Unknown) => !is_known && settled.is_empty(),
-        Err(SettleFault::Memory(refused)) => return Err(Fail::from(refused)),
-    };
-    Ok(is_right && flight.as_slice() == left)
+    match flight.settle(mode, delivery) {
+        Ok(out) => Ok(is_known && out.as_slice() == settled),
+        Err(SettleFault::Unknown) => Ok(!is_known && settled.is_empty()),
+        Err(SettleFault::Memory(refused)) => Err(refused),
+    }
+}
+
+fn is_settled(
+    flight: &mut Flight<u64>,
+    mode: AckMode,
+    delivery: u64,
+    settled: &[(u64, u64)],
+    left: &[(u64, u64)],
+) -> Result<bool, AllocError> {
+    Ok(settles(flight, mode, delivery, settled)? && flight.as_slice() == left)
 }
 
 #[test]
 fn acknowledgements_settle_by_their_mode(rt: HostRuntime) -> Result<(), Fail> {
     for (mode, delivery, settled, left) in &SETTLED {
-        assert!(rt; is_settled(rt.alloc(), *mode, *delivery, settled, left)?);
+        let mut flight = deliveries(rt.alloc())?;
+        let is_right = is_settled(&mut flight, *mode, *delivery, settled, left);
+        drop(flight);
+        assert!(rt; is_right?);
     }
     Ok(())
 }

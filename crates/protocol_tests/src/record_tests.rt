@@ -130,7 +130,9 @@ const REFUSED: [&[u8]; 28] = [
 // How long the record is that begins the bytes, which is written as it stands there; none where none does.
 fn record_at(alloc: Global, bytes: &[u8]) -> Result<Option<usize>, AllocError> {
     let read = decode(alloc, bytes);
-    length_of(alloc, &read, bytes)
+    let length = length_of(alloc, &read, bytes);
+    drop(read);
+    length
 }
 
 fn length_of(
@@ -160,23 +162,31 @@ fn is_read_whole(alloc: Global, record: &[u8]) -> Result<bool, AllocError> {
         }
     }
     let bytes = filled(alloc, record, b"\x01\0", 1, b"")?;
-    Ok(record_at(alloc, bytes.as_slice())? == Some(record.len()))
+    let length = record_at(alloc, bytes.as_slice());
+    drop(bytes);
+    Ok(length? == Some(record.len()))
 }
 
-// Whether that comes of the record which the marks say, with each byte one greater.
-fn bears_its_marks(alloc: Global, record: &[u8], marks: &str) -> Result<bool, AllocError> {
-    let mut bytes = Vec::from_slice(alloc, record)?;
+// Whether that comes of the bytes which the marks say, with each byte one greater.
+fn bears_marks(alloc: Global, bytes: &mut [u8], marks: &str) -> Result<bool, AllocError> {
     for (at, mark) in marks.as_bytes().iter().enumerate() {
-        let Some(was) = record.get(at) else {
+        let Some(was) = bytes.get(at).copied() else {
             return Ok(false);
         };
         bytes[at] = was.wrapping_add(1);
-        if record_at(alloc, bytes.as_slice())?.is_some() != (*mark == b'.') {
+        if record_at(alloc, bytes)?.is_some() != (*mark == b'.') {
             return Ok(false);
         }
-        bytes[at] = *was;
+        bytes[at] = was;
     }
-    Ok(marks.len() == record.len())
+    Ok(marks.len() == bytes.len())
+}
+
+fn bears_its_marks(alloc: Global, record: &[u8], marks: &str) -> Result<bool, AllocError> {
+    let mut bytes = Vec::from_slice(alloc, record)?;
+    let is_right = bears_marks(alloc, bytes.as_mut_slice(), marks);
+    drop(bytes);
+    is_right
 }
 
 #[test]
@@ -265,17 +275,23 @@ fn records_have_their_limits(rt: HostRuntime) -> Result<(), Fail> {
     Ok(())
 }
 
-// The record of that command.
-fn record_of_greeting(alloc: Global) -> Result<Vec<u8>, Fail> {
-    let receipt = r1(alloc)?;
+// That command.
+fn greeting_command(alloc: Global) -> Result<Command, Fail> {
     let sending = greeting(alloc)?;
-    let command = Command::new(0, Op::Send(sending), Some(receipt));
-    Ok(encode(alloc, &command)?)
+    match r1(alloc) {
+        Ok(receipt) => Ok(Command::new(0, Op::Send(sending), Some(receipt))),
+        Err(refused) => {
+            drop(sending);
+            Err(Fail::from(refused))
+        }
+    }
 }
 
 #[test]
 fn a_command_is_written_as_its_record(rt: HostRuntime) -> Result<(), Fail> {
-    let record = record_of_greeting(rt.alloc())?;
-    assert!(rt; record.as_slice() == GREETING);
+    let command = greeting_command(rt.alloc())?;
+    let is_right = is_written(rt.alloc(), &command, GREETING);
+    drop(command);
+    assert!(rt; is_right?);
     Ok(())
 }

@@ -66,7 +66,9 @@ fn take(open: &mut OpenTx, name: &str, step: Step, told: &mut String) -> Result<
         Step::Abort => open.abort(name),
         Step::Commit => {
             let members = open.commit(name)?;
-            Ok(tell_members(told, members.as_slice())?)
+            let done = tell_members(told, members.as_slice());
+            drop(members);
+            Ok(done?)
         }
     }
 }
@@ -74,24 +76,37 @@ fn take(open: &mut OpenTx, name: &str, step: Step, told: &mut String) -> Result<
 // Whether that comes of the step.
 fn comes(alloc: Global, open: &mut OpenTx, name: &str, step: Step, expected: &str) -> bool {
     let mut told = String::new(alloc);
-    match take(open, name, step, &mut told) {
-        Ok(()) => told.as_str() == expected,
-        Err(refused) => match refused.fault() {
-            Some(fault) => fault_text(fault) == expected,
-            None => false,
-        },
+    let taken = take(open, name, step, &mut told);
+    let is_told = told.as_str() == expected;
+    drop(told);
+    match taken {
+        Ok(()) => is_told,
+        Err(refused) => refused
+            .fault()
+            .is_some_and(|fault| fault_text(fault) == expected),
     }
+}
+
+// The first step of which something else comes.
+fn first_other(alloc: Global, open: &mut OpenTx) -> Option<usize> {
+    for (at, (name, step, expected)) in STEPS.iter().enumerate() {
+        if !comes(alloc, open, name, *step, expected) {
+            return Some(at);
+        }
+    }
+    None
 }
 
 #[test]
 fn transactions_are_kept_by_their_names(rt: HostRuntime) {
     let mut open = OpenTx::new(rt.alloc());
-    for (name, step, expected) in &STEPS {
-        assert!(rt; comes(rt.alloc(), &mut open, name, *step, expected));
-    }
-    assert!(rt; open.len() == 2);
+    let other = first_other(rt.alloc(), &mut open);
+    let left = open.len();
     open.abort_all();
-    assert!(rt; open.len() == 0);
+    let none = open.len();
+    drop(open);
+    assert_eq!(rt; other, None);
+    assert!(rt; left == 2 && none == 0);
 }
 
 // A SEND that takes 19 bytes and those of its body: the kind 1, the destination 4 and 8, the count of headers 2, and the
@@ -117,7 +132,13 @@ fn sending(alloc: Global, length: usize) -> Result<Member, AllocError> {
 // How many SENDs of so many bytes of body a new transaction takes, of ten.
 fn taken(alloc: Global, length: usize) -> Result<u32, TxFault> {
     let mut open = OpenTx::new(alloc);
-    begin(alloc, &mut open, "a")?;
+    let count = count_taken(alloc, &mut open, length);
+    drop(open);
+    count
+}
+
+fn count_taken(alloc: Global, open: &mut OpenTx, length: usize) -> Result<u32, TxFault> {
+    begin(alloc, open, "a")?;
     for count in 0..10 {
         let member = sending(alloc, length)?;
         if let Err(TxFault::TooLarge) = open.add("a", member) {
@@ -127,16 +148,23 @@ fn taken(alloc: Global, length: usize) -> Result<u32, TxFault> {
     Ok(10)
 }
 
+// Whether a new transaction takes 64 members, and not one more.
+fn takes_64(alloc: Global, open: &mut OpenTx) -> Result<bool, TxFault> {
+    begin(alloc, open, "b")?;
+    for delivery in 0..64 {
+        open.add("b", Member::Ack(delivery))?;
+    }
+    Ok(matches!(open.add("b", Member::Ack(64)), Err(TxFault::TooLarge)))
+}
+
 // Four of 65,536 bytes each are 262,144, which is the limit of bytes; 64 is that of members.
 #[test]
 fn transactions_have_their_limits(rt: HostRuntime) -> Result<(), Fail> {
     assert!(rt; taken(rt.alloc(), 65_536 - 19)? == 4);
     assert!(rt; taken(rt.alloc(), 65_536 - 18)? == 3);
     let mut open = OpenTx::new(rt.alloc());
-    begin(rt.alloc(), &mut open, "b")?;
-    for delivery in 0..64 {
-        open.add("b", Member::Ack(delivery))?;
-    }
-    assert!(rt; matches!(open.add("b", Member::Ack(64)), Err(TxFault::TooLarge)));
+    let is_right = takes_64(rt.alloc(), &mut open);
+    drop(open);
+    assert!(rt; is_right?);
     Ok(())
 }
