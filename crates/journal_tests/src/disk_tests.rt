@@ -1,4 +1,5 @@
 use disk_core::{Call, DeviceFault, Disk, FileDisk, FuseDisk, MemDisk, OpenError, publish};
+use std::alloc::{AllocError, Global};
 use std::fs;
 use std::process::Abort;
 use std::test::Fail;
@@ -24,20 +25,39 @@ fn filled(fill: Option<u8>, back: u8) -> u8 {
     fill.unwrap_or(back)
 }
 
+fn fill_and_fill_again(
+    rt: &impl Abort,
+    disk: &mut MemDisk,
+    fill: Option<u8>,
+) -> Result<(), DeviceFault> {
+    write(rt, disk, 2, &[5, 6])?;
+    assert_eq!(rt; read(rt, disk)?, [0, 0, 5, 6, 0, 0]);
+    disk.crash(fill);
+    let byte = filled(fill, 0);
+    assert_eq!(rt; read(rt, disk)?, [0, 0, byte, byte, 0, 0]);
+
+    // Nothing is unsynced now.
+    disk.crash(Some(0x55));
+    assert_eq!(rt; read(rt, disk)?, [0, 0, byte, byte, 0, 0]);
+    Ok(())
+}
+
 #[test]
 fn a_crash_fills_what_was_written_since_the_last_sync(rt: HostRuntime) -> Result<(), Fail> {
     for fill in FILLS {
         let mut disk = MemDisk::new(rt.alloc(), 6)?;
-        write(&rt, &mut disk, 2, &[5, 6])?;
-        assert_eq!(rt; read(&rt, &mut disk)?, [0, 0, 5, 6, 0, 0]);
-        disk.crash(fill);
-        let byte = filled(fill, 0);
-        assert_eq!(rt; read(&rt, &mut disk)?, [0, 0, byte, byte, 0, 0]);
-
-        // Nothing is unsynced now.
-        disk.crash(Some(0x55));
-        assert_eq!(rt; read(&rt, &mut disk)?, [0, 0, byte, byte, 0, 0]);
+        let done = fill_and_fill_again(&rt, &mut disk, fill);
+        drop(disk);
+        done?;
     }
+    Ok(())
+}
+
+fn crash_synced(rt: &impl Abort, disk: &mut MemDisk, fill: Option<u8>) -> Result<(), DeviceFault> {
+    write(rt, disk, 2, &[5, 6])?;
+    disk.sync()?;
+    disk.crash(fill);
+    assert_eq!(rt; read(rt, disk)?, [0, 0, 5, 6, 0, 0]);
     Ok(())
 }
 
@@ -45,48 +65,94 @@ fn a_crash_fills_what_was_written_since_the_last_sync(rt: HostRuntime) -> Result
 fn a_crash_leaves_what_was_synced(rt: HostRuntime) -> Result<(), Fail> {
     for fill in FILLS {
         let mut disk = MemDisk::new(rt.alloc(), 6)?;
-        write(&rt, &mut disk, 2, &[5, 6])?;
-        disk.sync()?;
-        disk.crash(fill);
-        assert_eq!(rt; read(&rt, &mut disk)?, [0, 0, 5, 6, 0, 0]);
+        let done = crash_synced(&rt, &mut disk, fill);
+        drop(disk);
+        done?;
     }
     Ok(())
+}
+
+// The fourth call is the sync that fails.
+fn fail_to_sync(rt: &impl Abort, fuse: &mut FuseDisk<MemDisk>) -> Result<(), DeviceFault> {
+    write(rt, fuse, 2, &[5, 6])?;
+    fuse.sync()?;
+    write(rt, fuse, 3, &[7, 8])?;
+    assert_eq!(rt; fuse.sync(), Err(DeviceFault));
+    Ok(())
+}
+
+fn crash_unsynced(
+    rt: &impl Abort,
+    disk: &mut MemDisk,
+    fill: Option<u8>,
+) -> Result<(), DeviceFault> {
+    assert_eq!(rt; read(rt, disk)?, [0, 0, 5, 7, 8, 0]);
+    disk.crash(fill);
+    let bytes = [0, 0, 5, filled(fill, 6), filled(fill, 0), 0];
+    assert_eq!(rt; read(rt, disk)?, bytes);
+    Ok(())
+}
+
+// A disk that fails after so many calls.
+fn fuse_of(alloc: Global, passed: u64) -> Result<FuseDisk<MemDisk>, AllocError> {
+    let disk = MemDisk::new(alloc, 6)?;
+    Ok(FuseDisk::new(disk, passed))
 }
 
 #[test]
 fn a_failed_sync_makes_nothing_stable(rt: HostRuntime) -> Result<(), Fail> {
     for fill in FILLS {
-        let mut fuse = FuseDisk::new(MemDisk::new(rt.alloc(), 6)?, 3);
-        write(&rt, &mut fuse, 2, &[5, 6])?;
-        fuse.sync()?;
-        write(&rt, &mut fuse, 3, &[7, 8])?;
-        assert_eq!(rt; fuse.sync(), Err(DeviceFault));
+        let mut fuse = fuse_of(rt.alloc(), 3)?;
+        let failed = fail_to_sync(&rt, &mut fuse);
         let mut disk = fuse.into_inner();
-        assert_eq!(rt; read(&rt, &mut disk)?, [0, 0, 5, 7, 8, 0]);
-        disk.crash(fill);
-        let bytes = [0, 0, 5, filled(fill, 6), filled(fill, 0), 0];
-        assert_eq!(rt; read(&rt, &mut disk)?, bytes);
+        let done = crash_unsynced(&rt, &mut disk, fill);
+        drop(disk);
+        failed?;
+        done?;
     }
+    Ok(())
+}
+
+// Writes of which some overlap, some are empty, and some end the disk.
+fn write_over(rt: &impl Abort, disk: &mut MemDisk) -> Result<(), DeviceFault> {
+    write(rt, disk, 0, &[4, 4])?;
+    write(rt, disk, 1, &[5, 5])?;
+    write(rt, disk, 5, &[9])?;
+    write(rt, disk, 6, &[])?;
+    write(rt, disk, 3, &[])
+}
+
+fn write_and_crash(rt: &impl Abort, disk: &mut MemDisk) -> Result<(), DeviceFault> {
+    write(rt, disk, 0, &[1, 2, 3])?;
+    disk.sync()?;
+    write_over(rt, disk)?;
+    assert_eq!(rt; read(rt, disk)?, [4, 5, 5, 0, 0, 9]);
+    disk.crash(None);
+    assert_eq!(rt; read(rt, disk)?, [1, 2, 3, 0, 0, 0]);
+    write(rt, disk, 5, &[9])?;
+    disk.sync()?;
+    disk.crash(Some(0x37));
+    assert_eq!(rt; read(rt, disk)?, [1, 2, 3, 0, 0, 9]);
     Ok(())
 }
 
 #[test]
 fn ranges_may_overlap_be_empty_and_end_the_disk(rt: HostRuntime) -> Result<(), Fail> {
     let mut disk = MemDisk::new(rt.alloc(), 6)?;
-    write(&rt, &mut disk, 0, &[1, 2, 3])?;
-    disk.sync()?;
-    write(&rt, &mut disk, 0, &[4, 4])?;
-    write(&rt, &mut disk, 1, &[5, 5])?;
-    write(&rt, &mut disk, 5, &[9])?;
-    write(&rt, &mut disk, 6, &[])?;
-    write(&rt, &mut disk, 3, &[])?;
-    assert_eq!(rt; read(&rt, &mut disk)?, [4, 5, 5, 0, 0, 9]);
-    disk.crash(None);
-    assert_eq!(rt; read(&rt, &mut disk)?, [1, 2, 3, 0, 0, 0]);
-    write(&rt, &mut disk, 5, &[9])?;
-    disk.sync()?;
+    let done = write_and_crash(&rt, &mut disk);
+    drop(disk);
+    Ok(done?)
+}
+
+// Each call may be refused memory.
+fn call_and_crash(rt: &impl Abort, disk: &mut MemDisk) -> Result<(), DeviceFault> {
+    let _ = write(rt, disk, 0, &[1, 1]);
+    let synced = disk.sync().is_ok();
+    let _ = write(rt, disk, 1, &[2, 2]);
+    let _ = write(rt, disk, 5, &[3]);
     disk.crash(Some(0x37));
-    assert_eq!(rt; read(&rt, &mut disk)?, [1, 2, 3, 0, 0, 9]);
+    let first = if synced { 1 } else { 0x37 };
+    assert_eq!(rt; read(rt, disk)?, [first, 0x37, 0x37, 0, 0, 0x37]);
     Ok(())
 }
 
@@ -96,13 +162,41 @@ fn a_call_that_is_refused_memory_keeps_to_the_model(rt: HostRuntime) -> Result<(
     let Ok(mut disk) = MemDisk::new(rt.alloc(), 6) else {
         return Ok(());
     };
-    let _ = write(&rt, &mut disk, 0, &[1, 1]);
-    let synced = disk.sync().is_ok();
-    let _ = write(&rt, &mut disk, 1, &[2, 2]);
-    let _ = write(&rt, &mut disk, 5, &[3]);
-    disk.crash(Some(0x37));
-    let first = if synced { 1 } else { 0x37 };
-    assert_eq!(rt; read(&rt, &mut disk)?, [first, 0x37, 0x37, 0, 0, 0x37]);
+    let done = call_and_crash(&rt, &mut disk);
+    drop(disk);
+    Ok(done?)
+}
+
+// One byte is synced, and two more are written.
+fn write_three(rt: &impl Abort, disk: &mut MemDisk) -> Result<(), DeviceFault> {
+    write(rt, disk, 0, &[1])?;
+    disk.sync()?;
+    write(rt, disk, 1, &[2, 2])?;
+    let _ = read(rt, disk)?;
+    let calls = [
+        Call::Write { at: 0, len: 1 },
+        Call::Sync,
+        Call::Write { at: 1, len: 2 },
+        Call::Read { at: 0, len: 6 },
+    ];
+    assert!(rt; disk.calls() == calls.as_slice());
+    Ok(())
+}
+
+// It stops at that image where it may. Then nothing is unsynced, and else the two bytes still are.
+fn stop_at(
+    rt: &impl Abort,
+    disk: &mut MemDisk,
+    image: &[u8],
+    may_be: bool,
+) -> Result<(), DeviceFault> {
+    write_three(rt, disk)?;
+    assert_eq!(rt; disk.crash_to(image), may_be);
+    let left: &[u8] = if may_be { image } else { &[1, 2, 2, 0, 0, 0] };
+    assert!(rt; read(rt, disk)?.as_slice() == left);
+    disk.crash(None);
+    let left: &[u8] = if may_be { image } else { &[1, 0, 0, 0, 0, 0] };
+    assert!(rt; read(rt, disk)?.as_slice() == left);
     Ok(())
 }
 
@@ -116,82 +210,89 @@ fn a_stop_leaves_an_image_and_nothing_else(rt: HostRuntime) -> Result<(), Fail> 
     ];
     for (image, may_be) in images {
         let mut disk = MemDisk::new(rt.alloc(), 6)?;
-        write(&rt, &mut disk, 0, &[1])?;
-        disk.sync()?;
-        write(&rt, &mut disk, 1, &[2, 2])?;
-        let _ = read(&rt, &mut disk)?;
-        let calls = [
-            Call::Write { at: 0, len: 1 },
-            Call::Sync,
-            Call::Write { at: 1, len: 2 },
-            Call::Read { at: 0, len: 6 },
-        ];
-        assert!(rt; disk.calls() == calls.as_slice());
-        assert_eq!(rt; disk.crash_to(image), may_be);
-        let left: &[u8] = if may_be { image } else { &[1, 2, 2, 0, 0, 0] };
-        assert!(rt; read(&rt, &mut disk)?.as_slice() == left);
-        // Where it stopped nothing is unsynced, and else the two bytes still are.
-        disk.crash(None);
-        let left: &[u8] = if may_be { image } else { &[1, 0, 0, 0, 0, 0] };
-        assert!(rt; read(&rt, &mut disk)?.as_slice() == left);
+        let done = stop_at(&rt, &mut disk, image, may_be);
+        drop(disk);
+        done?;
     }
     Ok(())
 }
 
-// A write, a sync, a write, a sync and a read, of which the first k pass.
+const F: u8 = 0x37;
+
+// What is left of a write, a sync, a write, a sync and a read, of which the first k pass: where a crash fills with 0x37, and
+// where it puts back what was there.
+const LEFT: [([u8; 6], [u8; 6]); 6] = [
+    ([F, F, F, 0, 0, 0], [0, 0, 0, 0, 0, 0]),
+    ([F, F, F, 0, 0, 0], [0, 0, 0, 0, 0, 0]),
+    ([1, F, F, 0, 0, 0], [1, 1, 0, 0, 0, 0]),
+    ([1, F, F, 0, 0, 0], [1, 1, 0, 0, 0, 0]),
+    ([1, 2, 2, 0, 0, 0], [1, 2, 2, 0, 0, 0]),
+    ([1, 2, 2, 0, 0, 0], [1, 2, 2, 0, 0, 0]),
+];
+
+// The first k of the calls pass, and no other.
+fn call_all(rt: &impl Abort, fuse: &mut FuseDisk<MemDisk>, k: usize) {
+    let passed = [
+        write(rt, fuse, 0, &[1, 1]).is_ok(),
+        fuse.sync().is_ok(),
+        write(rt, fuse, 1, &[2, 2]).is_ok(),
+        fuse.sync().is_ok(),
+        read(rt, fuse).is_ok(),
+    ];
+    for (call, passed) in passed.iter().enumerate() {
+        assert_eq!(rt; *passed, call < k, "call {call} of {k}");
+    }
+}
+
+// The content after k of the calls and a crash.
+fn left_after(rt: &impl Abort, alloc: Global, k: usize, fill: Option<u8>) -> Result<[u8; 6], Fail> {
+    let mut fuse = fuse_of(alloc, k as u64)?;
+    call_all(rt, &mut fuse, k);
+    let mut disk = fuse.into_inner();
+    disk.crash(fill);
+    let bytes = read(rt, &mut disk);
+    drop(disk);
+    Ok(bytes?)
+}
+
 #[test]
 fn a_fuse_passes_so_many_calls(rt: HostRuntime) -> Result<(), Fail> {
-    let f = 0x37;
-    let after_a_fill = [
-        [f, f, f, 0, 0, 0],
-        [f, f, f, 0, 0, 0],
-        [1, f, f, 0, 0, 0],
-        [1, f, f, 0, 0, 0],
-        [1, 2, 2, 0, 0, 0],
-        [1, 2, 2, 0, 0, 0],
-    ];
-    let put_back = [
-        [0, 0, 0, 0, 0, 0],
-        [0, 0, 0, 0, 0, 0],
-        [1, 1, 0, 0, 0, 0],
-        [1, 1, 0, 0, 0, 0],
-        [1, 2, 2, 0, 0, 0],
-        [1, 2, 2, 0, 0, 0],
-    ];
-    for (fill, wanted) in [(Some(f), after_a_fill), (None, put_back)] {
-        for (k, bytes) in wanted.iter().enumerate() {
-            let mut fuse = FuseDisk::new(MemDisk::new(rt.alloc(), 6)?, k as u64);
-            let passed = [
-                write(&rt, &mut fuse, 0, &[1, 1]).is_ok(),
-                fuse.sync().is_ok(),
-                write(&rt, &mut fuse, 1, &[2, 2]).is_ok(),
-                fuse.sync().is_ok(),
-                read(&rt, &mut fuse).is_ok(),
-            ];
-            for (call, passed) in passed.iter().enumerate() {
-                assert_eq!(rt; *passed, call < k, "call {call} of {k}");
-            }
-            let mut disk = fuse.into_inner();
-            disk.crash(fill);
-            assert_eq!(rt; read(&rt, &mut disk)?, *bytes, "at {k}");
-        }
+    for (k, (after_a_fill, put_back)) in LEFT.iter().enumerate() {
+        let filled = left_after(&rt, rt.alloc(), k, Some(F))?;
+        assert_eq!(rt; filled, *after_a_fill, "at {k}");
+        let back = left_after(&rt, rt.alloc(), k, None)?;
+        assert_eq!(rt; back, *put_back, "at {k}");
     }
     Ok(())
+}
+
+// The content after a payload was published over a disk that fails after k calls, and whether that was answered as done.
+fn published(
+    rt: &impl Abort,
+    alloc: Global,
+    k: u64,
+    fill: Option<u8>,
+) -> Result<([u8; 6], bool), Fail> {
+    let disk = MemDisk::new(alloc, 6)?;
+    let mut fuse = FuseDisk::new(disk, k);
+    let done = publish(&mut fuse, &[7, 8, 9]).is_ok();
+    let mut disk = fuse.into_inner();
+    disk.crash(fill);
+    let bytes = read(rt, &mut disk);
+    drop(disk);
+    Ok((bytes?, done))
 }
 
 #[test]
 fn a_payload_is_there_as_a_whole_or_not_at_all(rt: HostRuntime) -> Result<(), Fail> {
-    let whole = [1, 7, 8, 9, 0, 0];
-    for fill in FILLS {
-        for k in 0..5 {
-            let mut fuse = FuseDisk::new(MemDisk::new(rt.alloc(), 6)?, k);
-            let done = publish(&mut fuse, &[7, 8, 9]).is_ok();
-            assert_eq!(rt; done, k == 4);
-            let mut disk = fuse.into_inner();
-            disk.crash(fill);
-            let bytes = read(&rt, &mut disk)?;
-            assert!(rt; bytes == whole || bytes[0] != 1 && !done, "at {k}");
-        }
+    for at in 0..20_u64 {
+        let k = at / 4;
+        let (bytes, done) = published(&rt, rt.alloc(), k, FILLS[(at % 4) as usize])?;
+        assert_eq!(rt; done, k == 4);
+        assert!(rt;
+            bytes == [1, 7, 8, 9, 0, 0] || bytes[0] != 1 && !done,
+            "at {k}"
+        );
     }
     Ok(())
 }
@@ -200,30 +301,51 @@ const FOLDER: &str = "journal_tests_disk";
 
 const PATH: &str = "journal_tests_disk/disk";
 
+// Three bytes, synced.
+fn write_some<D: Disk>(rt: &impl Abort, disk: &mut D) -> Result<(), DeviceFault> {
+    write(rt, disk, 1, &[5, 6])?;
+    write(rt, disk, 5, &[9])?;
+    disk.sync()
+}
+
 #[test]
 fn a_file_keeps_what_was_written(rt: HostRuntime) -> Result<(), Fail> {
     let _ = fs::remove_dir_all(&rt, FOLDER);
     fs::create_dir(&rt, FOLDER)?;
-    assert!(rt; matches!(FileDisk::open(&rt, PATH), Err(OpenError::System(_))));
-    assert!(rt;
-        matches!(
-            FileDisk::create(&rt, PATH, u64::MAX),
-            Err(OpenError::System(_))
-        )
-    );
     let mut disk = FileDisk::create(&rt, PATH, 6)?;
-    write(&rt, &mut disk, 1, &[5, 6])?;
-    write(&rt, &mut disk, 5, &[9])?;
-    disk.sync()?;
+    let written = write_some(&rt, &mut disk);
     drop(disk);
-    assert!(rt; matches!(FileDisk::create(&rt, PATH, 6), Err(OpenError::Exists)));
+    written?;
     let mut disk = FileDisk::open(&rt, PATH)?;
-    assert_eq!(rt; read(&rt, &mut disk)?, [0, 5, 6, 0, 0, 9]);
-    let Err(error) = FileDisk::open(&rt, FOLDER) else {
+    let bytes = read(&rt, &mut disk);
+    drop(disk);
+    assert_eq!(rt; bytes?, [0, 5, 6, 0, 0, 9]);
+    fs::remove_dir_all(&rt, FOLDER)?;
+    Ok(())
+}
+
+const OTHER_FOLDER: &str = "journal_tests_no_disk";
+
+const OTHER_PATH: &str = "journal_tests_no_disk/disk";
+
+#[test]
+fn a_file_that_is_no_disk_is_not_opened(rt: HostRuntime) -> Result<(), Fail> {
+    let _ = fs::remove_dir_all(&rt, OTHER_FOLDER);
+    fs::create_dir(&rt, OTHER_FOLDER)?;
+    let opened = FileDisk::open(&rt, OTHER_PATH);
+    assert!(rt; matches!(opened, Err(OpenError::System(_))));
+    let created = FileDisk::create(&rt, OTHER_PATH, u64::MAX);
+    assert!(rt; matches!(created, Err(OpenError::System(_))));
+    drop(FileDisk::create(&rt, OTHER_PATH, 6)?);
+    let again = FileDisk::create(&rt, OTHER_PATH, 6);
+    assert!(rt; matches!(again, Err(OpenError::Exists)));
+    let Err(error) = FileDisk::open(&rt, OTHER_FOLDER) else {
         panic!(rt; "a folder was opened");
     };
-    assert_eq!(rt; format!(in rt.alloc(); "{error}")?.as_str(), "cannot open");
-    fs::remove_dir_all(&rt, FOLDER)?;
+    let text = format!(in rt.alloc(); "{error}");
+    drop(error);
+    assert_eq!(rt; text?.as_str(), "cannot open");
+    fs::remove_dir_all(&rt, OTHER_FOLDER)?;
     Ok(())
 }
 
@@ -232,13 +354,44 @@ fn a_file_that_is_cut_short_fails(rt: HostRuntime) -> Result<(), Fail> {
     let path = "journal_tests_disk_cut";
     let _ = fs::remove_file(&rt, path);
     let mut disk = FileDisk::create(&rt, path, 6)?;
-    fs::write(&rt, path, b"abc".as_slice())?;
-    assert_eq!(rt; read(&rt, &mut disk), Err(DeviceFault));
-    assert_eq!(rt;
-        format!(in rt.alloc(); "{DeviceFault}")?.as_str(),
-        "device failed"
-    );
+    let cut = fs::write(&rt, path, b"abc".as_slice());
+    let bytes = read(&rt, &mut disk);
+    drop(disk);
+    cut?;
+    assert_eq!(rt; bytes, Err(DeviceFault));
+    let text = format!(in rt.alloc(); "{DeviceFault}")?;
+    assert_eq!(rt; text.as_str(), "device failed");
     fs::remove_file(&rt, path)?;
+    Ok(())
+}
+
+const PLACES: [u64; 6] = [0, 4_095, 5_000, 8_191, 11_990, 5_000];
+
+// Ten bytes in each place, the number of the turn.
+fn write_each<D: Disk>(rt: &impl Abort, disk: &mut D) -> Result<(), DeviceFault> {
+    for (turn, at) in PLACES.iter().enumerate() {
+        write(rt, disk, *at, &[turn as u8 + 1; 10])?;
+        disk.sync()?;
+    }
+    Ok(())
+}
+
+const FOUND: [(u64, u8); 6] = [
+    (0, 1),
+    (4_095, 2),
+    (5_000, 6),
+    (8_191, 4),
+    (11_990, 5),
+    (6_000, 0),
+];
+
+fn read_each<D: Disk>(rt: &impl Abort, disk: &mut D) -> Result<(), DeviceFault> {
+    for (at, wanted) in FOUND {
+        let mut bytes = [0xee; 10];
+        assert!(rt; disk.size() == 12_000);
+        disk.read_at(at, &mut bytes)?;
+        assert_eq!(rt; bytes, [wanted; 10], "at {at}");
+    }
     Ok(())
 }
 
@@ -248,27 +401,13 @@ fn a_file_keeps_each_of_many_writes_in_its_place(rt: HostRuntime) -> Result<(), 
     let path = "journal_tests_disk_far";
     let _ = fs::remove_file(&rt, path);
     let mut disk = FileDisk::create(&rt, path, 12_000)?;
-    assert!(rt; disk.size() == 12_000);
-    for (turn, at) in [0, 4_095, 5_000, 8_191, 11_990, 5_000].iter().enumerate() {
-        write(&rt, &mut disk, *at, &[turn as u8 + 1; 10])?;
-        disk.sync()?;
-    }
+    let written = write_each(&rt, &mut disk);
     drop(disk);
+    written?;
     let mut disk = FileDisk::open(&rt, path)?;
-    assert!(rt; disk.size() == 12_000);
-    for (at, wanted) in [
-        (0, 1),
-        (4_095, 2),
-        (5_000, 6),
-        (8_191, 4),
-        (11_990, 5),
-        (6_000, 0),
-    ] {
-        let mut bytes = [0xee; 10];
-        assert!(rt; disk.size() == 12_000);
-        disk.read_at(at, &mut bytes)?;
-        assert_eq!(rt; bytes, [wanted; 10], "at {at}");
-    }
+    let found = read_each(&rt, &mut disk);
+    drop(disk);
+    found?;
     fs::remove_file(&rt, path)?;
     Ok(())
 }
