@@ -1,12 +1,11 @@
 //! How a ring is made.
 
-ghost use Rattle.std.specs.Prelude.{◌≡◌, ℕ, ◌+◌, ◌*◌, ◌<◌, ◌≤◌, ◌^◌, IfOk, OnOk, All, length, slice_get, Some};
+ghost use Rattle.std.specs.Prelude.{◌≡◌, ℕ, ◌+◌, ◌*◌, ◌<◌, ◌≤◌, ◌^◌, IfOk, OnOk, All, [], length, slice_get, vec_capacity, Some};
 ghost use Rattle.claim_core.specs.Laid.{IsLaid};
-ghost use Rattle.claim_core.specs.Seats.{SessionSeatValue, new_session, new_flushing, with_seat};
+ghost use Rattle.claim_core.specs.Seats.{SessionSeatValue, new_session, new_flushing};
 
 use crate::ring::Ring;
 use crate::seats::{FlushSeat, SessionSeat};
-use crate::steps::deal;
 use crate::views::Limits;
 use atomic_table::Table;
 use std::alloc::{AllocError, Global};
@@ -51,20 +50,24 @@ impl<B, const SEATS: usize, const WINDOW: usize, const PLACES: usize> Ring<
         Ok((Ring { table }, FlushSeat::new(place, base)))
     }
 
-    // One session's seat more, with that number.
-    fn one_more(
+    // All seats of sessions, in the order of their numbers, into a list with room for them.
+    fn deal_all(
         &self,
         alloc: Global,
         flush: &mut FlushSeat<B>,
-        number: u32,
-    ) -> Result<SessionSeat<B, WINDOW>, AllocError>
-        requires ring { flush.old.ring ≡ self.now }
-        requires few { flush.old.seats < SEATS }
-        ensures counted { OnOk result (flush.new ≡ with_seat flush.old) }
-        ensures new { IfOk result (λ seat. seat ≡ new_session flush.old.ring flush.old.base number) }
+        seats: &mut Vec<SessionSeat<B, WINDOW>>,
+    ) -> Result<(), AllocError>
+        requires flush { flush.old ≡ new_flushing self.now flush.old.base 0 }
+        requires seats { (seats.old.items ≡ []) × (SEATS ≤ vec_capacity seats.old) × (SEATS ≤ 4096) }
+        ensures flush { OnOk result (flush.new ≡ new_flushing self.now flush.old.base SEATS) }
+        ensures seats { OnOk result ((length seats.new.items ≡ SEATS) × All (λ seat. seat ≡ new_session self.now flush.old.base seat.number) seats.new.items
+            × ((k : ℕ) (seat : SessionSeatValue) → slice_get seats.new.items k ≡ Some seat → seat.number ≡ k)) }
     {
-        let waits = Vec::with_capacity(alloc, WINDOW)?;
-        Ok(flush.deal(&self.table.shared, waits, number))
+        let board = &self.table.shared;
+        for number in 0..SEATS {
+            seats.push_reserved(flush.deal(alloc, board, number as u32)?);
+        }
+        Ok(())
     }
 }
 
@@ -95,11 +98,14 @@ impl<B: Drop, const SEATS: usize, const WINDOW: usize, const PLACES: usize> Ring
         ensures seats { IfOk result (λ made. All (λ seat. seat ≡ new_session made.0 base seat.number) made.1.items) }
         ensures numbers { IfOk result (λ made. (k : ℕ) (seat : SessionSeatValue) → slice_get made.1.items k ≡ Some seat → seat.number ≡ k) }
     {
-        let (ring, mut flush) = Ring::bare(alloc, base)?;
         let mut seats = Vec::with_capacity(alloc, SEATS)?;
-        for number in 0..SEATS {
-            seats.push_reserved(ring.one_more(alloc, &mut flush, number as u32)?);
+        let (ring, mut flush) = match Ring::bare(alloc, base) {
+            Ok(made) => made,
+            Err(refused) => return Err(refused),
+        };
+        match ring.deal_all(alloc, &mut flush, &mut seats) {
+            Ok(()) => Ok((ring, seats, flush)),
+            Err(refused) => Err(refused),
         }
-        Ok((ring, seats, flush))
     }
 }

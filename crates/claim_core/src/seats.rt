@@ -1,6 +1,6 @@
 //! The seats of a ring: who makes steps at it.
 
-ghost use Rattle.std.specs.Prelude.{◌≡◌, ◌+◌, ◌<◌, ◌≤◌, ◌^◌, false, List, [], length, nat_lt, vec_capacity, All, MatchOption};
+ghost use Rattle.std.specs.Prelude.{◌≡◌, ◌+◌, ◌<◌, ◌≤◌, ◌^◌, false, List, [], length, nat_lt, All, IfOk, OnOk, MatchOption};
 ghost use Rattle.command_core.specs.Commands.{CommandValue};
 ghost use Rattle.claim_core.specs.declared.views.View.TheVariants.{Owns, Claims};
 ghost use Rattle.claim_core.specs.Endings.{Agree, Ends};
@@ -15,6 +15,7 @@ use crate::steps::{
 };
 use crate::views::{Board, Place};
 use command_core::Entry;
+use std::alloc::{AllocError, Global};
 use std::marker::Model;
 use std::mem;
 
@@ -133,25 +134,25 @@ impl<B> FlushSeat<B> {
         }
     }
 
-    // A session's seat more.
+    // A session's seat more, with that number.
     pub(crate) fn deal<const WINDOW: usize>(
         &mut self,
+        alloc: Global,
         board: &Board<B>,
-        waits: Vec<u64>,
         number: u32,
-    ) -> SessionSeat<B, WINDOW>
+    ) -> Result<SessionSeat<B, WINDOW>, AllocError>
         requires fits { IsAt self.old.ring board.now.table_id }
         requires few { self.old.seats < board.now.key.seats }
-        requires waits { (waits.items ≡ []) × (WINDOW ≤ vec_capacity waits) }
-        ensures counted { self.new ≡ with_seat self.old }
-        ensures dealt { result ≡ new_session self.old.ring self.old.base number }
+        ensures counted { OnOk result (self.new ≡ with_seat self.old) }
+        ensures dealt { IfOk result (λ seat. seat ≡ new_session self.old.ring self.old.base number) }
     {
+        let waits = Vec::with_capacity(alloc, WINDOW)?;
         let place = deal(board, &mut self.place);
-        SessionSeat {
+        Ok(SessionSeat {
             place,
             waits,
             number,
-        }
+        })
     }
 
     /// The ticket after those taken, which comes next.

@@ -1,5 +1,6 @@
-ghost use Rattle.std.specs.Prelude.{◌≡◌, ◌%◌, ◌<◌, ◌^◌, [], ◌∷◌, None, Some, false};
+ghost use Rattle.std.specs.Prelude.{◌≡◌, ◌%◌, ◌<◌, ◌^◌, [], ◌∷◌, None, Some, false, All};
 ghost use Rattle.claim_core.specs.declared.views.View.TheVariants.{Claims};
+ghost use Rattle.claim_core.specs.Seats.{new_session};
 ghost use Rattle.claim_core.specs.Steps.{claimer};
 
 use crate::ring::Ring;
@@ -10,29 +11,57 @@ use command_core::{Command, Entry, Op};
 use std::alloc::Global;
 use std::test::Fail;
 
+type SmallRing = Ring<(), 2, 2, 4>;
+
+type SmallSeat = SessionSeat<(), 2>;
+
 fn entry(alloc: Global, delivery: u64) -> Option<Entry<()>> {
     Entry::new(alloc, Command::new(7, Op::Ack(delivery), None), None).ok()
 }
 
-// Which delivery the entry acknowledges that is taken.
-fn take(ring: &Ring<(), 2, 2, 4>, flush: &mut FlushSeat<()>) -> Option<u64>
-    requires { flush.old.ring ≡ ring.now }
-    ensures { flush.new.ring ≡ ring.now }
-{
-    match ring.take(flush)?.command().op() {
+fn delivery_of(entry: &Entry<()>) -> Option<u64> {
+    match entry.command().op() {
         Op::Ack(delivery) => Some(*delivery),
         _ => None,
     }
 }
 
-fn append(ring: &Ring<(), 2, 2, 4>, seat: &mut SessionSeat<(), 2>, entry: Entry<()>) -> Option<u64>
+// Which delivery the entry acknowledges that is taken.
+fn take(ring: &SmallRing, flush: &mut FlushSeat<()>) -> Option<u64>
+    requires { flush.old.ring ≡ ring.now }
+    ensures { flush.new.ring ≡ ring.now }
+{
+    match ring.take(flush) {
+        Some(entry) => {
+            let delivery = delivery_of(&entry);
+            drop(entry);
+            delivery
+        }
+        None => None,
+    }
+}
+
+// Appends for the first of these seats.
+fn append(alloc: Global, ring: &SmallRing, seats: &mut [SmallSeat], delivery: u64) -> Option<u64>
+    requires { All (λ seat. seat.ring ≡ ring.now) seats.old }
+{
+    match seats.first_mut() {
+        Some(seat) => append_for(alloc, ring, seat, delivery),
+        None => None,
+    }
+}
+
+fn append_for(alloc: Global, ring: &SmallRing, seat: &mut SmallSeat, delivery: u64) -> Option<u64>
     requires { seat.old.ring ≡ ring.now }
 {
-    ring.append(seat, entry).ok()
+    match entry(alloc, delivery) {
+        Some(entry) => ring.append(seat, entry).ok(),
+        None => None,
+    }
 }
 
 // Claims a ticket for the entry and leaves it pending.
-fn begin(ring: &Ring<(), 2, 2, 4>, seat: SessionSeat<(), 2>, entry: &Entry<()>) -> (u64, Place<()>)
+fn begin(ring: &SmallRing, seat: SmallSeat, entry: &Entry<()>) -> (u64, Place<()>)
     requires ring { seat.ring ≡ ring.now }
     requires new { (seat.own ≡ []) × (seat.seen ≡ 0) × (seat.stopped ≡ false) }
     ensures ring { result.1.table_id ≡ ring.now }
@@ -45,7 +74,7 @@ fn begin(ring: &Ring<(), 2, 2, 4>, seat: SessionSeat<(), 2>, entry: &Entry<()>) 
 }
 
 // Makes it ready.
-fn finish(ring: &Ring<(), 2, 2, 4>, mut place: Place<()>, ticket: u64, entry: Entry<()>)
+fn finish(ring: &SmallRing, mut place: Place<()>, ticket: u64, entry: Entry<()>)
     requires ring { place.table_id ≡ ring.now }
     requires pending { place.me ≡ (Claims (claimer ((ticket, entry.command) ∷ []) (Some ticket) 0 false), (ticket % 4, None) ∷ []) }
     requires low { ticket < 2 ^ 62 }
@@ -59,21 +88,72 @@ fn finish(ring: &Ring<(), 2, 2, 4>, mut place: Place<()>, ticket: u64, entry: En
     );
 }
 
+// The ticket of another seat's entry, and what is taken: while the first entry is not ready, and twice once it is.
+fn play(
+    alloc: Global,
+    ring: &SmallRing,
+    seat: SmallSeat,
+    first: Entry<()>,
+    others: &mut [SmallSeat],
+    flush: &mut FlushSeat<()>,
+) -> [Option<u64>; 4]
+    requires seat { seat ≡ new_session ring.now 0 seat.number }
+    requires others { All (λ other. other ≡ new_session ring.now 0 other.number) others.old }
+    requires flush { flush.old.ring ≡ ring.now }
+{
+    let (ticket, place) = begin(ring, seat, &first);
+    let appended = append(alloc, ring, others, 71);
+    let early = take(ring, flush);
+    finish(ring, place, ticket, first);
+    let taken = take(ring, flush);
+    [appended, early, taken, take(ring, flush)]
+}
+
+// The same, with the first entry.
+fn play_first(
+    alloc: Global,
+    ring: &SmallRing,
+    seat: SmallSeat,
+    others: &mut [SmallSeat],
+    flush: &mut FlushSeat<()>,
+) -> Option<[Option<u64>; 4]>
+    requires seat { seat ≡ new_session ring.now 0 seat.number }
+    requires others { All (λ other. other ≡ new_session ring.now 0 other.number) others.old }
+    requires flush { flush.old.ring ≡ ring.now }
+{
+    match entry(alloc, 70) {
+        Some(first) => Some(play(alloc, ring, seat, first, others, flush)),
+        None => None,
+    }
+}
+
+// The same, with the last of these seats.
+fn play_with(
+    alloc: Global,
+    ring: &SmallRing,
+    seats: &mut Vec<SmallSeat>,
+    flush: &mut FlushSeat<()>,
+) -> Option<[Option<u64>; 4]>
+    requires seats { All (λ seat. seat ≡ new_session ring.now 0 seat.number) seats.old.items }
+    requires flush { flush.old.ring ≡ ring.now }
+{
+    match seats.pop() {
+        Some(seat) => play_first(alloc, ring, seat, seats.as_mut_slice(), flush),
+        None => None,
+    }
+}
+
+// The same, at a new ring.
+fn play_anew(alloc: Global) -> Option<[Option<u64>; 4]> {
+    match SmallRing::new(alloc, 0) {
+        Ok((ring, mut seats, mut flush)) => play_with(alloc, &ring, &mut seats, &mut flush),
+        Err(_) => None,
+    }
+}
+
 #[test]
 fn an_entry_that_is_not_ready_holds_up_the_next(rt: HostRuntime) -> Result<(), Fail> {
-    let alloc = rt.alloc();
-    let (ring, mut seats, mut flush) = Ring::<(), 2, 2, 4>::new(alloc, 0)?;
-    let (Some(one), Some(other)) = (entry(alloc, 70), entry(alloc, 71)) else {
-        panic!(rt; "no memory for a record")
-    };
-    let (Some(mut second), Some(first)) = (seats.pop(), seats.pop()) else {
-        panic!(rt; "a seat is missing")
-    };
-    let (ticket, place) = begin(&ring, first, &one);
-    assert_eq!(rt; append(&ring, &mut second, other), Some(1));
-    assert_eq!(rt; take(&ring, &mut flush), None);
-    finish(&ring, place, ticket, one);
-    assert_eq!(rt; take(&ring, &mut flush), Some(70));
-    assert_eq!(rt; take(&ring, &mut flush), Some(71));
+    let played = play_anew(rt.alloc());
+    assert_eq!(rt; played, Some([Some(1), None, Some(70), Some(71)]));
     Ok(())
 }
