@@ -1,4 +1,4 @@
-use crate::journals::{OPEN, SEND, SIZE, formatted, journal_of, told};
+use crate::journals::{OPEN, SEND, SIZE, formatted, journal_of, tells};
 use disk_core::{Disk, MemDisk};
 use recover_core::{OpenFault, read};
 use std::alloc::Global;
@@ -65,25 +65,48 @@ const DAMAGES: [(u64, &[u8], &str); 24] = [
     (4_293, b"\x01", "J2 damaged at 4294"),
 ];
 
+// Whether opening the journal tells that once these bytes are written over it.
+fn tells_of(
+    rt: &impl Abort,
+    alloc: Global,
+    at: u64,
+    bytes: &[u8],
+    wanted: &str,
+) -> Result<bool, Fail> {
+    let mut disk = journal(alloc)?;
+    match write(rt, &mut disk, at, bytes) {
+        Ok(()) => tells(alloc, disk, wanted),
+        Err(fail) => {
+            drop(disk);
+            Err(fail)
+        }
+    }
+}
+
 #[test]
 fn what_is_damaged_is_told_with_its_place(rt: HostRuntime) -> Result<(), Fail> {
-    let alloc = rt.alloc();
     for (at, bytes, wanted) in DAMAGES {
-        let mut disk = journal(alloc)?;
-        write(&rt, &mut disk, at, bytes)?;
-        assert_eq!(rt; told(alloc, disk)?.as_str(), wanted, "at {at}");
+        let is_told = tells_of(&rt, rt.alloc(), at, bytes, wanted)?;
+        assert!(rt; is_told, "at {at}");
     }
     Ok(())
+}
+
+fn write_two(rt: &impl Abort, disk: &mut MemDisk) -> Result<(), Fail> {
+    write(rt, disk, 4_136, b"\x20\0\0\0\0\0\0\x01")?;
+    write(rt, disk, 4_273, b"\x0a")
 }
 
 // Damage behind a count that is too large is told, wherever in the live area it is.
 #[test]
 fn damage_is_told_before_a_count_that_is_too_large(rt: HostRuntime) -> Result<(), Fail> {
-    let alloc = rt.alloc();
-    let mut disk = journal(alloc)?;
-    write(&rt, &mut disk, 4_136, b"\x20\0\0\0\0\0\0\x01")?;
-    write(&rt, &mut disk, 4_273, b"\x0a")?;
-    assert_eq!(rt; told(alloc, disk)?.as_str(), "J2 damaged at 4264");
+    let mut disk = journal(rt.alloc())?;
+    if let Err(fail) = write_two(&rt, &mut disk) {
+        drop(disk);
+        return Err(fail);
+    }
+    let is_told = tells(rt.alloc(), disk, "J2 damaged at 4264")?;
+    assert!(rt; is_told);
     Ok(())
 }
 
@@ -100,66 +123,113 @@ fn wanted_at(at: u64) -> &'static str {
     }
 }
 
+fn turn_over(rt: &impl Abort, disk: &mut MemDisk, at: u64) -> Result<(), Fail> {
+    let mut byte = [0];
+    assert!(rt; disk.size() == SIZE && at <= 8_000);
+    disk.read_at(at, &mut byte)?;
+    write(rt, disk, at, &[byte[0] ^ 0xff])
+}
+
+fn tells_of_turned(rt: &impl Abort, alloc: Global, at: u64) -> Result<bool, Fail> {
+    let mut disk = journal(alloc)?;
+    match turn_over(rt, &mut disk, at) {
+        Ok(()) => tells(alloc, disk, wanted_at(at)),
+        Err(fail) => {
+            drop(disk);
+            Err(fail)
+        }
+    }
+}
+
 // The header, the first block's gate and its length.
 #[test]
 fn each_byte_of_the_frame_counts(rt: HostRuntime) -> Result<(), Fail> {
-    let alloc = rt.alloc();
     for step in 0..41_u64 {
         let at = if step < 32 { step } else { step + 4_136 };
-        let mut disk = journal(alloc)?;
-        let mut byte = [0];
-        assert!(rt; disk.size() == SIZE && at <= 8_000);
-        disk.read_at(at, &mut byte)?;
-        write(&rt, &mut disk, at, &[byte[0] ^ 0xff])?;
-        assert_eq!(rt; told(alloc, disk)?.as_str(), wanted_at(at), "at {at}");
+        let is_told = tells_of_turned(&rt, rt.alloc(), at)?;
+        assert!(rt; is_told, "at {at}");
     }
     Ok(())
+}
+
+fn bytes_of(rt: &impl Abort, disk: &mut MemDisk) -> Result<[u8; SIZE as usize], Fail> {
+    let mut bytes = [0; SIZE as usize];
+    assert!(rt; disk.size() == SIZE);
+    disk.read_at(0, &mut bytes)?;
+    Ok(bytes)
+}
+
+// A disk of so many bytes, the first of these.
+fn cut_to(
+    rt: &impl Abort,
+    alloc: Global,
+    bytes: &[u8; SIZE as usize],
+    size: u64,
+) -> Result<MemDisk, Fail> {
+    let mut cut = MemDisk::new(alloc, size)?;
+    assert!(rt; cut.size() == size && size <= SIZE);
+    cut.write_at(0, &bytes[..size as usize])?;
+    Ok(cut)
 }
 
 // Each length up to 64 bytes, and then each sixteenth up to the whole.
 #[test]
 fn a_disk_that_is_cut_is_told(rt: HostRuntime) -> Result<(), Fail> {
-    let alloc = rt.alloc();
-    let mut disk = journal(alloc)?;
-    let mut bytes = [0; SIZE as usize];
-    assert!(rt; disk.size() == SIZE);
-    disk.read_at(0, &mut bytes)?;
+    let mut disk = journal(rt.alloc())?;
+    let bytes = bytes_of(&rt, &mut disk);
+    drop(disk);
+    let bytes = bytes?;
     for step in 0..=574_u64 {
         let size = if step < 64 { step } else { step * 16 - 960 };
-        let mut cut = MemDisk::new(alloc, size)?;
-        assert!(rt; cut.size() == size && size <= SIZE);
-        cut.write_at(0, &bytes[..size as usize])?;
         let wanted = match size {
             0..=31 => "J1 not a journal",
             SIZE => "4 3",
             _ => "J8 disk too small",
         };
-        assert_eq!(rt; told(alloc, cut)?.as_str(), wanted, "{size} bytes");
+        let cut = cut_to(&rt, rt.alloc(), &bytes, size)?;
+        let is_told = tells(rt.alloc(), cut, wanted)?;
+        assert!(rt; is_told, "{size} bytes");
     }
     Ok(())
 }
 
-// What is shown is of the state as it is: opening would leave another area and a used length of its own.
+fn shown(alloc: Global, disk: &mut MemDisk) -> Result<[u64; 6], OpenFault> {
+    let seen = read(alloc, disk)?;
+    Ok([
+        u64::from(seen.version),
+        u64::from(seen.area),
+        seen.used,
+        seen.count,
+        seen.held.messages,
+        seen.held.bytes,
+    ])
+}
+
+#[test]
+fn an_empty_journal_shows_that_it_holds_nothing(rt: HostRuntime) -> Result<(), Fail> {
+    let mut disk = formatted(rt.alloc())?;
+    let empty = shown(rt.alloc(), &mut disk);
+    drop(disk);
+    assert_eq!(rt; empty?, [1, 0, 41, 0, 0, 0]);
+    Ok(())
+}
+
+// It is shown twice as it is: opening would leave another area and a used length of its own. Then its count is too large.
+fn show_again(rt: &impl Abort, alloc: Global, disk: &mut MemDisk) -> Result<(), Fail> {
+    for _ in 0..2_u8 {
+        let seen = shown(alloc, disk)?;
+        assert_eq!(rt; seen, [1, 1, 166, 4, 3, 27]);
+    }
+    write(rt, disk, 4_136, b"\x20\0\0\0\0\0\0\x01")?;
+    let refused = shown(alloc, disk);
+    assert!(rt; matches!(refused, Err(OpenFault::CountTooLarge)));
+    Ok(())
+}
+
 #[test]
 fn a_journal_shows_what_it_holds(rt: HostRuntime) -> Result<(), Fail> {
-    let alloc = rt.alloc();
-    let mut disk = formatted(alloc)?;
-    let empty = read(alloc, &mut disk)?;
-    assert_eq!(rt; (empty.version, empty.area, empty.used), (1, 0, 41));
-    assert_eq!(rt;
-        (empty.count, empty.held.messages, empty.held.bytes),
-        (0, 0, 0)
-    );
-    let mut disk = journal(alloc)?;
-    for _ in 0..2_u8 {
-        let seen = read(alloc, &mut disk)?;
-        assert_eq!(rt; (seen.version, seen.area, seen.used), (1, 1, 166));
-        assert_eq!(rt;
-            (seen.count, seen.held.messages, seen.held.bytes),
-            (4, 3, 27)
-        );
-    }
-    write(&rt, &mut disk, 4_136, b"\x20\0\0\0\0\0\0\x01")?;
-    assert!(rt; matches!(read(alloc, &mut disk), Err(OpenFault::CountTooLarge)));
-    Ok(())
+    let mut disk = journal(rt.alloc())?;
+    let done = show_again(&rt, rt.alloc(), &mut disk);
+    drop(disk);
+    done
 }

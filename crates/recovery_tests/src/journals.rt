@@ -48,8 +48,10 @@ pub(crate) fn batch_of(alloc: Global, records: &[&[u8]]) -> Result<Vec<Entry<()>
 // An empty journal.
 pub(crate) fn formatted(alloc: Global) -> Result<MemDisk, Fail> {
     let mut disk = MemDisk::new(alloc, SIZE)?;
-    format(alloc, &mut disk, 4_096)?;
-    Ok(disk)
+    match format(alloc, &mut disk, 4_096) {
+        Ok(()) => Ok(disk),
+        Err(fault) => Err(Fail::from(fault)),
+    }
 }
 
 // Adds the batch, which is not empty.
@@ -68,18 +70,28 @@ pub(crate) fn append<D: Disk>(
 fn add_all(alloc: Global, store: &mut Store<MemDisk>, batches: &[&[&[u8]]]) -> Result<(), Fail> {
     for records in batches {
         let batch = batch_of(alloc, records)?;
-        append(alloc, store, batch.as_slice())?;
+        let answer = append(alloc, store, batch.as_slice());
+        drop(batch);
+        answer?;
     }
     Ok(())
 }
 
 // A journal that was opened, and has these batches.
 pub(crate) fn journal_of(alloc: Global, batches: &[&[&[u8]]]) -> Result<MemDisk, Fail> {
-    match open(alloc, formatted(alloc)?) {
-        Ok(mut store) => match add_all(alloc, &mut store, batches) {
-            Ok(()) => Ok(store.into_disk()),
-            Err(fail) => Err(fail),
-        },
+    let disk = formatted(alloc)?;
+    match open(alloc, disk) {
+        Ok(mut store) => {
+            let added = add_all(alloc, &mut store, batches);
+            let disk = store.into_disk();
+            match added {
+                Ok(()) => Ok(disk),
+                Err(fail) => {
+                    drop(disk);
+                    Err(fail)
+                }
+            }
+        }
         Err((_, fault)) => Err(Fail::from(fault)),
     }
 }
@@ -98,10 +110,22 @@ fn opened_line(alloc: Global, store: &mut Store<MemDisk>) -> Result<String, Fail
     }
 }
 
+// Whether opening the disk tells that.
+pub(crate) fn tells(alloc: Global, disk: MemDisk, wanted: &str) -> Result<bool, Fail> {
+    let line = told(alloc, disk)?;
+    let is_right = line.as_str() == wanted;
+    drop(line);
+    Ok(is_right)
+}
+
 // What opening the disk tells: that, or the fault.
-pub(crate) fn told(alloc: Global, disk: MemDisk) -> Result<String, Fail> {
+fn told(alloc: Global, disk: MemDisk) -> Result<String, Fail> {
     match open(alloc, disk) {
-        Ok(mut store) => opened_line(alloc, &mut store),
+        Ok(mut store) => {
+            let line = opened_line(alloc, &mut store);
+            drop(store);
+            line
+        }
         Err((_, fault)) => Ok(format!(in alloc; "{fault}")?),
     }
 }

@@ -1,5 +1,5 @@
 use crate::journals::{
-    FILLS, OPEN, SEND, SIZE, SUBSCRIBE, append, batch_of, formatted, journal_of, push_record, told,
+    FILLS, OPEN, SEND, SIZE, SUBSCRIBE, append, batch_of, formatted, journal_of, push_record, tells,
 };
 use area_core::format;
 use broker_core::Broker;
@@ -23,17 +23,21 @@ fn stopped_opening(alloc: Global, disk: MemDisk, passed: u64, fill: Option<u8>) 
     (disk, done)
 }
 
+// Whether a journal is told as it was after such a stop, and whether it was opened.
+fn stop_opening(alloc: Global, passed: u64, fill: Option<u8>) -> Result<(bool, bool), Fail> {
+    let journal = journal_of(alloc, &[&[OPEN, SEND, SUBSCRIBE]])?;
+    let (disk, done) = stopped_opening(alloc, journal, passed, fill);
+    Ok((tells(alloc, disk, "3 1")?, done))
+}
+
 // A stop at each call of opening leaves the same state, whatever the unsynced bytes are.
 #[test]
 fn a_stop_at_each_call_of_opening_leaves_the_state(rt: HostRuntime) -> Result<(), Fail> {
-    let alloc = rt.alloc();
-    for fill in FILLS {
-        for passed in 0..24_u64 {
-            let journal = journal_of(alloc, &[&[OPEN, SEND, SUBSCRIBE]])?;
-            let (disk, done) = stopped_opening(alloc, journal, passed, fill);
-            assert_eq!(rt; told(alloc, disk)?.as_str(), "3 1", "{passed} calls");
-            assert!(rt; done || passed < 20, "{passed} calls are not enough");
-        }
+    for turn in 0..96_u64 {
+        let passed = turn / 4;
+        let (is_told, done) = stop_opening(rt.alloc(), passed, FILLS[(turn % 4) as usize])?;
+        assert!(rt; is_told, "{passed} calls");
+        assert!(rt; done || passed < 20, "{passed} calls are not enough");
     }
     Ok(())
 }
@@ -75,79 +79,122 @@ fn is_in(passed: u64, fill: Option<u8>) -> bool {
 // The session of command 2 sends to `/queue/q`.
 const SEND_OF_2: &[u8] = b"\0\0\0\0\0\0\0\x02\0\x02\0\0\0\x08/queue/q\0\0\0\0\0\x01x";
 
+// Whether a journal has all of a batch after such a stop, or none, as it should.
+fn stop_batch(alloc: Global, passed: u64, fill: Option<u8>) -> Result<bool, Fail> {
+    let journal = journal_of(alloc, &[&[OPEN, SEND]])?;
+    let batch = match batch_of(alloc, &[OPEN, SEND_OF_2, SEND_OF_2]) {
+        Ok(batch) => batch,
+        Err(fail) => {
+            drop(journal);
+            return Err(fail);
+        }
+    };
+    let stopped = stopped_batch(alloc, journal, batch.as_slice(), passed, fill);
+    drop(batch);
+    tells(
+        alloc,
+        stopped?,
+        if is_in(passed, fill) { "5 3" } else { "2 1" },
+    )
+}
+
 #[test]
 fn a_stop_at_each_call_of_a_batch_leaves_all_of_it_or_none(rt: HostRuntime) -> Result<(), Fail> {
-    let alloc = rt.alloc();
-    let batch = batch_of(alloc, &[OPEN, SEND_OF_2, SEND_OF_2])?;
-    for fill in FILLS {
-        for passed in 0..5_u64 {
-            let journal = journal_of(alloc, &[&[OPEN, SEND]])?;
-            let disk = stopped_batch(alloc, journal, batch.as_slice(), passed, fill)?;
-            let wanted = if is_in(passed, fill) { "5 3" } else { "2 1" };
-            assert_eq!(rt; told(alloc, disk)?.as_str(), wanted, "{passed} calls");
-        }
+    for turn in 0..20_u64 {
+        let passed = turn / 4;
+        let is_told = stop_batch(rt.alloc(), passed, FILLS[(turn % 4) as usize])?;
+        assert!(rt; is_told, "{passed} calls");
     }
+    Ok(())
+}
+
+fn fail_and_stay(
+    rt: &impl Abort,
+    alloc: Global,
+    store: &mut Store<FuseDisk<MemDisk>>,
+) -> Result<(), Fail> {
+    let batch = batch_of(alloc, &[OPEN])?;
+    let answer = append(alloc, store, batch.as_slice());
+    let again = append(alloc, store, batch.as_slice());
+    drop(batch);
+    assert!(rt; matches!(answer, Err(AreaFault::Device)));
+    assert!(rt; matches!(again, Err(AreaFault::Broken)));
     Ok(())
 }
 
 // After a fault the store is broken, and touches the disk no more.
 #[test]
 fn a_store_that_failed_stays_broken(rt: HostRuntime) -> Result<(), Fail> {
-    let alloc = rt.alloc();
-    let batch = batch_of(alloc, &[OPEN])?;
-    let Ok(store) = open(alloc, formatted(alloc)?) else {
+    let journal = formatted(rt.alloc())?;
+    let Ok(store) = open(rt.alloc(), journal) else {
         panic!(rt; "a new journal is not opened");
     };
     let mut store = store.fuse(1);
-    assert!(rt;
-        matches!(
-            append(alloc, &mut store, batch.as_slice()),
-            Err(AreaFault::Device)
-        )
-    );
-    assert!(rt;
-        matches!(
-            append(alloc, &mut store, batch.as_slice()),
-            Err(AreaFault::Broken)
-        )
-    );
-    assert_eq!(rt;
-        told(alloc, store.into_disk().into_inner())?.as_str(),
-        "0 0"
-    );
+    let failed = fail_and_stay(&rt, rt.alloc(), &mut store);
+    let disk = store.into_disk().into_inner();
+    if let Err(fail) = failed {
+        drop(disk);
+        return Err(fail);
+    }
+    let is_told = tells(rt.alloc(), disk, "0 0")?;
+    assert!(rt; is_told);
     Ok(())
+}
+
+// The journal is opened, and two commands are stored.
+fn append_to(alloc: Global, disk: FileDisk) -> Result<(), Fail> {
+    match open(alloc, disk) {
+        Ok(mut store) => {
+            let added = append_two(alloc, &mut store);
+            drop(store);
+            added
+        }
+        Err((_, fault)) => Err(Fail::from(fault)),
+    }
+}
+
+fn append_two(alloc: Global, store: &mut Store<FileDisk>) -> Result<(), Fail> {
+    let batch = batch_of(alloc, &[OPEN, SEND])?;
+    let answer = append(alloc, store, batch.as_slice());
+    drop(batch);
+    Ok(answer?)
 }
 
 // Of a file no contract knows what it holds.
 #[test]
 fn a_store_over_a_file_is_opened_again(rt: HostRuntime) -> Result<(), Fail> {
-    let alloc = rt.alloc();
     let path = "recovery_tests_file";
     let _ = fs::remove_file(&rt, path);
     let mut disk = FileDisk::create(&rt, path, SIZE)?;
-    format(alloc, &mut disk, 4_096)?;
-    let batch = batch_of(alloc, &[OPEN, SEND])?;
-    match open(alloc, disk) {
-        Ok(mut store) => append(alloc, &mut store, batch.as_slice())?,
-        Err((_, fault)) => return Err(Fail::from(fault)),
+    match format(rt.alloc(), &mut disk, 4_096) {
+        Ok(()) => append_to(rt.alloc(), disk)?,
+        Err(fault) => {
+            drop(disk);
+            return Err(Fail::from(fault));
+        }
     }
     let mut disk = FileDisk::open(&rt, path)?;
-    let seen = read(alloc, &mut disk)?;
+    let seen = read(rt.alloc(), &mut disk);
+    drop(disk);
+    let seen = seen?;
     assert_eq!(rt; (seen.area, seen.count, seen.held.messages), (1, 2, 1));
     fs::remove_file(&rt, path)?;
     Ok(())
 }
 
+const SENDS: [&[u8]; 27] = [SEND; 27];
+
 // A message takes two bytes more in a snapshot than in its record: what fitted as blocks may not fit once it was restarted.
 #[test]
 fn a_snapshot_that_does_not_fit_is_told(rt: HostRuntime) -> Result<(), Fail> {
-    let alloc = rt.alloc();
-    let sends: &[&[u8]] = &[SEND; 26];
-    let journal = journal_of(alloc, &[&[OPEN], sends, sends, sends, sends, sends])?;
-    assert_eq!(rt; told(alloc, journal)?.as_str(), "131 130");
-    let sends: &[&[u8]] = &[SEND; 27];
-    let journal = journal_of(alloc, &[&[OPEN], sends, sends, sends, sends, sends])?;
-    assert_eq!(rt; told(alloc, journal)?.as_str(), "J4 journal full");
+    let sends: &[&[u8]] = &SENDS[..26];
+    let journal = journal_of(rt.alloc(), &[&[OPEN], sends, sends, sends, sends, sends])?;
+    let fits = tells(rt.alloc(), journal, "131 130")?;
+    assert!(rt; fits);
+    let sends: &[&[u8]] = SENDS.as_slice();
+    let journal = journal_of(rt.alloc(), &[&[OPEN], sends, sends, sends, sends, sends])?;
+    let does_not = tells(rt.alloc(), journal, "J4 journal full")?;
+    assert!(rt; does_not);
     Ok(())
 }
 
@@ -186,24 +233,46 @@ fn some_record(alloc: Global, seed: &mut u64, count: u64) -> Result<Vec<u8>, Fai
     Ok(record)
 }
 
+fn push_some(
+    alloc: Global,
+    batch: &mut Vec<Entry<()>>,
+    seed: &mut u64,
+    count: u64,
+) -> Result<(), Fail> {
+    let record = some_record(alloc, seed, count)?;
+    let pushed = push_record(alloc, batch, record.as_slice());
+    drop(record);
+    pushed
+}
+
 // Eight commands by chance.
 fn some_batch(alloc: Global, seed: &mut u64, count: u64) -> Result<Vec<Entry<()>>, Fail> {
     let mut batch = Vec::new(alloc);
     for _ in 0..8_u8 {
-        let record = some_record(alloc, seed, count)?;
-        push_record(alloc, &mut batch, record.as_slice())?;
+        push_some(alloc, &mut batch, seed, count)?;
     }
     Ok(batch)
 }
 
-// The broker in memory carries out the batch.
+// The broker in memory carries out the command of a record.
+fn step(alloc: Global, memory: &mut Broker, record: &[u8]) -> Result<(), Fail> {
+    if memory.count() >= 1 << 60 {
+        return Err(Fail::from("too many commands"));
+    }
+    let (command, _) = decode(alloc, record)?;
+    match memory.step(alloc, command) {
+        Ok(outs) => {
+            drop(outs);
+            Ok(())
+        }
+        Err(fault) => Err(Fail::from(fault)),
+    }
+}
+
+// It carries out the batch.
 fn follow(alloc: Global, memory: &mut Broker, batch: &[Entry<()>]) -> Result<(), Fail> {
     for entry in batch {
-        let (command, _) = decode(alloc, entry.bytes())?;
-        if memory.count() >= 1 << 60 {
-            return Err(Fail::from("too many commands"));
-        }
-        let _outs = memory.step(alloc, command)?;
+        step(alloc, memory, entry.bytes())?;
     }
     Ok(())
 }
@@ -227,6 +296,27 @@ fn opened_snapshot(alloc: Global, store: &mut Store<MemDisk>) -> Result<Vec<u8>,
     }
 }
 
+// Whether the store was opened with the broker in memory.
+fn is_opened_as(alloc: Global, store: &mut Store<MemDisk>, memory: &Broker) -> Result<bool, Fail> {
+    let opened = opened_snapshot(alloc, store)?;
+    let is_same = match snapshot(alloc, memory) {
+        Ok(other) => Ok(opened.as_slice() == other.as_slice()),
+        Err(fail) => Err(fail),
+    };
+    drop(opened);
+    is_same
+}
+
+fn do_both(
+    alloc: Global,
+    store: &mut Store<MemDisk>,
+    memory: &mut Broker,
+    batch: &[Entry<()>],
+) -> Result<(), Fail> {
+    append(alloc, store, batch)?;
+    follow(alloc, memory, batch)
+}
+
 // What is opened is the broker in memory; then both take three batches.
 fn live(
     rt: &impl Abort,
@@ -235,12 +325,13 @@ fn live(
     memory: &mut Broker,
     seed: &mut u64,
 ) -> Result<(), Fail> {
-    let opened = opened_snapshot(alloc, store)?;
-    assert!(rt; opened.as_slice() == snapshot(alloc, memory)?.as_slice());
+    let is_same = is_opened_as(alloc, store, memory)?;
+    assert!(rt; is_same);
     for _ in 0..3_u8 {
         let batch = some_batch(alloc, seed, memory.count())?;
-        append(alloc, store, batch.as_slice())?;
-        follow(alloc, memory, batch.as_slice())?;
+        let done = do_both(alloc, store, memory, batch.as_slice());
+        drop(batch);
+        done?;
     }
     Ok(())
 }
