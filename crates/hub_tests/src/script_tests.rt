@@ -1,15 +1,15 @@
 ghost use Rattle.std.specs.Prelude.{◌≡◌};
+ghost use Rattle.hub_tests.specs.Parties.{AreTogether};
 
 use crate::gates::Pause;
-use crate::hubs::{
-    HubFlusher, HubRing, HubSeat, MemHub, empty_hub, first_wrong, link_of, take_flusher, take_seat,
-};
+use crate::hubs::{AREA, HubFlusher, HubRing, HubSeat, Party, first_wrong, link_of, new_party};
 use hub_core::{Ended, Gate, flush_loop, worker};
 use outbox_core::Silent;
 use std::alloc::Global;
 use std::sync::Wait;
 use std::test::Fail;
 use std::thread::{self, Threads};
+use ws_core::MemLink;
 
 const TURNS: u64 = 2_000;
 
@@ -45,74 +45,64 @@ fn serve<G: Gate>(alloc: Global, ring: &HubRing, seat: &mut HubSeat, gate: &G) -
     requires { seat.old.ring ≡ ring.now }
 {
     let texts = [CONNECT, SUBSCRIBE, SEND_X, SEND_Y, SEND_Z, ACK, ACK_AGAIN];
-    let mut link = link_of(alloc, &texts).ok()?;
-    let ended = worker(alloc, ring, seat, &mut link, &Silent, gate, TURNS);
-    let wanted = [CONNECTED, MESSAGE_X, MESSAGE_Y, MESSAGE_Z, ERROR];
-    if first_wrong(link.sent(), &wanted).is_some() {
-        return None;
+    match link_of(alloc, &texts) {
+        Some(mut link) => {
+            let ended = worker(alloc, ring, seat, &mut link, &Silent, gate, TURNS);
+            let right = has_messages(&link);
+            drop(link);
+            if right { Some(ended) } else { None }
+        }
+        None => None,
     }
-    Some(ended)
 }
 
-fn work<G: Gate>(alloc: Global, ring: &HubRing, mut seat: HubSeat, gate: &G) -> Option<Ended>
-    requires { seat.ring ≡ ring.now }
+fn has_messages(link: &MemLink) -> bool {
+    let wanted = [CONNECTED, MESSAGE_X, MESSAGE_Y, MESSAGE_Z, ERROR];
+    first_wrong(link.sent(), &wanted).is_none()
+}
+
+fn flush<G: Gate>(alloc: Global, ring: &HubRing, flusher: &mut HubFlusher, gate: &G) -> Option<u64>
+    requires { (flusher.old.seat.ring ≡ ring.now) × (flusher.old.settled ≡ flusher.old.stored) }
 {
-    serve(alloc, ring, &mut seat, gate)
+    flush_loop(alloc, ring, flusher, gate, TURNS).ok()
 }
 
-fn flush<G: Gate>(alloc: Global, ring: &HubRing, mut flusher: HubFlusher, gate: &G) -> Option<u64>
-    requires { (flusher.seat.ring ≡ ring.now) × (flusher.settled ≡ flusher.stored) }
-{
-    flush_loop(alloc, ring, &mut flusher, gate, TURNS).ok()
-}
-
-// The worker in one thread and the flusher in another.
+// The worker in one thread and the flusher in another: how the worker ended, and the mark at the end.
 fn work_and_flush<R: Threads + Wait + Sync, G: Gate + Sync>(
     rt: &R,
     alloc: Global,
-    ring: &HubRing,
-    seat: HubSeat,
-    flusher: HubFlusher,
+    party: &mut Party,
     gate: &G,
 ) -> (Option<Ended>, Option<u64>)
-    requires seat { seat.ring ≡ ring.now }
-    requires flusher { (flusher.seat.ring ≡ ring.now) × (flusher.settled ≡ flusher.stored) }
+    requires together { AreTogether party.old.hub party.old.first party.old.second party.old.flusher }
+    requires settled { party.old.flusher.settled ≡ party.old.flusher.stored }
 {
+    let ring = party.hub.ring();
+    let seat = &mut party.first;
+    let flusher = &mut party.flusher;
     thread::join(
         rt,
         || -> Option<Ended>
-            requires { seat.ring ≡ ring.now }
-        { work(alloc, ring, seat, gate) },
+            requires { seat.now.ring ≡ ring.now }
+        { serve(alloc, ring, seat, gate) },
         || -> Option<u64>
-            requires { (flusher.seat.ring ≡ ring.now) × (flusher.settled ≡ flusher.stored) }
+            requires { (flusher.now.seat.ring ≡ ring.now) × (flusher.now.settled ≡ flusher.now.stored) }
         { flush(alloc, ring, flusher, gate) },
     )
-}
-
-// How the worker ended, and the mark at the end.
-fn run_hub<R: Threads + Wait + Sync, G: Gate + Sync>(
-    rt: &R,
-    alloc: Global,
-    hub: &mut MemHub,
-    gate: &G,
-) -> (Option<Ended>, Option<u64>) {
-    let Some(seat) = take_seat(hub) else {
-        return (None, None);
-    };
-    match take_flusher(hub) {
-        Some(flusher) => work_and_flush(rt, alloc, hub.ring(), seat, flusher, gate),
-        None => (None, None),
-    }
 }
 
 fn run<R: Threads + Wait + Sync, G: Gate + Sync>(
     rt: &R,
     alloc: Global,
     gate: &G,
-) -> Result<(Option<Ended>, Option<u64>), Fail> {
-    match empty_hub(alloc) {
-        Ok(mut hub) => Ok(run_hub(rt, alloc, &mut hub, gate)),
-        Err(fail) => Err(fail),
+) -> Option<(Option<Ended>, Option<u64>)> {
+    match new_party(alloc, AREA) {
+        Some(mut party) => {
+            let ran = work_and_flush(rt, alloc, &mut party, gate);
+            drop(party);
+            Some(ran)
+        }
+        None => None,
     }
 }
 
@@ -121,8 +111,7 @@ fn a_worker_sends_what_its_session_gets_and_ends_behind_an_error(
     rt: HostRuntime,
 ) -> Result<(), Fail> {
     let gate = Pause { rt: rt.clone()? };
-    let (ended, mark) = run(&rt, rt.alloc(), &gate)?;
-    assert_eq!(rt; ended, Some(Ended::Bad));
-    assert_eq!(rt; mark, Some(7));
+    let ran = run(&rt, rt.alloc(), &gate);
+    assert_eq!(rt; ran, Some((Some(Ended::Bad), Some(7))));
     Ok(())
 }

@@ -1,9 +1,8 @@
 ghost use Rattle.std.specs.Prelude.{◌≡◌};
+ghost use Rattle.hub_tests.specs.Parties.{AreTogether};
 
 use crate::gates::Turnstile;
-use crate::hubs::{
-    HubFlusher, HubRing, HubSeat, MemHub, empty_hub, first_wrong, link_of, take_flusher, take_seat,
-};
+use crate::hubs::{AREA, HubFlusher, HubRing, HubSeat, Party, first_wrong, link_of, new_party};
 use hub_core::{Ended, flush_loop, worker};
 use outbox_core::Silent;
 use std::alloc::Global;
@@ -43,12 +42,14 @@ fn serve<R: Clock>(
 ) -> Option<Ended>
     requires { seat.old.ring ≡ ring.now }
 {
-    let mut link = link_of(alloc, &[CONNECT, SEND, DISCONNECT]).ok()?;
-    let ended = worker(alloc, ring, seat, &mut link, &Silent, gate, TURNS);
-    if has_receipts(&link) {
-        Some(ended)
-    } else {
-        None
+    match link_of(alloc, &[CONNECT, SEND, DISCONNECT]) {
+        Some(mut link) => {
+            let ended = worker(alloc, ring, seat, &mut link, &Silent, gate, TURNS);
+            let right = has_receipts(&link);
+            drop(link);
+            if right { Some(ended) } else { None }
+        }
+        None => None,
     }
 }
 
@@ -56,13 +57,13 @@ fn serve<R: Clock>(
 fn work<R: Clock>(
     alloc: Global,
     ring: &HubRing,
-    mut seat: HubSeat,
+    seat: &mut HubSeat,
     gate: &Turnstile<R>,
     then: &AtomicBool,
 ) -> Option<Ended>
-    requires { seat.ring ≡ ring.now }
+    requires { seat.old.ring ≡ ring.now }
 {
-    let ended = serve(alloc, ring, &mut seat, gate);
+    let ended = serve(alloc, ring, seat, gate);
     then.store(true, Ordering::SeqCst);
     ended
 }
@@ -70,12 +71,12 @@ fn work<R: Clock>(
 fn flush<R: Clock>(
     alloc: Global,
     ring: &HubRing,
-    mut flusher: HubFlusher,
+    flusher: &mut HubFlusher,
     gate: &Turnstile<R>,
 ) -> Option<u64>
-    requires { (flusher.seat.ring ≡ ring.now) × (flusher.settled ≡ flusher.stored) }
+    requires { (flusher.old.seat.ring ≡ ring.now) × (flusher.old.settled ≡ flusher.old.stored) }
 {
-    flush_loop(alloc, ring, &mut flusher, gate, TURNS).ok()
+    flush_loop(alloc, ring, flusher, gate, TURNS).ok()
 }
 
 // Both workers.
@@ -83,74 +84,60 @@ fn work_both<R: Threads + Wait + Clock + Sync>(
     rt: &R,
     alloc: Global,
     ring: &HubRing,
-    first: HubSeat,
-    second: HubSeat,
+    first: &mut HubSeat,
+    second: &mut HubSeat,
     gate: &Turnstile<R>,
 ) -> (Option<Ended>, Option<Ended>)
-    requires { (first.ring ≡ ring.now) × (second.ring ≡ ring.now) }
+    requires { (first.old.ring ≡ ring.now) × (second.old.ring ≡ ring.now) }
 {
     thread::join(
         rt,
         || -> Option<Ended>
-            requires { first.ring ≡ ring.now }
+            requires { first.now.ring ≡ ring.now }
         { work(alloc, ring, first, gate, &gate.finished) },
         || -> Option<Ended>
-            requires { second.ring ≡ ring.now }
+            requires { second.now.ring ≡ ring.now }
         { work(alloc, ring, second, gate, &gate.opened) },
     )
 }
 
-// Both workers, and the flusher.
+// Both workers, and the flusher: how the workers ended, and the mark at the end.
 fn work_and_flush<R: Threads + Wait + Clock + Sync>(
     rt: &R,
     alloc: Global,
-    ring: &HubRing,
-    first: HubSeat,
-    second: HubSeat,
-    flusher: HubFlusher,
+    party: &mut Party,
     gate: &Turnstile<R>,
 ) -> ((Option<Ended>, Option<Ended>), Option<u64>)
-    requires seats { (first.ring ≡ ring.now) × (second.ring ≡ ring.now) }
-    requires flusher { (flusher.seat.ring ≡ ring.now) × (flusher.settled ≡ flusher.stored) }
+    requires together { AreTogether party.old.hub party.old.first party.old.second party.old.flusher }
+    requires settled { party.old.flusher.settled ≡ party.old.flusher.stored }
 {
+    let ring = party.hub.ring();
+    let first = &mut party.first;
+    let second = &mut party.second;
+    let flusher = &mut party.flusher;
     thread::join(
         rt,
         || -> (Option<Ended>, Option<Ended>)
-            requires { (first.ring ≡ ring.now) × (second.ring ≡ ring.now) }
+            requires { (first.now.ring ≡ ring.now) × (second.now.ring ≡ ring.now) }
         { work_both(rt, alloc, ring, first, second, gate) },
         || -> Option<u64>
-            requires { (flusher.seat.ring ≡ ring.now) × (flusher.settled ≡ flusher.stored) }
+            requires { (flusher.now.seat.ring ≡ ring.now) × (flusher.now.settled ≡ flusher.now.stored) }
         { flush(alloc, ring, flusher, gate) },
     )
-}
-
-// How the workers ended, and the mark at the end.
-fn run_hub<R: Threads + Wait + Clock + Sync>(
-    rt: &R,
-    alloc: Global,
-    hub: &mut MemHub,
-    gate: &Turnstile<R>,
-) -> ((Option<Ended>, Option<Ended>), Option<u64>) {
-    let Some(first) = take_seat(hub) else {
-        return ((None, None), None);
-    };
-    let Some(second) = take_seat(hub) else {
-        return ((None, None), None);
-    };
-    match take_flusher(hub) {
-        Some(flusher) => work_and_flush(rt, alloc, hub.ring(), first, second, flusher, gate),
-        None => ((None, None), None),
-    }
 }
 
 fn run<R: Threads + Wait + Clock + Sync>(
     rt: &R,
     alloc: Global,
     gate: &Turnstile<R>,
-) -> Result<((Option<Ended>, Option<Ended>), Option<u64>), Fail> {
-    match empty_hub(alloc) {
-        Ok(mut hub) => Ok(run_hub(rt, alloc, &mut hub, gate)),
-        Err(fail) => Err(fail),
+) -> Option<((Option<Ended>, Option<Ended>), Option<u64>)> {
+    match new_party(alloc, AREA) {
+        Some(mut party) => {
+            let ran = work_and_flush(rt, alloc, &mut party, gate);
+            drop(party);
+            Some(ran)
+        }
+        None => None,
     }
 }
 
@@ -161,8 +148,7 @@ fn two_sessions_at_once(rt: HostRuntime) -> Result<(), Fail> {
         opened: AtomicBool::new(false),
         finished: AtomicBool::new(false),
     };
-    let (ended, mark) = run(&rt, rt.alloc(), &gate)?;
-    assert_eq!(rt; ended, (Some(Ended::Bye), Some(Ended::Bye)));
-    assert_eq!(rt; mark, Some(6));
+    let ran = run(&rt, rt.alloc(), &gate);
+    assert_eq!(rt; ran, Some(((Some(Ended::Bye), Some(Ended::Bye)), Some(6))));
     Ok(())
 }

@@ -1,4 +1,4 @@
-use Rattle.hub_tests.proofs.hubs.close.Goals as goal
+use Rattle.hub_tests.proofs.hubs.close_hub.Goals as goal
 
 pub returns-in-Ok : goal.returns-in-Ok
 returns-in-Ok c =
