@@ -1,9 +1,12 @@
 -- What a test that answers by a Bool says.
-use Rattle.std.proofs.Common.{◌≡◌, ◌<◌, ◌≤◌, ℕ, Bool, true, false, nat_lt, List, get_or, length, Option, IsSomeAnd, slice_get, refl, sym, subst}
+use Rattle.std.proofs.Common.{◌≡◌, ◌<◌, ◌≤◌, ℕ, Bool, true, false, nat_lt, List, get_or, length, Option, IsSomeAnd, Result, IfOk, slice_get, refl, sym, subst}
 use Rattle.std.specs.Prelude.{◌↔◌, IsTrue}
 use Rattle.std.proofs.lemmas.Bool.{ltb-true, lt-ltb, le-ltb}
 use Rattle.std.proofs.lemmas.Option.{slice_get_past, slice_get_read}
+use Rattle.world_core.specs.declared.event.Event.{Event}
 use Rattle.world_core.specs.declared.seat.Seat.{Seat}
+use Rattle.world_core.specs.Answers.{IsTold}
+use Rattle.world_core.specs.Worlds.{WorldValue}
 
 pub holds_where : (b : Bool) (P : Type 0) → (IsTrue b ↔ P) → b ≡ true → P
 holds_where b P iff is = iff.0 is
@@ -21,3 +24,10 @@ pub seen_past : (seats : List Seat) (j n count : ℕ) → length seats ≤ j →
 seen_past seats j n count past high =
     subst (λ (o : Option Seat). IsTrue (nat_lt j count) ↔ IsSomeAnd o (λ s. n < s.seen)) (sym (slice_get_past seats j past))
     (λ low. absurd (let past : nat_lt j count ≡ false = le-ltb j count high in cc), λ none. absurd none)
+
+-- what is told of an event is told of the same event
+pub told_as : (w v : WorldValue) (e f : Event) (b : Bool) → f ≡ e → IsTold w e b v → IsTold w f b v
+told_as w v e f b is told = subst (λ (g : Event). IsTold w g b v) (sym is) told
+
+pub told_as_if : {E : Type 0} (w v : WorldValue) (e f : Event) (r : Result Bool E) → f ≡ e → IfOk r (λ b. IsTold w e b v) → IfOk r (λ b. IsTold w f b v)
+told_as_if w v e f r is told = subst (λ (g : Event). IfOk r (λ b. IsTold w g b v)) (sym is) told
