@@ -1,5 +1,5 @@
 -- What a test that answers by a Bool says.
-use Rattle.std.proofs.Common.{◌≡◌, ◌<◌, ◌≤◌, inl, inr, ℕ, Bool, true, false, nat_lt, List, get_or, length, Option, IsSomeAnd, Result, Ok, Err, IfOk, OnErr, slice_get, slice_set, ap, refl, sym, ◌∙◌, subst}
+use Rattle.std.proofs.Common.{◌≡◌, ◌<◌, ◌≤◌, inl, inr, ℕ, Bool, true, false, nat_lt, List, get_or, length, Option, Some, IsSomeAnd, Result, Ok, Err, IfOk, OnErr, slice_get, slice_set, ap, refl, sym, ◌∙◌, subst}
 use Rattle.std.specs.Prelude.{◌↔◌, IsTrue}
 use Rattle.std.proofs.lemmas.Bool.{cases_lt, ltb-true, lt-ltb, le-ltb}
 use Rattle.std.proofs.lemmas.List.{set-get_or}
@@ -7,7 +7,8 @@ use Rattle.std.proofs.lemmas.Option.{slice_get_past, slice_get_read}
 use Rattle.world_core.specs.declared.event.Event.{Event}
 use Rattle.world_core.specs.declared.seat.Seat.{Seat}
 use Rattle.world_core.specs.Answers.{IsTold}
-use Rattle.world_core.specs.Events.{with_seat}
+use Rattle.world_core.specs.Events.{IsReady, MayClaim, last_of, open_of, with_seat}
+use Rattle.world_core.specs.Limits.{far, window}
 use Rattle.world_core.specs.Worlds.{WorldValue}
 
 pub holds_where : (b : Bool) (P : Type 0) → (IsTrue b ↔ P) → b ≡ true → P
@@ -33,6 +34,18 @@ pub seen_past : (seats : List Seat) (j n count : ℕ) → length seats ≤ j →
 seen_past seats j n count past high =
     subst (λ (o : Option Seat). IsTrue (nat_lt j count) ↔ IsSomeAnd o (λ s. n < s.seen)) (sym (slice_get_past seats j past))
     (λ low. absurd (let past : nat_lt j count ≡ false = le-ltb j count high in cc), λ none. absurd none)
+
+-- a seat with room claims where its last command is ready
+pub may_where : (w : WorldValue) (j : ℕ) (seat : Seat) (room last : Bool) → slice_get w.seats j ≡ Some seat → (IsTrue room ↔ (seat.seen < far) × (open_of seat < window)) → room ≡ true → (IsTrue last ↔ IsReady w (last_of seat.own))
+    → IsTrue last ↔ IsSomeAnd (slice_get w.seats j) (MayClaim w)
+may_where w j seat room last there iff is ready =
+    let both = iff.0 is in
+    subst (λ (o : Option Seat). IsTrue last ↔ IsSomeAnd o (MayClaim w)) (sym there) (λ yes. record { near = both.0; room = both.1; last = ready.0 yes }, λ may. ready.1 may.last)
+
+pub may_not : (w : WorldValue) (j : ℕ) (seat : Seat) (room : Bool) → slice_get w.seats j ≡ Some seat → (IsTrue room ↔ (seat.seen < far) × (open_of seat < window)) → room ≡ false → IsTrue room ↔ IsSomeAnd (slice_get w.seats j) (MayClaim w)
+may_not w j seat room there iff is =
+    subst (λ (o : Option Seat). IsTrue room ↔ IsSomeAnd o (MayClaim w)) (sym there)
+    (λ yes. absurd (let e : room ≡ true = yes in cc), λ may. absurd (fails_where room ((seat.seen < far) × (open_of seat < window)) iff is (may.near, may.room)))
 
 -- a seat that is there changes
 pub seat_changes : (change : Seat → Seat) (seats : List Seat) (j : ℕ) (seat : Seat) → j < length seats → seat ≡ get_or seats j seat → slice_set seats j (change seat) ≡ with_seat change j (slice_get seats j) seats
