@@ -4,6 +4,7 @@
 use crate::schedules::{append, claim, open};
 use frame_core::Bytes;
 use std::alloc::{AllocError, Global};
+use std::mem;
 use std::process::Abort;
 use std::test::Fail;
 use world_core::{CallKind, Event, World};
@@ -60,13 +61,18 @@ struct Run {
 impl Run {
     fn new(alloc: Global) -> Result<Run, AllocError> {
         let world = World::new(alloc, 4_096)?;
-        let synced = Vec::from_slice(alloc, world.content())?;
-        Ok(Run {
-            world,
-            done: [0; 2],
-            synced,
-            gated: false,
-        })
+        match Vec::from_slice(alloc, world.content()) {
+            Ok(synced) => Ok(Run {
+                world,
+                done: [0; 2],
+                synced,
+                gated: false,
+            }),
+            Err(fault) => {
+                drop(world);
+                Err(fault)
+            }
+        }
     }
 
     fn flusher(&mut self, alloc: Global, step: usize) -> Result<(), AllocError> {
@@ -80,7 +86,8 @@ impl Run {
             4 => self.gated = append(&mut self.world, CallKind::Write)?,
             _ => {
                 append(&mut self.world, CallKind::Sync)?;
-                self.synced = Vec::from_slice(alloc, self.world.content())?;
+                let synced = Vec::from_slice(alloc, self.world.content())?;
+                drop(mem::replace(&mut self.synced, synced));
                 self.gated = false;
             }
         }
@@ -114,17 +121,24 @@ impl Run {
         Ok(())
     }
 
-    // The disk after a stop: where it differs from what the last sync left, and between, the fill, or what was there.
-    fn image(&self, alloc: Global, fill: Option<u8>) -> Result<Vec<u8>, AllocError> {
-        let mut image = Vec::from_slice(alloc, self.world.content())?;
-        let mut from = image.len();
+    // The first and the last place where the disk differs from what the last sync left.
+    fn unsynced(&self) -> (usize, usize) {
+        let content = self.world.content();
+        let mut from = content.len();
         let mut to = 0;
         for (i, old) in self.synced.iter().enumerate() {
-            if i < image.len() && image[i] != *old {
+            if i < content.len() && content[i] != *old {
                 from = from.min(i);
                 to = i;
             }
         }
+        (from, to)
+    }
+
+    // The disk after a stop: what is unsynced, and what lies between, is the fill, or what was there.
+    fn image(&self, alloc: Global, fill: Option<u8>) -> Result<Vec<u8>, AllocError> {
+        let (from, to) = self.unsynced();
+        let mut image = Vec::from_slice(alloc, self.world.content())?;
         for (i, old) in self.synced.iter().enumerate() {
             if i >= from && i <= to && i < image.len() {
                 image[i] = fill.unwrap_or(*old);
@@ -151,6 +165,21 @@ fn stop(rt: &impl Abort, alloc: Global, run: &mut Run, fill: Option<u8>) -> Resu
 }
 
 // Runs these turns and stops. Answers whether anything was unsynced then.
+fn run_turns(
+    rt: &impl Abort,
+    alloc: Global,
+    run: &mut Run,
+    turns: &[u8],
+    fill: Option<u8>,
+) -> Result<bool, AllocError> {
+    for turn in turns {
+        run.turn(rt, alloc, *turn)?;
+    }
+    let unsynced = run.world.content() != run.synced.as_slice();
+    stop(rt, alloc, run, fill)?;
+    Ok(unsynced)
+}
+
 fn check(
     rt: &impl Abort,
     alloc: Global,
@@ -158,12 +187,9 @@ fn check(
     fill: Option<u8>,
 ) -> Result<bool, AllocError> {
     let mut run = Run::new(alloc)?;
-    for turn in turns {
-        run.turn(rt, alloc, *turn)?;
-    }
-    let unsynced = run.world.content() != run.synced.as_slice();
-    stop(rt, alloc, &mut run, fill)?;
-    Ok(unsynced)
+    let unsynced = run_turns(rt, alloc, &mut run, turns, fill);
+    drop(run);
+    unsynced
 }
 
 // How many beginnings of schedules end with a device call.
