@@ -1,26 +1,12 @@
 //! Random events, wrong ones among them, against a world that is computed slowly.
 ghost use Rattle.std.specs.Prelude.{◌≢◌};
 
-use crate::schedules::{AREA, claim, image_of};
+use crate::schedules::{AREA, Pick, apply};
 use crate::slow_world::SlowWorld;
 use std::alloc::{AllocError, Global};
 use std::process::Abort;
 use std::test::Fail;
-use world_core::{Call, CallKind, CallList, Event, World};
-
-#[derive(Clone, Copy, Debug)]
-enum Pick {
-    Look(usize),
-    Claim(usize),
-    Ready(usize),
-    Take,
-    Device(Call),
-    Raise(u64),
-    Release(usize, u64),
-    Stop,
-    Crash(usize, u8),
-    Open,
-}
+use world_core::{Call, CallKind, CallList, World};
 
 // The next number of a fixed row.
 fn next(seed: &mut u64) -> u64 {
@@ -99,32 +85,23 @@ fn apply_slowly(alloc: Global, slow: &mut SlowWorld, pick: Pick) -> Result<bool,
     }
 }
 
-fn crash(alloc: Global, world: &mut World, at: usize, byte: u8) -> Result<bool, AllocError> {
-    let crash = image_of(alloc, world, at, byte)?;
-    world.apply(crash)
-}
-
-fn apply(alloc: Global, world: &mut World, pick: Pick) -> Result<bool, AllocError> {
-    match pick {
-        Pick::Look(j) => world.apply(Event::Look(j)),
-        Pick::Claim(j) => claim(world, j),
-        Pick::Ready(j) => world.apply(Event::Ready(j)),
-        Pick::Take => world.apply(Event::Take),
-        Pick::Device(call) => world.apply(Event::Device(call)),
-        Pick::Raise(n) => world.apply(Event::Raise(n)),
-        Pick::Release(j, n) => world.apply(Event::Release(j, n)),
-        Pick::Stop => world.apply(Event::Stop),
-        Pick::Crash(at, byte) => crash(alloc, world, at, byte),
-        Pick::Open => world.apply(Event::Open),
-    }
-}
-
 fn compare(rt: &impl Abort, world: &World, slow: &SlowWorld) {
-    assert_eq!(rt; world.base(), slow.base);
-    assert_eq!(rt; world.claimed(), slow.claimed());
-    assert_eq!(rt; world.taken(), slow.taken);
-    assert_eq!(rt; world.stored(), slow.stored);
-    assert_eq!(rt; world.mark(), slow.mark);
+    assert_eq!(rt;
+        (
+            world.base(),
+            world.claimed(),
+            world.taken(),
+            world.stored(),
+            world.mark()
+        ),
+        (
+            slow.base,
+            slow.claimed(),
+            slow.taken,
+            slow.stored,
+            slow.mark
+        )
+    );
 }
 
 // After an event that may have changed the disk.

@@ -102,22 +102,21 @@ impl Run {
     }
 
     fn turn(&mut self, rt: &impl Abort, alloc: Global, turn: u8) -> Result<(), AllocError> {
-        match turn {
+        let possible = match turn {
             0 => {
                 let step = self.done[0];
-                assert!(rt; self.session(0, step)?);
                 self.done[0] = step.saturating_add(1);
+                self.session(0, step)?
             }
-            1 => {
-                assert!(rt; self.session(1, 0)?);
-                assert!(rt; self.session(1, 1)?);
-            }
+            1 => self.session(1, 0)? && self.session(1, 1)?,
             _ => {
                 let step = self.done[1];
-                self.flusher(alloc, step)?;
                 self.done[1] = step.saturating_add(1);
+                self.flusher(alloc, step)?;
+                true
             }
-        }
+        };
+        assert!(rt; possible);
         Ok(())
     }
 
@@ -146,21 +145,33 @@ impl Run {
         }
         Ok(image)
     }
+
+    // The base after a stop.
+    fn wanted(&self, fill: Option<u8>) -> u64 {
+        if self.gated && fill == Some(1) {
+            self.world.taken()
+        } else {
+            self.world.stored()
+        }
+    }
+
+    fn crash(&mut self, alloc: Global, fill: Option<u8>) -> Result<bool, AllocError> {
+        let image = self.image(alloc, fill)?;
+        self.world.apply(Event::Crash(Bytes::new(image)))
+    }
 }
 
 // Stops, and opens: all that is stored is there, and a block whose gate is not synced where it is 1.
 fn stop(rt: &impl Abort, alloc: Global, run: &mut Run, fill: Option<u8>) -> Result<(), AllocError> {
-    let (stored, taken) = (run.world.stored(), run.world.taken());
-    let wanted = if run.gated && fill == Some(1) {
-        taken
-    } else {
-        stored
-    };
-    let image = run.image(alloc, fill)?;
-    assert!(rt; run.world.apply(Event::Crash(Bytes::new(image)))?);
-    assert!(rt; !run.world.apply(Event::Look(0))?);
-    assert!(rt; open(&mut run.world)?);
-    assert_eq!(rt; run.world.base(), wanted, "{fill:?}");
+    let wanted = run.wanted(fill);
+    let stopped = run.crash(alloc, fill)?;
+    let seen = run.world.apply(Event::Look(0))?;
+    let opened = open(&mut run.world)?;
+    assert_eq!(rt;
+        (stopped, seen, opened, run.world.base()),
+        (true, false, true, wanted),
+        "{fill:?}"
+    );
     Ok(())
 }
 
