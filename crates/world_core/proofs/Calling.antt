@@ -6,7 +6,7 @@ use Rattle.broker_core.specs.States.{State}
 use Rattle.recover_core.specs.Standing.{Stands}
 use Rattle.recover_core.specs.Told.{IsTooLarge, IsTooLong}
 use Rattle.disk_core.specs.Images.{patched}
-use Rattle.disk_core.specs.Memory.{held_over}
+use Rattle.disk_core.specs.Memory.{held_over, none_held}
 use Rattle.world_core.specs.declared.event.Call.{Call}
 use Rattle.world_core.specs.declared.event.CallKind.{CallKind}
 use Rattle.world_core.specs.declared.event.CallKind.TheVariants.{Read, Write, Sync}
@@ -14,13 +14,13 @@ use Rattle.world_core.specs.declared.event.CallList.{CallList}
 use Rattle.world_core.specs.declared.event.CallList.TheVariants.{Append, Snapshot, Switch, Open}
 use Rattle.world_core.specs.declared.event.Event.TheVariants.{Device, Open as Opens}
 use Rattle.world_core.specs.declared.patches.Patch.{Patch as Patched}
-use Rattle.world_core.specs.declared.place.Phase.TheVariants.{Running}
+use Rattle.world_core.specs.declared.place.Phase.TheVariants.{Running, Crashed}
 use Rattle.world_core.specs.declared.place.Place.{Place}
 use Rattle.world_core.specs.declared.place.Place.TheVariants.{Rest, Broken, BlockWritten, BlockSynced, GateWritten, OpenSynced, OpenRead, SnapshotWritten, SnapshotSynced, SelectorWritten, Opened}
 use Rattle.world_core.specs.declared.seat.Seat.{Seat}
 use Rattle.world_core.specs.Answers.{IsTold}
 use Rattle.world_core.specs.Calls.{MayLead, Patch, append_syncs, append_writes, called, leads, open_reads, open_syncs, open_writes, patch, phase_after, place_after, stored_after, synced, with_disk, wrote}
-use Rattle.world_core.specs.Events.{reopened}
+use Rattle.world_core.specs.Events.{reopened, with_image}
 use Rattle.world_core.specs.Keeping.{IsAt, IsKept, log_of}
 use Rattle.world_core.specs.Readings.{IsRead, Reading}
 use Rattle.world_core.specs.Touches.{IsDue, IsNoPatch, IsPatch, IsTouched, begun}
@@ -210,3 +210,8 @@ fits_there w k to at bytes is =
 pub wrote_disk : (w : WorldValue) (content : List ℕ) (held : List (Option ℕ)) (at : ℕ) (bytes : List ℕ) → content ≡ patched at bytes w.disk.content → held ≡ held_over at (length bytes) w.disk.held w.disk.content
     → record w { disk = record { size = w.disk.size; content = content; held = held } } ≡ with_disk w (wrote w.disk (patch at bytes))
 wrote_disk w content held at bytes c h = λ i. record w { disk = record { size = w.disk.size; content = c i; held = h i } }
+
+-- after a crash
+pub crashed : (w : WorldValue) (image content : List ℕ) (held : List (Option ℕ)) → content ≡ image → held ≡ none_held (length image)
+    → record w { phase = Crashed; place = Broken; disk = record { size = w.disk.size; content = content; held = held } } ≡ record w { phase = Crashed; place = Broken; disk = with_image image w.disk }
+crashed w image content held c h = λ i. record w { phase = Crashed; place = Broken; disk = record { size = w.disk.size; content = c i; held = h i } }

@@ -1,5 +1,5 @@
 -- What is written is what the definitions say.
-use Rattle.std.proofs.Common.{◌≡◌, ℕ, zero, suc, ◌+◌, ◌-◌, ◌<◌, ◌≤◌, List, [], ◌∷◌, Bool, true, false, not, Option, Some, None, IfSome, Vec, Global, Result, IfOk, length, take, drop, slice_index, refl, sym, ◌∙◌, ap, subst, arith}
+use Rattle.std.proofs.Common.{◌≡◌, ℕ, zero, suc, ◌+◌, ◌-◌, ◌<◌, ◌≤◌, List, [], ◌∷◌, Bool, true, false, not, Option, Some, None, IfSome, Vec, Global, Result, Ok, Err, IfOk, length, take, drop, slice_index, refl, sym, ◌∙◌, ap, subst, arith}
 use Rattle.command_core.specs.Commands.{CommandValue}
 use Rattle.command_core.specs.Entries.{EntryValue}
 use Rattle.broker_core.specs.Operations.{restarted}
@@ -15,7 +15,7 @@ use Rattle.world_core.specs.Calls.{CanRestart, MayLead, batch, gate_of, idle_of,
 use Rattle.world_core.specs.Keeping.{IsKept}
 use Rattle.world_core.specs.Readings.{IsRead, Reading}
 use Rattle.world_core.specs.Recoveries.{IsReadable}
-use Rattle.world_core.specs.Touches.{IsDue, IsNoPatch, IsPatch}
+use Rattle.world_core.specs.Touches.{IsBlockPatch, IsDue, IsNoPatch, IsPatch}
 use Rattle.world_core.specs.Worlds.{WorldValue, between}
 use Rattle.world_core.proofs.DeviceCalls.{is_content}
 use Rattle.world_core.proofs.Readings.{gate_within}
@@ -50,15 +50,26 @@ batch_is base low high n es is =
 pub patch_is : (a b : ℕ) (p q : List ℕ) → a ≡ b → p ≡ q → patch a p ≡ patch b q
 patch_is a b p q at bytes = λ i. patch (at i) (bytes i)
 
-pub block_is : (w : WorldValue) (to gate at : ℕ) (found bytes : List ℕ) → w.stored < to → ((r : Reading) → IsRead w.disk.size w.disk.content r → gate ≡ r.gate)
-    → found ≡ records (batch w to) → gate + 10 + length found ≤ w.disk.size → at ≡ start w.disk.size (is_odd (slice_index w.disk.content 16)) + gate + 1 → bytes ≡ closed found → IsPatch w (BlockWritten to) at bytes
-block_is w to gate at found bytes some gates is fits place closes r x = (
-  record { some = some; fits = omega (arith, fits, gates r x, ap (λ (l : List ℕ). length l) is) },
-  patch_is at (gate_of w.disk r + 1) bytes (closed (records (batch w to))) (omega (arith, place, gates r x)) (closes ∙ ap (λ (l : List ℕ). closed l) is),
+block_is : (w : WorldValue) (to gate at : ℕ) (found bytes : List ℕ) → w.stored < to → ((r : Reading) → IsRead w.disk.size w.disk.content r → gate ≡ r.gate) → found ≡ records (batch w to)
+    → IsBlockPatch w.disk gate found at bytes → IsPatch w (BlockWritten to) at bytes
+block_is w to gate at found bytes some gates is block r x = (
+  record { some = some; fits = omega (arith, block.2, gates r x, ap (λ (l : List ℕ). length l) is) },
+  patch_is at (gate_of w.disk r + 1) bytes (closed (records (batch w to))) (omega (arith, block.0, gates r x)) (block.1 ∙ ap (λ (l : List ℕ). closed l) is),
 )
 
-pub too_long_block : (w : WorldValue) (to gate : ℕ) (found : List ℕ) → ((r : Reading) → IsRead w.disk.size w.disk.content r → gate ≡ r.gate) → found ≡ records (batch w to) → w.disk.size < gate + 10 + length found → IsNoPatch w (BlockWritten to)
-too_long_block w to gate found gates is long r x may = omega (arith, long, may.fits, gates r x, ap (λ (l : List ℕ). length l) is)
+pub block_found : {E : Type 0} (res : Result (Option Patch) E) (w : WorldValue) (to gate : ℕ) (found : List ℕ) → w.stored < to → ((r : Reading) → IsRead w.disk.size w.disk.content r → gate ≡ r.gate)
+    → found ≡ records (batch w to) → IfOk res (λ o. IfSome o (λ p. IsBlockPatch w.disk gate found p.at p.bytes.items)) → IfOk res (λ o. IfSome o (λ p. IsPatch w (BlockWritten to) p.at p.bytes.items))
+block_found (Err e) w to gate found some gates is block = block
+block_found (Ok None) w to gate found some gates is block = block
+block_found (Ok (Some p)) w to gate found some gates is block = block_is w to gate p.at found p.bytes.items some gates is block
+
+too_long : (w : WorldValue) (to gate : ℕ) (found : List ℕ) → ((r : Reading) → IsRead w.disk.size w.disk.content r → gate ≡ r.gate) → found ≡ records (batch w to) → w.disk.size < gate + 10 + length found → IsNoPatch w (BlockWritten to)
+too_long w to gate found gates is long r x may = omega (arith, long, may.fits, gates r x, ap (λ (l : List ℕ). length l) is)
+
+pub block_too_long : {E : Type 0} (res : Result (Option Patch) E) (w : WorldValue) (to gate : ℕ) (found : List ℕ) → ((r : Reading) → IsRead w.disk.size w.disk.content r → gate ≡ r.gate)
+    → found ≡ records (batch w to) → IfOk res (λ o. o ≡ None → w.disk.size < gate + 10 + length found) → IfOk res (λ o. o ≡ None → IsNoPatch w (BlockWritten to))
+block_too_long (Err e) w to gate found gates is long = long
+block_too_long (Ok o) w to gate found gates is long = λ none. too_long w to gate found gates is (long none)
 
 pub nothing_to_store : (w : WorldValue) (to : ℕ) → to ≤ w.stored → IsNoPatch w (BlockWritten to)
 nothing_to_store w to none r x may = omega (arith, none, may.some)

@@ -1,5 +1,7 @@
 -- What the parts of a world do for a call of the device.
-use Rattle.std.specs.Prelude.{◌≡◌, ℕ, List, Bool, MatchBool}
+use Rattle.std.specs.Prelude.{◌≡◌, ◌+◌, ◌≤◌, ℕ, List, Bool, MatchBool, length, slice_index}
+use Rattle.area_core.specs.Areas.{closed}
+use Rattle.area_core.specs.Journals.{is_odd, start}
 use Rattle.broker_core.specs.States.{State}
 use Rattle.world_core.specs.declared.event.CallKind.{CallKind}
 use Rattle.world_core.specs.declared.place.Place.{Place}
@@ -7,7 +9,7 @@ use Rattle.world_core.specs.declared.place.Place.TheVariants.{BlockWritten}
 use Rattle.world_core.specs.Calls.{MayLead, disk_after, patch, patch_to, with_disk}
 use Rattle.world_core.specs.Events.{reopened}
 use Rattle.world_core.specs.Readings.{IsRead, Reading}
-use Rattle.world_core.specs.Worlds.{WorldValue}
+use Rattle.world_core.specs.Worlds.{DiskValue, WorldValue}
 
 -- a block has all that is taken
 abbrev pub IsDue : WorldValue → Place → Type 0
@@ -17,6 +19,11 @@ IsDue w to = Unit {0}
 -- the write that leads there may come, and writes these bytes at that offset, whatever is read of the disk
 abbrev pub IsPatch : WorldValue → Place → ℕ → List ℕ → Type 0
 IsPatch w to at bytes = (r : Reading) → IsRead w.disk.size w.disk.content r → MayLead w r to × (patch at bytes ≡ patch_to w r to)
+
+-- a block of these records stands behind that gate, and fits with the gate behind it
+abbrev pub IsBlockPatch : DiskValue → ℕ → List ℕ → ℕ → List ℕ → Type 0
+IsBlockPatch d gate records at bytes =
+    (at ≡ start d.size (is_odd (slice_index d.content 16)) + gate + 1) × (bytes ≡ closed records) × (gate + 10 + length records ≤ d.size)
 
 -- it may not come
 abbrev pub IsNoPatch : WorldValue → Place → Type 0

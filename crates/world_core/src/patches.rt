@@ -1,13 +1,13 @@
 //! What the writes of the lists write.
 
 ghost use Rattle.std.specs.Prelude.{◌≡◌, ◌+◌, ◌<◌, ◌≤◌, IfOk, IfSome, None, length, slice_index};
-ghost use Rattle.area_core.specs.Areas.{commands, records};
+ghost use Rattle.area_core.specs.Areas.{closed, commands, records};
 ghost use Rattle.area_core.specs.Journals.{is_odd, start};
 ghost use Rattle.world_core.specs.Calls.{batch};
 ghost use Rattle.world_core.specs.Keeping.{IsKept};
-ghost use Rattle.world_core.specs.Parts.{value_of};
+ghost use Rattle.world_core.specs.Parts.{disk_of, value_of};
 ghost use Rattle.world_core.specs.Readings.{IsRead, Reading};
-ghost use Rattle.world_core.specs.Touches.{IsDue, IsNoPatch, IsPatch};
+ghost use Rattle.world_core.specs.Touches.{IsBlockPatch, IsDue, IsNoPatch, IsPatch};
 
 use crate::Place;
 use crate::parts::Parts;
@@ -43,6 +43,19 @@ fn area_begins(size: u64, second: bool) -> usize
     if second { 32 + size as usize } else { 32 }
 }
 
+// The block of these records, and the next gate, behind the gate that stands there.
+fn block_behind(alloc: Global, gate: usize, records: &[u8]) -> Result<Patch, AllocError>
+    requires { gate ≤ 2097184 }
+    ensures at { IfOk result (λ p. p.at ≡ gate + 1) }
+    ensures bytes { IfOk result (λ p. p.bytes.items ≡ closed records.now) }
+{
+    let bytes = closed(alloc, records)?;
+    Ok(Patch {
+        at: gate + 1,
+        bytes,
+    })
+}
+
 impl Parts {
     fn is_second_live(&self) -> bool
         requires { IsKept (value_of self.now) }
@@ -72,6 +85,26 @@ impl Parts {
         Ok(records)
     }
 
+    // The block of these records behind the gate, or none where it doesn't fit.
+    fn block_within(
+        &self,
+        alloc: Global,
+        gate: u64,
+        records: &[u8],
+    ) -> Result<Option<Patch>, AllocError>
+        requires kept { IsKept (value_of self.now) }
+        requires within { gate < self.now.size }
+        ensures some { IfOk result (λ found. IfSome found (λ p. IsBlockPatch (disk_of self.now) gate records.now p.at p.bytes.items)) }
+        ensures none { IfOk result (λ found. found ≡ None → self.now.size < gate + 10 + length records.now) }
+    {
+        if gate + 10 + records.len() as u64 > self.size {
+            return Ok(None);
+        }
+        let begins = area_begins(self.size, self.is_second_live());
+        let patch = block_behind(alloc, begins + gate as usize, records)?;
+        Ok(Some(patch))
+    }
+
     fn block_patch(&self, alloc: Global) -> Result<Option<Patch>, AllocError>
         requires { IsKept (value_of self.now) }
         ensures some { IfOk result (λ found. IfSome found (λ p. IsPatch (value_of self.now) (Place.BlockWritten self.now.taken) p.at p.bytes.items)) }
@@ -82,15 +115,9 @@ impl Parts {
         }
         let gate = self.gate(alloc)?;
         let records = self.batch_records(alloc)?;
-        if gate + 10 + records.len() as u64 > self.size {
-            return Ok(None);
-        }
-        let bytes = closed(alloc, &records)?;
-        let begins = area_begins(self.size, self.is_second_live());
-        Ok(Some(Patch {
-            at: begins + gate as usize + 1,
-            bytes,
-        }))
+        let patch = self.block_within(alloc, gate, &records);
+        drop(records);
+        patch
     }
 
     fn gate_patch(&self, alloc: Global, to: u64) -> Result<Patch, AllocError>

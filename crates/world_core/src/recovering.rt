@@ -39,7 +39,10 @@ fn front_of(alloc: Global, disk: &mut MemDisk) -> Result<Area, AllocError>
     ensures content { disk.new.content ≡ disk.old.content }
 {
     match Area::front(alloc, disk) {
-        Ok((area, _)) => Ok(area),
+        Ok((area, snapshot)) => {
+            drop(snapshot);
+            Ok(area)
+        }
         Err(_) => Err(AllocError),
     }
 }
@@ -62,16 +65,24 @@ fn pass_block(alloc: Global, disk: &mut MemDisk, area: &mut Area) -> Result<bool
 }
 
 // Where the first closed gate of the live area is, from the area's first byte on.
+fn gate_on(alloc: Global, disk: &mut MemDisk) -> Result<u64, AllocError>
+    ensures { IfOk result (λ gate. (size : ℕ) (r : Reading) → IsRead size disk.old.content r → gate ≡ r.gate) }
+{
+    let mut area = front_of(alloc, disk)?;
+    let mut more = true;
+    while more {
+        more = pass_block(alloc, disk, &mut area)?;
+    }
+    Ok(area.used() - 1)
+}
+
 pub(crate) fn gate_in(alloc: Global, content: &[u8]) -> Result<u64, AllocError>
     ensures { IfOk result (λ gate. (size : ℕ) (r : Reading) → IsRead size content.now r → gate ≡ r.gate) }
 {
     let mut disk = copy_of(alloc, content)?;
-    let mut area = front_of(alloc, &mut disk)?;
-    let mut more = true;
-    while more {
-        more = pass_block(alloc, &mut disk, &mut area)?;
-    }
-    Ok(area.used() - 1)
+    let gate = gate_on(alloc, &mut disk);
+    drop(disk);
+    gate
 }
 
 // The broker that a journal was opened with.

@@ -4,8 +4,9 @@ ghost use Rattle.std.specs.Prelude.{◌≡◌, ◌≢◌, ◌↔◌, ◌-◌, �
 ghost use Rattle.disk_core.specs.Images.{IsImage};
 ghost use Rattle.area_core.specs.Areas.{HasRecord};
 ghost use Rattle.world_core.specs.Answers.{IsTold};
-ghost use Rattle.world_core.specs.Events.{CanClaim, IsPending, IsReady, MayClaim, after, last_of, readied, with_number};
+ghost use Rattle.world_core.specs.Events.{CanClaim, IsPending, IsReady, MayClaim, after, last_of, open_of, readied, with_number};
 ghost use Rattle.world_core.specs.Keeping.{IsKept};
+ghost use Rattle.world_core.specs.Limits.{far, window};
 ghost use Rattle.world_core.specs.Parts.{value_of};
 ghost use Rattle.world_core.specs.Readings.{Reading};
 
@@ -22,6 +23,13 @@ const WINDOW: usize = 8;
 
 // A seat that saw a mark so high claims nothing more.
 const FAR: u64 = 1 << 60;
+
+// The seat saw no mark so high, and there is room for a command more.
+fn has_room(seat: &Seat) -> bool
+    ensures { IsTrue result ↔ (seat.now.seen < far) × (open_of seat.now < window) }
+{
+    seat.seen < FAR && seat.open() < WINDOW
+}
 
 // The command with its record, which shows that it has one.
 fn entry_of(alloc: Global, command: Command) -> Result<Entry<()>, AllocError>
@@ -65,7 +73,7 @@ impl Parts {
         ensures { IsTrue result ↔ IsSomeAnd (slice_get self.now.seats.items j) (MayClaim (value_of self.now)) }
     {
         let seat = &self.seats[j];
-        seat.seen < FAR && seat.open() < WINDOW && self.is_last_ready(seat)
+        has_room(seat) && self.is_last_ready(seat)
     }
 
     fn can_claim(&self, j: usize) -> bool

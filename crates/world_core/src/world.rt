@@ -2,14 +2,16 @@
 
 ghost use Rattle.std.specs.Prelude.{◌≡◌, ◌≤◌, IfOk, OnErr};
 ghost use Rattle.disk_core.specs.Memory.{none_held};
-ghost use Rattle.world_core.specs.Answers.{Answers};
+ghost use Rattle.world_core.specs.Answers.{Answers, IsTold};
+ghost use Rattle.world_core.specs.Keeping.{IsKept};
+ghost use Rattle.world_core.specs.Parts.{value_of};
 ghost use Rattle.world_core.specs.Schedules.{Holds, first};
 ghost use Rattle.world_core.specs.Worlds.{claimed};
 
 use crate::formatting::first_content;
 use crate::parts::Parts;
 use crate::seat::seats;
-use crate::{Event, Phase, Place};
+use crate::{Event, Phase, Place, Seat};
 use broker_core::Broker;
 use std::alloc::{AllocError, Global};
 use std::marker::Model;
@@ -48,6 +50,64 @@ fn none_held(alloc: Global, count: usize) -> Result<Vec<Option<u8>>, AllocError>
     Ok(held)
 }
 
+// The parts of the first world, with these seats and this disk.
+fn first_parts(
+    alloc: Global,
+    size: u64,
+    seats: Vec<Seat>,
+    content: Vec<u8>,
+    held: Vec<Option<u8>>,
+) -> Parts
+    ensures { value_of result ≡ record (first size) {
+      seats = seats.items;
+      disk = record { size = size; content = content.items; held = held.items };
+    } }
+{
+    let broker = Broker::new(alloc);
+    let opening = Snapshot::of(&broker);
+    drop(broker);
+    Parts {
+        base: 0,
+        opening,
+        history: Vec::new(alloc),
+        ready: Vec::new(alloc),
+        taken: 0,
+        stored: 0,
+        mark: 0,
+        seats,
+        stopped: false,
+        released: Vec::new(alloc),
+        earlier: Vec::new(alloc),
+        phase: Phase::Running,
+        place: Place::Rest,
+        size,
+        content,
+        held,
+    }
+}
+
+impl Parts {
+    // Lets an event happen where it is possible, and answers whether it was.
+    fn apply(&mut self, alloc: Global, event: Event) -> Result<bool, AllocError>
+        requires { IsKept (value_of self.old) }
+        ensures ok { IfOk result (λ answer. IsTold (value_of self.old) event answer (value_of self.new)) }
+        ensures err { OnErr result (value_of self.new ≡ value_of self.old) }
+    {
+        match event {
+            Event::Look(j) => Ok(self.look(j)),
+            Event::Claim(j, command) => self.claim(alloc, j, command),
+            Event::Ready(j) => Ok(self.ready(j)),
+            Event::Take => Ok(self.take()),
+            Event::Device(call) => self.device(alloc, call),
+            Event::Raise(n) => Ok(self.raise(n)),
+            Event::Release(j, n) => self.release(j, n),
+            Event::Stop => Ok(self.stop()),
+            Event::Crash(image) => Ok(self.crash(image)),
+            Event::Open => self.open(alloc),
+        }
+    }
+}
+
 impl World {
     /// The first world: an empty journal with two areas of so many bytes each, formatted and opened. The error is want of
     /// memory.
@@ -59,27 +119,9 @@ impl World {
         let content = first_content(alloc, area_bytes)?;
         let held = none_held(alloc, (32 + 2 * area_bytes) as usize)?;
         let seats = seats(alloc, SEATS)?;
-        let broker = Broker::new(alloc);
         Ok(World {
             alloc,
-            parts: Parts {
-                base: 0,
-                opening: Snapshot::of(&broker),
-                history: Vec::new(alloc),
-                ready: Vec::new(alloc),
-                taken: 0,
-                stored: 0,
-                mark: 0,
-                seats,
-                stopped: false,
-                released: Vec::new(alloc),
-                earlier: Vec::new(alloc),
-                phase: Phase::Running,
-                place: Place::Rest,
-                size: area_bytes,
-                content,
-                held,
-            },
+            parts: first_parts(alloc, area_bytes, seats, content, held),
         })
     }
 
@@ -90,18 +132,7 @@ impl World {
         ensures err { OnErr result (self.new ≡ self.old) }
         ensures holds { Holds self.new }
     {
-        match event {
-            Event::Look(j) => Ok(self.parts.look(j)),
-            Event::Claim(j, command) => self.parts.claim(self.alloc, j, command),
-            Event::Ready(j) => Ok(self.parts.ready(j)),
-            Event::Take => Ok(self.parts.take()),
-            Event::Device(call) => self.parts.device(self.alloc, call),
-            Event::Raise(n) => Ok(self.parts.raise(n)),
-            Event::Release(j, n) => self.parts.release(j, n),
-            Event::Stop => Ok(self.parts.stop()),
-            Event::Crash(image) => Ok(self.parts.crash(image)),
-            Event::Open => self.parts.open(self.alloc),
-        }
+        self.parts.apply(self.alloc, event)
     }
 
     /// The number of this life's first command.

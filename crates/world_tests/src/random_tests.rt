@@ -1,26 +1,12 @@
 //! Random events, wrong ones among them, against a world that is computed slowly.
 ghost use Rattle.std.specs.Prelude.{◌≢◌};
 
-use crate::schedules::{AREA, claim, image_of};
+use crate::schedules::{AREA, Pick, apply};
 use crate::slow_world::SlowWorld;
 use std::alloc::{AllocError, Global};
 use std::process::Abort;
 use std::test::Fail;
-use world_core::{Call, CallKind, CallList, Event, World};
-
-#[derive(Clone, Copy, Debug)]
-enum Pick {
-    Look(usize),
-    Claim(usize),
-    Ready(usize),
-    Take,
-    Device(Call),
-    Raise(u64),
-    Release(usize, u64),
-    Stop,
-    Crash(usize, u8),
-    Open,
-}
+use world_core::{Call, CallKind, CallList, World};
 
 // The next number of a fixed row.
 fn next(seed: &mut u64) -> u64 {
@@ -99,52 +85,69 @@ fn apply_slowly(alloc: Global, slow: &mut SlowWorld, pick: Pick) -> Result<bool,
     }
 }
 
-fn apply(alloc: Global, world: &mut World, pick: Pick) -> Result<bool, AllocError> {
-    match pick {
-        Pick::Look(j) => world.apply(Event::Look(j)),
-        Pick::Claim(j) => claim(world, j),
-        Pick::Ready(j) => world.apply(Event::Ready(j)),
-        Pick::Take => world.apply(Event::Take),
-        Pick::Device(call) => world.apply(Event::Device(call)),
-        Pick::Raise(n) => world.apply(Event::Raise(n)),
-        Pick::Release(j, n) => world.apply(Event::Release(j, n)),
-        Pick::Stop => world.apply(Event::Stop),
-        Pick::Crash(at, byte) => {
-            let crash = image_of(alloc, world, at, byte)?;
-            world.apply(crash)
-        }
-        Pick::Open => world.apply(Event::Open),
+fn compare(rt: &impl Abort, world: &World, slow: &SlowWorld) {
+    assert_eq!(rt;
+        (
+            world.base(),
+            world.claimed(),
+            world.taken(),
+            world.stored(),
+            world.mark()
+        ),
+        (
+            slow.base,
+            slow.claimed(),
+            slow.taken,
+            slow.stored,
+            slow.mark
+        )
+    );
+}
+
+// After an event that may have changed the disk.
+fn compare_disks(rt: &impl Abort, world: &World, slow: &SlowWorld, step: u32, pick: Pick) {
+    if let Pick::Device(_) | Pick::Crash(_, _) = pick {
+        assert!(rt;
+            world.content() == slow.content.as_slice(),
+            "{step}: {pick:?}"
+        );
     }
 }
 
-fn compare(rt: &impl Abort, world: &World, slow: &SlowWorld) {
-    assert_eq!(rt; world.base(), slow.base);
-    assert_eq!(rt; world.claimed(), slow.claimed());
-    assert_eq!(rt; world.taken(), slow.taken);
-    assert_eq!(rt; world.stored(), slow.stored);
-    assert_eq!(rt; world.mark(), slow.mark);
+// An event in both worlds. Answers whether it was possible.
+fn take_step(
+    rt: &impl Abort,
+    alloc: Global,
+    world: &mut World,
+    slow: &mut SlowWorld,
+    step: u32,
+    pick: Pick,
+) -> Result<bool, AllocError> {
+    let wanted = apply_slowly(alloc, slow, pick)?;
+    let answer = apply(alloc, world, pick)?;
+    assert_eq!(rt; answer, wanted, "{step}: {pick:?}");
+    compare(rt, world, slow);
+    if answer {
+        compare_disks(rt, world, slow, step, pick);
+    }
+    Ok(answer)
 }
 
 // So many events from that beginning of the row.
-fn run(rt: &impl Abort, alloc: Global, from: u64, events: u32) -> Result<(), AllocError> {
-    let mut world = World::new(alloc, 4_096)?;
-    let mut slow = SlowWorld::new(alloc, world.content())?;
+fn take_steps(
+    rt: &impl Abort,
+    alloc: Global,
+    world: &mut World,
+    slow: &mut SlowWorld,
+    from: u64,
+    events: u32,
+) -> Result<(), AllocError> {
     let mut seed = from;
     let mut possible = 0_u32;
     for step in 0..events {
-        let pick = choose(&mut seed, &slow);
-        let wanted = apply_slowly(alloc, &mut slow, pick)?;
-        let answer = apply(alloc, &mut world, pick)?;
-        assert_eq!(rt; answer, wanted, "{step}: {pick:?}");
-        compare(rt, &world, &slow);
-        if answer {
+        let pick = choose(&mut seed, slow);
+        if take_step(rt, alloc, world, slow, step, pick)? {
             possible = possible.saturating_add(1);
-            if let Pick::Device(_) | Pick::Crash(_, _) = pick {
-                assert!(rt;
-                    world.content() == slow.content.as_slice(),
-                    "{step}: {pick:?}"
-                );
-            }
         }
     }
     assert!(rt;
@@ -155,8 +158,25 @@ fn run(rt: &impl Abort, alloc: Global, from: u64, events: u32) -> Result<(), All
     Ok(())
 }
 
+fn run(
+    rt: &impl Abort,
+    alloc: Global,
+    world: &mut World,
+    from: u64,
+    events: u32,
+) -> Result<(), AllocError> {
+    let mut slow = SlowWorld::new(alloc, world.content())?;
+    let done = take_steps(rt, alloc, world, &mut slow, from, events);
+    drop(slow);
+    done
+}
+
 #[test]
 fn random_events_do_what_the_description_says(rt: HostRuntime) -> Result<(), Fail> {
-    run(&rt, rt.alloc(), 20_251_123, 100_000)?;
+    let alloc = rt.alloc();
+    let mut world = World::new(alloc, 4_096)?;
+    let done = run(&rt, alloc, &mut world, 20_251_123, 100_000);
+    drop(world);
+    done?;
     Ok(())
 }

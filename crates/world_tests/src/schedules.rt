@@ -13,6 +13,21 @@ pub(crate) const SECOND: usize = 32 + AREA;
 /// The gate behind the first snapshot, which has 32 bytes behind its length.
 pub(crate) const FIRST_GATE: usize = SECOND + 40;
 
+/// An event in short. A crash leaves this byte at a place.
+#[derive(Clone, Copy, Debug)]
+pub(crate) enum Pick {
+    Look(usize),
+    Claim(usize),
+    Ready(usize),
+    Take,
+    Device(Call),
+    Raise(u64),
+    Release(usize, u64),
+    Stop,
+    Crash(usize, u8),
+    Open,
+}
+
 /// An Open without a client's name. Its record has 11 bytes.
 pub(crate) fn claim(world: &mut World, seat: usize) -> Result<bool, AllocError> {
     let open = Command::new(0, Op::Open { client_id: None }, None);
@@ -60,4 +75,25 @@ pub(crate) fn image_of(
         image[at] = byte;
     }
     Ok(Event::Crash(Bytes::new(image)))
+}
+
+fn crash(alloc: Global, world: &mut World, at: usize, byte: u8) -> Result<bool, AllocError> {
+    let crash = image_of(alloc, world, at, byte)?;
+    world.apply(crash)
+}
+
+/// Lets it happen where it is possible, and answers whether it was.
+pub(crate) fn apply(alloc: Global, world: &mut World, pick: Pick) -> Result<bool, AllocError> {
+    match pick {
+        Pick::Look(j) => world.apply(Event::Look(j)),
+        Pick::Claim(j) => claim(world, j),
+        Pick::Ready(j) => world.apply(Event::Ready(j)),
+        Pick::Take => world.apply(Event::Take),
+        Pick::Device(call) => world.apply(Event::Device(call)),
+        Pick::Raise(n) => world.apply(Event::Raise(n)),
+        Pick::Release(j, n) => world.apply(Event::Release(j, n)),
+        Pick::Stop => world.apply(Event::Stop),
+        Pick::Crash(at, byte) => crash(alloc, world, at, byte),
+        Pick::Open => world.apply(Event::Open),
+    }
 }

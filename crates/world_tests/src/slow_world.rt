@@ -28,6 +28,46 @@ pub(crate) struct SlowWorld {
     pub(crate) unsynced: (usize, usize),
 }
 
+fn slow_seats(alloc: Global) -> Result<Vec<SlowSeat>, AllocError> {
+    let mut seats = Vec::new(alloc);
+    for _ in 0..32 {
+        seats.push(SlowSeat {
+            own: Vec::new(alloc),
+            seen: 0,
+        })?;
+    }
+    Ok(seats)
+}
+
+fn fill_block(block: &mut Vec<u8>, count: u64) -> Result<(), AllocError> {
+    block.extend_from_slice(&count.saturating_mul(11).to_be_bytes())?;
+    for _ in 0..count {
+        block.extend_from_slice(&RECORD)?;
+    }
+    block.push(0)?;
+    Ok(())
+}
+
+// A block of so many commands, and the closed gate behind it.
+fn block_of(alloc: Global, count: u64) -> Result<Vec<u8>, AllocError> {
+    let mut block = Vec::new(alloc);
+    match fill_block(&mut block, count) {
+        Ok(()) => Ok(block),
+        Err(fault) => {
+            drop(block);
+            Err(fault)
+        }
+    }
+}
+
+// What a restart leaves is the count alone: 32 bytes, of which the first eight are not zero. A closed gate is behind it.
+fn front_of(count: u64) -> [u8; 41] {
+    let mut front = [0; 41];
+    front[..8].copy_from_slice(&32_u64.to_be_bytes());
+    front[8..16].copy_from_slice(&count.to_be_bytes());
+    front
+}
+
 fn number_at(bytes: &[u8], at: usize) -> u64 {
     let mut number = 0_u64;
     for i in 0..8 {
@@ -44,13 +84,8 @@ fn byte_at(bytes: &[u8], at: usize) -> u8 {
 impl SlowWorld {
     /// The world of these bytes, at its beginning.
     pub(crate) fn new(alloc: Global, content: &[u8]) -> Result<SlowWorld, AllocError> {
-        let mut seats = Vec::new(alloc);
-        for _ in 0..32 {
-            seats.push(SlowSeat {
-                own: Vec::new(alloc),
-                seen: 0,
-            })?;
-        }
+        let content = Vec::from_slice(alloc, content)?;
+        let seats = slow_seats(alloc)?;
         Ok(SlowWorld {
             base: 0,
             ready: Vec::new(alloc),
@@ -60,7 +95,7 @@ impl SlowWorld {
             seats,
             phase: Phase::Running,
             place: Place::Rest,
-            content: Vec::from_slice(alloc, content)?,
+            content,
             unsynced: (0, 0),
         })
     }
@@ -227,28 +262,18 @@ impl SlowWorld {
         if count == 0 || used.saturating_add(size).saturating_add(10) > AREA as u64 {
             return Ok(false);
         }
-        let mut block = Vec::new(alloc);
-        block.extend_from_slice(&size.to_be_bytes())?;
-        for _ in 0..count {
-            block.extend_from_slice(&RECORD)?;
-        }
-        block.push(0)?;
+        let block = block_of(alloc, count)?;
         self.write(gate.saturating_add(1), &block);
+        drop(block);
         self.place = Place::BlockWritten(self.taken);
         Ok(true)
     }
 
-    // What a restart leaves is the count alone: 32 bytes, of which the first eight are not zero.
-    fn write_snapshot(&mut self, alloc: Global) -> Result<bool, AllocError> {
+    fn write_snapshot(&mut self) {
         let (_, count) = self.read();
         let idle = if self.live() == 32 { 32 + AREA } else { 32 };
-        let mut front = Vec::new(alloc);
-        front.extend_from_slice(&32_u64.to_be_bytes())?;
-        front.extend_from_slice(&count.to_be_bytes())?;
-        front.extend_from_slice(&[0; 25])?;
-        self.write(idle, &front);
+        self.write(idle, &front_of(count));
         self.place = Place::SnapshotWritten;
-        Ok(true)
     }
 
     fn append(&mut self, alloc: Global, kind: CallKind, ok: bool) -> Result<bool, AllocError> {
@@ -271,28 +296,28 @@ impl SlowWorld {
         Ok(true)
     }
 
-    fn open_call(&mut self, alloc: Global, kind: CallKind) -> Result<bool, AllocError> {
+    fn open_call(&mut self, kind: CallKind) -> bool {
         match (kind, self.place) {
             (CallKind::Sync, Place::Rest | Place::Broken | Place::OpenSynced | Place::OpenRead) =>
                 self.place = Place::OpenSynced,
             (CallKind::Sync, Place::SnapshotWritten) => self.place = Place::SnapshotSynced,
             (CallKind::Sync, Place::SelectorWritten) => self.place = Place::Opened,
             (CallKind::Read, Place::OpenSynced | Place::OpenRead) => self.place = Place::OpenRead,
-            (CallKind::Write, Place::OpenRead) => return self.write_snapshot(alloc),
+            (CallKind::Write, Place::OpenRead) => self.write_snapshot(),
             (CallKind::Write, Place::SnapshotSynced) => {
                 let selector = byte_at(&self.content, 16).wrapping_add(1);
                 self.write(16, &[selector]);
                 self.place = Place::SelectorWritten;
             }
-            _ => return Ok(false),
+            _ => return false,
         }
-        Ok(true)
+        true
     }
 
     pub(crate) fn device(&mut self, alloc: Global, call: Call) -> Result<bool, AllocError> {
         let done = match call.list {
             CallList::Append => self.append(alloc, call.kind, call.ok)?,
-            CallList::Open => self.open_call(alloc, call.kind)?,
+            CallList::Open => self.open_call(call.kind),
             CallList::Snapshot | CallList::Switch => false,
         };
         if !done {

@@ -4,6 +4,7 @@
 use crate::schedules::{append, claim, open};
 use frame_core::Bytes;
 use std::alloc::{AllocError, Global};
+use std::mem;
 use std::process::Abort;
 use std::test::Fail;
 use world_core::{CallKind, Event, World};
@@ -60,13 +61,18 @@ struct Run {
 impl Run {
     fn new(alloc: Global) -> Result<Run, AllocError> {
         let world = World::new(alloc, 4_096)?;
-        let synced = Vec::from_slice(alloc, world.content())?;
-        Ok(Run {
-            world,
-            done: [0; 2],
-            synced,
-            gated: false,
-        })
+        match Vec::from_slice(alloc, world.content()) {
+            Ok(synced) => Ok(Run {
+                world,
+                done: [0; 2],
+                synced,
+                gated: false,
+            }),
+            Err(fault) => {
+                drop(world);
+                Err(fault)
+            }
+        }
     }
 
     fn flusher(&mut self, alloc: Global, step: usize) -> Result<(), AllocError> {
@@ -80,7 +86,8 @@ impl Run {
             4 => self.gated = append(&mut self.world, CallKind::Write)?,
             _ => {
                 append(&mut self.world, CallKind::Sync)?;
-                self.synced = Vec::from_slice(alloc, self.world.content())?;
+                let synced = Vec::from_slice(alloc, self.world.content())?;
+                drop(mem::replace(&mut self.synced, synced));
                 self.gated = false;
             }
         }
@@ -95,36 +102,42 @@ impl Run {
     }
 
     fn turn(&mut self, rt: &impl Abort, alloc: Global, turn: u8) -> Result<(), AllocError> {
-        match turn {
+        let possible = match turn {
             0 => {
                 let step = self.done[0];
-                assert!(rt; self.session(0, step)?);
                 self.done[0] = step.saturating_add(1);
+                self.session(0, step)?
             }
-            1 => {
-                assert!(rt; self.session(1, 0)?);
-                assert!(rt; self.session(1, 1)?);
-            }
+            1 => self.session(1, 0)? && self.session(1, 1)?,
             _ => {
                 let step = self.done[1];
-                self.flusher(alloc, step)?;
                 self.done[1] = step.saturating_add(1);
+                self.flusher(alloc, step)?;
+                true
             }
-        }
+        };
+        assert!(rt; possible);
         Ok(())
     }
 
-    // The disk after a stop: where it differs from what the last sync left, and between, the fill, or what was there.
-    fn image(&self, alloc: Global, fill: Option<u8>) -> Result<Vec<u8>, AllocError> {
-        let mut image = Vec::from_slice(alloc, self.world.content())?;
-        let mut from = image.len();
+    // The first and the last place where the disk differs from what the last sync left.
+    fn unsynced(&self) -> (usize, usize) {
+        let content = self.world.content();
+        let mut from = content.len();
         let mut to = 0;
         for (i, old) in self.synced.iter().enumerate() {
-            if i < image.len() && image[i] != *old {
+            if i < content.len() && content[i] != *old {
                 from = from.min(i);
                 to = i;
             }
         }
+        (from, to)
+    }
+
+    // The disk after a stop: what is unsynced, and what lies between, is the fill, or what was there.
+    fn image(&self, alloc: Global, fill: Option<u8>) -> Result<Vec<u8>, AllocError> {
+        let (from, to) = self.unsynced();
+        let mut image = Vec::from_slice(alloc, self.world.content())?;
         for (i, old) in self.synced.iter().enumerate() {
             if i >= from && i <= to && i < image.len() {
                 image[i] = fill.unwrap_or(*old);
@@ -132,25 +145,52 @@ impl Run {
         }
         Ok(image)
     }
+
+    // The base after a stop.
+    fn wanted(&self, fill: Option<u8>) -> u64 {
+        if self.gated && fill == Some(1) {
+            self.world.taken()
+        } else {
+            self.world.stored()
+        }
+    }
+
+    fn crash(&mut self, alloc: Global, fill: Option<u8>) -> Result<bool, AllocError> {
+        let image = self.image(alloc, fill)?;
+        self.world.apply(Event::Crash(Bytes::new(image)))
+    }
 }
 
 // Stops, and opens: all that is stored is there, and a block whose gate is not synced where it is 1.
 fn stop(rt: &impl Abort, alloc: Global, run: &mut Run, fill: Option<u8>) -> Result<(), AllocError> {
-    let (stored, taken) = (run.world.stored(), run.world.taken());
-    let wanted = if run.gated && fill == Some(1) {
-        taken
-    } else {
-        stored
-    };
-    let image = run.image(alloc, fill)?;
-    assert!(rt; run.world.apply(Event::Crash(Bytes::new(image)))?);
-    assert!(rt; !run.world.apply(Event::Look(0))?);
-    assert!(rt; open(&mut run.world)?);
-    assert_eq!(rt; run.world.base(), wanted, "{fill:?}");
+    let wanted = run.wanted(fill);
+    let stopped = run.crash(alloc, fill)?;
+    let seen = run.world.apply(Event::Look(0))?;
+    let opened = open(&mut run.world)?;
+    assert_eq!(rt;
+        (stopped, seen, opened, run.world.base()),
+        (true, false, true, wanted),
+        "{fill:?}"
+    );
     Ok(())
 }
 
 // Runs these turns and stops. Answers whether anything was unsynced then.
+fn run_turns(
+    rt: &impl Abort,
+    alloc: Global,
+    run: &mut Run,
+    turns: &[u8],
+    fill: Option<u8>,
+) -> Result<bool, AllocError> {
+    for turn in turns {
+        run.turn(rt, alloc, *turn)?;
+    }
+    let unsynced = run.world.content() != run.synced.as_slice();
+    stop(rt, alloc, run, fill)?;
+    Ok(unsynced)
+}
+
 fn check(
     rt: &impl Abort,
     alloc: Global,
@@ -158,12 +198,9 @@ fn check(
     fill: Option<u8>,
 ) -> Result<bool, AllocError> {
     let mut run = Run::new(alloc)?;
-    for turn in turns {
-        run.turn(rt, alloc, *turn)?;
-    }
-    let unsynced = run.world.content() != run.synced.as_slice();
-    stop(rt, alloc, &mut run, fill)?;
-    Ok(unsynced)
+    let unsynced = run_turns(rt, alloc, &mut run, turns, fill);
+    drop(run);
+    unsynced
 }
 
 // How many beginnings of schedules end with a device call.
