@@ -205,10 +205,10 @@ module _ {D : Type 0} (honest : D → Type 0) (images : D → List ℕ → Type 
   })
 
   -- a step fails that reaches no disk
-  pub fails : (f : Flushed D) (seat : FlushSeatValue) (brought : List (EntryValue SenderValue)) (broker : BrokerValue) (boxes : Kept) (ended : List ℕ) (waiting left : List OutValue) → seat ≡ when_stopped f.seat → left ≡ f.left
-      → IsFlusher honest images f → IsFlusher honest images (record f { seat = seat; brought = brought; broker = broker; boxes = boxes; ended = ended; waiting = waiting; left = left; broken = true })
-  fails f seat brought broker boxes ended waiting left is same kept =
-      subst (λ (s : FlushSeatValue). IsFlusher honest images (record f { seat = s; brought = brought; broker = broker; boxes = boxes; ended = ended; waiting = waiting; left = left; broken = true })) (sym is) (record {
+  pub fails : (f : Flushed D) (seat : FlushSeatValue) (brought : List (EntryValue SenderValue)) (broker : BrokerValue) (boxes : Kept) (ended past : List ℕ) (waiting left : List OutValue) → seat ≡ when_stopped f.seat → left ≡ f.left
+      → IsFlusher honest images f → IsFlusher honest images (record f { seat = seat; brought = brought; broker = broker; boxes = boxes; ended = ended; past = past; waiting = waiting; left = left; broken = true })
+  fails f seat brought broker boxes ended past waiting left is same kept =
+      subst (λ (s : FlushSeatValue). IsFlusher honest images (record f { seat = s; brought = brought; broker = broker; boxes = boxes; ended = ended; past = past; waiting = waiting; left = left; broken = true })) (sym is) (record {
         begun = kept.begun;
         marked = kept.marked;
         settled = kept.settled;
@@ -285,19 +285,19 @@ module _ {D : Type 0} (honest : D → Type 0) (images : D → List ℕ → Type 
       let state = ap (λ (b : BrokerValue). b.state.count) (kept.running whole).broker in
       omega (arith, state, count_at f kept, length_commands done, ap (λ (l : List CommandValue). length l) is, length_between f.seat f.settled f.stored begun kept.settled kept.stored, kept.settled, few)
 
-  pub settling_is : (f : Flushed D) (brought : List (EntryValue SenderValue)) (broker : BrokerValue) (boxes : Kept) (ended : List ℕ) (waiting left : List OutValue) → f.broken ≡ false → IsFlusher honest images f
-      → brought ≡ drop (f.stored - f.settled) f.brought → boxes ≡ boxes_after f.settled f.boxes (stored_entries f) → ended ≡ f.ended ++ ended_of f.broker.state (unsettled f)
+  pub settling_is : (f : Flushed D) (brought : List (EntryValue SenderValue)) (broker : BrokerValue) (boxes : Kept) (ended past : List ℕ) (waiting left : List OutValue) → f.broken ≡ false → IsFlusher honest images f
+      → brought ≡ drop (f.stored - f.settled) f.brought → boxes ≡ boxes_after f.settled f.boxes (stored_entries f) → ended ≡ f.ended ++ ended_of f.broker.state (unsettled f) → past ≡ f.past
       → broker ≡ record { state = state_after f.broker.state (unsettled f); broken = false } → waiting ≡ f.waiting ++ outs_of f.broker.state (unsettled f) → left ≡ f.left
-      → record f { settled = f.stored; brought = brought; broker = broker; boxes = boxes; ended = ended; waiting = waiting; left = left } ≡ settling f
-  settling_is f brought broker boxes ended waiting left whole kept entries given ends is outs same =
+      → record f { settled = f.stored; brought = brought; broker = broker; boxes = boxes; ended = ended; past = past; waiting = waiting; left = left } ≡ settling f
+  settling_is f brought broker boxes ended past waiting left whole kept entries given ends last is outs same =
       let all : broker ≡ record { state = state_at f.opening f.seat f.stored; broken = false } = is ∙ ap (λ (s : State). record { state = s; broken = false }) (settled_state f whole kept) in
-      λ i. record f { settled = f.stored; brought = entries i; broker = all i; boxes = given i; ended = ends i; waiting = outs i; left = same i }
+      λ i. record f { settled = f.stored; brought = entries i; broker = all i; boxes = given i; ended = ends i; past = last i; waiting = outs i; left = same i }
 
   -- all that is stored is carried out
-  pub settles : (f : Flushed D) (brought : List (EntryValue SenderValue)) (broker : BrokerValue) (boxes : Kept) (ended : List ℕ) (waiting left : List OutValue) → commands brought ≡ from_on f.seat f.stored
+  pub settles : (f : Flushed D) (brought : List (EntryValue SenderValue)) (broker : BrokerValue) (boxes : Kept) (ended past : List ℕ) (waiting left : List OutValue) → commands brought ≡ from_on f.seat f.stored
       → broker ≡ record { state = state_after f.broker.state (unsettled f); broken = false } → waiting ≡ f.waiting ++ outs_of f.broker.state (unsettled f) → left ≡ f.left → f.broken ≡ false
-      → IsFlusher honest images f → IsFlusher honest images (record f { settled = f.stored; brought = brought; broker = broker; boxes = boxes; ended = ended; waiting = waiting; left = left })
-  settles f brought broker boxes ended waiting left entries is outs same whole kept =
+      → IsFlusher honest images f → IsFlusher honest images (record f { settled = f.stored; brought = brought; broker = broker; boxes = boxes; ended = ended; past = past; waiting = waiting; left = left })
+  settles f brought broker boxes ended past waiting left entries is outs same whole kept =
       let run = kept.running whole in
       let begun : f.seat.base ≤ f.settled = omega (arith, kept.begun, kept.marked) in
       let state : f.broker.state ≡ state_at f.opening f.seat f.settled = ap (λ (b : BrokerValue). b.state) run.broker in

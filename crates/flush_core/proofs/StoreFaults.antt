@@ -4,11 +4,11 @@ use Rattle.std.specs.Prelude.{IsErrOf}
 use Rattle.area_core.specs.Steps.{IsCaused}
 use Rattle.area_core.specs.declared.faults.AreaFault.{AreaFault}
 use Rattle.area_core.specs.declared.faults.AreaFault.TheVariants as area
-use Rattle.flush_core.specs.Faults.{IsFlushCaused, of_area}
+use Rattle.flush_core.specs.Faults.{IsFlushCaused, IsMemory, NeedsNoDisk, of_area}
 use Rattle.flush_core.specs.Flushed.{Flushed}
 use Rattle.flush_core.specs.Outcomes.{Falls, IsOutcome}
 use Rattle.flush_core.specs.declared.faults.FlushFault.{FlushFault}
-use Rattle.flush_core.specs.declared.faults.FlushFault.TheVariants.{Full, Broken}
+use Rattle.flush_core.specs.declared.faults.FlushFault.TheVariants.{Device, Full, Broken, Memory}
 
 abbrev fault_of : Result (Unit {0}) FlushFault → FlushFault
 fault_of (Ok _) = Broken
@@ -34,3 +34,16 @@ fell_so area.Device old new whole fell = fell
 fell_so area.Full old new whole fell = fell
 fell_so area.Broken old new whole fell = absurd (whole refl)
 fell_so (area.Memory refused) old new whole fell = fell
+
+-- a step that failed for want of memory alone
+pub fell_for_memory : {D : Type 0} (fault : FlushFault) (old new : Flushed D) → IsMemory {T = Unit {0}} (Err fault) → Falls old new → IsOutcome {X = Unit {0}} old new (Err fault)
+fell_for_memory Device old new want fell = fell
+fell_for_memory Full old new want fell = fell
+fell_for_memory Broken old new want fell = absurd want
+fell_for_memory (Memory refused) old new want fell = fell
+
+pub needs_memory : (fault : FlushFault) → IsMemory {T = Unit {0}} (Err fault) → NeedsNoDisk {T = Unit {0}} (Err fault)
+needs_memory Device want = want
+needs_memory Full want = want
+needs_memory Broken want = tt
+needs_memory (Memory refused) want = tt

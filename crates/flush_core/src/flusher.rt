@@ -8,10 +8,10 @@ ghost use Rattle.claim_core.specs.Endings.{Agree};
 ghost use Rattle.claim_core.specs.Seats.{next_ticket};
 ghost use Rattle.flush_core.specs.Flushed.{HoldBetween, IsFlusher, IsSame, flushed};
 
-use boxes_core::Boxes;
+use crate::outlet::Outlet;
 use broker_core::Broker;
 use claim_core::{BrokerRing, BrokerSeat, FlushSeat};
-use command_core::{Entry, Out};
+use command_core::Entry;
 use disk_core::{Disk, FuseDisk};
 use outbox_core::{Bell, OutSender};
 use recover_core::Store;
@@ -38,16 +38,8 @@ pub struct Flusher<D: Disk, B: Bell> {
     // The first numbers that are not stored, and not carried out.
     pub(crate) stored: u64,
     pub(crate) settled: u64,
-    // The outboxes of sessions; the sessions that ended and whose last outputs wait for the mark; and those whose last
-    // outputs are given, so that their boxes can go.
-    pub(crate) boxes: Boxes<B>,
-    pub(crate) ended: Vec<u64>,
-    pub(crate) past: Vec<u64>,
-    // The outputs that wait for the mark, and those under it that went to no box.
-    pub(crate) waiting: Vec<Out>,
-    pub(crate) left: Vec<Out>,
-    // Room for what goes to no box, for as long as a call of `publish` lasts.
-    pub(crate) spare: Vec<Out>,
+    // The outboxes of sessions, and the outputs on their way there.
+    pub(crate) outlet: Outlet<B>,
     pub(crate) broken: bool,
 }
 
@@ -58,12 +50,12 @@ impl<D: Disk, B: Bell> Model for Flusher<D, B> {
 
     ghost Value = { Flushed D };
 
-    ghost view = { λ a. flushed a.journal a.seat a.opening.value.state a.stored a.settled (a.done.items ++ a.batch.items) a.broker a.boxes a.ended.items a.past.items a.waiting.items a.left.items a.broken };
+    ghost view = { λ a. flushed a.journal a.seat a.opening.value.state a.stored a.settled (a.done.items ++ a.batch.items) a.broker a.outlet.boxes a.outlet.ended.items a.outlet.past.items a.outlet.waiting.items a.outlet.left.items a.broken };
 
-    ghost invariant = { λ a. IsFlusher D.honest D.images (flushed a.journal a.seat a.opening.value.state a.stored a.settled (a.done.items ++ a.batch.items) a.broker a.boxes a.ended.items a.past.items a.waiting.items a.left.items a.broken)
+    ghost invariant = { λ a. IsFlusher D.honest D.images (flushed a.journal a.seat a.opening.value.state a.stored a.settled (a.done.items ++ a.batch.items) a.broker a.outlet.boxes a.outlet.ended.items a.outlet.past.items a.outlet.waiting.items a.outlet.left.items a.broken)
         × (a.broken ≡ false → IsHeld a.seat a.stored a.settled (is_broken a.journal) a.batch.items a.done.items a.bytes
-        (length a.left.items) (length a.waiting.items) (vec_capacity a.left))
-        × (a.broken ≡ false → IsSpare (length a.spare.items) (length a.waiting.items) (vec_capacity a.spare)) };
+        (length a.outlet.left.items) (length a.outlet.waiting.items) (vec_capacity a.outlet.left))
+        × (a.broken ≡ false → IsSpare (length a.outlet.spare.items) (length a.outlet.waiting.items) (vec_capacity a.outlet.spare)) };
 }
 
 impl<D: Disk, B: Bell> Flusher<D, B> {
@@ -93,12 +85,7 @@ impl<D: Disk, B: Bell> Flusher<D, B> {
             done: Vec::new(alloc),
             stored: next,
             settled: next,
-            waiting: Vec::new(alloc),
-            left: Vec::new(alloc),
-            boxes: Boxes::new(alloc),
-            ended: Vec::new(alloc),
-            past: Vec::new(alloc),
-            spare: Vec::new(alloc),
+            outlet: Outlet::new(alloc),
             broken,
         }
     }
@@ -122,7 +109,7 @@ impl<D: Disk, B: Bell> Flusher<D, B> {
     pub fn has_no_box(&self) -> bool
         ensures { result ≡ (length self.now.boxes == 0) }
     {
-        self.boxes.is_empty()
+        self.outlet.boxes.is_empty()
     }
 
     /// The number of the command that is taken next.
@@ -160,8 +147,8 @@ impl<D: Disk, B: Bell> Flusher<D, B> {
         ensures disk { result ≡ self.disk }
         ensures held { D.honest result → HoldBetween (D.images result) self.opening self.seat }
     {
-        let Flusher { journal, .. } = self;
-        journal.into_disk()
+        let (disk, _seat) = self.into_parts();
+        disk
     }
 
     /// The same flusher over a disk that passes so many more calls and then fails.
@@ -180,12 +167,7 @@ impl<D: Disk, B: Bell> Flusher<D, B> {
             done,
             stored,
             settled,
-            boxes,
-            ended,
-            past,
-            waiting,
-            left,
-            spare,
+            outlet,
             broken,
         } = self;
         Flusher {
@@ -198,12 +180,7 @@ impl<D: Disk, B: Bell> Flusher<D, B> {
             done,
             stored,
             settled,
-            boxes,
-            ended,
-            past,
-            waiting,
-            left,
-            spare,
+            outlet,
             broken,
         }
     }

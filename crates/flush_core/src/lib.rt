@@ -6,6 +6,7 @@ mod faults;
 mod flusher;
 mod gathering;
 mod marking;
+mod outlet;
 mod publishing;
 mod settling;
 mod storing;

@@ -12,7 +12,7 @@ use claim_core::BrokerRing;
 use command_core::Out;
 use disk_core::Disk;
 use outbox_core::{Bell, OutSender};
-use std::mem::{replace, swap};
+use std::mem::replace;
 
 impl<D: Disk, B: Bell> Flusher<D, B> {
     /// Raises the mark to all that is stored, which each image of the disk holds, and then gives each outbox the outputs of its
@@ -29,17 +29,7 @@ impl<D: Disk, B: Bell> Flusher<D, B> {
         ensures held { D.honest self.new.disk → StandFor (D.images self.new.disk) (state_at self.new.opening self.new.seat self.new.seat.published) }
     {
         ring.raise(&mut self.seat, self.stored);
-        self.boxes.let_go(&self.past);
-        self.past.clear();
-        swap(&mut self.past, &mut self.ended);
-        let alloc = *self.waiting.allocator();
-        let outs = replace(&mut self.waiting, Vec::new(alloc));
-        self.boxes.give_all(outs, &mut self.spare);
-        if self.left.is_empty() {
-            swap(&mut self.left, &mut self.spare);
-        } else {
-            let _ = self.left.append(&mut self.spare);
-        }
+        self.outlet.give();
     }
 
     /// Hands out the outputs that are published and went to no box, in the order of their commands: the number of each is under
@@ -49,7 +39,7 @@ impl<D: Disk, B: Bell> Flusher<D, B> {
         ensures under { AreUnder self.old.seat.published result.items }
         ensures taken { self.new ≡ record self.old { left = [] } }
     {
-        let alloc = *self.left.allocator();
-        replace(&mut self.left, Vec::new(alloc))
+        let alloc = *self.outlet.left.allocator();
+        replace(&mut self.outlet.left, Vec::new(alloc))
     }
 }

@@ -10,6 +10,7 @@ ghost use Rattle.flush_core.specs.Sessions.{boxes_after, ended_by, ended_of, ope
 
 use crate::FlushFault;
 use crate::flusher::Flusher;
+use crate::outlet::Outlet;
 use boxes_core::Boxes;
 use broker_core::Broker;
 use claim_core::BrokerRing;
@@ -52,6 +53,26 @@ fn note_end(
     Ok(())
 }
 
+// Has the broker take a step, whose outputs wait behind those that wait.
+fn take_step(
+    alloc: Global,
+    broker: &mut Broker,
+    command: Command,
+    waiting: &mut Vec<Out>,
+) -> Result<(), FlushFault>
+    requires whole { broker.old.broken ≡ false }
+    requires count { broker.old.state.count < 2 ^ 62 }
+    ensures state { OnOk result (broker.new ≡ record { state = step broker.old.state command; broken = false }) }
+    ensures outs { OnOk result (waiting.new.items ≡ waiting.old.items ++ outs broker.old.state command) }
+    ensures fault { IsMemory result }
+{
+    let mut given = broker.step(alloc, command)?;
+    let added = waiting.append(&mut given);
+    drop(given);
+    added?;
+    Ok(())
+}
+
 // Carries one command out: its outputs wait behind those that wait, the box that comes with an Open is kept, and the session
 // that it ends is noted.
 fn carry_out_one<B: Bell>(
@@ -74,9 +95,14 @@ fn carry_out_one<B: Bell>(
     let (command, outbox) = entry.into_parts();
     let session = command.session();
     let was_open = broker.sessions().contains_key(&session);
-    keep_box(boxes, number, &command, outbox)?;
-    let mut given = broker.step(alloc, command)?;
-    waiting.append(&mut given)?;
+    match keep_box(boxes, number, &command, outbox) {
+        Ok(()) => {}
+        Err(refused) => {
+            drop(command);
+            return Err(FlushFault::Memory(refused));
+        }
+    }
+    take_step(alloc, broker, command, waiting)?;
     note_end(broker, was_open, session, ended)?;
     Ok(())
 }
@@ -109,31 +135,32 @@ fn carry_all_out<B: Bell>(
     alloc: Global,
     broker: &mut Broker,
     done: &mut Vec<Entry<OutSender<B>>>,
-    waiting: &mut Vec<Out>,
-    boxes: &mut Boxes<B>,
-    ended: &mut Vec<u64>,
-    left: &mut Vec<Out>,
-    spare: &mut Vec<Out>,
+    outlet: &mut Outlet<B>,
 ) -> Result<(), FlushFault>
     requires whole { broker.old.broken ≡ false }
     requires count { broker.old.state.count + length done.old.items ≤ 2 ^ 62 }
-    requires none { length spare.old.items ≡ 0 }
+    requires none { length outlet.old.spare.items ≡ 0 }
     ensures state { OnOk result (broker.new ≡ record { state = state_after broker.old.state (commands done.old.items); broken = false }) }
-    ensures outs { OnOk result (waiting.new.items ≡ waiting.old.items ++ outs_of broker.old.state (commands done.old.items)) }
-    ensures boxes { OnOk result (boxes.new ≡ boxes_after broker.old.state.count boxes.old done.old.items) }
-    ensures ended { OnOk result (ended.new.items ≡ ended.old.items ++ ended_of broker.old.state (commands done.old.items)) }
+    ensures outs { OnOk result (outlet.new.waiting.items ≡ outlet.old.waiting.items ++ outs_of broker.old.state (commands done.old.items)) }
+    ensures boxes { OnOk result (outlet.new.boxes ≡ boxes_after broker.old.state.count outlet.old.boxes done.old.items) }
+    ensures ended { OnOk result (outlet.new.ended.items ≡ outlet.old.ended.items ++ ended_of broker.old.state (commands done.old.items)) }
     ensures done { OnOk result (done.new.items ≡ []) }
-    ensures left { left.new.items ≡ left.old.items }
-    ensures room { OnOk result (0 < length left.new.items → length left.new.items + length waiting.new.items ≤ vec_capacity left.new) }
-    ensures spare { OnOk result ((length spare.new.items ≡ 0) × (length waiting.new.items ≤ vec_capacity spare.new)) }
+    ensures past { outlet.new.past ≡ outlet.old.past }
+    ensures left { outlet.new.left.items ≡ outlet.old.left.items }
+    ensures room { OnOk result (0 < length outlet.new.left.items → length outlet.new.left.items + length outlet.new.waiting.items ≤ vec_capacity outlet.new.left) }
+    ensures spare { OnOk result ((length outlet.new.spare.items ≡ 0) × (length outlet.new.waiting.items ≤ vec_capacity outlet.new.spare)) }
     ensures fault { IsMemory result }
 {
     let batch = replace(done, Vec::new(alloc));
-    carry_out(alloc, broker, batch, waiting, boxes, ended)?;
-    spare.reserve(waiting.len())?;
-    if !left.is_empty() {
-        left.reserve(waiting.len())?;
-    }
+    carry_out(
+        alloc,
+        broker,
+        batch,
+        &mut outlet.waiting,
+        &mut outlet.boxes,
+        &mut outlet.ended,
+    )?;
+    outlet.make_room()?;
     Ok(())
 }
 
@@ -155,16 +182,7 @@ impl<D: Disk, B: Bell> Flusher<D, B> {
         if self.broken {
             return Err(FlushFault::Broken);
         }
-        match carry_all_out(
-            alloc,
-            &mut self.broker,
-            &mut self.done,
-            &mut self.waiting,
-            &mut self.boxes,
-            &mut self.ended,
-            &mut self.left,
-            &mut self.spare,
-        ) {
+        match carry_all_out(alloc, &mut self.broker, &mut self.done, &mut self.outlet) {
             Ok(()) => {
                 self.settled = self.stored;
                 Ok(())

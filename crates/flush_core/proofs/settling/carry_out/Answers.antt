@@ -1,5 +1,6 @@
 use Rattle.std.proofs.Common.{rules, arith, false, ap, sym, ◌∙◌, ◌+◌, ◌++◌, ◌∷◌, ◌≡◌, ℕ, List, [], length}
-use Rattle.std.proofs.lemmas.Iterator.Consumers.{YieldsList-turn}
+use mathlib.Core.List.{map-id}
+use Rattle.std.proofs.lemmas.Iterator.Consumers.{YieldsList-end, YieldsList-turn}
 use Rattle.std.proofs.lemmas.List.{append_assoc}
 use Rattle.std.proofs.lemmas.Iterator.Adapters.{YieldsList-from_vec}
 use Rattle.area_core.specs.Areas.{commands}
@@ -7,7 +8,9 @@ use Rattle.broker_core.specs.States.{BrokerValue, State}
 use Rattle.command_core.specs.Commands.{CommandValue}
 use Rattle.command_core.specs.Outs.{OutValue}
 use Rattle.broker_core.specs.Steps.{outs, outs_of, state_after, step}
-use Rattle.flush_core.specs.Sessions.{ended_by, ended_of, opened}
+use Rattle.command_core.specs.Entries.{EntryValue}
+use Rattle.outbox_core.specs.Boxes.{SenderValue}
+use Rattle.flush_core.specs.Sessions.{boxes_after, ended_by, ended_of, opened}
 use Rattle.flush_core.proofs.Sessions.{boxes_entries, ended_commands}
 use Rattle.flush_core.proofs.Taken.{commands_more, count_after, length_commands, outs_commands, state_commands}
 use Rattle.flush_core.proofs.settling.carry_out.Goals as goal
@@ -45,3 +48,34 @@ loop-entry-preserved g c =
           ∙ (append_assoc c.args.ended.now.items (ended_of before so_far) (ended_by (state_after before so_far) command)
           ∙ ap (λ (l : List ℕ). c.args.ended.now.items ++ l) (sym (ended_commands so_far before command) ∙ ap (λ (l : List CommandValue). ended_of before l) (sym is))));
     }
+
+pub returns-clause-state : goal.returns-clause-state
+returns-clause-state g c =
+    let h = c.into_iter-entry-iterator.ensures.into_iter_gives in
+    let t = YieldsList-end (YieldsList-from_vec {s = c.into_iter-entry-iterator.result} c.args.batch.items h.0 (search rules)) c.loop-entry.yielded c.loop-entry.entry-iterator c.loop-entry.yielded_by c.next.result c.next.new.self c.in-None.is c.next.ensures.steps in
+    let all : c.loop-entry.yielded ≡ c.args.batch.items = sym (map-id c.loop-entry.yielded) ∙ t.0 in
+    c.loop-entry.invariant.broker ∙ ap (λ (l : List (EntryValue SenderValue)). record { state = state_after c.args.broker.now.state (commands l); broken = false }) all
+
+pub returns-clause-outs : goal.returns-clause-outs
+returns-clause-outs g c =
+    let h = c.into_iter-entry-iterator.ensures.into_iter_gives in
+    let t = YieldsList-end (YieldsList-from_vec {s = c.into_iter-entry-iterator.result} c.args.batch.items h.0 (search rules)) c.loop-entry.yielded c.loop-entry.entry-iterator c.loop-entry.yielded_by c.next.result c.next.new.self c.in-None.is c.next.ensures.steps in
+    let all : c.loop-entry.yielded ≡ c.args.batch.items = sym (map-id c.loop-entry.yielded) ∙ t.0 in
+    c.loop-entry.invariant.outs ∙ ap (λ (l : List (EntryValue SenderValue)). c.args.waiting.now.items ++ outs_of c.args.broker.now.state (commands l)) all
+
+pub returns-clause-boxes : goal.returns-clause-boxes
+returns-clause-boxes g c =
+    let h = c.into_iter-entry-iterator.ensures.into_iter_gives in
+    let t = YieldsList-end (YieldsList-from_vec {s = c.into_iter-entry-iterator.result} c.args.batch.items h.0 (search rules)) c.loop-entry.yielded c.loop-entry.entry-iterator c.loop-entry.yielded_by c.next.result c.next.new.self c.in-None.is c.next.ensures.steps in
+    let all : c.loop-entry.yielded ≡ c.args.batch.items = sym (map-id c.loop-entry.yielded) ∙ t.0 in
+    c.loop-entry.invariant.boxes ∙ ap (λ (l : List (EntryValue SenderValue)). boxes_after c.args.broker.now.state.count c.args.boxes.now l) all
+
+pub returns-clause-ended : goal.returns-clause-ended
+returns-clause-ended g c =
+    let h = c.into_iter-entry-iterator.ensures.into_iter_gives in
+    let t = YieldsList-end (YieldsList-from_vec {s = c.into_iter-entry-iterator.result} c.args.batch.items h.0 (search rules)) c.loop-entry.yielded c.loop-entry.entry-iterator c.loop-entry.yielded_by c.next.result c.next.new.self c.in-None.is c.next.ensures.steps in
+    let all : c.loop-entry.yielded ≡ c.args.batch.items = sym (map-id c.loop-entry.yielded) ∙ t.0 in
+    c.loop-entry.invariant.ended ∙ ap (λ (l : List (EntryValue SenderValue)). c.args.ended.now.items ++ ended_of c.args.broker.now.state (commands l)) all
+
+pub carry_out_one-requires-clause-whole : goal.carry_out_one-requires-clause-whole
+carry_out_one-requires-clause-whole g c = ap (λ (b : BrokerValue). b.broken) c.loop-entry.invariant.broker

@@ -1,11 +1,12 @@
-use Rattle.std.proofs.Common.{arith, ap, refl, sym, subst, ◌∙◌, ◌++◌, ◌≡◌, ◌≤◌, List}
+use Rattle.std.proofs.Common.{arith, ap, append_assoc, refl, sym, subst, true, ◌∙◌, ◌++◌, ◌≡◌, ◌≤◌, List}
 use Rattle.area_core.specs.Areas.{commands}
 use Rattle.command_core.specs.Commands.{CommandValue}
 use Rattle.command_core.specs.Entries.{EntryValue}
 use Rattle.outbox_core.specs.Boxes.{SenderValue}
 use Rattle.claim_core.specs.Seats.{FlushSeatValue, when_stopped}
 use Rattle.flush_core.specs.Batches.{IsBatch, from_on, with_more}
-use Rattle.flush_core.specs.Flushed.{flushed}
+use Rattle.flush_core.specs.Flushed.{Flushed, flushed}
+use Rattle.flush_core.specs.Outcomes.{taking}
 use Rattle.flush_core.proofs.Keeping.{all_brought, fails, held_more, takes}
 use Rattle.flush_core.proofs.Sessions.{commands_both}
 use Rattle.flush_core.proofs.Taken.{from_more}
@@ -14,7 +15,7 @@ use Rattle.flush_core.proofs.flusher.Flusher.gather.Goals as goal
 pub invariant_of-self : goal.invariant_of-self
 invariant_of-self g c =
     let it = c.self.inside in
-    let f = flushed it.journal it.seat it.opening.value.state it.stored it.settled (it.done.items ++ it.batch.items) it.broker it.boxes it.ended.items it.past.items it.waiting.items it.left.items it.broken in
+    let f = flushed it.journal it.seat it.opening.value.state it.stored it.settled (it.done.items ++ it.batch.items) it.broker it.outlet.boxes it.outlet.ended.items it.outlet.past.items it.outlet.waiting.items it.outlet.left.items it.broken in
     let kept = c.self.invariant.0 in
     let held = c.self.invariant.1 c.if-self.false in
     let took = c.in-Ok.ensures.taken in
@@ -34,8 +35,8 @@ invariant_of-self g c =
 pub invariant_of-self-in-Err : goal.invariant_of-self-in-Err
 invariant_of-self-in-Err g c =
     let it = c.self.inside in
-    let f = flushed it.journal it.seat it.opening.value.state it.stored it.settled (it.done.items ++ it.batch.items) it.broker it.boxes it.ended.items it.past.items it.waiting.items it.left.items it.broken in (
-      fails g.D.Disk.honest g.D.Disk.images f c.stop.new.seat (it.done.items ++ c.fill.new.batch.items) it.broker it.boxes it.ended.items it.waiting.items it.left.items
+    let f = flushed it.journal it.seat it.opening.value.state it.stored it.settled (it.done.items ++ it.batch.items) it.broker it.outlet.boxes it.outlet.ended.items it.outlet.past.items it.outlet.waiting.items it.outlet.left.items it.broken in (
+      fails g.D.Disk.honest g.D.Disk.images f c.stop.new.seat (it.done.items ++ c.fill.new.batch.items) it.broker it.outlet.boxes it.outlet.ended.items it.outlet.past.items it.outlet.waiting.items it.outlet.left.items
           (c.stop.ensures ∙ ap (λ (s : FlushSeatValue). when_stopped s) c.in-Err.ensures.refused) refl c.self.invariant.0,
       λ w. absurd (cc w),
       λ w. absurd (cc w),
@@ -51,3 +52,72 @@ returns-in-Ok-clause-batch g c =
     ap (λ (l : List (EntryValue SenderValue)). commands l) took.3 ∙ (commands_both it.batch.items took.0
     ∙ (ap (λ (l : List CommandValue). l ++ more) held.batch_is ∙ (sym (from_more it.seat more it.stored c.self.invariant.0.stored) ∙ ap (λ (s : FlushSeatValue). from_on s it.stored) (sym took.2)))) in
     subst (λ (l : List CommandValue). IsBatch l) is c.fill.ensures.batch
+
+pub returns-then-self-clause-taken : goal.returns-then-self-clause-taken
+returns-then-self-clause-taken g c = tt
+
+pub returns-then-self-clause-batch : goal.returns-then-self-clause-batch
+returns-then-self-clause-batch g c = tt
+
+pub returns-then-self-clause-untouched : goal.returns-then-self-clause-untouched
+returns-then-self-clause-untouched g c = (refl, refl)
+
+pub returns-then-self-clause-outcome : goal.returns-then-self-clause-outcome
+returns-then-self-clause-outcome g c = (ap (λ (f : Flushed g.row.D.Denot). f.broken) (sym c.self.view_is) ∙ c.if-self.true, refl)
+
+pub returns-then-self-clause-stops : goal.returns-then-self-clause-stops
+returns-then-self-clause-stops g c = subst (λ (f : Flushed g.row.D.Denot). (f.broken ≡ true) × (f.seat.stopped ≡ true)) c.self.view_is (c.if-self.true, c.self.invariant.0.stopped c.if-self.true)
+
+pub returns-then-self-clause-fault : goal.returns-then-self-clause-fault
+returns-then-self-clause-fault g c = tt
+
+pub returns-in-Ok-clause-taken : goal.returns-in-Ok-clause-taken
+returns-in-Ok-clause-taken g c =
+    let it = c.self.inside in
+    let f = flushed it.journal it.seat it.opening.value.state it.stored it.settled (it.done.items ++ it.batch.items) it.broker it.outlet.boxes it.outlet.ended.items it.outlet.past.items it.outlet.waiting.items it.outlet.left.items it.broken in
+    let took = c.in-Ok.ensures.taken in (
+      took.0,
+      took.1,
+      (λ i. record f { seat = took.2 i; brought = (ap (λ (l : List (EntryValue SenderValue)). it.done.items ++ l) took.3 ∙ sym (append_assoc it.done.items it.batch.items took.0)) i })
+          ∙ ap (λ (f : Flushed g.row.D.Denot). taking f took.0) c.self.view_is,
+    )
+
+pub returns-in-Ok-clause-untouched : goal.returns-in-Ok-clause-untouched
+returns-in-Ok-clause-untouched g c = tt
+
+pub returns-in-Ok-clause-outcome : goal.returns-in-Ok-clause-outcome
+returns-in-Ok-clause-outcome g c = (ap (λ (f : Flushed g.row.D.Denot). f.broken) (sym c.self.view_is) ∙ c.if-self.false, c.if-self.false)
+
+pub returns-in-Ok-clause-stops : goal.returns-in-Ok-clause-stops
+returns-in-Ok-clause-stops g c = tt
+
+pub returns-in-Ok-clause-fault : goal.returns-in-Ok-clause-fault
+returns-in-Ok-clause-fault g c = tt
+
+pub returns-in-Err-clause-taken : goal.returns-in-Err-clause-taken
+returns-in-Err-clause-taken g c = tt
+
+pub returns-in-Err-clause-batch : goal.returns-in-Err-clause-batch
+returns-in-Err-clause-batch g c = tt
+
+pub returns-in-Err-clause-untouched : goal.returns-in-Err-clause-untouched
+returns-in-Err-clause-untouched g c = (
+  ap (λ (f : Flushed g.row.D.Denot). f.disk) c.self.view_is,
+  ap (λ (s : FlushSeatValue). s.taken) c.stop.ensures ∙ (ap (λ (s : FlushSeatValue). s.taken) c.in-Err.ensures.refused ∙ ap (λ (f : Flushed g.row.D.Denot). f.seat.taken) c.self.view_is),
+)
+
+pub returns-in-Err-clause-outcome : goal.returns-in-Err-clause-outcome
+returns-in-Err-clause-outcome g c = record {
+  was = ap (λ (f : Flushed g.row.D.Denot). f.broken) (sym c.self.view_is) ∙ c.if-self.false;
+  now = refl;
+  seat = c.stop.ensures ∙ ap (λ (s : FlushSeatValue). when_stopped s) (c.in-Err.ensures.refused ∙ ap (λ (f : Flushed g.row.D.Denot). f.seat) c.self.view_is);
+  stored = ap (λ (f : Flushed g.row.D.Denot). f.stored) c.self.view_is;
+  opening = ap (λ (f : Flushed g.row.D.Denot). f.opening) c.self.view_is;
+  left = ap (λ (f : Flushed g.row.D.Denot). f.left) c.self.view_is;
+}
+
+pub returns-in-Err-clause-stops : goal.returns-in-Err-clause-stops
+returns-in-Err-clause-stops g c = (refl, ap (λ (s : FlushSeatValue). s.stopped) c.stop.ensures)
+
+pub returns-in-Err-clause-fault : goal.returns-in-Err-clause-fault
+returns-in-Err-clause-fault g c = tt

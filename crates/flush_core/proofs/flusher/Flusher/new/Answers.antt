@@ -22,14 +22,14 @@ invariant_of-result g c =
           (ap (λ (s : State). s.count) opening ∙ c.requires.count)
           (subst (λ (s : State). IsSound s) (sym opening) (c.is_broken-broken.ensures.sound c.requires.whole.1))
           (λ h. subst (λ (s : State). StandFor (g.D.Disk.images c.args.journal.disk) s) (sym opening) (c.requires.stands h))
-          (λ i. c.new-2.ensures.items i ++ c.new.ensures.items i) c.new-3.ensures.items c.new-4.ensures.items whole,
+          (λ i. c.new-2.ensures.items i ++ c.new.ensures.items i) c.new-3.ensures.outs.0 c.new-3.ensures.outs.1 whole,
       λ _. record {
         whole = c.requires.whole.0;
         batch_is = ap (λ l. commands l) c.new.ensures.items ∙ sym (from_end seat c.next-next.result c.next-next.ensures.next);
         bytes_is = ap (λ l. length (records (commands l))) (sym c.new.ensures.items);
         done_is = ap (λ l. commands l) c.new-2.ensures.items ∙ sym (between_none seat c.next-next.result);
         few = c.next-next.ensures.most;
-        room_is = λ some. omega (arith, some, ap (λ (l : List OutValue). length l) c.new-4.ensures.items);
+        room_is = λ some. omega (arith, some, ap (λ (l : List OutValue). length l) c.new-3.ensures.outs.1);
       },
-      λ _. record { none = ap (λ (l : List OutValue). length l) c.new-8.ensures.items; room_is = omega (arith, ap (λ (l : List OutValue). length l) c.new-3.ensures.items) },
+      λ _. record { none = ap (λ (l : List OutValue). length l) c.new-3.ensures.outs.2; room_is = omega (arith, ap (λ (l : List OutValue). length l) c.new-3.ensures.outs.0) },
     )

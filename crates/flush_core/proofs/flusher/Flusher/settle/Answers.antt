@@ -1,9 +1,13 @@
-use Rattle.std.proofs.Common.{arith, ap, sym, ◌∙◌, ◌++◌, List, false}
+use Rattle.std.proofs.Common.{arith, ap, refl, subst, sym, true, ◌∙◌, ◌++◌, ◌≡◌, Err, List, Result, false}
 use Rattle.area_core.specs.Areas.{commands}
 use Rattle.broker_core.specs.Steps.{outs_of, state_after}
 use Rattle.command_core.specs.Commands.{CommandValue}
 use Rattle.command_core.specs.Entries.{EntryValue}
 use Rattle.outbox_core.specs.Boxes.{SenderValue}
+use Rattle.claim_core.specs.Seats.{FlushSeatValue, when_stopped}
+use Rattle.flush_core.specs.declared.faults.FlushFault.{FlushFault}
+use Rattle.flush_core.specs.Faults.{IsMemory}
+use Rattle.flush_core.proofs.StoreFaults.{fell_for_memory, needs_memory}
 use Rattle.flush_core.specs.Flushed.{Flushed, flushed}
 use Rattle.flush_core.specs.Outcomes.{settling}
 use Rattle.flush_core.specs.Sessions.{boxes_after, ended_of}
@@ -13,21 +17,21 @@ use Rattle.flush_core.proofs.flusher.Flusher.settle.Goals as goal
 pub carry_all_out-requires-clause-count : goal.carry_all_out-requires-clause-count
 carry_all_out-requires-clause-count g c =
     let it = c.self.inside in
-    let f = flushed it.journal it.seat it.opening.value.state it.stored it.settled (it.done.items ++ it.batch.items) it.broker it.boxes it.ended.items it.past.items it.waiting.items it.left.items it.broken in
+    let f = flushed it.journal it.seat it.opening.value.state it.stored it.settled (it.done.items ++ it.batch.items) it.broker it.outlet.boxes it.outlet.ended.items it.outlet.past.items it.outlet.waiting.items it.outlet.left.items it.broken in
     let held = c.self.invariant.1 c.if-self.false in
     counts g.D.Disk.honest g.D.Disk.images f it.done.items c.if-self.false c.self.invariant.0 held.done_is held.few
 
 pub invariant_of-self : goal.invariant_of-self
 invariant_of-self g c =
     let it = c.self.inside in
-    let f = flushed it.journal it.seat it.opening.value.state it.stored it.settled (it.done.items ++ it.batch.items) it.broker it.boxes it.ended.items it.past.items it.waiting.items it.left.items it.broken in
+    let f = flushed it.journal it.seat it.opening.value.state it.stored it.settled (it.done.items ++ it.batch.items) it.broker it.outlet.boxes it.outlet.ended.items it.outlet.past.items it.outlet.waiting.items it.outlet.left.items it.broken in
     let held = c.self.invariant.1 c.if-self.false in
     let did = c.in-Ok.ensures in
     let now = c.carry_all_out.new in (
-      settles g.D.Disk.honest g.D.Disk.images f (now.done.items ++ it.batch.items) now.broker now.boxes now.ended.items now.waiting.items now.left.items
+      settles g.D.Disk.honest g.D.Disk.images f (now.done.items ++ it.batch.items) now.broker now.outlet.boxes now.outlet.ended.items now.outlet.past.items now.outlet.waiting.items now.outlet.left.items
           (ap (λ (l : List (EntryValue SenderValue)). commands (l ++ it.batch.items)) did.done ∙ held.batch_is)
           (did.state ∙ ap (λ (l : List CommandValue). record { state = state_after it.broker.state l; broken = false }) held.done_is)
-          (did.outs ∙ ap (λ (l : List CommandValue). it.waiting.items ++ outs_of it.broker.state l) held.done_is)
+          (did.outs ∙ ap (λ (l : List CommandValue). it.outlet.waiting.items ++ outs_of it.broker.state l) held.done_is)
           c.carry_all_out.ensures.left c.if-self.false c.self.invariant.0,
       λ w. held_settled it.seat it.stored it.settled _ it.batch.items it.done.items now.done.items it.bytes _ _ _ _ _ _ did.done did.room held,
       λ w. record { none = did.spare.0; room_is = did.spare.1 },
@@ -36,9 +40,9 @@ invariant_of-self g c =
 pub invariant_of-self-in-Err : goal.invariant_of-self-in-Err
 invariant_of-self-in-Err g c =
     let it = c.self.inside in
-    let f = flushed it.journal it.seat it.opening.value.state it.stored it.settled (it.done.items ++ it.batch.items) it.broker it.boxes it.ended.items it.past.items it.waiting.items it.left.items it.broken in
+    let f = flushed it.journal it.seat it.opening.value.state it.stored it.settled (it.done.items ++ it.batch.items) it.broker it.outlet.boxes it.outlet.ended.items it.outlet.past.items it.outlet.waiting.items it.outlet.left.items it.broken in
     let now = c.carry_all_out.new in (
-      fails g.D.Disk.honest g.D.Disk.images f c.stop.new.seat (now.done.items ++ it.batch.items) now.broker now.boxes now.ended.items now.waiting.items now.left.items
+      fails g.D.Disk.honest g.D.Disk.images f c.stop.new.seat (now.done.items ++ it.batch.items) now.broker now.outlet.boxes now.outlet.ended.items now.outlet.past.items now.outlet.waiting.items now.outlet.left.items
           c.stop.ensures c.carry_all_out.ensures.left c.self.invariant.0,
       λ w. absurd (cc w),
       λ w. absurd (cc w),
@@ -47,17 +51,71 @@ invariant_of-self-in-Err g c =
 pub returns-in-Ok-clause-settled : goal.returns-in-Ok-clause-settled
 returns-in-Ok-clause-settled g c =
     let it = c.self.inside in
-    let f = flushed it.journal it.seat it.opening.value.state it.stored it.settled (it.done.items ++ it.batch.items) it.broker it.boxes it.ended.items it.past.items it.waiting.items it.left.items it.broken in
+    let f = flushed it.journal it.seat it.opening.value.state it.stored it.settled (it.done.items ++ it.batch.items) it.broker it.outlet.boxes it.outlet.ended.items it.outlet.past.items it.outlet.waiting.items it.outlet.left.items it.broken in
     let kept = c.self.invariant.0 in
     let held = c.self.invariant.1 c.if-self.false in
     let did = c.in-Ok.ensures in
     let now = c.carry_all_out.new in
     let entries = settled_entries it.seat it.stored it.settled _ it.batch.items it.done.items _ _ _ _ (omega (arith, kept.begun, kept.marked)) kept.settled kept.stored held in
-    settling_is g.D.Disk.honest g.D.Disk.images f (now.done.items ++ it.batch.items) now.broker now.boxes now.ended.items now.waiting.items now.left.items c.if-self.false kept
+    settling_is g.D.Disk.honest g.D.Disk.images f (now.done.items ++ it.batch.items) now.broker now.outlet.boxes now.outlet.ended.items now.outlet.past.items now.outlet.waiting.items now.outlet.left.items c.if-self.false kept
     (ap (λ (l : List (EntryValue SenderValue)). l ++ it.batch.items) did.done ∙ sym entries.1)
-    (did.boxes ∙ (λ i. boxes_after (broker_count g.D.Disk.honest g.D.Disk.images f c.if-self.false kept i) it.boxes ((sym entries.0) i)))
-    (did.ended ∙ ap (λ (l : List CommandValue). it.ended.items ++ ended_of it.broker.state l) held.done_is)
+    (did.boxes ∙ (λ i. boxes_after (broker_count g.D.Disk.honest g.D.Disk.images f c.if-self.false kept i) it.outlet.boxes ((sym entries.0) i)))
+    (did.ended ∙ ap (λ (l : List CommandValue). it.outlet.ended.items ++ ended_of it.broker.state l) held.done_is)
+    (λ i. (c.carry_all_out.ensures.past i).items)
     (did.state ∙ ap (λ (l : List CommandValue). record { state = state_after it.broker.state l; broken = false }) held.done_is)
-    (did.outs ∙ ap (λ (l : List CommandValue). it.waiting.items ++ outs_of it.broker.state l) held.done_is)
+    (did.outs ∙ ap (λ (l : List CommandValue). it.outlet.waiting.items ++ outs_of it.broker.state l) held.done_is)
     c.carry_all_out.ensures.left
     ∙ ap (λ (f : Flushed g.row.D.Denot). settling f) c.self.view_is
+
+pub returns-then-self-clause-settled : goal.returns-then-self-clause-settled
+returns-then-self-clause-settled g c = tt
+
+pub returns-then-self-clause-untouched : goal.returns-then-self-clause-untouched
+returns-then-self-clause-untouched g c = refl
+
+pub returns-then-self-clause-outcome : goal.returns-then-self-clause-outcome
+returns-then-self-clause-outcome g c = (ap (λ (f : Flushed g.row.D.Denot). f.broken) (sym c.self.view_is) ∙ c.if-self.true, refl)
+
+pub returns-then-self-clause-stops : goal.returns-then-self-clause-stops
+returns-then-self-clause-stops g c = subst (λ (f : Flushed g.row.D.Denot). (f.broken ≡ true) × (f.seat.stopped ≡ true)) c.self.view_is (c.if-self.true, c.self.invariant.0.stopped c.if-self.true)
+
+pub returns-then-self-clause-fault : goal.returns-then-self-clause-fault
+returns-then-self-clause-fault g c = tt
+
+pub returns-in-Ok-clause-untouched : goal.returns-in-Ok-clause-untouched
+returns-in-Ok-clause-untouched g c = ap (λ (f : Flushed g.row.D.Denot). f.disk) c.self.view_is
+
+pub returns-in-Ok-clause-outcome : goal.returns-in-Ok-clause-outcome
+returns-in-Ok-clause-outcome g c = (ap (λ (f : Flushed g.row.D.Denot). f.broken) (sym c.self.view_is) ∙ c.if-self.false, c.if-self.false)
+
+pub returns-in-Ok-clause-stops : goal.returns-in-Ok-clause-stops
+returns-in-Ok-clause-stops g c = tt
+
+pub returns-in-Ok-clause-fault : goal.returns-in-Ok-clause-fault
+returns-in-Ok-clause-fault g c = tt
+
+pub returns-in-Err-clause-settled : goal.returns-in-Err-clause-settled
+returns-in-Err-clause-settled g c = tt
+
+pub returns-in-Err-clause-untouched : goal.returns-in-Err-clause-untouched
+returns-in-Err-clause-untouched g c = ap (λ (f : Flushed g.row.D.Denot). f.disk) c.self.view_is
+
+pub returns-in-Err-clause-outcome : goal.returns-in-Err-clause-outcome
+returns-in-Err-clause-outcome g c =
+    let memory : IsMemory {T = Unit {0}} (Err c.in-Err.fault) = subst (λ (r : Result (Unit {0}) FlushFault). IsMemory {T = Unit {0}} r) c.in-Err.is c.carry_all_out.ensures.fault in
+    fell_for_memory c.in-Err.fault _ _ memory (record {
+      was = ap (λ (f : Flushed g.row.D.Denot). f.broken) (sym c.self.view_is) ∙ c.if-self.false;
+      now = refl;
+      seat = c.stop.ensures ∙ ap (λ (f : Flushed g.row.D.Denot). when_stopped f.seat) c.self.view_is;
+      stored = ap (λ (f : Flushed g.row.D.Denot). f.stored) c.self.view_is;
+      opening = ap (λ (f : Flushed g.row.D.Denot). f.opening) c.self.view_is;
+      left = c.carry_all_out.ensures.left ∙ ap (λ (f : Flushed g.row.D.Denot). f.left) c.self.view_is;
+    })
+
+pub returns-in-Err-clause-stops : goal.returns-in-Err-clause-stops
+returns-in-Err-clause-stops g c = (refl, ap (λ (s : FlushSeatValue). s.stopped) c.stop.ensures)
+
+pub returns-in-Err-clause-fault : goal.returns-in-Err-clause-fault
+returns-in-Err-clause-fault g c =
+    let memory : IsMemory {T = Unit {0}} (Err c.in-Err.fault) = subst (λ (r : Result (Unit {0}) FlushFault). IsMemory {T = Unit {0}} r) c.in-Err.is c.carry_all_out.ensures.fault in
+    needs_memory c.in-Err.fault memory

@@ -1,4 +1,4 @@
-use Rattle.std.proofs.Common.{◌∙◌, ap, refl}
+use Rattle.std.proofs.Common.{◌∙◌, ◌≡◌, ap, refl, sym, true}
 use Rattle.flush_core.specs.Flushed.{Flushed}
 use Rattle.flush_core.proofs.Turns.{failed_keeps, stored, turned, unstored}
 use Rattle.flush_core.proofs.flusher.Flusher.turn.Goals as goal
@@ -41,3 +41,33 @@ returns-clause-turned g c =
       turned g.D.Disk c.args.self.now c.gather.new.self c.store.new.self c.settle.new.self c.publish.new.self took.0 c.store.new.self.disk c.store.new.self.size c.store.new.self.used
           c.is_broken.ensures.kept whole (c.requires.settled whole) took.2 c.in_ok-store.ensures.stored c.in_ok-settle.ensures.settled c.publish.ensures.published c.publish.ensures.given,
     )
+
+pub returns-then-is_broken-clause-any_moment : goal.returns-then-is_broken-clause-any_moment
+returns-then-is_broken-clause-any_moment g c =
+    let broken : c.args.self.now.broken ≡ true = sym c.is_broken.ensures.value ∙ c.if-is_broken.true in
+    λ h whole. absurd (cc (broken, whole))
+
+pub returns-then-is_broken-clause-after : goal.returns-then-is_broken-clause-after
+returns-then-is_broken-clause-after g c = λ h. tt
+
+pub returns-then-is_broken-clause-turned : goal.returns-then-is_broken-clause-turned
+returns-then-is_broken-clause-turned g c = tt
+
+pub returns-then-is_broken-clause-batch : goal.returns-then-is_broken-clause-batch
+returns-then-is_broken-clause-batch g c = tt
+
+pub returns-then-is_broken-clause-full : goal.returns-then-is_broken-clause-full
+returns-then-is_broken-clause-full g c = λ is. absurd (cc is)
+
+pub returns-then-is_broken-clause-outcome : goal.returns-then-is_broken-clause-outcome
+returns-then-is_broken-clause-outcome g c =
+    let broken : c.args.self.now.broken ≡ true = sym c.is_broken.ensures.value ∙ c.if-is_broken.true in
+    (broken, refl)
+
+pub returns-then-is_broken-clause-stops : goal.returns-then-is_broken-clause-stops
+returns-then-is_broken-clause-stops g c =
+    let broken : c.args.self.now.broken ≡ true = sym c.is_broken.ensures.value ∙ c.if-is_broken.true in
+    (broken, c.is_broken.ensures.kept.stopped broken)
+
+pub returns-then-is_broken-clause-cause : goal.returns-then-is_broken-clause-cause
+returns-then-is_broken-clause-cause g c = refl

@@ -1,0 +1,112 @@
+//! Where outputs go.
+
+ghost use Rattle.std.specs.Prelude.{◌≡◌, ◌<◌, ◌≤◌, ◌+◌, ◌++◌, [], OnOk, length, vec_capacity};
+ghost use Rattle.boxes_core.specs.Giving.{AreGiven, unboxed, without};
+
+use boxes_core::Boxes;
+use command_core::Out;
+use outbox_core::Bell;
+use std::alloc::{AllocError, Global};
+use std::mem::{replace, swap};
+
+/// The boxes of sessions, and the outputs on their way there.
+#[derive(Drop)]
+pub(crate) struct Outlet<B: Bell> {
+    // The outboxes of sessions; the sessions that ended and whose last outputs wait for the mark; and those whose last
+    // outputs are given, so that their boxes can go.
+    pub(crate) boxes: Boxes<B>,
+    pub(crate) ended: Vec<u64>,
+    pub(crate) past: Vec<u64>,
+    // The outputs that wait for the mark, and those under it that went to no box.
+    pub(crate) waiting: Vec<Out>,
+    pub(crate) left: Vec<Out>,
+    // Room for what goes to no box, for as long as a call of `give` lasts.
+    pub(crate) spare: Vec<Out>,
+}
+
+impl<B: Bell> Outlet<B> {
+    // No memory is taken.
+    pub(crate) fn new(alloc: Global) -> Outlet<B>
+        ensures boxes { result.boxes ≡ [] }
+        ensures ended { (result.ended.items ≡ []) × (result.past.items ≡ []) }
+        ensures outs { (result.waiting.items ≡ []) × (result.left.items ≡ []) × (result.spare.items ≡ []) }
+    {
+        Outlet {
+            boxes: Boxes::new(alloc),
+            ended: Vec::new(alloc),
+            past: Vec::new(alloc),
+            waiting: Vec::new(alloc),
+            left: Vec::new(alloc),
+            spare: Vec::new(alloc),
+        }
+    }
+
+    // Makes the room that `give` needs.
+    pub(crate) fn make_room(&mut self) -> Result<(), AllocError>
+        requires none { length self.old.spare.items ≡ 0 }
+        ensures boxes { self.new.boxes ≡ self.old.boxes }
+        ensures ended { (self.new.ended ≡ self.old.ended) × (self.new.past ≡ self.old.past) }
+        ensures outs { (self.new.waiting ≡ self.old.waiting) × (self.new.left.items ≡ self.old.left.items) × (self.new.spare.items ≡ self.old.spare.items) }
+        ensures left { OnOk result (0 < length self.new.left.items → length self.new.left.items + length self.new.waiting.items ≤ vec_capacity self.new.left) }
+        ensures spare { OnOk result (length self.new.waiting.items ≤ vec_capacity self.new.spare) }
+    {
+        self.spare.reserve(self.waiting.len())?;
+        if !self.left.is_empty() {
+            self.left.reserve(self.waiting.len())?;
+        }
+        Ok(())
+    }
+
+    // Lets the boxes go of sessions whose last outputs are given, and gives what waits to the boxes of its sessions. What goes
+    // to no box may be handed out, behind what might be already.
+    pub(crate) fn give(&mut self)
+        requires none { length self.old.spare.items ≡ 0 }
+        requires spare { length self.old.waiting.items ≤ vec_capacity self.old.spare }
+        requires left { 0 < length self.old.left.items → length self.old.left.items + length self.old.waiting.items ≤ vec_capacity self.old.left }
+        ensures given { AreGiven self.old.waiting.items (without self.old.boxes self.old.past.items) self.new.boxes }
+        ensures ended { (self.new.ended.items ≡ []) × (self.new.past.items ≡ self.old.ended.items) }
+        ensures left { self.new.left.items ≡ self.old.left.items ++ unboxed (without self.old.boxes self.old.past.items) self.old.waiting.items }
+        ensures none { (self.new.waiting.items ≡ []) × (self.new.spare.items ≡ []) }
+    {
+        let_past_go(&mut self.boxes, &mut self.past, &mut self.ended);
+        give_waiting(&mut self.boxes, &mut self.waiting, &mut self.spare);
+        leave(&mut self.left, &mut self.spare);
+    }
+}
+
+// Lets the boxes go of sessions whose last outputs are given, and notes those whose last outputs are given next.
+fn let_past_go<B: Bell>(boxes: &mut Boxes<B>, past: &mut Vec<u64>, ended: &mut Vec<u64>)
+    ensures boxes { boxes.new ≡ without boxes.old past.old.items }
+    ensures past { past.new.items ≡ ended.old.items }
+    ensures ended { ended.new.items ≡ [] }
+{
+    boxes.let_go(past);
+    past.clear();
+    swap(past, ended);
+}
+
+// Gives what waits to the boxes of its sessions. What goes to no box comes into the room that was made for it.
+fn give_waiting<B: Bell>(boxes: &mut Boxes<B>, waiting: &mut Vec<Out>, spare: &mut Vec<Out>)
+    requires none { length spare.old.items ≡ 0 }
+    requires room { length waiting.old.items ≤ vec_capacity spare.old }
+    ensures given { AreGiven waiting.old.items boxes.old boxes.new }
+    ensures unboxed { spare.new.items ≡ unboxed boxes.old waiting.old.items }
+    ensures waiting { waiting.new.items ≡ [] }
+{
+    let alloc = *waiting.allocator();
+    let outs = replace(waiting, Vec::new(alloc));
+    boxes.give_all(outs, spare);
+}
+
+// What went to no box may be handed out, behind what might be already.
+fn leave<T>(left: &mut Vec<T>, spare: &mut Vec<T>)
+    requires room { 0 < length left.old.items → length left.old.items + length spare.old.items ≤ vec_capacity left.old }
+    ensures left { left.new.items ≡ left.old.items ++ spare.old.items }
+    ensures none { spare.new.items ≡ [] }
+{
+    if left.is_empty() {
+        swap(left, spare);
+    } else {
+        let _ = left.append(spare);
+    }
+}
