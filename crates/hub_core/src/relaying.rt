@@ -1,7 +1,9 @@
 //! Outputs on their way from an outbox to a link.
 
-ghost use Rattle.std.specs.Prelude.{◌≡◌, ℕ, ◌≤◌, List, Option, IfOk, IfErr};
+ghost use Rattle.std.specs.Prelude.{◌≡◌, ℕ, ◌≤◌, List, Option, IfOk, IfErr, OnErr};
+ghost use Rattle.frame_core.specs.Written.{written};
 ghost use Rattle.claim_core.specs.Seats.{with_seen};
+ghost use Rattle.ws_core.specs.Sending.{with_message};
 ghost use Rattle.hub_core.specs.Relays.{passage, Relays, IsRefused, Finds};
 
 use crate::kept::{Kept, Relayed};
@@ -29,15 +31,30 @@ pub fn relay<B, L: Link>(
     ensures relays { IfOk result (Relays (passage taker.old kept.old (L.sent link.old)) (passage taker.new kept.new (L.sent link.new)) seat.new.seen) }
     ensures refused { IfErr result (λ fault. IsRefused (passage taker.old kept.old (L.sent link.old)) (passage taker.new kept.new (L.sent link.new)) seat.new.seen) }
 {
-    let released = match find(ring, seat, taker, kept) {
-        Ok(released) => released,
-        Err(relayed) => return Ok(relayed),
-    };
+    match find(ring, seat, taker, kept) {
+        Ok(released) => pass(alloc, released, kept, link),
+        Err(relayed) => Ok(relayed),
+    }
+}
+
+// Sends an output that may leave, or keeps it where the link refuses it.
+fn pass<L: Link>(
+    alloc: Global,
+    released: Released,
+    kept: &mut Kept,
+    link: &mut L,
+) -> Result<Relayed, LinkFault>
+    requires none { kept.old ≡ Kept.Nothing }
+    ensures told { IfOk result (λ relayed. (relayed ≡ Relayed.Sent released.number released.frame.verb) × (kept.new ≡ Kept.Nothing)
+        × (L.sent link.new ≡ with_message (written released.frame) (L.sent link.old))) }
+    ensures untold { OnErr result ((kept.new ≡ Kept.Unsent released) × (L.sent link.new ≡ L.sent link.old)) }
+{
     match link.send(alloc, &released) {
-        Ok(()) => Ok(Relayed::Sent {
-            number: released.number(),
-            verb: released.frame().verb,
-        }),
+        Ok(()) => {
+            let (number, verb) = (released.number(), released.frame().verb);
+            drop(released);
+            Ok(Relayed::Sent { number, verb })
+        }
         Err(fault) => {
             drop(mem::replace(kept, Kept::Unsent(released)));
             Err(fault)
