@@ -15,24 +15,12 @@ const LONGEST_WAIT: u64 = 10;
 pub struct Client<R>(WebSocket<TcpStream, RandomKeys<R>>);
 
 impl<R: Net<Stream = TcpStream> + RandomSource + Clone + Drop> Client<R> {
-    /// Connects to the port, and offers the subprotocol of STOMP 1.2; or says what failed.
-    pub fn connect(rt: &R, alloc: Global, port: u16) -> Result<Client<R>, &'static str> {
-        let Ok(stream) = TcpStream::connect(rt, ("127.0.0.1", port)) else {
-            return Err("not connected");
-        };
-        let longest = Duration::from_secs(LONGEST_WAIT);
-        if stream.set_read_timeout(Some(longest)).is_err() {
-            return Err("no time limit");
-        }
-        let Some(request) = request_of(alloc) else {
-            return Err("no request");
-        };
-        let Ok(source) = rt.clone() else {
-            return Err("no random bytes");
-        };
-        match client(alloc, source, request, stream) {
-            Ok((socket, _)) => Ok(Client(socket)),
-            Err(_) => Err("no handshake"),
+    /// Connects to the port, and offers the subprotocol of STOMP 1.2.
+    pub fn connect(rt: &R, alloc: Global, port: u16) -> Option<Client<R>> {
+        let source = rt.clone().ok()?;
+        match stream_to(rt, port) {
+            Some(stream) => shake(alloc, source, stream),
+            None => None,
         }
     }
 
@@ -47,8 +35,54 @@ impl<R: Net<Stream = TcpStream> + RandomSource + Clone + Drop> Client<R> {
     /// Whether the next message is a frame that begins so. It waits for ten seconds at most.
     pub fn reads(&mut self, beginning: &str) -> bool {
         match self.0.read() {
-            Ok(Message::Text(text)) => text.as_str().starts_with(beginning),
-            _ => false,
+            Ok(message) => {
+                let begins = begins_with(&message, beginning);
+                drop(message);
+                begins
+            }
+            Err(fault) => {
+                drop(fault);
+                false
+            }
+        }
+    }
+}
+
+// Whether a message is a text that begins so.
+fn begins_with(message: &Message, beginning: &str) -> bool {
+    match message {
+        Message::Text(text) => text.as_str().starts_with(beginning),
+        _ => false,
+    }
+}
+
+// A connection to the port, at which no read waits for longer than it should.
+fn stream_to<R: Net<Stream = TcpStream>>(rt: &R, port: u16) -> Option<TcpStream> {
+    let stream = TcpStream::connect(rt, ("127.0.0.1", port)).ok()?;
+    let longest = Duration::from_secs(LONGEST_WAIT);
+    match stream.set_read_timeout(Some(longest)) {
+        Ok(()) => Some(stream),
+        Err(_) => None,
+    }
+}
+
+// The client of a connection, behind its handshake.
+fn shake<R: RandomSource + Drop>(alloc: Global, source: R, stream: TcpStream) -> Option<Client<R>> {
+    match request_of(alloc) {
+        Some(request) => match client(alloc, source, request, stream) {
+            Ok((socket, response)) => {
+                drop(response);
+                Some(Client(socket))
+            }
+            Err(fault) => {
+                drop(fault);
+                None
+            }
+        },
+        None => {
+            drop(source);
+            drop(stream);
+            None
         }
     }
 }

@@ -1,10 +1,13 @@
 use journal_files::format_file;
 use server_core::{ServeFault, Server};
 use std::alloc::Global;
+use std::fs::{File, Files};
 use std::io::{ErrorKind, Read, Write};
-use std::net::TcpStream;
+use std::net::{Net, TcpListener, TcpStream};
+use std::sync::Wait;
 use std::test::Fail;
-use std::time::Duration;
+use std::thread::Threads;
+use std::time::{Clock, Duration};
 use std::{fs, io, thread};
 
 const PORT: u16 = 47_619;
@@ -28,6 +31,106 @@ impl Write for Failing {
     }
 }
 
+// Reads until an empty line, or the end.
+fn hear(stream: &mut TcpStream, answer: &mut Vec<u8>) -> bool {
+    let mut piece = [0u8; 512];
+    for _read in 0..100u32 {
+        let Ok(count) = stream.read(&mut piece) else {
+            return false;
+        };
+        if answer.extend_from_slice(&piece[..count.min(512)]).is_err() {
+            return false;
+        }
+        if count == 0 || answer.ends_with(b"\r\n\r\n") {
+            return true;
+        }
+    }
+    true
+}
+
+// Sends a handshake in two parts, and reads the answer.
+fn speak(rt: &HostRuntime, stream: &mut TcpStream, answer: &mut Vec<u8>) -> bool {
+    let longest = Duration::from_secs(10);
+    if stream.set_read_timeout(Some(longest)).is_err() {
+        return false;
+    }
+    for part in [BEGINNING, REST] {
+        thread::sleep(rt, Duration::from_millis(50));
+        if stream.write_all(part).is_err() {
+            return false;
+        }
+    }
+    hear(stream, answer)
+}
+
+// Whether an answer takes the handshake, with the key's answer.
+fn takes(answer: &[u8]) -> bool {
+    match str::from_utf8(answer) {
+        Ok(text) => {
+            text.starts_with("HTTP/1.1 101") && text.contains("s3pPLMBiTxaQ9kYGzzhZRbK+xOo=")
+        }
+        Err(_) => false,
+    }
+}
+
+// Whether a handshake at the port is taken.
+fn shake(rt: &HostRuntime, alloc: Global) -> bool {
+    match TcpStream::connect(rt, ("127.0.0.1", PORT)) {
+        Ok(mut stream) => {
+            let mut answer = Vec::new(alloc);
+            let taken = speak(rt, &mut stream, &mut answer) && takes(answer.as_slice());
+            drop(answer);
+            drop(stream);
+            taken
+        }
+        Err(_) => false,
+    }
+}
+// A worker of the server, in a thread of its own.
+fn start_worker<R>(rt: &R, alloc: Global, server: &mut Server<R>) -> bool
+where
+    R: Threads
+        + Net<Listener = TcpListener, Stream = TcpStream>
+        + Wait
+        + Clock
+        + Clone
+        + Drop
+        + Send
+        + Sync
+        + 'static,
+{
+    match server.next_worker() {
+        Ok(Some(worker)) => thread::spawn(rt, move || worker.run(alloc)).is_ok(),
+        _ => false,
+    }
+}
+
+// Whether a server that could not announce itself ended for that, and whether its worker takes a handshake then.
+fn serve<R>(rt: &R, host: &HostRuntime, alloc: Global, path: &str) -> Option<(bool, bool)>
+where
+    R: Files<File = File>
+        + Threads
+        + Net<Listener = TcpListener, Stream = TcpStream>
+        + Wait
+        + Clock
+        + Clone
+        + Drop
+        + Send
+        + Sync
+        + 'static,
+{
+    match Server::open(alloc, rt, path, PORT) {
+        Ok(mut server) => {
+            let started = start_worker(rt, alloc, &mut server);
+            let ended = matches!(server.run(alloc, &mut Failing), ServeFault::Output);
+            let taken = started && shake(host, alloc);
+            drop(server);
+            Some((ended, taken))
+        }
+        Err(_) => None,
+    }
+}
+
 /// A worker waits for each part of a handshake. The answer to this key stands in RFC 6455, section 1.3.
 #[test]
 fn a_handshake_may_come_in_parts(rt: HostRuntime) -> Result<(), Fail> {
@@ -35,33 +138,8 @@ fn a_handshake_may_come_in_parts(rt: HostRuntime) -> Result<(), Fail> {
     let path = "server_handshake";
     let _ = fs::remove_file(&rt, path);
     assert!(rt; format_file(alloc, &rt, path, 8_224).is_ok());
-    let Ok(mut server) = Server::open(alloc, &rt, path, PORT) else {
-        return Err(Fail::from("the server was not opened"));
-    };
-    if let Ok(Some(worker)) = server.next_worker() {
-        thread::spawn(&rt, move || worker.run(alloc))?;
-    }
-    let fault = server.run(alloc, &mut Failing);
-    assert!(rt; matches!(fault, ServeFault::Output));
-    let mut stream = TcpStream::connect(&rt, ("127.0.0.1", PORT))?;
-    stream.set_read_timeout(Some(Duration::from_secs(10)))?;
-    let moment = Duration::from_millis(50);
-    thread::sleep(&rt, moment);
-    stream.write_all(BEGINNING)?;
-    thread::sleep(&rt, moment);
-    stream.write_all(REST)?;
-    let mut answer = Vec::new(alloc);
-    let mut piece = [0u8; 512];
-    for _read in 0..100u32 {
-        let count = stream.read(&mut piece)?;
-        answer.extend_from_slice(&piece[..count.min(512)])?;
-        if count == 0 || answer.ends_with(b"\r\n\r\n") {
-            break;
-        }
-    }
-    assert!(rt; answer.starts_with(b"HTTP/1.1 101"));
-    let text = String::from_utf8(answer)?;
-    assert!(rt; text.as_str().contains("s3pPLMBiTxaQ9kYGzzhZRbK+xOo="));
+    let served = serve(&rt, &rt, alloc, path);
+    assert_eq!(rt; served, Some((true, true)));
     fs::remove_file(&rt, path)?;
     Ok(())
 }

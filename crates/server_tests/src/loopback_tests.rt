@@ -5,10 +5,11 @@ use server_core::{ServeFault, Server};
 use std::alloc::Global;
 use std::fs::{File, Files};
 use std::net::{Net, TcpListener, TcpStream};
+use std::sync::Wait;
 use std::sync::atomic::{AtomicU32, Ordering};
-use std::sync::{Arc, Wait};
 use std::test::Fail;
-use std::time::Duration;
+use std::thread::Threads;
+use std::time::{Clock, Duration};
 use std::{fs, thread};
 
 const PORT: u16 = 47_613;
@@ -49,22 +50,24 @@ fn fill(alloc: Global, client: &mut Client<HostRuntime>) -> bool {
 
 // The first client connects before the second, and sends once the second has its RECEIPT.
 fn first(rt: &HostRuntime, alloc: Global, stage: &AtomicU32) -> Option<bool> {
-    let mut client = Client::connect(rt, alloc, PORT).ok()?;
+    let mut client = Client::connect(rt, alloc, PORT)?;
     let connected = client.send(alloc, CONNECT) && client.reads(CONNECTED);
     stage.store(FIRST_IS_CONNECTED, Ordering::SeqCst);
     let waited = connected && wait_for(rt, stage, SECOND_HAS_ITS_RECEIPT);
     let told = waited && client.send(alloc, SEND) && client.reads(RECEIPT);
     let filled = fill(alloc, &mut client);
+    drop(client);
     Some(told && filled)
 }
 
 // The second client connects once the first is CONNECTED, and gets the RECEIPT of its SEND while the first waits.
 fn second(rt: &HostRuntime, alloc: Global, stage: &AtomicU32) -> Option<bool> {
     let waited = wait_for(rt, stage, FIRST_IS_CONNECTED);
-    let mut client = Client::connect(rt, alloc, PORT).ok()?;
+    let mut client = Client::connect(rt, alloc, PORT)?;
     let connected = waited && client.send(alloc, CONNECT) && client.reads(CONNECTED);
     let told = connected && client.send(alloc, SEND) && client.reads(RECEIPT);
     stage.store(SECOND_HAS_ITS_RECEIPT, Ordering::SeqCst);
+    drop(client);
     Some(told)
 }
 
@@ -81,29 +84,97 @@ where
     Server::open(alloc, rt, path, PORT).ok()
 }
 
+// A worker of the server, in a thread of its own.
+fn start_worker<R>(rt: &R, alloc: Global, server: &mut Server<R>) -> bool
+where
+    R: Threads
+        + Net<Listener = TcpListener, Stream = TcpStream>
+        + Wait
+        + Clock
+        + Clone
+        + Drop
+        + Send
+        + Sync
+        + 'static,
+{
+    match server.next_worker() {
+        Ok(Some(worker)) => thread::spawn(rt, move || worker.run(alloc)).is_ok(),
+        _ => false,
+    }
+}
+
+// Both clients.
+fn speak<R: Threads + Sync>(
+    rt: &R,
+    host: &HostRuntime,
+    alloc: Global,
+) -> (Option<bool>, Option<bool>) {
+    let stage = AtomicU32::new(0);
+    thread::join(
+        rt,
+        || first(host, alloc, &stage),
+        || second(host, alloc, &stage),
+    )
+}
+
+// Runs the server until the journal is full, and ends it. Whether it was that.
+fn serve<R: Wait + Clock + Drop>(alloc: Global, server: Server<R>, written: &mut Vec<u8>) -> bool {
+    let mut server = server;
+    let fault = server.run(alloc, written);
+    server.close();
+    matches!(fault, ServeFault::Flushing(FlushFault::Full))
+}
+
+// Both clients beside the server.
+fn serve_both<R: Threads + Wait + Clock + Drop + Sync>(
+    rt: &R,
+    host: &HostRuntime,
+    alloc: Global,
+    server: Server<R>,
+    written: &mut Vec<u8>,
+) -> ((Option<bool>, Option<bool>), bool) {
+    thread::join(
+        rt,
+        || speak(rt, host, alloc),
+        || serve(alloc, server, written),
+    )
+}
+
+// What the clients told, whether the journal was full at the end, and whether the server wrote its line.
+fn run<R>(
+    rt: &R,
+    host: &HostRuntime,
+    alloc: Global,
+) -> Option<((Option<bool>, Option<bool>), bool, bool)>
+where
+    R: Files<File = File>
+        + Threads
+        + Net<Listener = TcpListener, Stream = TcpStream>
+        + Wait
+        + Clock
+        + Clone
+        + Drop
+        + Send
+        + Sync
+        + 'static,
+{
+    match opened(rt, alloc) {
+        Some(mut server) => {
+            let mut written = Vec::new(alloc);
+            let started = start_worker(rt, alloc, &mut server)
+                && start_worker(rt, alloc, &mut server);
+            let (told, full) = serve_both(rt, host, alloc, server, &mut written);
+            let announced = written.as_slice() == b"listening 47613\n".as_slice();
+            drop(written);
+            Some((told, full, started && announced))
+        }
+        None => None,
+    }
+}
+
 #[test]
 fn over_loopback(rt: HostRuntime) -> Result<(), Fail> {
-    let alloc = rt.alloc();
-    let Some(mut server) = opened(&rt, alloc) else {
-        return Err(Fail::from("the server was not opened"));
-    };
-    for _worker in 0..2u32 {
-        if let Ok(Some(worker)) = server.next_worker() {
-            if thread::spawn(&rt, move || worker.run(alloc)).is_err() {
-                return Err(Fail::from("no thread"));
-            }
-        }
-    }
-    let stage = Arc::new(alloc, AtomicU32::new(0))?;
-    let (mine, seen) = (rt.clone()?, stage.clone()?);
-    let one = thread::spawn(&rt, move || first(&mine, alloc, &seen))?;
-    let mine = rt.clone()?;
-    let other = thread::spawn(&rt, move || second(&mine, alloc, &stage))?;
-    let mut written = Vec::new(alloc);
-    let fault = server.run(alloc, &mut written);
-    server.close();
-    assert!(rt; matches!(fault, ServeFault::Flushing(FlushFault::Full)));
-    assert_eq!(rt; (one.join(&rt), other.join(&rt)), (Some(true), Some(true)));
-    assert_eq!(rt; written.as_slice(), b"listening 47613\n".as_slice());
+    let ran = run(&rt, &rt, rt.alloc());
+    assert_eq!(rt; ran, Some(((Some(true), Some(true)), true, true)));
     Ok(())
 }

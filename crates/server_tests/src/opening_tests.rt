@@ -17,7 +17,10 @@ where
     R: Files<File = File> + Net<Listener = TcpListener, Stream = TcpStream> + Wait + Clone + Drop,
 {
     match Server::open(alloc, rt, path, PORT) {
-        Ok(_) => None,
+        Ok(server) => {
+            drop(server);
+            None
+        }
         Err(fault) => Some(fault),
     }
 }
