@@ -51,6 +51,8 @@ def look(seen, gate):
             folder = os.readlink(f"/proc/{pid}/cwd")
         except OSError:
             continue
+        if not words[0]:
+            continue  # it has ended, and only waits for its parent
         crate = words[words.index("--crate-name") + 1] if "--crate-name" in words else "other"
         found[pid, fields[19]] = crate, kind_of(words, folder), (int(fields[11]) + int(fields[12])) / TICKS
     seen.update({key: cost for key, cost in found.items() if is_below(key[0], parents, gate)})
