@@ -1,4 +1,4 @@
-use Rattle.std.proofs.Common.{◌≡◌, ◌≤◌, ◌+◌, ◌++◌, ◌&&◌, ◌||◌, List, [], ◌∷◌, ℕ, suc, zero, Bool, true, false, cond, Some, count_by, filter, length, map, refl, slice_get, slice_set, sym, ap, ◌∙◌, subst, arith, take}
+use Rattle.std.proofs.Common.{◌≡◌, ◌≤◌, ◌+◌, ◌++◌, ◌&&◌, ◌||◌, List, [], ◌∷◌, ℕ, suc, zero, Bool, true, false, cond, Some, count_by, filter, length, map, refl, slice_get, sym, ap, ◌∙◌, subst, arith, take}
 use Rattle.std.specs.List.{AllByRecursion, list_any, sum_by}
 use Rattle.std.specs.List.Sorted.{IsStrictlySortedBy}
 use Rattle.std.specs.Map.{keys_of}
@@ -38,13 +38,6 @@ module _ {X Y : Type 0} (f : X → Y) where
   over_before [] (suc at) item rising is = tt
   over_before (x ∷ flight) (suc at) item rising is =
       (ranked x.0 item.0 Less (sym (key_at (λ n. nat_cmp x.0 n ≡ Less) flight at item is rising.0)), over_before flight at item rising.1 is)
-
--- another item in a place
-pub set_changed : {X : Type 0} (f : X → X) (xs : List X) (at : ℕ) (x y : X) → slice_get xs at ≡ Some x → y ≡ f x → slice_set xs at y ≡ changed at f xs
-set_changed f [] at x y is same = absurd (none-some x is)
-set_changed f (z ∷ xs) zero x y is same =
-    ap (λ w. w ∷ xs) (same ∙ sym (ap f (same_Some z x is)))
-set_changed f (z ∷ xs) (suc at) x y is same = ap (λ ws. z ∷ ws) (set_changed f xs at x y is same)
 
 -- where none passes, none is changed
 pub with_first-none : {X : Type 0} (p : X → Bool) (f : X → X) (xs : List X) → NonePass p xs → with_first p f xs ≡ xs

@@ -1,6 +1,6 @@
 //! The broker, one command after another.
 
-ghost use Rattle.std.specs.Prelude.{◌≡◌, ◌+◌, ◌<◌, ◌^◌, ◌↔◌, false, IfOk, IfSome, IsSome, OnOk, Some, length, slice_get};
+ghost use Rattle.std.specs.Prelude.{◌≡◌, ◌+◌, ◌<◌, ◌^◌, ◌↔◌, false, true, IfOk, IfSome, IsSome, OnOk, Some, length, slice_get};
 ghost use Rattle.broker_core.specs.Outcomes.{IsOutcome};
 ghost use Rattle.broker_state.specs.Operations.{restarted};
 ghost use Rattle.broker_state.specs.PartsOf.{state_of_parts};
@@ -17,12 +17,13 @@ use command_core::{Command, Dest, Out};
 use std::alloc::{AllocError, Global};
 use std::collections::BTreeMap;
 use std::marker::Model;
+use std::mem;
 
 /// The broker: it carries out commands one after another, numbered from 0, and answers each. Contracts see its state
-/// and whether it is broken. It breaks where memory is refused within a command, and stays so for good.
+/// and whether it is broken. It breaks where memory is refused within a command, and stays so for good: it holds nothing
+/// then.
 #[derive(Drop)]
 pub struct Broker {
-    count: u64,
     tables: Tables,
     broken: bool,
 }
@@ -30,13 +31,13 @@ pub struct Broker {
 impl Model for Broker {
     ghost use Rattle.std.specs.Prelude.{◌≡◌, false};
     ghost use Rattle.broker_state.specs.States.{BrokerValue};
-    ghost use Rattle.broker_operations.specs.Tables.{IsWhole, state_of};
+    ghost use Rattle.broker_state.specs.Sound.{IsSound};
 
     ghost Value = { BrokerValue };
 
-    ghost view = { λ a. record { state = state_of a.count a.tables; broken = a.broken } };
+    ghost view = { λ a. record { state = a.tables; broken = a.broken } };
 
-    ghost invariant = { λ a. a.broken ≡ false → IsWhole a.count a.tables };
+    ghost invariant = { λ a. a.broken ≡ false → IsSound a.tables };
 }
 
 impl Broker {
@@ -45,8 +46,7 @@ impl Broker {
         ensures { result ≡ record { state = empty_state; broken = false } }
     {
         Broker {
-            count: 0,
-            tables: Tables::new(alloc),
+            tables: Tables::new(alloc, 0),
             broken: false,
         }
     }
@@ -60,18 +60,34 @@ impl Broker {
         if !are_sound(alloc, &parts)? {
             return Ok(None);
         }
-        let count = parts.count;
         let held = held_of(&parts);
-        let tables = Tables::of(alloc, parts, held)?;
         Ok(Some(Broker {
-            count,
-            tables,
+            tables: Tables::of(parts, held),
             broken: false,
         }))
     }
 
-    /// Carries out the command of the next number, and answers its outputs. `Memory` where memory is refused: part of
-    /// the command may be done then, and from then on the answer is `Broken`, which changes nothing.
+    /// Takes the tables out. Until they are put back, the broker is broken and holds nothing but its count.
+    fn take(&mut self, alloc: Global) -> Tables
+        ensures taken { result ≡ self.old.state }
+        ensures left { self.new ≡ record { state = record empty_state { count = self.old.state.count }; broken = true } }
+    {
+        self.broken = true;
+        let count = self.tables.count();
+        mem::replace(&mut self.tables, Tables::new(alloc, count))
+    }
+
+    /// Puts tables back that are those of a state which a broker can have: the broker is whole.
+    fn put(&mut self, tables: Tables)
+        requires sound { IsSound tables }
+        ensures whole { self.new ≡ record { state = tables; broken = false } }
+    {
+        drop(mem::replace(&mut self.tables, tables));
+        self.broken = false;
+    }
+
+    /// Carries out the command of the next number, and answers its outputs. `Memory` where memory is refused: what it held
+    /// is let go then, its count stays, and from then on the answer is `Broken`, which changes nothing.
     pub fn step(&mut self, alloc: Global, command: Command) -> Result<Vec<Out>, BrokerFault>
         requires { self.old.state.count < 2 ^ 62 }
         ensures state { OnOk result (self.new.state ≡ step self.old.state command) }
@@ -81,18 +97,19 @@ impl Broker {
         if self.broken {
             return Err(BrokerFault::Broken);
         }
-        self.broken = true;
-        let given = execute(&mut self.tables, alloc, self.count, command).map_err(
-            BrokerFault::Memory,
-        )?;
-        self.count += 1;
-        self.broken = false;
-        Ok(given)
+        let tables = self.take(alloc);
+        match execute(tables, alloc, command) {
+            Ok((tables, given)) => {
+                self.put(tables);
+                Ok(given)
+            }
+            Err(refused) => Err(BrokerFault::Memory(refused)),
+        }
     }
 
     /// Ends every session with its subscriptions, as a stop does, and hands nothing out: what was not acknowledged stands
-    /// in its line again, but for plain subscriptions of topics. `Memory` where memory is refused: part of it may be done
-    /// then, and from then on the answer is `Broken`, which changes nothing.
+    /// in its line again, but for plain subscriptions of topics. `Memory` where memory is refused: what it held is let go
+    /// then, its count stays, and from then on the answer is `Broken`, which changes nothing.
     pub fn restart(&mut self, alloc: Global) -> Result<(), BrokerFault>
         ensures state { OnOk result (self.new.state ≡ restarted self.old.state) }
         ensures outcome { IsOutcome self.old self.new result }
@@ -100,19 +117,21 @@ impl Broker {
         if self.broken {
             return Err(BrokerFault::Broken);
         }
-        self.broken = true;
-        self.tables
-            .restart(alloc, self.count)
-            .map_err(BrokerFault::Memory)?;
-        self.broken = false;
-        Ok(())
+        let tables = self.take(alloc);
+        match tables.restart(alloc) {
+            Ok(tables) => {
+                self.put(tables);
+                Ok(())
+            }
+            Err(refused) => Err(BrokerFault::Memory(refused)),
+        }
     }
 
     /// How many commands it has carried out.
     pub fn count(&self) -> u64
         ensures { result ≡ self.now.state.count }
     {
-        self.count
+        self.tables.count()
     }
 
     /// Whether memory was refused within a command. If not, its state is one that a broker can have.
@@ -128,35 +147,35 @@ impl Broker {
     pub fn next_delivery(&self) -> u64
         ensures { result ≡ self.now.state.next_delivery }
     {
-        self.tables.next_delivery
+        self.tables.next_delivery()
     }
 
     /// The open sessions, each with the name of its client where it has one.
     pub fn sessions(&self) -> &BTreeMap<u64, Option<GivenName>>
         ensures { result.now.entries ≡ self.now.state.sessions }
     {
-        &self.tables.sessions
+        self.tables.sessions()
     }
 
     /// The topic of each durable name.
     pub fn durables(&self) -> &BTreeMap<DurableName, Dest>
         ensures { result.now.entries ≡ self.now.state.durables }
     {
-        &self.tables.durables
+        self.tables.durables()
     }
 
     /// The lines that stay when a subscription ends.
     pub fn shared(&self) -> &SharedLines
         ensures { result.now ≡ self.now.state.shared }
     {
-        &self.tables.shared
+        self.tables.shared()
     }
 
     /// How many subscriptions there are.
     pub fn subscription_count(&self) -> usize
         ensures { result ≡ length self.now.state.subscriptions }
     {
-        self.tables.order.len()
+        self.tables.order().len()
     }
 
     /// The subscription in that place of the waiting order; the one that waits longest has the place 0.
@@ -164,14 +183,14 @@ impl Broker {
         requires { at < length self.now.state.subscriptions }
         ensures { slice_get self.now.state.subscriptions at ≡ Some result.now }
     {
-        self.tables.order.get(at)
+        self.tables.order().get(at)
     }
 
-    /// How much it holds, unless it is broken.
+    /// How much it holds.
     pub fn held(&self) -> Held
-        ensures messages { self.now.broken ≡ false → result.messages ≡ held_messages self.now.state }
-        ensures bytes { self.now.broken ≡ false → result.bytes ≡ held_bytes self.now.state }
+        ensures messages { result.messages ≡ held_messages self.now.state }
+        ensures bytes { result.bytes ≡ held_bytes self.now.state }
     {
-        self.tables.held
+        self.tables.held()
     }
 }

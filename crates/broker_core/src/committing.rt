@@ -1,76 +1,68 @@
 //! Transactions are carried out, wholly or not at all.
 
-ghost use Rattle.std.specs.Prelude.{◌≡◌, ◌≤◌, IfOk, IsErr, OnOk, length};
+ghost use Rattle.std.specs.Prelude.{◌≡◌, ◌≤◌, IfOk, IsErr, length};
 ghost use Rattle.broker_state.specs.Operations.{applied, committed};
 ghost use Rattle.broker_state.specs.Parts.{leaving};
-ghost use Rattle.broker_operations.specs.Tables.{IsTallied, state_of};
 
 use crate::precheck::precheck_members;
 use broker_operations::Tables;
 use command_core::{Fault, Member, Members};
 use std::alloc::{AllocError, Global};
 
-/// A member of a transaction is carried out. Refused as it is, and then nothing changes.
+/// A member of a transaction is carried out. Refused as it is, and then the tables are as they were.
 fn apply(
-    tables: &mut Tables,
+    tables: Tables,
     alloc: Global,
-    number: u64,
     session: u64,
     place: u32,
     member: Member,
-) -> Result<Result<(), Fault>, AllocError>
-    requires tallied { IsTallied number tables.old }
-    ensures applied { IfOk result (λ r. applied (state_of number tables.old) session place member ≡ leaving r (state_of number tables.new)) }
-    ensures same { IfOk result (λ r. IsErr r → tables.new ≡ tables.old) }
-    ensures tallied { OnOk result (IsTallied number tables.new) }
+) -> Result<(Tables, Result<(), Fault>), AllocError>
+    ensures applied { IfOk result (λ r. applied tables session place member ≡ leaving r.1 r.0) }
+    ensures same { IfOk result (λ r. IsErr r.1 → r.0 ≡ tables) }
 {
     match member {
-        Member::Send(sending) => tables.send(alloc, number, place, sending),
-        Member::Ack(delivery) | Member::Nack(delivery) => {
-            tables.acknowledge(number, session, delivery)
-        }
+        Member::Send(sending) => tables.send(alloc, place, sending),
+        Member::Ack(delivery) | Member::Nack(delivery) => tables.acknowledge(session, delivery),
     }
 }
 
-/// The members of a transaction are carried out in their order, or refused together, and then nothing changes: so they
-/// are checked before the first of them is carried out.
+/// The members of a transaction are carried out in their order, or refused together, and then the tables are as they were:
+/// so they are checked before the first of them is carried out. Where memory is refused, nothing is left of the tables.
 pub fn commit(
-    tables: &mut Tables,
+    tables: Tables,
     alloc: Global,
-    number: u64,
     session: u64,
     members: Members,
-) -> Result<Result<(), Fault>, AllocError>
-    requires tallied { IsTallied number tables.old }
-    ensures committed { IfOk result (λ r. committed (state_of number tables.old) session 0 members ≡ leaving r (state_of number tables.new)) }
-    ensures same { IfOk result (λ r. IsErr r → tables.new ≡ tables.old) }
-    ensures tallied { OnOk result (IsTallied number tables.new) }
+) -> Result<(Tables, Result<(), Fault>), AllocError>
+    ensures committed { IfOk result (λ r. committed tables session 0 members ≡ leaving r.1 r.0) }
+    ensures same { IfOk result (λ r. IsErr r.1 → r.0 ≡ tables) }
 {
-    if let Err(fault) = precheck_members(alloc, tables, number, session, members.as_slice())? {
-        return Ok(Err(fault));
+    match precheck_members(alloc, &tables, session, members.as_slice()) {
+        Ok(Ok(())) => apply_all(tables, alloc, session, members.into_vec()),
+        Ok(Err(fault)) => Ok((tables, Err(fault))),
+        Err(refused) => Err(refused),
     }
-    apply_all(tables, alloc, number, session, members.into_vec())
 }
 
 /// Members are carried out in their order, up to the first one that is refused: what those before it did stays.
 fn apply_all(
-    tables: &mut Tables,
+    tables: Tables,
     alloc: Global,
-    number: u64,
     session: u64,
     members: Vec<Member>,
-) -> Result<Result<(), Fault>, AllocError>
-    requires tallied { IsTallied number tables.old }
+) -> Result<(Tables, Result<(), Fault>), AllocError>
     requires few { length members.items ≤ 64 }
-    ensures committed { IfOk result (λ r. committed (state_of number tables.old) session 0 members.items ≡ leaving r (state_of number tables.new)) }
-    ensures tallied { OnOk result (IsTallied number tables.new) }
+    ensures committed { IfOk result (λ r. committed tables session 0 members.items ≡ leaving r.1 r.0) }
 {
+    let mut tables = tables;
     let mut place = 0;
     for member in members {
-        if let Err(fault) = apply(tables, alloc, number, session, place, member)? {
-            return Ok(Err(fault));
+        let (left, done) = apply(tables, alloc, session, place, member)?;
+        tables = left;
+        if let Err(fault) = done {
+            return Ok((tables, Err(fault)));
         }
         place += 1;
     }
-    Ok(Ok(()))
+    Ok((tables, Ok(())))
 }

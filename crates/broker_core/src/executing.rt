@@ -1,157 +1,151 @@
 //! A command is carried out.
 
-ghost use Rattle.std.specs.Prelude.{◌≡◌, ◌+◌, ◌∷◌, ◌++◌, ◌<◌, ◌^◌, ℕ, [], false, IfOk, IsErr, OnOk};
+ghost use Rattle.std.specs.Prelude.{◌≡◌, ◌∷◌, ◌++◌, ◌<◌, ◌^◌, [], false, IfOk, IsErr, OnOk};
 ghost use Rattle.command_core.specs.Operations.{IsGiven, IsOp};
 ghost use Rattle.command_core.specs.Replies.{connected};
 ghost use Rattle.broker_state.specs.HandOut.{settled};
-ghost use Rattle.broker_state.specs.Operations.{executed, opened};
+ghost use Rattle.broker_state.specs.Operations.{ended, executed, opened};
 ghost use Rattle.broker_state.specs.Parts.{is_end, leaving};
-ghost use Rattle.broker_state.specs.Steps.{accepted_or_ended, answers, is_opening, led_to, outs, outs_to, replies};
-ghost use Rattle.broker_operations.specs.Tables.{IsTallied, state_of};
+ghost use Rattle.broker_state.specs.Steps.{accepted_or_ended, answers, is_opening, led_to, outs, outs_to, replies, step};
 
 use crate::answers::{answer_done, answer_end, answer_open, answer_refused};
 use crate::committing::commit;
 use broker_operations::Tables;
-use broker_state::GivenName;
-use command_core::{Command, End, Fault, HeaderText, Op, Out};
+use command_core::{Command, Fault, HeaderText, Op, Out};
 use std::alloc::{AllocError, Global};
 
-/// Carries out the command of that number, and answers its outputs: the MESSAGEs that it hands out, and then what
-/// answers it. Where memory is refused, part of it may be done.
+/// Carries out the command whose number is how many were carried out before it, counts it, and answers its outputs: the
+/// MESSAGEs that it hands out, and then what answers it. Where memory is refused, nothing is left of the tables.
 pub fn execute(
-    tables: &mut Tables,
+    tables: Tables,
     alloc: Global,
-    number: u64,
     command: Command,
-) -> Result<Vec<Out>, AllocError>
-    requires small { number < 2 ^ 62 }
-    requires tallied { IsTallied number tables.old }
-    ensures state { OnOk result (state_of number tables.new ≡ (led_to (state_of number tables.old) command.session command.op).state) }
-    ensures outs { IfOk result (λ given. given.items ≡ outs (state_of number tables.old) command) }
-    ensures tallied { OnOk result (IsTallied (number + 1) tables.new) }
+) -> Result<(Tables, Vec<Out>), AllocError>
+    requires small { tables.count < 2 ^ 62 }
+    ensures state { IfOk result (λ r. r.0 ≡ step tables command) }
+    ensures outs { IfOk result (λ r. r.1.items ≡ outs tables command) }
 {
+    let number = tables.count();
     let (session, op, receipt) = command.into_parts();
-    match op {
-        Op::Open { client_id } => open(tables, alloc, number, client_id),
-        op => execute_if_open(tables, alloc, number, session, op, receipt),
-    }
+    let (mut tables, outs) = match op {
+        Op::Open { client_id } => open(tables, alloc, client_id)?,
+        op => execute_if_open(tables, alloc, session, op, receipt)?,
+    };
+    tables.set_count(number + 1);
+    Ok((tables, outs))
 }
 
 /// An operation other than an Open is carried out, where its session is open.
 fn execute_if_open(
-    tables: &mut Tables,
+    tables: Tables,
     alloc: Global,
-    number: u64,
     session: u64,
     op: Op,
     receipt: Option<HeaderText>,
-) -> Result<Vec<Out>, AllocError>
-    requires small { number < 2 ^ 62 }
-    requires tallied { IsTallied number tables.old }
+) -> Result<(Tables, Vec<Out>), AllocError>
     requires form { IsOp op }
     requires other { is_opening op ≡ false }
-    ensures state { OnOk result (state_of number tables.new ≡ (led_to (state_of number tables.old) session op).state) }
-    ensures outs { IfOk result (λ given. given.items
-        ≡ (led_to (state_of number tables.old) session op).outs ++ answers (state_of number tables.old) session receipt op) }
-    ensures tallied { OnOk result (IsTallied (number + 1) tables.new) }
+    ensures state { IfOk result (λ r. r.0 ≡ (led_to tables session op).state) }
+    ensures outs { IfOk result (λ r. r.1.items ≡ (led_to tables session op).outs ++ answers tables session receipt op) }
 {
-    if !tables.sessions.contains_key(&session) {
-        return Ok(Vec::new(alloc));
+    if !tables.sessions().contains_key(&session) {
+        return Ok((tables, Vec::new(alloc)));
     }
-    execute_in_session(tables, alloc, number, session, op, receipt)
+    execute_in_session(tables, alloc, session, op, receipt)
 }
 
 /// A session is opened.
 fn open(
-    tables: &mut Tables,
+    tables: Tables,
     alloc: Global,
-    number: u64,
     client_id: Option<HeaderText>,
-) -> Result<Vec<Out>, AllocError>
+) -> Result<(Tables, Vec<Out>), AllocError>
     requires form { IsGiven client_id }
-    requires small { number < 2 ^ 62 }
-    requires tallied { IsTallied number tables.old }
-    ensures state { OnOk result (state_of number tables.new ≡ (settled (opened (state_of number tables.old) client_id)).state) }
-    ensures outs { IfOk result (λ given. given.items ≡ (settled (opened (state_of number tables.old) client_id)).outs ++ outs_to number number (connected number ∷ [])) }
-    ensures tallied { OnOk result (IsTallied (number + 1) tables.new) }
+    ensures state { IfOk result (λ r. r.0 ≡ (settled (opened tables client_id)).state) }
+    ensures outs { IfOk result (λ r. r.1.items ≡ (settled (opened tables client_id)).outs ++ outs_to tables.count tables.count (connected tables.count ∷ [])) }
 {
-    tables
-        .sessions
-        .insert(number, GivenName::optional(client_id))?;
+    let mut tables = tables;
+    let number = tables.count();
+    tables.open(client_id)?;
     let mut outs = Vec::new(alloc);
-    tables.settle(alloc, number, &mut outs)?;
+    let tables = tables.settle(alloc, &mut outs)?;
     answer_open(alloc, number, &mut outs)?;
-    Ok(outs)
+    Ok((tables, outs))
 }
 
 /// An operation of an open session is carried out.
 fn execute_in_session(
-    tables: &mut Tables,
+    tables: Tables,
     alloc: Global,
-    number: u64,
     session: u64,
     op: Op,
     receipt: Option<HeaderText>,
-) -> Result<Vec<Out>, AllocError>
-    requires small { number < 2 ^ 62 }
-    requires tallied { IsTallied number tables.old }
+) -> Result<(Tables, Vec<Out>), AllocError>
     requires form { IsOp op }
     requires other { is_opening op ≡ false }
-    ensures state { OnOk result (state_of number tables.new ≡ (settled (accepted_or_ended (state_of number tables.old) session (executed (state_of number tables.old) session op))).state) }
-    ensures outs { IfOk result (λ given. given.items ≡ (settled (accepted_or_ended (state_of number tables.old) session (executed (state_of number tables.old) session op))).outs ++ outs_to number session (replies (state_of number tables.old) session op receipt)) }
-    ensures tallied { OnOk result (IsTallied (number + 1) tables.new) }
+    ensures state { IfOk result (λ r. r.0 ≡ (settled (accepted_or_ended tables session (executed tables session op))).state) }
+    ensures outs { IfOk result (λ r. r.1.items ≡ (settled (accepted_or_ended tables session (executed tables session op))).outs ++ outs_to tables.count session (replies tables session op receipt)) }
 {
+    let number = tables.count();
     let mut outs = Vec::new(alloc);
     if let Op::End(end) = op {
-        tables.end(alloc, number, session)?;
-        tables.settle(alloc, number, &mut outs)?;
+        let tables = end_and_settle(tables, alloc, session, &mut outs)?;
         answer_end(alloc, number, session, end, receipt, &mut outs)?;
-        return Ok(outs);
+        return Ok((tables, outs));
     }
-    match execute_operation(tables, alloc, number, session, op)? {
+    let (tables, done) = execute_operation(tables, alloc, session, op)?;
+    match done {
         Ok(()) => {
-            tables.settle(alloc, number, &mut outs)?;
+            let tables = tables.settle(alloc, &mut outs)?;
             answer_done(alloc, number, session, receipt, &mut outs)?;
+            Ok((tables, outs))
         }
         Err(fault) => {
-            tables.end(alloc, number, session)?;
-            tables.settle(alloc, number, &mut outs)?;
+            let tables = end_and_settle(tables, alloc, session, &mut outs)?;
             answer_refused(alloc, number, session, fault, receipt, &mut outs)?;
+            Ok((tables, outs))
         }
     }
-    Ok(outs)
 }
 
-/// An operation of an open session other than its end, before anything is handed out; refused as it is, and then
-/// nothing changes.
-fn execute_operation(
-    tables: &mut Tables,
+/// A session ends, and what waits is handed out.
+fn end_and_settle(
+    tables: Tables,
     alloc: Global,
-    number: u64,
+    session: u64,
+    outs: &mut Vec<Out>,
+) -> Result<Tables, AllocError>
+    ensures state { IfOk result (λ left. left ≡ (settled (ended tables session)).state) }
+    ensures outs { OnOk result (outs.new.items ≡ outs.old.items ++ (settled (ended tables session)).outs) }
+{
+    let tables = tables.end(alloc, session)?;
+    tables.settle(alloc, outs)
+}
+
+/// An operation of an open session other than its end, before anything is handed out; refused as it is, and then the
+/// tables are as they were.
+fn execute_operation(
+    tables: Tables,
+    alloc: Global,
     session: u64,
     op: Op,
-) -> Result<Result<(), Fault>, AllocError>
-    requires small { number < 2 ^ 62 }
-    requires tallied { IsTallied number tables.old }
+) -> Result<(Tables, Result<(), Fault>), AllocError>
     requires form { IsOp op }
     requires other { (is_opening op ≡ false) × (is_end op ≡ false) }
-    ensures executed { IfOk result (λ r. executed (state_of number tables.old) session op ≡ leaving r (state_of number tables.new)) }
-    ensures same { IfOk result (λ r. IsErr r → tables.new ≡ tables.old) }
-    ensures tallied { OnOk result (IsTallied (number + 1) tables.new) }
+    ensures executed { IfOk result (λ r. executed tables session op ≡ leaving r.1 r.0) }
+    ensures same { IfOk result (λ r. IsErr r.1 → r.0 ≡ tables) }
 {
     match op {
-        Op::Send(sending) => tables.send(alloc, number, 0, sending),
-        Op::Ack(delivery) | Op::Nack(delivery) => tables.acknowledge(number, session, delivery),
-        Op::Commit(members) => commit(tables, alloc, number, session, members),
+        Op::Send(sending) => tables.send(alloc, 0, sending),
+        Op::Ack(delivery) | Op::Nack(delivery) => tables.acknowledge(session, delivery),
+        Op::Commit(members) => commit(tables, alloc, session, members),
         Op::Subscribe {
             id,
             destination,
             mode,
             durable,
-        } => tables.subscribe(alloc, number, session, id, destination, mode, durable),
-        Op::Unsubscribe { id, durable } => {
-            tables.unsubscribe(alloc, number, session, id, durable)
-        }
-        Op::Note | Op::Open { .. } | Op::End(_) => Ok(Ok(())),
+        } => tables.subscribe(alloc, session, id, destination, mode, durable),
+        Op::Unsubscribe { id, durable } => tables.unsubscribe(alloc, session, id, durable),
+        Op::Note | Op::Open { .. } | Op::End(_) => Ok((tables, Ok(()))),
     }
 }

@@ -9,7 +9,6 @@ ghost use Rattle.broker_state.specs.Lists.{changed, with_first};
 ghost use Rattle.broker_state.specs.Operations.{applied, committed};
 ghost use Rattle.broker_state.specs.Parts.{IsFirst, NonePass, find_room, without_state};
 ghost use Rattle.broker_state.specs.States.{State, bytes};
-ghost use Rattle.broker_operations.specs.Tables.{IsTallied, state_of};
 ghost use Rattle.broker_core.specs.Prechecks.{Leads, StandsFor, bytes_in, deliveries_in, flights_of, has, left_by};
 
 use broker_operations::{Order, Tables, copies_to, find_room};
@@ -45,7 +44,7 @@ fn sizes_of(alloc: Global, flight: &Flight<Message>) -> Result<Flight<u64>, Allo
 
 /// The subscriptions of the session, in waiting order.
 fn flights_of(alloc: Global, order: &Order, session: u64) -> Result<Vec<PrecheckFlight>, AllocError>
-    ensures { IfOk result (λ flights. flights.items ≡ flights_of session order.now.subscriptions) }
+    ensures { IfOk result (λ flights. flights.items ≡ flights_of session order.now) }
 {
     let mut flights = Vec::new(alloc);
     for at in 0..order.len() {
@@ -155,9 +154,9 @@ fn precheck_member(
     tables: &Tables,
     member: &Member,
 ) -> Result<Result<(), Fault>, AllocError>
-    requires { (session : ℕ) × (s : State) × StandsFor session tables.now.durables.entries tables.now.order.subscriptions precheck.old s }
-    ensures { IfOk result (λ r. (session place : ℕ) (s : State) → StandsFor session tables.now.durables.entries tables.now.order.subscriptions precheck.old s
-        → Leads session tables.now.durables.entries tables.now.order.subscriptions precheck.new r (applied s session place member.now)) }
+    requires { (session : ℕ) × (s : State) × StandsFor session tables.now.durables tables.now.subscriptions precheck.old s }
+    ensures { IfOk result (λ r. (session place : ℕ) (s : State) → StandsFor session tables.now.durables tables.now.subscriptions precheck.old s
+        → Leads session tables.now.durables tables.now.subscriptions precheck.new r (applied s session place member.now)) }
 {
     match member {
         Member::Send(sending) => {
@@ -169,15 +168,14 @@ fn precheck_member(
 }
 
 /// The precheck before the first member.
-fn begin(alloc: Global, tables: &Tables, number: u64, session: u64) -> Result<Precheck, AllocError>
-    requires { IsTallied number tables.now }
-    ensures { IfOk result (λ precheck. StandsFor session tables.now.durables.entries tables.now.order.subscriptions precheck (state_of number tables.now)) }
+fn begin(alloc: Global, tables: &Tables, session: u64) -> Result<Precheck, AllocError>
+    ensures { IfOk result (λ precheck. StandsFor session tables.now.durables tables.now.subscriptions precheck tables.now) }
 {
-    stand_in_order(tables.shared.names());
-    stand_in_order(tables.shared.queues());
-    let flights = flights_of(alloc, &tables.order, session)?;
+    stand_in_order(tables.shared().names());
+    stand_in_order(tables.shared().queues());
+    let flights = flights_of(alloc, tables.order(), session)?;
     Ok(Precheck {
-        held: tables.held,
+        held: tables.held(),
         flights,
     })
 }
@@ -186,15 +184,13 @@ fn begin(alloc: Global, tables: &Tables, number: u64, session: u64) -> Result<Pr
 pub fn precheck_members(
     alloc: Global,
     tables: &Tables,
-    number: u64,
     session: u64,
     members: &[Member],
 ) -> Result<Result<(), Fault>, AllocError>
-    requires tallied { IsTallied number tables.now }
     requires few { length members.now ≤ 64 }
-    ensures { IfOk result (λ r. r ≡ without_state (committed (state_of number tables.now) session 0 members.now)) }
+    ensures { IfOk result (λ r. r ≡ without_state (committed tables.now session 0 members.now)) }
 {
-    let mut precheck = begin(alloc, tables, number, session)?;
+    let mut precheck = begin(alloc, tables, session)?;
     for member in members {
         if let Err(fault) = precheck_member(&mut precheck, tables, member)? {
             return Ok(Err(fault));

@@ -1,9 +1,9 @@
-use Rattle.std.proofs.Common.{◌≡◌, ◌<◌, ◌+◌, ◌&&◌, List, [], ◌∷◌, ℕ, suc, zero, Bool, true, false, IfSome, Option, Some, None, Result, Ok, Err, cond, count_by, filter, fold, is_some, length, nat_le, not, refl, remove, sym, ap, ◌∙◌, subst, arith, slice_get, take}
+use Rattle.std.proofs.Common.{◌≡◌, ◌<◌, ◌+◌, ◌&&◌, List, [], ◌∷◌, ℕ, suc, zero, Bool, true, false, IfSome, Option, Some, None, Result, Ok, Err, cond, count_by, filter, fold, is_some, length, nat_le, not, refl, remove, sym, ap, ◌∙◌, subst, arith, slice_get, slice_set, take}
 use Rattle.std.specs.BTreeMap.{is_at}
 use Rattle.std.specs.List.{list_any}
 use Rattle.std.specs.Map.{remove_entry}
 use Rattle.std.specs.Ordering.{nat_cmp}
-use Rattle.std.proofs.lemmas.Option.{same_Some, slice_get_within}
+use Rattle.std.proofs.lemmas.Option.{none-some, same_Some, slice_get_within}
 use Rattle.command_core.specs.declared.ack_mode.AckMode.{AckMode}
 use Rattle.command_core.specs.declared.command.Op.TheVariants.{Unsubscribe}
 use Rattle.command_core.specs.declared.fault.Fault.{Fault}
@@ -24,6 +24,13 @@ pub item_at : {X : Type 0} (xs : List X) (at : ℕ) → at < length xs → (x : 
 item_at [] at within = absurd (omega (arith, within))
 item_at (x ∷ xs) zero within = (x, refl)
 item_at (x ∷ xs) (suc at) within = item_at xs at (omega (arith, within))
+
+-- another item in a place
+pub set_changed : {X : Type 0} (f : X → X) (xs : List X) (at : ℕ) (x y : X) → slice_get xs at ≡ Some x → y ≡ f x → slice_set xs at y ≡ changed at f xs
+set_changed f [] at x y is same = absurd (none-some x is)
+set_changed f (z ∷ xs) zero x y is same =
+    ap (λ w. w ∷ xs) (same ∙ sym (ap f (same_Some z x is)))
+set_changed f (z ∷ xs) (suc at) x y is same = ap (λ ws. z ∷ ws) (set_changed f xs at x y is same)
 
 -- a subscription has ended
 pub without_one : (s : State) (removed sub : Subscription) (others subs : List Subscription) (shared : Shared) → removed ≡ sub → subs ≡ others → shared ≡ returned s.shared removed → record s { shared = shared; subscriptions = subs } ≡ without s sub others
@@ -112,14 +119,14 @@ ended_at s t at within ended =
     ended found.0 found.1 ∙ sym (ap (λ o. elim o as (λ x. State) [ None ↦ s | Some sub ↦ without s sub (remove s.subscriptions at) ]) found.1)
 
 -- the front of the waiting order has ended
-pub ended_front : (s t : State) → 0 < length s.subscriptions → ((sub : Subscription) → slice_get s.subscriptions 0 ≡ Some sub → t ≡ without s sub (remove s.subscriptions 0)) → (fold returned t.shared t.subscriptions ≡ fold returned s.shared s.subscriptions) × (length t.subscriptions + 1 ≡ length s.subscriptions) × (t.durables ≡ s.durables) × (t.next_delivery ≡ s.next_delivery)
+pub ended_front : (s t : State) → 0 < length s.subscriptions → ((sub : Subscription) → slice_get s.subscriptions 0 ≡ Some sub → t ≡ without s sub (remove s.subscriptions 0)) → (fold returned t.shared t.subscriptions ≡ fold returned s.shared s.subscriptions) × (length t.subscriptions + 1 ≡ length s.subscriptions) × (t.durables ≡ s.durables) × (t.next_delivery ≡ s.next_delivery) × (t.count ≡ s.count)
 ended_front s t some ended = by s.subscriptions some ended
   where
-    by : (subs : List Subscription) → 0 < length subs → ((sub : Subscription) → slice_get subs 0 ≡ Some sub → t ≡ without s sub (remove subs 0)) → (fold returned t.shared t.subscriptions ≡ fold returned s.shared subs) × (length t.subscriptions + 1 ≡ length subs) × (t.durables ≡ s.durables) × (t.next_delivery ≡ s.next_delivery)
+    by : (subs : List Subscription) → 0 < length subs → ((sub : Subscription) → slice_get subs 0 ≡ Some sub → t ≡ without s sub (remove subs 0)) → (fold returned t.shared t.subscriptions ≡ fold returned s.shared subs) × (length t.subscriptions + 1 ≡ length subs) × (t.durables ≡ s.durables) × (t.next_delivery ≡ s.next_delivery) × (t.count ≡ s.count)
     by [] some ended = absurd (omega (arith, some))
     by (sub ∷ subs) some ended =
         let is = ended sub refl in
-        (ap (λ (u : State). fold returned u.shared u.subscriptions) is, omega (arith, ap (λ (u : State). length u.subscriptions) is), ap (λ (u : State). u.durables) is, ap (λ (u : State). u.next_delivery) is)
+        (ap (λ (u : State). fold returned u.shared u.subscriptions) is, omega (arith, ap (λ (u : State). length u.subscriptions) is), ap (λ (u : State). u.durables) is, ap (λ (u : State). u.next_delivery) is, ap (λ (u : State). u.count) is)
 
 module _ (s : State) (name : Name) where
   abbrev given_by : Bool → Bool → Result State Fault

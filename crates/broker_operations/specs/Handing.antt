@@ -1,9 +1,8 @@
-use Rattle.std.specs.Prelude.{◌≡◌, ◌+◌, ◌-◌, ◌++◌, ◌∷◌, [], ℕ, Some, drop, if◌then◌else◌}
+use Rattle.std.specs.Prelude.{◌≡◌, ◌+◌, ◌-◌, ℕ, Some, drop, if◌then◌else◌}
 use Rattle.std.specs.List.{sum_by}
 use Rattle.command_core.specs.Outs.{OutValue}
 use Rattle.line_core.specs.declared.message.Message.{Message}
 use Rattle.line_core.specs.Lines.{first_of}
-use Rattle.broker_operations.specs.declared.tables.Tables.{Tables}
 use Rattle.broker_state.specs.declared.held.Held.{Held}
 use Rattle.broker_state.specs.declared.subscription.Subscription.{Subscription}
 use Rattle.broker_state.specs.HandOut.{delivered, is_auto, message_out}
@@ -23,10 +22,3 @@ pub record IsHanded (number delivery : ℕ) (shared : Shared) (sub : Subscriptio
   pub out : reply ≡ message_out number left delivery message
   pub messages : held_after.messages ≡ (if is_auto left.mode then held.messages - 1 else held.messages)
   pub lighter : held_after.bytes ≡ (if is_auto left.mode then held.bytes - bytes message else held.bytes)
-
--- A subscription that was served waits last, and the next delivery has another number; its MESSAGE is given.
-pub record IsLast (before : Tables) (sub : Subscription) (out : OutValue) (after : Tables) (given : OutValue) : Type 0 where
-  pub subscriptions : after.order.subscriptions ≡ before.order.subscriptions ++ sub ∷ []
-  pub added : after.order.added ≡ before.order.added + 1
-  pub others : after ≡ record before { next_delivery = before.next_delivery + 1; order = after.order }
-  pub gives : given ≡ out

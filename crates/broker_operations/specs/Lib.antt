@@ -1,5 +1,5 @@
 pub mod Handing
-pub mod Orders
 pub mod Places
 pub mod Returns
+pub mod Sendings
 pub mod Tables

@@ -7,14 +7,14 @@ ghost use Rattle.broker_state.specs.HandOut.{ack_of, can_take, delivered, handed
 ghost use Rattle.broker_state.specs.Lists.{is_none};
 ghost use Rattle.broker_state.specs.States.{State, bytes, one};
 ghost use Rattle.broker_state.specs.Waiting.{line_for, weight_of_shared};
-ghost use Rattle.broker_operations.specs.Handing.{IsHanded, IsLast};
+ghost use Rattle.broker_operations.specs.Handing.{IsHanded};
 ghost use Rattle.line_core.specs.declared.message.Message.{Message};
 ghost use Rattle.std.specs.List.{sum_by};
 ghost use Rattle.broker_state.specs.Settles.{SettlesSo};
 ghost use Rattle.command_core.specs.Outs.{OutValue};
-ghost use Rattle.broker_operations.specs.Tables.{IsTallied, state_of};
 ghost use Rattle.broker_state.specs.declared.subscription.Subscription.{Subscription};
 
+use crate::order::Order;
 use crate::shared_lines::SharedLines;
 use crate::tables::Tables;
 use broker_state::{Held, LAST_DELIVERY, Subscription};
@@ -109,56 +109,58 @@ fn hand_to(
     deliver(alloc, number, sub, delivery, message, held)
 }
 
+/// A subscription that was served waits last; gives its MESSAGE.
+fn wait_last(order: &mut Order, sub: Subscription, out: Out) -> Result<Out, AllocError>
+    ensures waits { OnOk result (order.new ≡ order.old ++ sub ∷ []) }
+    ensures gives { IfOk result (λ given. given ≡ out) }
+{
+    match order.add(sub) {
+        Ok(()) => Ok(out),
+        Err(refused) => Err(refused),
+    }
+}
+
 impl Tables {
     /// Hands out what waits, one delivery after another, until nothing can be handed out; adds the MESSAGEs in their
     /// order. The waiting order is gone through once: who could not be served before those behind it were can't be served
-    /// after.
-    pub fn settle(
-        &mut self,
-        alloc: Global,
-        number: u64,
-        outs: &mut Vec<Out>,
-    ) -> Result<(), AllocError>
-        requires small { number < 2 ^ 62 }
-        requires tallied { IsTallied (number + 1) self.old }
-        ensures state { OnOk result (state_of number self.new ≡ (settled (state_of number self.old)).state) }
-        ensures outs { OnOk result (outs.new.items ≡ outs.old.items ++ (settled (state_of number self.old)).outs) }
-        ensures tallied { OnOk result (IsTallied (number + 1) self.new) }
+    /// after. Where memory is refused, nothing is left of the tables.
+    pub fn settle(self, alloc: Global, outs: &mut Vec<Out>) -> Result<Tables, AllocError>
+        ensures state { IfOk result (λ tables. tables ≡ (settled self).state) }
+        ensures outs { OnOk result (outs.new.items ≡ outs.old.items ++ (settled self).outs) }
     {
+        let mut tables = self;
         let mut at = 0;
-        while at < self.order.len() {
-            if !self.try_serve(alloc, number, at, outs)? {
+        while at < tables.order().len() {
+            let (left, served) = tables.try_serve(alloc, at, outs)?;
+            tables = left;
+            if !served {
                 at += 1;
             }
         }
-        Ok(())
+        Ok(tables)
     }
 
     /// Serves the subscription in that place, if it can be served, and adds the MESSAGE; answers whether it was served.
     fn try_serve(
-        &mut self,
+        self,
         alloc: Global,
-        number: u64,
         at: usize,
         outs: &mut Vec<Out>,
-    ) -> Result<bool, AllocError>
-        requires small { number < 2 ^ 62 }
-        requires tallied { IsTallied (number + 1) self.old }
-        requires place { at < length self.old.order.subscriptions }
-        ensures settles { IfOk result (λ served. (first : State) (before : List OutValue)
-            → SettlesSo first before (state_of number self.old) outs.old.items at
-            → SettlesSo first before (state_of number self.new) outs.new.items (if served then at else at + 1)) }
-        ensures served { IfOk result (λ served. served ≡ true → waiting (state_of number self.new) + 1 ≡ waiting (state_of number self.old)) }
-        ensures count { OnOk result (length self.new.order.subscriptions ≡ length self.old.order.subscriptions) }
-        ensures passed { IfOk result (λ served. served ≡ false → self.new ≡ self.old) }
-        ensures tallied { OnOk result (IsTallied (number + 1) self.new) }
+    ) -> Result<(Tables, bool), AllocError>
+        requires place { at < length self.subscriptions }
+        ensures settles { IfOk result (λ r. (first : State) (before : List OutValue)
+            → SettlesSo first before self outs.old.items at
+            → SettlesSo first before r.0 outs.new.items (if r.1 then at else at + 1)) }
+        ensures served { IfOk result (λ r. r.1 ≡ true → waiting r.0 + 1 ≡ waiting self) }
+        ensures count { IfOk result (λ r. length r.0.subscriptions ≡ length self.subscriptions) }
+        ensures passed { IfOk result (λ r. r.1 ≡ false → r.0 ≡ self) }
     {
         if !self.can_serve(at) {
-            return Ok(false);
+            return Ok((self, false));
         }
-        let out = self.serve(alloc, number, at)?;
+        let (tables, out) = self.serve(alloc, at)?;
         outs.push(out)?;
-        Ok(true)
+        Ok((tables, true))
     }
 
     /// Whether there is a number for one more delivery.
@@ -170,9 +172,8 @@ impl Tables {
 
     /// Whether the subscription in that place can be served.
     fn can_serve(&self, at: usize) -> bool
-        requires { at < length self.now.order.subscriptions }
-        ensures { (number : ℕ) (sub : Subscription) → slice_get self.now.order.subscriptions at ≡ Some sub
-            → result ≡ can_take (state_of number self.now) sub }
+        requires { at < length self.now.subscriptions }
+        ensures { (sub : Subscription) → slice_get self.now.subscriptions at ≡ Some sub → result ≡ can_take self.now sub }
     {
         let sub = self.order.get(at);
         self.has_number() && sub.has_room() && self.shared.has_message(sub)
@@ -180,42 +181,26 @@ impl Tables {
 
     /// The subscription in that place, which can be served, gets the least message of its line, and then waits last; gives
     /// the MESSAGE.
-    fn serve(&mut self, alloc: Global, number: u64, at: usize) -> Result<Out, AllocError>
-        requires small { number < 2 ^ 62 }
-        requires tallied { IsTallied (number + 1) self.old }
-        requires place { at < length self.old.order.subscriptions }
-        requires ready { (sub : Subscription) → slice_get self.old.order.subscriptions at ≡ Some sub
-            → can_take (state_of number self.old) sub ≡ true }
-        ensures handed { IfOk result (λ out. (sub : Subscription) → slice_get self.old.order.subscriptions at ≡ Some sub
-            → handed_to (state_of number self.old) (Some (sub, remove self.old.order.subscriptions at))
-            ≡ Some (record { state = state_of number self.new; out = out })) }
-        ensures waiting { OnOk result (waiting (state_of number self.new) + 1 ≡ waiting (state_of number self.old)) }
-        ensures count { OnOk result (length self.new.order.subscriptions ≡ length self.old.order.subscriptions) }
-        ensures tallied { OnOk result (IsTallied (number + 1) self.new) }
+    fn serve(mut self, alloc: Global, at: usize) -> Result<(Tables, Out), AllocError>
+        requires place { at < length self.subscriptions }
+        requires ready { (sub : Subscription) → slice_get self.subscriptions at ≡ Some sub → can_take self sub ≡ true }
+        ensures handed { IfOk result (λ r. (sub : Subscription) → slice_get self.subscriptions at ≡ Some sub
+            → handed_to self (Some (sub, remove self.subscriptions at)) ≡ Some (record { state = r.0; out = r.1 })) }
+        ensures waiting { IfOk result (λ r. waiting r.0 + 1 ≡ waiting self) }
+        ensures count { IfOk result (λ r. length r.0.subscriptions ≡ length self.subscriptions) }
     {
         let mut sub = self.order.remove(at);
         let delivery = self.next_delivery;
         let out = hand_to(
             alloc,
-            number,
+            self.count,
             &mut sub,
             delivery,
             &mut self.shared,
             &mut self.held,
         )?;
-        self.wait_last(sub, out)
-    }
-
-    /// A subscription that was served waits last, and the next delivery has another number; gives the MESSAGE.
-    fn wait_last(&mut self, sub: Subscription, out: Out) -> Result<Out, AllocError>
-        requires number { self.old.next_delivery < 2 ^ 63 }
-        requires slots { self.old.order.added < 2 ^ 66 }
-        ensures waits { IfOk result (λ given. IsLast self.old sub out self.new given) }
-    {
         self.next_delivery += 1;
-        match self.order.add(sub) {
-            Ok(()) => Ok(out),
-            Err(refused) => Err(refused),
-        }
+        let out = wait_last(&mut self.order, sub, out)?;
+        Ok((self, out))
     }
 }

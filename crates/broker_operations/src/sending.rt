@@ -3,9 +3,9 @@
 ghost use Rattle.std.specs.Prelude.{◌≡◌, ◌+◌, ◌<◌, ◌≤◌, ◌&&◌, ◌^◌, ℕ, IfOk, IsErr, OnOk, count_by, false, map};
 ghost use Rattle.std.specs.Str.{bytes_eq};
 ghost use Rattle.command_core.specs.Destinations.{is_queue};
-ghost use Rattle.broker_state.specs.Operations.{copied, copied_to_names, sent, fanned_out};
+ghost use Rattle.broker_state.specs.Operations.{copied, copied_to_names, sent};
 ghost use Rattle.broker_state.specs.Parts.{copies_to, find_room, leaving};
-ghost use Rattle.broker_operations.specs.Tables.{IsTallied, state_of};
+ghost use Rattle.broker_operations.specs.Sendings.{IsFannedOut};
 ghost use Rattle.broker_state.specs.Waiting.{is_own};
 
 use crate::order::Order;
@@ -34,7 +34,7 @@ fn listens(sub: &Subscription, to: &Dest) -> bool
 
 /// How many subscriptions of that topic have a line of their own.
 fn listeners_of(order: &Order, to: &Dest) -> u64
-    ensures counted { result ≡ count_by (λ sub. is_own sub && bytes_eq sub.destination to.now) order.now.subscriptions }
+    ensures counted { result ≡ count_by (λ sub. is_own sub && bytes_eq sub.destination to.now) order.now }
     ensures few { result < 2 ^ 63 }
 {
     let mut listeners = 0;
@@ -49,7 +49,7 @@ fn listeners_of(order: &Order, to: &Dest) -> u64
 /// How many copies of a message to that destination are to be kept: one in a queue's line, or one for each durable name of
 /// a topic and for each of its subscriptions with a line of its own.
 pub fn copies_to(tables: &Tables, to: &Dest) -> u64
-    ensures { result ≡ copies_to to.now tables.now.durables.entries tables.now.order.subscriptions }
+    ensures { result ≡ copies_to to.now tables.now.durables tables.now.subscriptions }
 {
     if to.is_queue() {
         return 1;
@@ -59,8 +59,8 @@ pub fn copies_to(tables: &Tables, to: &Dest) -> u64
 
 /// How many copies of a message to that topic are to be kept.
 fn copies_to_topic(tables: &Tables, to: &Dest) -> u64
-    ensures { result ≡ count_by (λ durable. bytes_eq durable.1 to.now) tables.now.durables.entries
-        + count_by (λ sub. is_own sub && bytes_eq sub.destination to.now) tables.now.order.subscriptions }
+    ensures { result ≡ count_by (λ durable. bytes_eq durable.1 to.now) tables.now.durables
+        + count_by (λ sub. is_own sub && bytes_eq sub.destination to.now) tables.now.subscriptions }
 {
     names_of(&tables.durables, to) + listeners_of(&tables.order, to)
 }
@@ -76,8 +76,7 @@ pub fn find_room(held: &Held, copies: u64, size: u64) -> bool
 
 /// Each subscription of the message's topic with a line of its own gets a copy into it.
 fn copy_to_listeners(order: &mut Order, message: &Message) -> Result<(), AllocError>
-    ensures copied { OnOk result (order.new.subscriptions ≡ map (copied message.now) order.old.subscriptions) }
-    ensures added { order.new.added ≡ order.old.added }
+    ensures { OnOk result (order.new ≡ map (copied message.now) order.old) }
 {
     for at in 0..order.len() {
         if listens(order.get(at), message.sending.destination()) {
@@ -104,62 +103,73 @@ fn copy_to_names(
     Ok(())
 }
 
+/// A message goes into the lines of its topic's durable names, and into those of the topic's subscriptions that have a line
+/// of their own.
+fn copy_to_topic(
+    alloc: Global,
+    durables: &BTreeMap<DurableName, Dest>,
+    shared: &mut SharedLines,
+    order: &mut Order,
+    message: &Message,
+) -> Result<(), AllocError>
+    requires topic { is_queue message.now.sending.destination ≡ false }
+    ensures { OnOk result (IsFannedOut message.now durables.now.entries shared.old order.old shared.new order.new) }
+{
+    copy_to_names(alloc, durables, shared, message)?;
+    copy_to_listeners(order, message)
+}
+
+/// A message goes into the line of its queue, or into those of its topic's durable names and subscriptions.
+fn fan_out(
+    alloc: Global,
+    durables: &BTreeMap<DurableName, Dest>,
+    shared: &mut SharedLines,
+    order: &mut Order,
+    message: Message,
+) -> Result<(), AllocError>
+    ensures { OnOk result (IsFannedOut message durables.now.entries shared.old order.old shared.new order.new) }
+{
+    if message.sending.destination().is_queue() {
+        shared.put_in_queue(alloc, message)
+    } else {
+        copy_to_topic(alloc, durables, shared, order, &message)
+    }
+}
+
 impl Tables {
-    /// A message is sent by the command of that number, at that place among its members. Refused where its copies find no
-    /// room, and then nothing changes.
+    /// A message is sent by the command that is being carried out, at that place among its members. Refused where its copies
+    /// find no room, and then the tables are as they were. Where memory is refused, nothing is left of them.
     pub fn send(
-        &mut self,
+        mut self,
         alloc: Global,
-        number: u64,
         place: u32,
         sending: Sending,
-    ) -> Result<Result<(), Fault>, AllocError>
-        requires tallied { IsTallied number self.old }
-        ensures sent { IfOk result (λ r. sent (state_of number self.old) place sending ≡ leaving r (state_of number self.new)) }
-        ensures same { IfOk result (λ r. IsErr r → self.new ≡ self.old) }
-        ensures tallied { OnOk result (IsTallied number self.new) }
+    ) -> Result<(Tables, Result<(), Fault>), AllocError>
+        ensures sent { IfOk result (λ r. sent self place sending ≡ leaving r.1 r.0) }
+        ensures same { IfOk result (λ r. IsErr r.1 → r.0 ≡ self) }
     {
         self.shared.stand_in_order();
-        let copies = copies_to(self, sending.destination());
+        let copies = copies_to(&self, sending.destination());
         let bytes = size(&sending) as u64;
         if !find_room(&self.held, copies, bytes) {
-            return Ok(Err(Fault::NoRoom));
+            return Ok((self, Err(Fault::NoRoom)));
         }
         let message = Message {
             number: MessageNumber {
-                command: number,
+                command: self.count,
                 place,
             },
             sending,
         };
-        self.fan_out(alloc, message)?;
+        fan_out(
+            alloc,
+            &self.durables,
+            &mut self.shared,
+            &mut self.order,
+            message,
+        )?;
         self.held.messages += copies;
         self.held.bytes += copies * bytes;
-        Ok(Ok(()))
-    }
-
-    /// A message goes into the line of its queue, or into those of its topic's durable names and subscriptions.
-    fn fan_out(&mut self, alloc: Global, message: Message) -> Result<(), AllocError>
-        ensures fanned_out { OnOk result ((number : ℕ) → state_of number self.new ≡ fanned_out (state_of number self.old) message) }
-        ensures held { OnOk result (self.new.held ≡ self.old.held) }
-        ensures added { OnOk result (self.new.order.added ≡ self.old.order.added) }
-    {
-        if message.sending.destination().is_queue() {
-            self.shared.put_in_queue(alloc, message)
-        } else {
-            self.copy_to_topic(alloc, &message)
-        }
-    }
-
-    /// A message goes into the lines of its topic's durable names, and into those of the topic's subscriptions that have a
-    /// line of their own.
-    fn copy_to_topic(&mut self, alloc: Global, message: &Message) -> Result<(), AllocError>
-        requires topic { is_queue message.now.sending.destination ≡ false }
-        ensures fanned_out { OnOk result ((number : ℕ) → state_of number self.new ≡ fanned_out (state_of number self.old) message.now) }
-        ensures held { OnOk result (self.new.held ≡ self.old.held) }
-        ensures added { OnOk result (self.new.order.added ≡ self.old.order.added) }
-    {
-        copy_to_names(alloc, &self.durables, &mut self.shared, message)?;
-        copy_to_listeners(&mut self.order, message)
+        Ok((self, Ok(())))
     }
 }

@@ -12,7 +12,6 @@ ghost use Rattle.broker_state.specs.Operations.{begun, executed, client_in, ende
 ghost use Rattle.broker_state.specs.Parts.{IsFirst, IsGivenAt, NonePass, but_at, leaving, without_at};
 ghost use Rattle.broker_state.specs.States.{bytes, one};
 ghost use Rattle.broker_operations.specs.Places.{place_for};
-ghost use Rattle.broker_operations.specs.Tables.{IsTallied, state_of};
 ghost use Rattle.broker_state.specs.declared.subscription.Subscription.{Subscription};
 
 use crate::order::Order;
@@ -25,8 +24,8 @@ use std::collections::BTreeMap;
 
 /// Where the subscription of that session and id waits.
 fn find_named(order: &Order, session: u64, id: &HeaderText) -> Option<usize>
-    ensures { MatchOption result (NonePass (is_named session id.now) order.now.subscriptions)
-        (λ at. IsFirst (is_named session id.now) order.now.subscriptions at) }
+    ensures { MatchOption result (NonePass (is_named session id.now) order.now)
+        (λ at. IsFirst (is_named session id.now) order.now at) }
 {
     for at in 0..order.len() {
         let sub = order.get(at);
@@ -39,7 +38,7 @@ fn find_named(order: &Order, session: u64, id: &HeaderText) -> Option<usize>
 
 /// Where the subscription of that session and id waits, where an id is given.
 fn find_given(order: &Order, session: u64, id: &Option<HeaderText>) -> Option<usize>
-    ensures { IsGivenAt session id.now order.now.subscriptions result }
+    ensures { IsGivenAt session id.now order.now result }
 {
     match id {
         Some(id) => find_named(order, session, id),
@@ -49,7 +48,7 @@ fn find_given(order: &Order, session: u64, id: &Option<HeaderText>) -> Option<us
 
 /// How many subscriptions a session has.
 fn count_of(order: &Order, session: u64) -> usize
-    ensures { result ≡ count_by (is_of session) order.now.subscriptions }
+    ensures { result ≡ count_by (is_of session) order.now }
 {
     let mut count = 0;
     for at in 0..order.len() {
@@ -62,7 +61,7 @@ fn count_of(order: &Order, session: u64) -> usize
 
 /// Whether a session may have one more subscription, of that id: refused where it has one of that id, or 16.
 fn find_place(order: &Order, session: u64, id: &HeaderText) -> Result<(), Fault>
-    ensures { result ≡ place_for order.now.subscriptions session id.now }
+    ensures { result ≡ place_for order.now session id.now }
 {
     if let Some(_taken) = find_named(order, session, id) {
         return Err(Fault::SubscriptionIdInUse);
@@ -85,8 +84,8 @@ fn uses(sub: &Subscription, name: &DurableName) -> bool
 
 /// Whether a subscription in a place from `from` on and before `to` has the durable name.
 fn is_used_between(order: &Order, name: &DurableName, from: usize, to: usize) -> bool
-    requires { (from ≤ to) × (to ≤ length order.now.subscriptions) }
-    ensures { result ≡ list_any (uses name.now) (drop from (take to order.now.subscriptions)) }
+    requires { (from ≤ to) × (to ≤ length order.now) }
+    ensures { result ≡ list_any (uses name.now) (drop from (take to order.now)) }
 {
     for at in from..to {
         if uses(order.get(at), name) {
@@ -98,8 +97,8 @@ fn is_used_between(order: &Order, name: &DurableName, from: usize, to: usize) ->
 
 /// Whether a subscription has the durable name, other than the one in that place where a place is given.
 fn is_used(order: &Order, name: &DurableName, but: Option<usize>) -> bool
-    requires { IfSome but (λ at. at < length order.now.subscriptions) }
-    ensures { result ≡ list_any (uses name.now) (but_at order.now.subscriptions but) }
+    requires { IfSome but (λ at. at < length order.now) }
+    ensures { result ≡ list_any (uses name.now) (but_at order.now but) }
 {
     let end = order.len();
     match but {
@@ -113,7 +112,7 @@ fn is_used(order: &Order, name: &DurableName, but: Option<usize>) -> bool
 /// Whether a durable name that is bound to that topic may be used for a subscription of that destination: it has to be the
 /// same topic, and nobody else may use the name.
 fn may_be_used(order: &Order, name: &DurableName, topic: &Dest, destination: &Dest) -> bool
-    ensures { result ≡ (bytes_eq topic.now destination.now && not (list_any (uses name.now) order.now.subscriptions)) }
+    ensures { result ≡ (bytes_eq topic.now destination.now && not (list_any (uses name.now) order.now)) }
 {
     *topic == *destination && !is_used(order, name, None)
 }
@@ -179,7 +178,7 @@ pub fn let_deliveries_go(held: &mut Held, deliveries: &[(u64, Message)])
 impl Tables {
     /// The name of a session's client, where it has one.
     fn client_of(&self, session: u64) -> Result<Option<GivenName>, AllocError>
-        ensures { IfOk result (λ client. client ≡ client_in self.now.sessions.entries session) }
+        ensures { IfOk result (λ client. client ≡ client_in self.now.sessions session) }
     {
         match self.sessions.get(&session) {
             Some(Some(client)) => Ok(Some(client.clone()?)),
@@ -196,7 +195,7 @@ impl Tables {
         durable: Option<HeaderText>,
     ) -> Result<Result<Option<DurableName>, Fault>, AllocError>
         requires { IsGiven durable }
-        ensures { IfOk result (λ r. r ≡ name_for (client_in self.now.sessions.entries session) destination.now durable) }
+        ensures { IfOk result (λ r. r ≡ name_for (client_in self.now.sessions session) destination.now durable) }
     {
         match durable {
             Some(name) if !destination.is_queue() => match self.client_of(session)? {
@@ -209,72 +208,61 @@ impl Tables {
 
     /// A subscription begins and waits last, under a durable name where one is given. Refused where the session has one of
     /// that id, or 16; with a durable name, where the session's client has no name, where somebody uses the durable name or
-    /// it is another topic's, and where it were the 257th. Nothing changes then.
+    /// it is another topic's, and where it were the 257th. The tables are as they were then. Where memory is refused, nothing
+    /// is left of them.
     pub fn subscribe(
-        &mut self,
+        self,
         alloc: Global,
-        number: u64,
         session: u64,
         id: HeaderText,
         destination: Dest,
         mode: AckMode,
         durable: Option<HeaderText>,
-    ) -> Result<Result<(), Fault>, AllocError>
+    ) -> Result<(Tables, Result<(), Fault>), AllocError>
         requires form { IsGiven durable }
-        requires small { number < 2 ^ 62 }
-        requires tallied { IsTallied number self.old }
-        ensures subscribed { IfOk result (λ r. subscribed (state_of number self.old) session id destination mode durable ≡ leaving r (state_of number self.new)) }
-        ensures same { IfOk result (λ r. IsErr r → self.new ≡ self.old) }
-        ensures tallied { OnOk result (IsTallied (number + 1) self.new) }
+        ensures subscribed { IfOk result (λ r. subscribed self session id destination mode durable ≡ leaving r.1 r.0) }
+        ensures same { IfOk result (λ r. IsErr r.1 → r.0 ≡ self) }
     {
         if let Err(fault) = find_place(&self.order, session, &id) {
-            return Ok(Err(fault));
+            return Ok((self, Err(fault)));
         }
         match self.name_for(session, &destination, durable)? {
-            Ok(durable) => self.begin(
-                number,
-                Subscription {
-                    session,
-                    id,
-                    destination,
-                    mode,
-                    durable,
-                    line: Line::new(alloc),
-                    unacknowledged: Flight::new(alloc),
-                },
-            ),
-            Err(fault) => Ok(Err(fault)),
+            Ok(durable) => self.begin(Subscription {
+                session,
+                id,
+                destination,
+                mode,
+                durable,
+                line: Line::new(alloc),
+                unacknowledged: Flight::new(alloc),
+            }),
+            Err(fault) => Ok((self, Err(fault))),
         }
     }
 
     /// A subscription begins and waits last. Refused where it has a durable name that somebody uses or that is another
-    /// topic's, or that were the 257th, and then nothing changes.
-    fn begin(&mut self, number: u64, sub: Subscription) -> Result<Result<(), Fault>, AllocError>
-        requires small { number < 2 ^ 62 }
+    /// topic's, or that were the 257th, and then the tables are as they were.
+    fn begin(mut self, sub: Subscription) -> Result<(Tables, Result<(), Fault>), AllocError>
         requires fresh { (sub.line ≡ []) × (sub.unacknowledged ≡ []) }
-        requires tallied { IsTallied number self.old }
-        ensures begun { IfOk result (λ r. begun (state_of number self.old) sub ≡ leaving r (state_of number self.new)) }
-        ensures same { IfOk result (λ r. IsErr r → self.new ≡ self.old) }
-        ensures tallied { OnOk result (IsTallied (number + 1) self.new) }
+        ensures begun { IfOk result (λ r. begun self sub ≡ leaving r.1 r.0) }
+        ensures same { IfOk result (λ r. IsErr r.1 → r.0 ≡ self) }
     {
-        match self.bind(number, &sub) {
+        match self.bind(&sub) {
             Ok(Ok(())) => match self.order.add(sub) {
-                Ok(()) => Ok(Ok(())),
+                Ok(()) => Ok((self, Ok(()))),
                 Err(refused) => Err(refused),
             },
-            refused => refused,
+            Ok(Err(fault)) => Ok((self, Err(fault))),
+            Err(refused) => Err(refused),
         }
     }
 
     /// The durable name of a subscription that is to begin is bound to its topic, unless it has none or the name is bound so
     /// already. Refused where somebody uses the name or it is another topic's, or it were the 257th, and then nothing
     /// changes.
-    fn bind(&mut self, number: u64, sub: &Subscription) -> Result<Result<(), Fault>, AllocError>
-        requires tallied { IsTallied number self.old }
-        ensures begun { IfOk result (λ r. begun (state_of number self.old) sub.now ≡ leaving r (with_subscription (state_of number self.new) sub.now)) }
-        ensures order { OnOk result (self.new.order ≡ self.old.order) }
+    fn bind(&mut self, sub: &Subscription) -> Result<Result<(), Fault>, AllocError>
+        ensures begun { IfOk result (λ r. begun self.old sub.now ≡ leaving r (with_subscription self.new sub.now)) }
         ensures same { IfOk result (λ r. IsErr r → self.new ≡ self.old) }
-        ensures tallied { OnOk result (IsTallied number self.new) }
     {
         let Some(name) = &sub.durable else {
             return Ok(Ok(()));
@@ -299,104 +287,91 @@ impl Tables {
     /// The subscription of that id ends, or a durable name of the session's client is given up, with its line; where both
     /// are given, a subscription of that id ends first, if there is one. Refused where no name is given and the session has
     /// no subscription of that id; with a name, where the client has none itself, and where the durable name is unknown or
-    /// somebody uses it. Nothing changes then.
+    /// somebody uses it. The tables are as they were then. Where memory is refused, nothing is left of them.
     pub fn unsubscribe(
-        &mut self,
+        self,
         alloc: Global,
-        number: u64,
         session: u64,
         id: Option<HeaderText>,
         durable: Option<HeaderText>,
-    ) -> Result<Result<(), Fault>, AllocError>
+    ) -> Result<(Tables, Result<(), Fault>), AllocError>
         requires form { IsGiven durable }
-        requires tallied { IsTallied number self.old }
-        ensures executed { IfOk result (λ r. executed (state_of number self.old) session (Unsubscribe id durable) ≡ leaving r (state_of number self.new)) }
-        ensures same { IfOk result (λ r. IsErr r → self.new ≡ self.old) }
-        ensures tallied { OnOk result (IsTallied number self.new) }
+        ensures executed { IfOk result (λ r. executed self session (Unsubscribe id durable) ≡ leaving r.1 r.0) }
+        ensures same { IfOk result (λ r. IsErr r.1 → r.0 ≡ self) }
     {
         let at = find_given(&self.order, session, &id);
         if let Some(name) = durable {
-            return self.give_up(alloc, number, session, at, GivenName::new(name));
+            return self.give_up(alloc, session, at, GivenName::new(name));
         }
         match at {
-            None => Ok(Err(Fault::UnknownSubscription)),
-            Some(at) => {
-                self.end_one(alloc, number, at)?;
-                Ok(Ok(()))
-            }
+            None => Ok((self, Err(Fault::UnknownSubscription))),
+            Some(at) => match self.end_one(alloc, at) {
+                Ok(tables) => Ok((tables, Ok(()))),
+                Err(refused) => Err(refused),
+            },
         }
     }
 
     /// The subscription in that place ends, where one is given, and then a durable name of the session's client is given
     /// up, with its line. Refused where the client has no name itself, and where the durable name is unknown or another
-    /// subscription uses it; then nothing changes.
+    /// subscription uses it; the tables are as they were then.
     fn give_up(
-        &mut self,
+        self,
         alloc: Global,
-        number: u64,
         session: u64,
         at: Option<usize>,
         name: GivenName,
-    ) -> Result<Result<(), Fault>, AllocError>
-        requires tallied { IsTallied number self.old }
-        requires place { IfSome at (λ i. i < length self.old.order.subscriptions) }
-        ensures given_up { IfOk result (λ r. given_up_for (without_at (state_of number self.old) at) (client_in self.old.sessions.entries session) name ≡ leaving r (state_of number self.new)) }
-        ensures same { IfOk result (λ r. IsErr r → self.new ≡ self.old) }
-        ensures tallied { OnOk result (IsTallied number self.new) }
+    ) -> Result<(Tables, Result<(), Fault>), AllocError>
+        requires place { IfSome at (λ i. i < length self.subscriptions) }
+        ensures given_up { IfOk result (λ r. given_up_for (without_at self at) (client_in self.sessions session) name ≡ leaving r.1 r.0) }
+        ensures same { IfOk result (λ r. IsErr r.1 → r.0 ≡ self) }
     {
         match self.client_of(session)? {
             Some(client) => {
                 let name = DurableName::new(client, name);
-                self.give_up_name(alloc, number, at, &name)
+                self.give_up_name(alloc, at, &name)
             }
-            None => Ok(Err(Fault::NoClientId)),
+            None => Ok((self, Err(Fault::NoClientId))),
         }
     }
 
     /// The subscription in that place ends, where one is given, and then a durable name is given up, with its line.
-    /// Refused where the name is unknown or another subscription uses it; then nothing changes.
+    /// Refused where the name is unknown or another subscription uses it; the tables are as they were then.
     fn give_up_name(
-        &mut self,
+        self,
         alloc: Global,
-        number: u64,
         at: Option<usize>,
         name: &DurableName,
-    ) -> Result<Result<(), Fault>, AllocError>
-        requires tallied { IsTallied number self.old }
-        requires place { IfSome at (λ i. i < length self.old.order.subscriptions) }
-        ensures given_up { IfOk result (λ r. given_up (without_at (state_of number self.old) at) name.now ≡ leaving r (state_of number self.new)) }
-        ensures same { IfOk result (λ r. IsErr r → self.new ≡ self.old) }
-        ensures tallied { OnOk result (IsTallied number self.new) }
+    ) -> Result<(Tables, Result<(), Fault>), AllocError>
+        requires place { IfSome at (λ i. i < length self.subscriptions) }
+        ensures given_up { IfOk result (λ r. given_up (without_at self at) name.now ≡ leaving r.1 r.0) }
+        ensures same { IfOk result (λ r. IsErr r.1 → r.0 ≡ self) }
     {
         if !self.durables.contains_key(name) {
-            return Ok(Err(Fault::DurableSubscription));
+            return Ok((self, Err(Fault::DurableSubscription)));
         }
         if is_used(&self.order, name, at) {
-            return Ok(Err(Fault::DurableSubscription));
+            return Ok((self, Err(Fault::DurableSubscription)));
         }
-        self.end_given(alloc, number, at)?;
-        self.forget(alloc, number, name);
-        Ok(Ok(()))
+        let mut tables = self.end_given(alloc, at)?;
+        tables.forget(alloc, name);
+        Ok((tables, Ok(())))
     }
 
     /// The subscription in that place ends, where a place is given.
-    fn end_given(&mut self, alloc: Global, number: u64, at: Option<usize>) -> Result<(), AllocError>
-        requires tallied { IsTallied number self.old }
-        requires place { IfSome at (λ i. i < length self.old.order.subscriptions) }
-        ensures ended { OnOk result (state_of number self.new ≡ without_at (state_of number self.old) at) }
-        ensures tallied { OnOk result (IsTallied number self.new) }
+    fn end_given(self, alloc: Global, at: Option<usize>) -> Result<Tables, AllocError>
+        requires place { IfSome at (λ i. i < length self.subscriptions) }
+        ensures ended { IfOk result (λ tables. tables ≡ without_at self at) }
     {
         match at {
-            Some(at) => self.end_one(alloc, number, at),
-            None => Ok(()),
+            Some(at) => self.end_one(alloc, at),
+            None => Ok(self),
         }
     }
 
     /// A durable name is known no more, and what waits in its line is held no more.
-    fn forget(&mut self, alloc: Global, number: u64, name: &DurableName)
-        requires tallied { IsTallied number self.old }
-        ensures forgotten { state_of number self.new ≡ forgotten (state_of number self.old) name.now }
-        ensures tallied { IsTallied number self.new }
+    fn forget(&mut self, alloc: Global, name: &DurableName)
+        ensures { self.new ≡ forgotten self.old name.now }
     {
         self.durables.remove(name);
         let line = self.shared.forget(alloc, name);
@@ -405,48 +380,44 @@ impl Tables {
 
     /// The subscription in that place ends: what it has not acknowledged stands in its line again, unless the line was its
     /// own; what vanishes with it is held no more.
-    fn end_one(&mut self, alloc: Global, number: u64, at: usize) -> Result<(), AllocError>
-        requires tallied { IsTallied number self.old }
-        requires place { at < length self.old.order.subscriptions }
-        ensures ended { OnOk result ((sub : Subscription) → slice_get self.old.order.subscriptions at ≡ Some sub
-            → state_of number self.new ≡ without (state_of number self.old) sub (remove self.old.order.subscriptions at)) }
-        ensures tallied { OnOk result (IsTallied number self.new) }
+    fn end_one(mut self, alloc: Global, at: usize) -> Result<Tables, AllocError>
+        requires place { at < length self.subscriptions }
+        ensures ended { IfOk result (λ tables. (sub : Subscription) → slice_get self.subscriptions at ≡ Some sub
+            → tables ≡ without self sub (remove self.subscriptions at)) }
     {
         let sub = self.order.remove(at);
         let gone = self.shared.take_back(alloc, sub)?;
         let_line_go(&mut self.held, gone.line);
         let_deliveries_go(&mut self.held, gone.deliveries.as_slice());
-        Ok(())
+        Ok(self)
     }
 
-    /// The session ends, with all its subscriptions.
-    pub fn end(&mut self, alloc: Global, number: u64, session: u64) -> Result<(), AllocError>
-        requires tallied { IsTallied number self.old }
-        ensures ended { OnOk result (state_of number self.new ≡ ended (state_of number self.old) session) }
-        ensures tallied { OnOk result (IsTallied number self.new) }
+    /// The session ends, with all its subscriptions. Where memory is refused, nothing is left of the tables.
+    pub fn end(self, alloc: Global, session: u64) -> Result<Tables, AllocError>
+        ensures ended { IfOk result (λ tables. tables ≡ ended self session) }
     {
+        let mut tables = self;
         let mut at = 0;
-        while at < self.order.len() {
-            if self.order.get(at).session == session {
-                self.end_one(alloc, number, at)?;
+        while at < tables.order().len() {
+            if tables.order().get(at).session == session {
+                tables = tables.end_one(alloc, at)?;
             } else {
                 at += 1;
             }
         }
-        self.sessions.remove(&session);
-        Ok(())
+        tables.sessions.remove(&session);
+        Ok(tables)
     }
 
-    /// Every session ends, with all subscriptions.
-    pub fn restart(&mut self, alloc: Global, number: u64) -> Result<(), AllocError>
-        requires tallied { IsTallied number self.old }
-        ensures restarted { OnOk result (state_of number self.new ≡ restarted (state_of number self.old)) }
-        ensures tallied { OnOk result (IsTallied number self.new) }
+    /// Every session ends, with all subscriptions. Where memory is refused, nothing is left of the tables.
+    pub fn restart(self, alloc: Global) -> Result<Tables, AllocError>
+        ensures restarted { IfOk result (λ tables. tables ≡ restarted self) }
     {
-        while self.order.len() > 0 {
-            self.end_one(alloc, number, 0)?;
+        let mut tables = self;
+        while tables.order().len() > 0 {
+            tables = tables.end_one(alloc, 0)?;
         }
-        self.sessions = BTreeMap::new(alloc);
-        Ok(())
+        tables.sessions = BTreeMap::new(alloc);
+        Ok(tables)
     }
 }

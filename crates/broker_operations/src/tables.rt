@@ -1,37 +1,55 @@
 //! What the broker keeps: sessions, durable names, lines and subscriptions, and how much is held.
 
+ghost use Rattle.std.specs.Prelude.{◌≡◌, OnOk};
+ghost use Rattle.command_core.specs.Operations.{IsGiven};
+ghost use Rattle.broker_state.specs.Operations.{opened};
 ghost use Rattle.broker_state.specs.States.{empty_state, held_bytes, held_messages};
-ghost use Rattle.broker_operations.specs.Tables.{IsTallied, state_of};
 ghost use Rattle.broker_state.specs.PartsOf.{state_of_parts};
 ghost use Rattle.broker_state.specs.Sound.{IsSound};
-ghost use Rattle.std.specs.Prelude.{◌≡◌, IfOk};
+ghost use Rattle.broker_operations.specs.Tables.{IsTallied};
 
 use crate::order::Order;
 use crate::shared_lines::SharedLines;
 use broker_state::{DurableName, GivenName, Held, Parts};
-use command_core::Dest;
+use command_core::{Dest, HeaderText};
 use std::alloc::{AllocError, Global};
 use std::collections::BTreeMap;
+use std::marker::Model;
 
-/// The open sessions, the durable names, the lines that stay and the subscriptions, and how much is held, so that nobody
-/// needs to count it.
+/// How many commands were carried out, the open sessions, the durable names, the lines that stay and the subscriptions,
+/// and how much is held, so that nobody needs to count it. Contracts see the state that they show; what is counted as held
+/// is what that state holds. The operations take the tables and give them back: one that is refused memory when part of it
+/// is done has let them go, and so leaves none whose count is wrong.
 #[derive(Drop)]
 pub struct Tables {
-    pub next_delivery: u64,
-    pub sessions: BTreeMap<u64, Option<GivenName>>,
+    pub(crate) count: u64,
+    pub(crate) next_delivery: u64,
+    pub(crate) sessions: BTreeMap<u64, Option<GivenName>>,
     /// The topic of each durable name.
-    pub durables: BTreeMap<DurableName, Dest>,
-    pub shared: SharedLines,
-    pub order: Order,
-    pub held: Held,
+    pub(crate) durables: BTreeMap<DurableName, Dest>,
+    pub(crate) shared: SharedLines,
+    pub(crate) order: Order,
+    pub(crate) held: Held,
+}
+
+impl Model for Tables {
+    ghost use Rattle.broker_state.specs.States.{State};
+    ghost use Rattle.broker_operations.specs.Tables.{IsTallied, shown};
+
+    ghost Value = { State };
+
+    ghost view = { λ a. shown a.count a.next_delivery a.sessions.entries a.durables.entries a.shared a.order };
+
+    ghost invariant = { λ a. IsTallied (shown a.count a.next_delivery a.sessions.entries a.durables.entries a.shared a.order) a.held };
 }
 
 impl Tables {
-    pub fn new(alloc: Global) -> Tables
-        ensures state { state_of 0 result ≡ empty_state }
-        ensures tallied { IsTallied 0 result }
+    /// Empty tables, once so many commands were carried out. No memory is taken.
+    pub fn new(alloc: Global, count: u64) -> Tables
+        ensures { result ≡ record empty_state { count = count } }
     {
         Tables {
+            count,
             next_delivery: 0,
             sessions: BTreeMap::new(alloc),
             durables: BTreeMap::new(alloc),
@@ -44,21 +62,88 @@ impl Tables {
         }
     }
 
-    /// The tables of a state that a broker can have, which holds so much.
-    pub fn of(alloc: Global, parts: Parts, held: Held) -> Result<Tables, AllocError>
+    /// The tables of a state that a broker can have, which holds so much. No memory is taken.
+    pub fn of(parts: Parts, held: Held) -> Tables
         requires sound { IsSound (state_of_parts parts) }
         requires messages { held.messages ≡ held_messages (state_of_parts parts) }
         requires bytes { held.bytes ≡ held_bytes (state_of_parts parts) }
-        ensures state { IfOk result (λ tables. state_of parts.count tables ≡ state_of_parts parts) }
-        ensures tallied { IfOk result (λ tables. IsTallied parts.count tables) }
+        ensures { result ≡ state_of_parts parts }
     {
-        Ok(Tables {
+        Tables {
+            count: parts.count,
             next_delivery: parts.next_delivery,
             sessions: parts.sessions,
             durables: parts.durables,
             shared: SharedLines::of(parts.names, parts.queues),
-            order: Order::of(alloc, parts.subscriptions)?,
+            order: Order::of(parts.subscriptions),
             held,
-        })
+        }
+    }
+
+    /// How many commands were carried out.
+    pub fn count(&self) -> u64
+        ensures { result ≡ self.now.count }
+    {
+        self.count
+    }
+
+    /// The number of the next delivery.
+    pub fn next_delivery(&self) -> u64
+        ensures { result ≡ self.now.next_delivery }
+    {
+        self.next_delivery
+    }
+
+    /// The open sessions, each with the name of its client where it has one.
+    pub fn sessions(&self) -> &BTreeMap<u64, Option<GivenName>>
+        ensures { result.now.entries ≡ self.now.sessions }
+    {
+        &self.sessions
+    }
+
+    /// The topic of each durable name.
+    pub fn durables(&self) -> &BTreeMap<DurableName, Dest>
+        ensures { result.now.entries ≡ self.now.durables }
+    {
+        &self.durables
+    }
+
+    /// The lines that stay when a subscription ends.
+    pub fn shared(&self) -> &SharedLines
+        ensures { result.now ≡ self.now.shared }
+    {
+        &self.shared
+    }
+
+    /// The subscriptions in waiting order.
+    pub fn order(&self) -> &Order
+        ensures { result.now ≡ self.now.subscriptions }
+    {
+        &self.order
+    }
+
+    /// How much is held.
+    pub fn held(&self) -> Held
+        ensures tallied { IsTallied self.now result }
+    {
+        self.held
+    }
+
+    /// So many commands were carried out. The operations leave that number as it is.
+    pub fn set_count(&mut self, count: u64)
+        ensures { self.new ≡ record self.old { count = count } }
+    {
+        self.count = count;
+    }
+
+    /// The session opens whose number is that of the command that is being carried out. Where memory is refused, the
+    /// sessions may have changed, and what is held has not.
+    pub fn open(&mut self, client_id: Option<HeaderText>) -> Result<(), AllocError>
+        requires { IsGiven client_id }
+        ensures { OnOk result (self.new ≡ opened self.old client_id) }
+    {
+        self.sessions
+            .insert(self.count, GivenName::optional(client_id))?;
+        Ok(())
     }
 }

@@ -1,3 +1,4 @@
+use crate::workers::start_worker;
 use journal_files::format_file;
 use server_core::{ServeFault, Server};
 use std::alloc::Global;
@@ -84,24 +85,6 @@ fn shake(rt: &HostRuntime, alloc: Global) -> bool {
             taken
         }
         Err(_) => false,
-    }
-}
-// A worker of the server, in a thread of its own.
-fn start_worker<R>(rt: &R, alloc: Global, server: &mut Server<R>) -> bool
-where
-    R: Threads
-        + Net<Listener = TcpListener, Stream = TcpStream>
-        + Wait
-        + Clock
-        + Clone
-        + Drop
-        + Send
-        + Sync
-        + 'static,
-{
-    match server.next_worker() {
-        Ok(Some(worker)) => thread::spawn(rt, move || worker.run(alloc)).is_ok(),
-        _ => false,
     }
 }
 

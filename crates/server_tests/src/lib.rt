@@ -11,3 +11,5 @@ mod handshake_tests;
 mod loopback_tests;
 #[cfg(test)]
 mod opening_tests;
+#[cfg(test)]
+mod workers;

@@ -1,4 +1,5 @@
 use crate::client::Client;
+use crate::workers::start_worker;
 use flush_core::FlushFault;
 use journal_files::format_file;
 use server_core::{ServeFault, Server};
@@ -82,25 +83,6 @@ where
         return None;
     }
     Server::open(alloc, rt, path, PORT).ok()
-}
-
-// A worker of the server, in a thread of its own.
-fn start_worker<R>(rt: &R, alloc: Global, server: &mut Server<R>) -> bool
-where
-    R: Threads
-        + Net<Listener = TcpListener, Stream = TcpStream>
-        + Wait
-        + Clock
-        + Clone
-        + Drop
-        + Send
-        + Sync
-        + 'static,
-{
-    match server.next_worker() {
-        Ok(Some(worker)) => thread::spawn(rt, move || worker.run(alloc)).is_ok(),
-        _ => false,
-    }
 }
 
 // Both clients.

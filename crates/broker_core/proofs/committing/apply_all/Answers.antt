@@ -1,19 +1,17 @@
 use Rattle.std.proofs.Common.{◌≡◌, ◌∷◌, ◌∙◌, ap, arith, length, rules, sym}
 use Rattle.broker_state.specs.Operations.{committed}
 use Rattle.broker_state.specs.Parts.{leaving}
-use Rattle.broker_operations.specs.Tables.{state_of}
 use Rattle.broker_core.proofs.Transactions.{committed_more}
 use Rattle.broker_core.proofs.committing.apply_all.Goals as goal
 
 pub loop-member-preserved : goal.loop-member-preserved
 loop-member-preserved c =
-    let s = state_of c.args.number c.loop-member.tables in
+    let s = c.loop-member.tables in
     let rest = c.next.new.self.rest.items in
     let first : c.loop-member.member-iterator.rest.items ≡ c.in-Some.member ∷ rest = search rules in
     let all = ap (committed s c.args.session c.loop-member.place) (sym first) ∙ c.loop-member.invariant.committed in
-    let t = state_of c.args.number c.apply.new.tables in
+    let t = c.in_ok-left.left in
     record {
-      tallied = c.in_ok-fault.ensures.tallied;
-      committed = sym (committed_more s t c.args.session c.loop-member.place c.in-Some.member rest (c.in_ok-fault.ensures.applied ∙ ap (λ r. leaving r t) c.in_default.is)) ∙ all;
+      committed = sym (committed_more s t c.args.session c.loop-member.place c.in-Some.member rest (c.in_ok-left.ensures.applied ∙ ap (λ r. leaving r t) c.in_default.is)) ∙ all;
       few = omega (arith, ap length first);
     }

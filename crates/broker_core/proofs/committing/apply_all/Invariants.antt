@@ -1,11 +1,9 @@
 use Rattle.std.proofs.Common.{◌≡◌, ◌≤◌, ◌+◌, length}
 use Rattle.broker_state.specs.Operations.{committed}
-use Rattle.broker_operations.specs.Tables.{IsTallied, state_of}
 use Rattle.broker_core.proofs.committing.apply_all.Given as goal
 
 abbrev pub invariant-loop-member : goal.invariant-loop-member
 invariant-loop-member l = record {
-  tallied : IsTallied l.number l.tables;
-  committed : committed (state_of l.number l.tables) l.session l.place l.member-iterator.rest.items ≡ committed (state_of l.number l.fn.tables) l.session 0 l.fn.members.items;
+  committed : committed l.tables l.session l.place l.member-iterator.rest.items ≡ committed l.fn.tables l.session 0 l.fn.members.items;
   few : l.place + length l.member-iterator.rest.items ≤ 64;
 }

@@ -7,7 +7,7 @@ use Rattle.broker_core.proofs.precheck.flights_of.Goals.{then-sub-session+in_ok-
 
 pub loop-at-preserved : goal.loop-at-preserved
 loop-at-preserved c =
-    let subs = c.args.order.now.subscriptions in
+    let subs = c.args.order.now in
     let sub = c.get-sub.result.now in
     elim c.if-sub-session.branch [
       | then-sub-session+in_ok-deliveries+in_ok-push w ↦

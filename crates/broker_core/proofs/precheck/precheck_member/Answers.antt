@@ -19,16 +19,16 @@ use Rattle.broker_core.proofs.precheck.precheck_member.Goals as goal
 
 pub precheck_acknowledge-requires-clause-messages : goal.precheck_acknowledge-requires-clause-messages
 precheck_acknowledge-requires-clause-messages c =
-    few_held c.requires.0 c.args.tables.now.durables.entries c.args.tables.now.order.subscriptions c.args.precheck.now c.args.precheck.now c.requires.1 c.requires.2
+    few_held c.requires.0 c.args.tables.now.durables c.args.tables.now.subscriptions c.args.precheck.now c.args.precheck.now c.requires.1 c.requires.2
 
 pub precheck_acknowledge-requires-clause-bytes : goal.precheck_acknowledge-requires-clause-bytes
 precheck_acknowledge-requires-clause-bytes c =
-    small_held c.requires.0 c.args.tables.now.durables.entries c.args.tables.now.order.subscriptions c.args.precheck.now c.args.precheck.now c.requires.1 c.requires.2
+    small_held c.requires.0 c.args.tables.now.durables c.args.tables.now.subscriptions c.args.precheck.now c.args.precheck.now c.requires.1 c.requires.2
 
 pub returns-in-Send : goal.returns-in-Send
 returns-in-Send c session place s stands =
-    let durables = c.args.tables.now.durables.entries in
-    let subs = c.args.tables.now.order.subscriptions in
+    let durables = c.args.tables.now.durables in
+    let subs = c.args.tables.now.subscriptions in
     let copies = c.copies_to-copies.ensures ∙ ap (λ (to : List ℕ). copies_to to durables subs) c.destination.ensures.value in
     subst (λ (m : Member). Leads session durables subs c.precheck_send.new.precheck c.precheck_send.result (applied s session place m)) (sym c.in-Send.is) (send_leads session durables subs c.args.precheck.now c.precheck_send.new.precheck s stands place c.in-Send.sending c.copies_to-copies.result c.size.result copies c.size.ensures.size c.precheck_send.ensures.flights c.precheck_send.result c.precheck_send.ensures.answer c.precheck_send.ensures.messages c.precheck_send.ensures.bytes)
 
@@ -43,8 +43,8 @@ is_acknowledged s session place delivery m (inr is) = sym (ap (applied s session
 
 pub returns-in-Ack : goal.returns-in-Ack
 returns-in-Ack c =
-    let durables = c.args.tables.now.durables.entries in
-    let subs = c.args.tables.now.order.subscriptions in
+    let durables = c.args.tables.now.durables in
+    let subs = c.args.tables.now.subscriptions in
     let told = c.precheck_acknowledge.ensures in
     let old = c.args.precheck.now in
     let new = c.precheck_acknowledge.new.precheck in

@@ -8,7 +8,7 @@ use Rattle.broker_operations.proofs.sending.listeners_of.Goals.{then-listens, el
 
 pub loop-at-preserved : goal.loop-at-preserved
 loop-at-preserved c =
-    let subs = c.args.order.now.subscriptions in
+    let subs = c.args.order.now in
     let sub = c.get.result.now in
     let goes = λ (s : Subscription). is_own s && bytes_eq s.destination c.args.to.now in
     elim c.if-listens.branch [

@@ -5,6 +5,6 @@ use Rattle.broker_operations.proofs.sending.listeners_of.Given as goal
 
 abbrev pub invariant-loop-at : goal.invariant-loop-at
 invariant-loop-at l = record {
-  counted : l.listeners ≡ count_by (λ sub. is_own sub && bytes_eq sub.destination l.to) (take l.at l.order.subscriptions);
+  counted : l.listeners ≡ count_by (λ sub. is_own sub && bytes_eq sub.destination l.to) (take l.at l.order);
   few : l.listeners ≤ l.at;
 }

@@ -7,7 +7,7 @@ use Rattle.broker_operations.proofs.subscribing.count_of.Goals.{then-get-session
 
 pub loop-at-preserved : goal.loop-at-preserved
 loop-at-preserved c =
-    let subs = c.args.order.now.subscriptions in
+    let subs = c.args.order.now in
     elim c.if-get-session.branch [
       | then-get-session w ↦
           let yes : is_of c.args.session c.get.result.now ≡ true = grind (arith, nat_tests) in

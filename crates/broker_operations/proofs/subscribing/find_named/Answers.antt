@@ -12,4 +12,4 @@ loop-at-preserved c =
     let sub = c.get-sub.result.now in
     let mine = is_of c.args.session sub in
     let same = bytes_eq c.args.id.now sub.id in
-    none_more (is_named c.args.session c.args.id.now) c.args.order.now.subscriptions c.loop-at.at sub c.get-sub.ensures (elim c.else-sub-session.branch [ else-sub-session-via-then-sub-session+else-eq w ↦ and_right mine same (grind (arith, nat_tests)) | else-sub-session-via-else-sub-session w ↦ and_left mine same (grind (arith, nat_tests)) ]) c.loop-at.invariant
+    none_more (is_named c.args.session c.args.id.now) c.args.order.now c.loop-at.at sub c.get-sub.ensures (elim c.else-sub-session.branch [ else-sub-session-via-then-sub-session+else-eq w ↦ and_right mine same (grind (arith, nat_tests)) | else-sub-session-via-else-sub-session w ↦ and_left mine same (grind (arith, nat_tests)) ]) c.loop-at.invariant

@@ -1,14 +1,10 @@
-use Rattle.std.proofs.Common.{◌≡◌, sym, subst, rules}
-use Rattle.broker_state.specs.Operations.{restarted}
+use Rattle.std.proofs.Common.{subst, sym}
 use Rattle.broker_state.specs.Sound.{IsSound}
-use Rattle.broker_operations.specs.Tables.{IsTallied, state_of}
+use Rattle.broker_state.specs.States.{BrokerValue}
 use Rattle.broker_laws.proofs.SoundSteps.{sound_restart}
 use Rattle.broker_core.proofs.broker.Broker.restart.Goals as goal
 
-pub invariant_of-self-2 : goal.invariant_of-self-2
-invariant_of-self-2 c is =
-    let before = state_of c.self.inside.count c.self.inside.tables in
-    let was = c.self.invariant c.if-self.false in
-    let state : state_of c.self.inside.count c.restart.new.self ≡ restarted before = search rules in
-    let tallied : IsTallied c.self.inside.count c.restart.new.self = search rules in
-    record { tallied = tallied; sound = subst IsSound (sym state) (sound_restart before was.sound) }
+pub put-requires : goal.put-requires
+put-requires c =
+    let was = subst IsSound (sym c.take-tables.ensures.taken) (subst (λ (b : BrokerValue). IsSound b.state) c.self.view_is (c.self.invariant c.if-self.false)) in
+    record { sound = subst IsSound (sym c.in-Ok.ensures.restarted) (sound_restart c.take-tables.result was) }

@@ -4,51 +4,47 @@ use Rattle.line_core.specs.Flights.{IsOver}
 use Rattle.broker_state.specs.declared.subscription.Subscription.{Subscription}
 use Rattle.broker_state.specs.Operations.{settled_by}
 use Rattle.broker_state.specs.States.{bytes, one, weight_of_subscription}
-use Rattle.broker_operations.specs.Tables.{state_of}
 use Rattle.broker_operations.proofs.Operating.{acknowledged_first, acknowledged_none, item_at}
 use Rattle.broker_state.proofs.Weights.{all_changed, over_settled_by, sum_by-changed, sum_by-part, weight-settled_by}
 use Rattle.broker_operations.proofs.tables.Tables.acknowledge.Goals as goal
 
 pub returns-in_default-clause-acknowledged : goal.returns-in_default-clause-acknowledged
 returns-in_default-clause-acknowledged c =
-    acknowledged_none (state_of c.args.number c.args.self.now) c.args.session c.args.delivery c.in_default.ensures
+    rw (← c.self.view_is) (acknowledged_none _ c.args.session c.args.delivery c.in_default.ensures)
 
 pub let_deliveries_go-requires-clause-messages : goal.let_deliveries_go-requires-clause-messages
 let_deliveries_go-requires-clause-messages c =
-    let subs = c.args.self.now.order.subscriptions in
+    let subs = c.self.inside.order in
     let found = item_at subs c.in-Some.at c.in-Some.ensures.within in
     let given = c.as_slice.ensures.value ∙ c.in_ok-settled.ensures.settled found.0 found.1 in
-    omega (arith, weight-settled_by one c.args.delivery found.0, sum_by-part (weight_of_subscription one) subs c.in-Some.at found.0 found.1, ap (sum_by (λ delivery. one delivery.1)) given)
+    omega (arith, weight-settled_by one c.args.delivery found.0, sum_by-part (weight_of_subscription one) subs c.in-Some.at found.0 found.1, ap (sum_by (λ delivery. one delivery.1)) given, c.self.invariant.messages)
 
 pub let_deliveries_go-requires-clause-bytes : goal.let_deliveries_go-requires-clause-bytes
 let_deliveries_go-requires-clause-bytes c =
-    let subs = c.args.self.now.order.subscriptions in
+    let subs = c.self.inside.order in
     let found = item_at subs c.in-Some.at c.in-Some.ensures.within in
     let given = c.as_slice.ensures.value ∙ c.in_ok-settled.ensures.settled found.0 found.1 in
-    omega (arith, weight-settled_by bytes c.args.delivery found.0, sum_by-part (weight_of_subscription bytes) subs c.in-Some.at found.0 found.1, ap (sum_by (λ delivery. bytes delivery.1)) given)
+    omega (arith, weight-settled_by bytes c.args.delivery found.0, sum_by-part (weight_of_subscription bytes) subs c.in-Some.at found.0 found.1, ap (sum_by (λ delivery. bytes delivery.1)) given, c.self.invariant.bytes)
 
-pub returns-clause-acknowledged : goal.returns-clause-acknowledged
-returns-clause-acknowledged c =
-    acknowledged_first (state_of c.args.number c.args.self.now) c.args.session c.args.delivery c.in-Some.at c.settle.new.self.subscriptions c.in-Some.ensures c.in_ok-settled.ensures.unsettled
-
-pub returns-clause-tallied : goal.returns-clause-tallied
-returns-clause-tallied c =
-    let subs = c.args.self.now.order.subscriptions in
-    let tallied = c.requires.tallied in
+pub invariant_of-self : goal.invariant_of-self
+invariant_of-self c =
+    let subs = c.self.inside.order in
+    let tallied = c.self.invariant in
     let at = c.in-Some.at in
     let found = item_at subs at c.in-Some.ensures.within in
     let sub = found.0 in
     let given = c.as_slice.ensures.value ∙ c.in_ok-settled.ensures.settled sub found.1 in
     let left = c.in_ok-settled.ensures.unsettled in
-    let IsUnder = λ (sub : Subscription). IsOver c.args.self.now.next_delivery sub.unacknowledged in
+    let IsUnder = λ (sub : Subscription). IsOver c.self.inside.next_delivery sub.unacknowledged in
     record {
-      counted = record {
-        messages = omega (arith, weight-settled_by one c.args.delivery sub, sum_by-changed (weight_of_subscription one) (settled_by c.args.delivery) subs at sub found.1, ap (sum_by (weight_of_subscription one)) left, ap (sum_by (λ delivery. one delivery.1)) given);
-        bytes = omega (arith, weight-settled_by bytes c.args.delivery sub, sum_by-changed (weight_of_subscription bytes) (settled_by c.args.delivery) subs at sub found.1, ap (sum_by (weight_of_subscription bytes)) left, ap (sum_by (λ delivery. bytes delivery.1)) given);
-      };
-      few = omega arith;
-      small = omega arith;
-      next = subst (AllByRecursion IsUnder) (sym left) (all_changed IsUnder (settled_by c.args.delivery) (over_settled_by c.args.self.now.next_delivery c.args.delivery) subs at tallied.next);
+      messages = omega (arith, tallied.messages, weight-settled_by one c.args.delivery sub, sum_by-changed (weight_of_subscription one) (settled_by c.args.delivery) subs at sub found.1, ap (sum_by (weight_of_subscription one)) left, ap (sum_by (λ delivery. one delivery.1)) given);
+      bytes = omega (arith, tallied.bytes, weight-settled_by bytes c.args.delivery sub, sum_by-changed (weight_of_subscription bytes) (settled_by c.args.delivery) subs at sub found.1, ap (sum_by (weight_of_subscription bytes)) left, ap (sum_by (λ delivery. bytes delivery.1)) given);
+      few = omega (arith, tallied.few);
+      small = omega (arith, tallied.small);
+      next = subst (AllByRecursion IsUnder) (sym left) (all_changed IsUnder (settled_by c.args.delivery) (over_settled_by c.self.inside.next_delivery c.args.delivery) subs at tallied.next);
       deliveries = tallied.deliveries;
-      added = omega (arith, c.settle.ensures.added);
     }
+
+pub returns-clause-acknowledged : goal.returns-clause-acknowledged
+returns-clause-acknowledged c =
+    rw (← c.self.view_is) (acknowledged_first _ c.args.session c.args.delivery c.in-Some.at c.settle.new.self c.in-Some.ensures c.in_ok-settled.ensures.unsettled)

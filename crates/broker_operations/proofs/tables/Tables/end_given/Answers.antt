@@ -1,9 +1,10 @@
-use Rattle.std.proofs.lemmas.Result.{on_ok_weaker}
-use Rattle.broker_operations.specs.Tables.{state_of}
+use Rattle.std.proofs.lemmas.Result.{IfOk-weaker}
 use Rattle.broker_operations.proofs.Operating.{ended_at}
 use Rattle.broker_operations.proofs.tables.Tables.end_given.Goals as goal
 
-pub returns-in-Some-clause-ended : goal.returns-in-Some-clause-ended
-returns-in-Some-clause-ended c =
-    let within = rw c.in-Some.is at c.requires.place in
-    on_ok_weaker c.end_one.result (λ ended. rw c.in-Some.is (ended_at (state_of c.args.number c.args.self.now) (state_of c.args.number c.end_one.new.self) c.in-Some.at within ended)) c.end_one.ensures.ended
+pub returns-in-Some : goal.returns-in-Some
+returns-in-Some c = record {
+  ended =
+      let within = rw c.in-Some.is at c.requires.place in
+      IfOk-weaker c.end_one.result _ _ (λ tables ended. rw c.in-Some.is (ended_at c.args.self tables c.in-Some.at within ended)) c.end_one.ensures.ended;
+}

@@ -7,8 +7,7 @@ use Rattle.broker_state.specs.Operations.{copied, copied_to_names, fanned_out}
 use Rattle.broker_state.specs.States.{State}
 use Rattle.broker_state.specs.Waiting.{Shared}
 use Rattle.broker_state.proofs.Sendings.{fanned_out_by}
-use Rattle.broker_operations.specs.Tables.{state_of}
-use Rattle.broker_operations.proofs.tables.Tables.copy_to_topic.Goals as goal
+use Rattle.broker_operations.proofs.sending.copy_to_topic.Goals as goal
 
 fanned_out_topic : (s : State) (m : Message) (shared : Shared) (subs : List Subscription) → is_queue m.sending.destination ≡ false → shared ≡ record s.shared { names = copied_to_names m s.durables s.shared.names } → subs ≡ map (copied m) s.subscriptions → record s { shared = shared; subscriptions = subs } ≡ fanned_out s m
 fanned_out_topic s m shared subs topic names own =
@@ -16,6 +15,6 @@ fanned_out_topic s m shared subs topic names own =
     ∙ ap (λ (x : List Subscription). record s { shared = record s.shared { names = copied_to_names m s.durables s.shared.names }; subscriptions = x }) own
     ∙ sym (ap (fanned_out_by s m) topic)
 
-pub returns-clause-fanned_out : goal.returns-clause-fanned_out
-returns-clause-fanned_out c =
-    on_ok_weaker c.copy_to_listeners.result (λ own number. fanned_out_topic (state_of number c.args.self.now) c.args.message.now c.copy_to_names.new.shared c.copy_to_listeners.new.order.subscriptions c.requires.topic c.in_ok-copy_to_names.ensures own) c.copy_to_listeners.ensures.copied
+pub returns : goal.returns
+returns c =
+    on_ok_weaker c.copy_to_listeners.result (λ own s. sym (fanned_out_topic (record s { durables = c.args.durables.now.entries; shared = c.args.shared.now; subscriptions = c.args.order.now }) c.args.message.now c.copy_to_names.new.shared c.copy_to_listeners.new.order c.requires.topic c.in_ok-copy_to_names.ensures own)) c.copy_to_listeners.ensures
