@@ -10,10 +10,11 @@ use Rattle.recover_core.specs.Standing.{Stands}
 use Rattle.script_journal.specs.Going.{IsIdle}
 use Rattle.script_journal.specs.Placed.{AreSeatsOf}
 
--- A journal: the broker's state after its commands, and whether they are durable.
+-- A journal: the broker's state after its commands, whether they are durable, and how many calls of its disk have failed.
 pub record JournalValue : Type 0 where
   pub state : State
   pub durable : Bool
+  pub failures : ℕ
 
 -- the seats and the flusher are at this ring, and the flusher is idle and has handed all outputs out
 pub record IsAtRest {D : Type 0} (ring : TableId) (seats : List SessionSeatValue) (flusher : Flushed D) : Type 0 where

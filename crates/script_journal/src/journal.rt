@@ -10,7 +10,7 @@ ghost use Rattle.recover_core.specs.Standing.{StandFor, Stands};
 ghost use Rattle.recover_core.specs.Stores.{disk_of, is_broken, opened_by};
 ghost use Rattle.recover_core.specs.Told.{IsOpenTold};
 ghost use Rattle.flush_core.specs.declared.faults.FlushFault.TheVariants.{Broken};
-ghost use Rattle.script_journal.specs.Faults.{IsNotOfDisk};
+ghost use Rattle.script_journal.specs.Faults.{IsCausedBy, IsNotOfDisk};
 ghost use Rattle.script_journal.specs.Journals.{StandsAfterFront};
 ghost use Rattle.script_journal.specs.Placed.{commands_of};
 
@@ -28,8 +28,8 @@ use std::alloc::Global;
 use std::marker::Model;
 
 /// An opened journal with its ring, whose seats are all here, and the broker after its commands. Contracts see the broker's
-/// state, and whether it is durable: then whatever a stop leaves of the disk stands for it. Once a step failed it is not,
-/// and the journal takes nothing more.
+/// state, whether it is durable, and how many calls of the disk have failed. Where it is durable, whatever a stop leaves of
+/// the disk stands for it. Once a step failed it is not, and the journal takes nothing more.
 #[derive(Drop)]
 pub struct Journal {
     ring: ScriptRing,
@@ -45,7 +45,7 @@ impl Model for Journal {
 
     ghost Value = { JournalValue };
 
-    ghost view = { λ a. record { state = a.flusher.broker.state; durable = a.whole } };
+    ghost view = { λ a. record { state = a.flusher.broker.state; durable = a.whole; failures = a.flusher.disk.failures } };
 
     ghost invariant = { λ a. a.whole ≡ true → IsAtRest a.ring a.seats.items a.flusher };
 }
@@ -56,6 +56,7 @@ impl Journal {
         ensures state { IfOk result (λ journal. (s : State) → Stands disk.content s → journal.state ≡ restarted s) }
         ensures durable { IfOk result (λ journal. journal.durable ≡ true) }
         ensures small { IfOk result (λ journal. journal.state.count ≤ 2 ^ 61) }
+        ensures calm { IfOk result (λ journal. journal.failures ≡ disk.failures) }
         ensures refused { IfErr result (λ fault. IsOpenTold fault disk.content) }
     {
         match recover_core::open(alloc, disk) {
@@ -92,13 +93,14 @@ impl Journal {
     /// Has waiting commands go through the ring: each is appended by its connection's seat, and made durable and carried out
     /// in the flusher's turns. Answers their outputs, in order.
     ///
-    /// After a fault the journal is not durable, and takes nothing more: `Device`, `Full`, `Memory` where a turn failed so,
-    /// `Broken` where one failed before.
+    /// After a fault the journal is not durable, and takes nothing more: `Device` just where a call of the disk failed, `Full`
+    /// and `Memory` where a turn failed so, `Broken` where one failed before.
     pub fn record(&mut self, alloc: Global, waiting: Vec<Waiting>) -> Result<Vec<Out>, FlushFault>
-        ensures state { OnOk result (self.new ≡ record { state = state_after self.old.state (commands_of waiting.items); durable = self.old.durable }) }
+        ensures state { OnOk result (self.new ≡ record self.old { state = state_after self.old.state (commands_of waiting.items) }) }
         ensures outs { IfOk result (λ outs. outs.items ≡ outs_of self.old.state (commands_of waiting.items)) }
         ensures durable { OnOk result (self.old.durable ≡ true) }
         ensures failed { OnErr result (self.new.durable ≡ false) }
+        ensures cause { IfErr result (IsCausedBy self.old.failures self.new.failures) }
     {
         if !self.whole {
             drop(waiting);
@@ -184,7 +186,7 @@ impl Journal {
             Ok(_) => Ok(stopped(fused, fill)),
             Err(fault) => {
                 drop(fused);
-                Err(fault)
+                Err(beside_stop(fault))
             }
         }
     }
@@ -195,7 +197,7 @@ fn with_broker(alloc: Global, store: Store<MemDisk>) -> Result<Journal, OpenFaul
     requires opened { IsSome (opened_by store) }
     requires stands { IfSome (opened_by store) (λ broker. StandFor (IsImage (disk_of store).content (disk_of store).held) broker.state × (broker.broken ≡ false) × (broker.state.count ≤ 2 ^ 61)) }
     requires whole { is_broken store ≡ false }
-    ensures made { IfOk result (λ journal. IfSome (opened_by store) (λ broker. journal ≡ record { state = broker.state; durable = true })) }
+    ensures made { IfOk result (λ journal. IfSome (opened_by store) (λ broker. journal ≡ record { state = broker.state; durable = true; failures = (disk_of store).failures })) }
     ensures refused { IfErr result (λ fault. (content : List ℕ) → IsOpenTold fault content) }
 {
     let mut store = store;
@@ -208,7 +210,7 @@ fn with_ring(alloc: Global, store: Store<MemDisk>, broker: Broker) -> Result<Jou
     requires stands { StandFor (IsImage (disk_of store).content (disk_of store).held) broker.state }
     requires broker { (broker.broken ≡ false) × (broker.state.count ≤ 2 ^ 61) }
     requires whole { is_broken store ≡ false }
-    ensures made { IfOk result (λ journal. journal ≡ record { state = broker.state; durable = true }) }
+    ensures made { IfOk result (λ journal. journal ≡ record { state = broker.state; durable = true; failures = (disk_of store).failures }) }
     ensures refused { IfErr result (λ fault. (content : List ℕ) → IsOpenTold fault content) }
 {
     match ScriptRing::new(alloc, broker.count()) {
@@ -219,6 +221,17 @@ fn with_ring(alloc: Global, store: Store<MemDisk>, broker: Broker) -> Result<Jou
             whole: true,
         }),
         Err(refused) => Err(OpenFault::Area(AreaFault::Memory(refused))),
+    }
+}
+
+// The fault where a disk was to stop: that it did is none.
+fn beside_stop(fault: FlushFault) -> FlushFault
+    ensures { IsNotOfDisk result }
+{
+    match fault {
+        FlushFault::Full => FlushFault::Full,
+        FlushFault::Memory(refused) => FlushFault::Memory(refused),
+        FlushFault::Device | FlushFault::Broken => FlushFault::Broken,
     }
 }
 

@@ -3,7 +3,7 @@
 ghost use Rattle.std.specs.Prelude.{◌≡◌, List, IfErr, IfOk, OnOk, length, false, true};
 ghost use Rattle.command_core.specs.Commands.{CommandValue};
 ghost use Rattle.disk_core.specs.Faults.{IsOneMore};
-ghost use Rattle.script_journal.specs.Faults.{IsCausedBy, IsNotOfDisk};
+ghost use Rattle.script_journal.specs.Faults.{IsCausedBy};
 ghost use Rattle.script_journal.specs.Going.{HasGone, HasGoneFront, HasGoneSomeWay, IsIdle};
 ghost use Rattle.script_journal.specs.Placed.{AgreeAll, AreSeatsOf, commands_of};
 
@@ -28,6 +28,7 @@ pub fn take_all<D: Disk>(
     requires idle { IsIdle flusher.old }
     ensures taken { OnOk result ((more : List CommandValue) × (length more ≡ count) × HasGone flusher.old flusher.new more) }
     ensures fallen { IfErr result (λ fault. HasGoneSomeWay flusher.old flusher.new) }
+    ensures calm { OnOk result (D.failures flusher.new.disk ≡ D.failures flusher.old.disk) }
     ensures cause { IfErr result (IsCausedBy (D.failures flusher.old.disk) (D.failures flusher.new.disk)) }
 {
     let mut left = count;
@@ -58,8 +59,9 @@ fn take_until_stop<D: Disk>(
     requires idle { IsIdle flusher.old }
     ensures all { IfOk result (λ all. all ≡ true → (more : List CommandValue) × (length more ≡ count) × HasGone flusher.old flusher.new more) }
     ensures some { IfOk result (λ all. HasGoneSomeWay flusher.old flusher.new) }
+    ensures calm { IfOk result (λ all. all ≡ true → D.failures flusher.new.disk ≡ D.failures flusher.old.disk) }
     ensures stopped { IfOk result (λ all. all ≡ false → IsOneMore (D.failures flusher.old.disk) (D.failures flusher.new.disk)) }
-    ensures fault { IfErr result IsNotOfDisk }
+    ensures cause { IfErr result (IsCausedBy (D.failures flusher.old.disk) (D.failures flusher.new.disk)) }
 {
     match take_all(alloc, ring, flusher, count) {
         Ok(()) => Ok(true),
@@ -71,7 +73,8 @@ fn take_until_stop<D: Disk>(
 }
 
 /// Has waiting commands go into the ring and through the flusher, and answers whether all did; they do not where the disk
-/// fails, and then the first so many did.
+/// fails, and then the first so many did. Where more was taken than waited, which is not so of a ring whose seats are all here,
+/// it is `Device` in place of that, or `Broken` where the disk did not fail.
 pub fn go<D: Disk>(
     alloc: Global,
     ring: &ScriptRing,
@@ -85,15 +88,20 @@ pub fn go<D: Disk>(
     ensures seats { AreSeatsOf ring.now seats.new.items }
     ensures all { IfOk result (λ all. all ≡ true → HasGone flusher.old flusher.new (commands_of waiting.items)) }
     ensures some { IfOk result (λ all. HasGoneFront flusher.old flusher.new (commands_of waiting.items)) }
+    ensures calm { IfOk result (λ all. all ≡ true → D.failures flusher.new.disk ≡ D.failures flusher.old.disk) }
     ensures stopped { IfOk result (λ all. all ≡ false → IsOneMore (D.failures flusher.old.disk) (D.failures flusher.new.disk)) }
-    ensures fault { IfErr result IsNotOfDisk }
+    ensures cause { IfErr result (IsCausedBy (D.failures flusher.old.disk) (D.failures flusher.new.disk)) }
 {
     let first = flusher.next();
     let count = waiting.len() as u64;
     append_all(alloc, ring, seats, first, waiting)?;
     let all = take_until_stop(alloc, ring, flusher, count)?;
     if flusher.next().saturating_sub(first) > count {
-        return Err(FlushFault::Broken);
+        return Err(if all {
+            FlushFault::Broken
+        } else {
+            FlushFault::Device
+        });
     }
     compare_all(ring, seats, flusher);
     Ok(all)
