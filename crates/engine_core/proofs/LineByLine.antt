@@ -4,6 +4,7 @@ use Rattle.std.specs.List.{AllByRecursion}
 use Rattle.std.specs.Io.KnownBytes.{Appends}
 use Rattle.std.proofs.lemmas.Grind.{flat_map-append}
 use Rattle.engine_core.specs.OfQueue.{of_queue}
+use Rattle.engine_core.specs.StepFaults.{IsLineTold}
 use Rattle.engine_core.specs.Runs.{Goes, Halts, StopsIn, IsTooLong}
 use Rattle.engine_core.specs.declared.run.Run.{Run}
 use Rattle.engine_core.specs.declared.fault.QueueFault.{QueueFault}
@@ -63,15 +64,20 @@ no_lf_append (x ∷ a) b first second = (first.0, no_lf_append a b first.1 secon
 abbrev pub halts_nothing : (old : Run) (bytes : List ℕ) (contents : Option (List ℕ)) → Halts old bytes [] (old.begun.items ++ bytes) contents contents
 halts_nothing old bytes contents = record { printed = []; end = old.script; takes = takes_nothing old.script old.begun.items bytes; writes = appends_nothing contents }
 
-pub stops_at_queue : (fault : QueueFault) (given : ScriptFault) (old : Run) (bytes line : List ℕ) (contents : Option (List ℕ))
-    → line ≡ old.begun.items ++ bytes → IsLine line → (fault ≡ queue.CountTooLarge → RunsTooFar old.script line) → given ≡ of_queue fault → StopsIn given old (bytes ++ 10 ∷ []) contents contents
-stops_at_queue (queue.Memory refused) given old bytes line contents same is_line far e =
+pub stops_at_queue : (fault : QueueFault) (given : ScriptFault) (old : Run) (new : Script) (bytes line : List ℕ) (contents : Option (List ℕ))
+    → line ≡ old.begun.items ++ bytes → IsLine line → (fault ≡ queue.CountTooLarge → RunsTooFar old.script line) → IsLineTold old.script line new fault → given ≡ of_queue fault → StopsIn given old (bytes ++ 10 ∷ []) contents contents
+stops_at_queue (queue.Memory refused) given old new bytes line contents same is_line far told e =
     subst (λ f. StopsIn f old (bytes ++ 10 ∷ []) contents contents) (sym e) ([], old.begun.items ++ (bytes ++ 10 ∷ []), halts_nothing old (bytes ++ 10 ∷ []) contents)
-stops_at_queue (queue.Opening refused) given old bytes line contents same is_line far e =
+stops_at_queue (queue.Opening refused) given old new bytes line contents same is_line far told e =
+    subst (λ f. StopsIn f old (bytes ++ 10 ∷ []) contents contents) (sym e) (
+      [],
+      old.begun.items ++ (bytes ++ 10 ∷ []),
+      halts_nothing old (bytes ++ 10 ∷ []) contents,
+      ([], sym (append_assoc old.begun.items bytes (10 ∷ [])) ∙ ap (λ l. l ++ 10 ∷ []) (sym same ∙ told.0), told.1),
+    )
+stops_at_queue (queue.Storing refused) given old new bytes line contents same is_line far told e =
     subst (λ f. StopsIn f old (bytes ++ 10 ∷ []) contents contents) (sym e) ([], old.begun.items ++ (bytes ++ 10 ∷ []), halts_nothing old (bytes ++ 10 ∷ []) contents)
-stops_at_queue (queue.Storing refused) given old bytes line contents same is_line far e =
-    subst (λ f. StopsIn f old (bytes ++ 10 ∷ []) contents contents) (sym e) ([], old.begun.items ++ (bytes ++ 10 ∷ []), halts_nothing old (bytes ++ 10 ∷ []) contents)
-stops_at_queue queue.CountTooLarge given old bytes line contents same is_line far e =
+stops_at_queue queue.CountTooLarge given old new bytes line contents same is_line far told e =
     subst (λ f. StopsIn f old (bytes ++ 10 ∷ []) contents contents) (sym e) (
       [],
       old.begun.items ++ (bytes ++ 10 ∷ []),

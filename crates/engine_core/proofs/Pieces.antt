@@ -1,9 +1,10 @@
 -- A run over a piece, line by line.
-use Rattle.std.proofs.Common.{◌≡◌, ◌+◌, ◌-◌, ◌≤◌, List, [], ◌∷◌, ◌++◌, ℕ, Option, length, take, drop, refl, ap, sym, ◌∙◌, append_assoc, append-nil, arith, subst, length-append, length-drop, inl, inr, take_all}
+use Rattle.std.proofs.Common.{◌≡◌, ◌+◌, ◌-◌, ◌≤◌, List, [], ◌∷◌, ◌++◌, ℕ, Option, codes, length, take, drop, refl, ap, sym, ◌∙◌, append_assoc, append-nil, arith, subst, length-append, length-drop, inl, inr, take_all}
 use Rattle.std.proofs.Math.Seq.{take-add, take-append_seam}
 use Rattle.std.proofs.lemmas.List.{take-append-drop}
+use Rattle.recover_core.specs.declared.faults.OpenFault.{OpenFault}
 use Rattle.engine_core.specs.declared.script.Script.{Script}
-use Rattle.engine_core.specs.Scripts.{Takes, IsLine, HasNoLf, HasNoLine, HasLineTooFar, HasLineThatPrints, text_of_lines}
+use Rattle.engine_core.specs.Scripts.{Takes, IsLine, HasNoLf, HasNoLine, HasLineNotOpened, HasLineTooFar, HasLineThatPrints, text_of_lines}
 use Rattle.engine_core.specs.Runs.{Goes, Halts, StopsIn, IsTooLong}
 use Rattle.engine_core.specs.declared.run.Run.{Run}
 use Rattle.engine_core.specs.declared.fault.ScriptFault.{ScriptFault}
@@ -44,7 +45,7 @@ pub stops_later : (fault : ScriptFault) (old mid : Run) (x y : List ℕ) (before
 stops_later (NotUnderstood k) old mid x y before middle after g (lines, rest, h, e, none) =
     (g.lines ++ lines, rest, halts_later old mid x y lines rest before middle after g h, omega (arith, e, g.count, length-append g.lines lines), none)
 stops_later (Memory refused) old mid x y before middle after g (lines, rest, h) = (g.lines ++ lines, rest, halts_later old mid x y lines rest before middle after g h)
-stops_later (Opening refused) old mid x y before middle after g (lines, rest, h) = (g.lines ++ lines, rest, halts_later old mid x y lines rest before middle after g h)
+stops_later (Opening refused) old mid x y before middle after g (lines, rest, h, shut) = (g.lines ++ lines, rest, halts_later old mid x y lines rest before middle after g h, shut)
 stops_later (Storing refused) old mid x y before middle after g (lines, rest, h) = (g.lines ++ lines, rest, halts_later old mid x y lines rest before middle after g h)
 stops_later CountTooLarge old mid x y before middle after g (lines, rest, h, far) = (g.lines ++ lines, rest, halts_later old mid x y lines rest before middle after g h, far)
 stops_later Input old mid x y before middle after g (lines, rest, h) = (g.lines ++ lines, rest, halts_later old mid x y lines rest before middle after g h)
@@ -79,13 +80,16 @@ no_line_before s rest z (inr (line, behind, whole, no_lf, form)) = inr (line, be
 too_far_before : (s : Script) (rest z : List ℕ) → HasLineTooFar s rest → HasLineTooFar s (rest ++ z)
 too_far_before s rest z (line, behind, whole, is_line, far) = (line, behind ++ z, ap (λ l. l ++ z) whole ∙ append_assoc line (10 ∷ behind) z, is_line, far)
 
+not_opened_before : (s : Script) (fault : OpenFault) (rest z : List ℕ) → HasLineNotOpened s fault rest → HasLineNotOpened s fault (rest ++ z)
+not_opened_before s fault rest z (behind, whole, shut) = (behind ++ z, ap (λ l. l ++ z) whole ∙ append_assoc (codes "open") (10 ∷ behind) z, shut)
+
 prints_before : (s : Script) (rest z : List ℕ) → HasLineThatPrints s rest → HasLineThatPrints s (rest ++ z)
 prints_before s rest z (line, behind, text, t, whole, is_line, prints) = (line, behind ++ z, text, t, ap (λ l. l ++ z) whole ∙ append_assoc line (10 ∷ behind) z, is_line, prints)
 
 pub stops_before : (fault : ScriptFault) (old : Run) (x z : List ℕ) (before after : Option (List ℕ)) → StopsIn fault old x before after → StopsIn fault old (x ++ z) before after
 stops_before (NotUnderstood k) old x z before after (lines, rest, h, e, none) = (lines, rest ++ z, halts_before old x z lines rest before after h, e, no_line_before h.end rest z none)
 stops_before (Memory refused) old x z before after (lines, rest, h) = (lines, rest ++ z, halts_before old x z lines rest before after h)
-stops_before (Opening refused) old x z before after (lines, rest, h) = (lines, rest ++ z, halts_before old x z lines rest before after h)
+stops_before (Opening refused) old x z before after (lines, rest, h, shut) = (lines, rest ++ z, halts_before old x z lines rest before after h, not_opened_before h.end refused rest z shut)
 stops_before (Storing refused) old x z before after (lines, rest, h) = (lines, rest ++ z, halts_before old x z lines rest before after h)
 stops_before CountTooLarge old x z before after (lines, rest, h, far) = (lines, rest ++ z, halts_before old x z lines rest before after h, too_far_before h.end rest z far)
 stops_before Input old x z before after (lines, rest, h) = (lines, rest ++ z, halts_before old x z lines rest before after h)

@@ -85,7 +85,7 @@ stops_in : (state : State) (fault : ScriptFault) (start : Run) (bytes : List ℕ
 stops_in state (NotUnderstood k) start bytes unread left before after script none first reads (lines, rest, h, e, no_line) =
     (lines, rest, begins state start bytes lines rest unread left before after script none reads h, omega (arith, e, first), inl no_line)
 stops_in state (Memory refused) start bytes unread left before after script none first reads (lines, rest, h) = (lines, rest, begins state start bytes lines rest unread left before after script none reads h)
-stops_in state (Opening refused) start bytes unread left before after script none first reads (lines, rest, h) = (lines, rest, begins state start bytes lines rest unread left before after script none reads h)
+stops_in state (Opening refused) start bytes unread left before after script none first reads (lines, rest, h, shut) = (lines, rest, begins state start bytes lines rest unread left before after script none reads h, shut)
 stops_in state (Storing refused) start bytes unread left before after script none first reads (lines, rest, h) = (lines, rest, begins state start bytes lines rest unread left before after script none reads h)
 stops_in state CountTooLarge start bytes unread left before after script none first reads (lines, rest, h, far) = (lines, rest, begins state start bytes lines rest unread left before after script none reads h, far)
 stops_in state Input start bytes unread left before after script none first reads (lines, rest, h) = (lines, rest, begins state start bytes lines rest unread left before after script none reads h)

@@ -3,6 +3,7 @@ pub mod PercentTexts
 pub mod Queues
 pub mod Running
 pub mod Scripts
+pub mod StepFaults
 pub mod Connections
 pub mod Runs
 pub mod OfQueue

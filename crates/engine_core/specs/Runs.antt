@@ -3,7 +3,7 @@ use Rattle.std.specs.Io.KnownBytes.{Appends, Consumes, IsAtEnd}
 use Rattle.broker_core.specs.States.{State}
 use Rattle.recover_core.specs.Told.{IsOpenTold}
 use Rattle.engine_core.specs.Running.{beginning}
-use Rattle.engine_core.specs.Scripts.{BeginsWith, Takes, IsLine, HasNoLf, HasNoLine, HasLineTooFar, Tries}
+use Rattle.engine_core.specs.Scripts.{BeginsWith, Takes, IsLine, HasNoLf, HasNoLine, HasLineNotOpened, HasLineTooFar, Tries}
 use Rattle.engine_core.specs.declared.fault.ScriptFault.{ScriptFault}
 use Rattle.engine_core.specs.declared.fault.ScriptFault.TheVariants.{Memory, NotUnderstood, CountTooLarge, Opening, Output}
 use Rattle.engine_core.specs.declared.script.Script.{Script}
@@ -36,13 +36,16 @@ pub record Halts (old : Run) (bytes : List ℕ) (lines : List (List ℕ)) (rest 
   pub writes : Appends before after printed
 
 -- A fault stops a run within bytes: unless it is the writer's, what is written is what the lines before print. The
--- commands are too many only where the next line is one that runs too far, and the writer fails only where the next line prints.
+-- commands are too many only where the next line is one that runs too far, a disk is not opened only where the next line is
+-- `open` and what is told of the disk is so, and the writer fails only where the next line prints.
 abbrev pub StopsIn : ScriptFault → Run → List ℕ → Option (List ℕ) → Option (List ℕ) → Type 0
 StopsIn Output old bytes before after = Tries old.script old.begun.items bytes
 StopsIn (NotUnderstood k) old bytes before after =
     (lines : List (List ℕ)) × (rest : List ℕ) × (h : Halts old bytes lines rest before after) × (k ≡ old.lines + length lines + 1) × HasNoLine h.end rest
 StopsIn CountTooLarge old bytes before after =
     (lines : List (List ℕ)) × (rest : List ℕ) × (h : Halts old bytes lines rest before after) × HasLineTooFar h.end rest
+StopsIn (Opening fault) old bytes before after =
+    (lines : List (List ℕ)) × (rest : List ℕ) × (h : Halts old bytes lines rest before after) × HasLineNotOpened h.end fault rest
 StopsIn _ old bytes before after = (lines : List (List ℕ)) × (rest : List ℕ) × Halts old bytes lines rest before after
 
 -- a line gets longer than a line may be, or memory is refused
@@ -81,8 +84,8 @@ pub record Begins (start : State) (lines : List (List ℕ)) (rest : List ℕ) (u
 
 -- A fault stops a script that began with this state. Unless it is the writer's, what is written is what the lines before
 -- print, and a line is told only where it is none: it has too many bytes, says nothing that is understood, or ends the
--- script with no LF. The commands are too many only where the next line is one that runs too far, and the writer fails only
--- where the next line prints.
+-- script with no LF. The commands are too many only where the next line is one that runs too far, a disk is not opened only
+-- where the next line is `open` and what is told of the disk is so, and the writer fails only where the next line prints.
 abbrev pub Stops : State → ScriptFault → Option (List ℕ) → Option (List ℕ) → Option (List ℕ) → Option (List ℕ) → Type 0
 Stops start Output unread left before after = (input : List ℕ) × Consumes unread left input × Tries (Running (beginning start)) [] input
 Stops start (NotUnderstood k) unread left before after =
@@ -90,6 +93,8 @@ Stops start (NotUnderstood k) unread left before after =
     × (HasNoLine b.end rest ⊎ (IsAtEnd left × (rest ≢ []) × HasNoLf rest))
 Stops start CountTooLarge unread left before after =
     (lines : List (List ℕ)) × (rest : List ℕ) × (b : Begins start lines rest unread left before after) × HasLineTooFar b.end rest
+Stops start (Opening fault) unread left before after =
+    (lines : List (List ℕ)) × (rest : List ℕ) × (b : Begins start lines rest unread left before after) × HasLineNotOpened b.end fault rest
 Stops start _ unread left before after = (lines : List (List ℕ)) × (rest : List ℕ) × Begins start lines rest unread left before after
 
 -- memory was refused, or the disk was not opened, and what is told of it is so

@@ -6,6 +6,8 @@ use Rattle.disk_core.specs.Memory.{Memory}
 use Rattle.broker_core.specs.Operations.{restarted}
 use Rattle.broker_core.specs.States.{State, held_messages}
 use Rattle.recover_core.specs.Standing.{Stands}
+use Rattle.recover_core.specs.Told.{IsOpenTold}
+use Rattle.recover_core.specs.declared.faults.OpenFault.{OpenFault}
 use Rattle.script_journal.specs.Journals.{StandsAfterFront}
 use Rattle.script_journal.specs.Placed.{commands_of}
 use Rattle.engine_core.specs.PercentTexts.{decoded}
@@ -42,6 +44,12 @@ abbrev pub HasDisk : Script → List ℕ → Type 0
 HasDisk (Running s) content = Stands content s.queue.state
 HasDisk (Stopped disk) content = content ≡ disk.content
 HasDisk Over content = ⊥
+
+-- the disk that is there is not opened, and what is told of it is so
+pub record IsNotOpened (s : Script) (fault : OpenFault) : Type 0 where
+  pub content : List ℕ
+  pub disk : HasDisk s content
+  pub told : IsOpenTold fault content
 
 -- a line has a connection receive such bytes, or be gone so: it runs too far
 abbrev pub RunsTooFar : Script → List ℕ → Type 0
@@ -139,6 +147,10 @@ pub record IsScript (start : State) (input printed : List ℕ) : Type 0 where
 -- bytes with a line at their front that runs too far
 abbrev pub HasLineTooFar : Script → List ℕ → Type 0
 HasLineTooFar s bytes = (line : List ℕ) × (behind : List ℕ) × (bytes ≡ line ++ 10 ∷ behind) × IsLine line × RunsTooFar s line
+
+-- bytes with the line `open` at their front, which does not open the disk
+abbrev pub HasLineNotOpened : Script → OpenFault → List ℕ → Type 0
+HasLineNotOpened s fault bytes = (behind : List ℕ) × (bytes ≡ codes "open" ++ 10 ∷ behind) × IsNotOpened s fault
 
 -- bytes with a line at their front that prints
 abbrev pub HasLineThatPrints : Script → List ℕ → Type 0

@@ -45,6 +45,8 @@ const MOST_WAITING: usize = 8;
 const LAST_COUNT: u64 = 1 << 60;
 
 impl CommandQueue {
+    ghost use Rattle.engine_core.specs.OfQueue.{IsMemory};
+    ghost use Rattle.engine_core.specs.StepFaults.{IsCrashTold, IsStepTold};
     ghost use Rattle.engine_core.specs.Queues.{QueueValue, flushed, flush_text, with_room, room_text, CountsTooFar, number_for, as_command, is_full, with_command};
     ghost use Rattle.std.specs.Prelude.{[], List, Option, ℕ};
 
@@ -65,6 +67,7 @@ impl CommandQueue {
         ensures state { OnOk result (self.new ≡ flushed self.old) }
         ensures text { OnOk result (string_bytes text.new ≡ string_bytes text.old ++ flush_text self.old) }
         ensures err { IfErr result (λ fault. fault ≢ QueueFault.CountTooLarge) }
+        ensures told { IfErr result (IsStepTold self.new.durable) }
     {
         let waiting = mem::replace(&mut self.waiting, Vec::new(alloc));
         let outs = self.journal.record(alloc, waiting)?;
@@ -75,7 +78,7 @@ impl CommandQueue {
     /// synced, or without one what was there before.
     pub fn crash(self, alloc: Global, calls: u64, fill: Option<u8>) -> Result<MemDisk, QueueFault>
         ensures stands { IfOk result (λ disk. ∥ StandsWithin self disk.content ∥₁) }
-        ensures err { IfErr result (λ fault. fault ≢ QueueFault.CountTooLarge) }
+        ensures told { IfErr result IsCrashTold }
     {
         let CommandQueue {
             waiting,
@@ -120,6 +123,7 @@ impl CommandQueue {
         ensures text { OnOk result (string_bytes text.new ≡ string_bytes text.old ++ room_text connection self.old) }
         ensures counts { OnOk result (CountsTooFar connection self.old → ⊥) }
         ensures err { IfErr result (λ fault. fault ≡ QueueFault.CountTooLarge → CountsTooFar connection self.old) }
+        ensures told { IfErr result (IsStepTold self.new.durable) }
     {
         match self.make_room(alloc, connection, text) {
             Ok(()) => self.add(connection, number, op, receipt),
@@ -143,6 +147,7 @@ impl CommandQueue {
         ensures durable { OnOk result (self.new.durable ≡ true) }
         ensures few { OnOk result (self.new.state.count < 2 ^ 60) }
         ensures err { IfErr result (λ fault. fault ≡ QueueFault.CountTooLarge → CountsTooFar connection self.old) }
+        ensures told { IfErr result (IsStepTold self.new.durable) }
     {
         if self.is_full(connection) {
             self.flush(alloc, text)?;
@@ -155,6 +160,7 @@ impl CommandQueue {
         ensures durable { OnOk result (self.now.durable ≡ true) }
         ensures few { OnOk result (self.now.state.count < 2 ^ 60) }
         ensures err { IfErr result (λ fault. fault ≡ QueueFault.CountTooLarge → 2 ^ 60 ≤ self.now.state.count) }
+        ensures told { IfErr result (IsStepTold self.now.durable) }
     {
         if !self.journal.is_durable() {
             return Err(QueueFault::Storing(FlushFault::Broken));
@@ -179,7 +185,7 @@ impl CommandQueue {
         requires few { self.old.state.count < 2 ^ 60 }
         ensures number { IfOk result (λ n. n ≡ number_for op number self.old) }
         ensures queue { OnOk result (self.new ≡ as_command connection op receipt number self.old) }
-        ensures err { IfErr result (λ fault. fault ≢ QueueFault.CountTooLarge) }
+        ensures memory { IfErr result IsMemory }
     {
         match self.number_session(connection, number, &op) {
             Ok((number, session)) => {
@@ -210,7 +216,7 @@ impl CommandQueue {
         ensures queue { IfOk result (λ numbers. (receipt : Option (List ℕ))
             → as_command connection op.now receipt number self.old ≡ with_command connection (record { session = numbers.1; op = op.now; receipt = receipt }) self.new) }
         ensures same { (self.new.durable ≡ self.old.durable) × (self.new.state ≡ self.old.state) }
-        ensures err { IfErr result (λ fault. fault ≢ QueueFault.CountTooLarge) }
+        ensures memory { IfErr result IsMemory }
     {
         match op {
             Op::Open { .. } => {
@@ -233,7 +239,7 @@ impl CommandQueue {
     fn push(&mut self, connection: u8, command: Command) -> Result<(), QueueFault>
         requires few { self.old.state.count < 2 ^ 60 }
         ensures queue { OnOk result (self.new ≡ with_command connection command self.old) }
-        ensures err { IfErr result (λ fault. fault ≢ QueueFault.CountTooLarge) }
+        ensures memory { IfErr result IsMemory }
     {
         let waiting = Waiting {
             connection,

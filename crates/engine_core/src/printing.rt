@@ -1,11 +1,12 @@
 //! What a script prints for the frames that go to its connections.
 
-ghost use Rattle.std.specs.Prelude.{◌≡◌, ◌≢◌, ◌++◌, ◌∷◌, [], IfErr, OnOk, string_bytes};
+ghost use Rattle.std.specs.Prelude.{◌≡◌, ◌++◌, ◌∷◌, [], IfErr, OnOk, string_bytes};
 ghost use Rattle.std.specs.Fmt.{decimal};
 ghost use Rattle.std.specs.List.{flat_map};
 ghost use Rattle.frame_core.specs.Writable.{Writable};
 ghost use Rattle.engine_core.specs.PercentTexts.{encoded};
 ghost use Rattle.engine_core.specs.Queues.{line_for, line_of_out};
+ghost use Rattle.engine_core.specs.StepFaults.{IsPrintTold};
 
 use crate::fault::QueueFault;
 use crate::percent::encode_text;
@@ -59,7 +60,7 @@ pub fn print_outs(
 ) -> Result<(), QueueFault>
     ensures same { journal.new ≡ journal.old }
     ensures text { OnOk result (string_bytes text.new ≡ string_bytes text.old ++ flat_map (line_of_out openers.now.entries) outs.items) }
-    ensures err { IfErr result (λ fault. fault ≢ QueueFault.CountTooLarge) }
+    ensures told { IfErr result IsPrintTold }
 {
     for out in outs {
         print_out(alloc, journal, openers, out, text)?;
@@ -77,7 +78,7 @@ fn print_out(
 ) -> Result<(), QueueFault>
     ensures same { journal.new ≡ journal.old }
     ensures text { OnOk result (string_bytes text.new ≡ string_bytes text.old ++ line_of_out openers.now.entries out) }
-    ensures err { IfErr result (λ fault. fault ≢ QueueFault.CountTooLarge) }
+    ensures told { IfErr result IsPrintTold }
 {
     let connection = match openers.get(&out.session()) {
         Some(connection) => *connection,

@@ -8,6 +8,7 @@ ghost use Rattle.std.specs.Map.{lookup, remove_entry};
 ghost use Rattle.std.specs.Ordering.{nat_cmp};
 ghost use Rattle.engine_core.specs.Connections.{new_connection};
 ghost use Rattle.engine_core.specs.Queues.{Progress, acted, acted_on, IsTooFar, GoTooFar};
+ghost use Rattle.engine_core.specs.StepFaults.{IsStepTold};
 
 use crate::command_queue::CommandQueue;
 use crate::fault::QueueFault;
@@ -48,6 +49,7 @@ impl RunningScript {
     ghost use Rattle.engine_core.specs.Queues.{flush_text, flushed};
     ghost use Rattle.engine_core.specs.Running.{beginning, Loses, Receives, LosesTooFar, ReceivesTooFar};
     ghost use Rattle.engine_core.specs.Scripts.{StandsWithin};
+    ghost use Rattle.engine_core.specs.StepFaults.{IsCrashTold};
 
     /// A script with nobody connected, over a journal that was just opened. No memory is taken.
     pub fn over(alloc: Global, journal: Journal) -> RunningScript
@@ -66,6 +68,7 @@ impl RunningScript {
         ensures state { OnOk result (self.new ≡ record self.old { queue = flushed self.old.queue }) }
         ensures text { IfOk result (λ text. string_bytes text ≡ flush_text self.old.queue) }
         ensures err { IfErr result (λ fault. fault ≢ QueueFault.CountTooLarge) }
+        ensures told { IfErr result (IsStepTold self.new.queue.durable) }
     {
         let mut text = String::new(alloc);
         self.queue.flush(alloc, &mut text)?;
@@ -84,7 +87,7 @@ impl RunningScript {
     /// without one what was there before.
     pub fn crash(self, alloc: Global, calls: u64, fill: Option<u8>) -> Result<MemDisk, QueueFault>
         ensures stands { IfOk result (λ disk. ∥ StandsWithin self.queue disk.content ∥₁) }
-        ensures err { IfErr result (λ fault. fault ≢ QueueFault.CountTooLarge) }
+        ensures told { IfErr result IsCrashTold }
     {
         self.queue.crash(alloc, calls, fill)
     }
@@ -93,6 +96,7 @@ impl RunningScript {
     pub fn receive(&mut self, alloc: Global, n: u8, bytes: &[u8]) -> Result<String, QueueFault>
         ensures ok { IfOk result (λ text. Receives self.old n bytes.now (string_bytes text) self.new) }
         ensures err { IfErr result (λ fault. fault ≡ QueueFault.CountTooLarge → ReceivesTooFar self.old n bytes.now) }
+        ensures told { IfErr result (IsStepTold self.new.queue.durable) }
     {
         let mut connection = take_connection(alloc, &mut self.connections, n);
         let mut text = String::new(alloc);
@@ -113,6 +117,7 @@ impl RunningScript {
     pub fn lose(&mut self, alloc: Global, n: u8) -> Result<String, QueueFault>
         ensures ok { IfOk result (λ text. Loses self.old n (string_bytes text) self.new) }
         ensures err { IfErr result (λ fault. fault ≡ QueueFault.CountTooLarge → LosesTooFar self.old n) }
+        ensures told { IfErr result (IsStepTold self.new.queue.durable) }
     {
         let Connection {
             mut session,
@@ -159,6 +164,7 @@ fn hear(
         ≡ fold (acted n) (record { number = connection.old.number; queue = queue.old; text = string_bytes text.old }) acts)) }
     ensures err { IfErr result (λ fault. fault ≡ QueueFault.CountTooLarge → (acts : List Act) × (session : Hearing) × Hears connection.old.session bytes.now acts session
         × GoTooFar n (record { number = connection.old.number; queue = queue.old; text = string_bytes text.old }) acts) }
+    ensures told { IfErr result (IsStepTold queue.new.durable) }
 {
     let acts = connection.session.feed(alloc, bytes)?;
     let number = do_acts(alloc, queue, n, connection.number, acts, text)?;
@@ -179,6 +185,7 @@ fn do_loss(
     ensures ok { IfOk result (λ n. record { number = n; queue = queue.new; text = string_bytes text.new }
         ≡ acted_on connection (record { number = number; queue = queue.old; text = string_bytes text.old }) act) }
     ensures err { IfErr result (λ fault. fault ≡ QueueFault.CountTooLarge → IsSomeAnd act (IsTooFar connection queue.old)) }
+    ensures told { IfErr result (IsStepTold queue.new.durable) }
 {
     match act {
         Some(act) => do_act(alloc, queue, connection, number, act, text),
@@ -200,6 +207,7 @@ fn do_acts(
         ≡ fold (acted connection) (record { number = number; queue = queue.old; text = string_bytes text.old }) acts.items) }
     ensures err { IfErr result (λ fault. fault ≡ QueueFault.CountTooLarge
         → GoTooFar connection (record { number = number; queue = queue.old; text = string_bytes text.old }) acts.items) }
+    ensures told { IfErr result (IsStepTold queue.new.durable) }
 {
     let mut number = number;
     for act in acts {
@@ -220,6 +228,7 @@ fn do_act(
     ensures ok { IfOk result (λ n. record { number = n; queue = queue.new; text = string_bytes text.new }
         ≡ acted connection (record { number = number; queue = queue.old; text = string_bytes text.old }) act) }
     ensures err { IfErr result (λ fault. fault ≡ QueueFault.CountTooLarge → IsTooFar connection queue.old act) }
+    ensures told { IfErr result (IsStepTold queue.new.durable) }
 {
     match act {
         Act::Do(op, receipt) => queue.submit(alloc, connection, number, op, receipt, text),

@@ -2,6 +2,7 @@
 
 ghost use Rattle.std.specs.Prelude.{◌≡◌, ◌≢◌, ◌≤◌, ◌^◌, ◌++◌, IfErr, IfOk, IfSome, MatchOption, OnOk, true, string_bytes};
 ghost use Rattle.engine_core.specs.Scripts.{BeginsWith, HasDisk, open_text};
+ghost use Rattle.engine_core.specs.StepFaults.{IsOpeningTold, IsPrintTold};
 
 use crate::fault::QueueFault;
 use crate::percent::decode_text;
@@ -29,6 +30,7 @@ impl Script {
     ghost use Rattle.engine_core.specs.PercentTexts.{decoded};
     ghost use Rattle.engine_core.specs.Queues.{flush_text, flushed};
     ghost use Rattle.engine_core.specs.Running.{Loses, LosesTooFar, Receives, ReceivesTooFar};
+    ghost use Rattle.engine_core.specs.StepFaults.{IsCrashTold, IsLineTold, IsOpeningTold, IsRunTold};
     ghost use Rattle.engine_core.specs.Scripts.{Crashes, GoesBy, IsNotUnderstood, IsStopped, OnRunning, Opens, Prints, RunsTooFar};
 
     /// Does what a line says, and answers what it prints; `None` where the line says nothing that is understood.
@@ -36,6 +38,7 @@ impl Script {
         ensures ok { IfOk result (λ printed. MatchOption printed (IsNotUnderstood self.old line.now)
             (λ text. Prints self.old line.now (string_bytes text) self.new)) }
         ensures err { IfErr result (λ fault. fault ≡ QueueFault.CountTooLarge → RunsTooFar self.old line.now) }
+        ensures told { IfErr result (IsLineTold self.old line.now self.new) }
     {
         match read_line(line) {
             None => Ok(None),
@@ -51,7 +54,7 @@ impl Script {
     /// Opens the disk, and begins anew with what it stands for; answers what is printed.
     fn open(&mut self, alloc: Global) -> Result<String, QueueFault>
         ensures ok { IfOk result (λ text. Opens self.old (string_bytes text) self.new) }
-        ensures err { IfErr result (λ fault. fault ≢ QueueFault.CountTooLarge) }
+        ensures told { IfErr result (IsOpeningTold self.old) }
     {
         match into_disk(mem::replace(self, Script::Over)) {
             Some(disk) => self.begin_anew(alloc, disk),
@@ -62,7 +65,7 @@ impl Script {
     // Begins with what a disk stands for.
     fn begin_anew(&mut self, alloc: Global, disk: MemDisk) -> Result<String, QueueFault>
         ensures ok { IfOk result (λ text. Opens (Script.Stopped disk) (string_bytes text) self.new) }
-        ensures err { IfErr result (λ fault. fault ≢ QueueFault.CountTooLarge) }
+        ensures told { IfErr result (IsOpeningTold (Script.Stopped disk)) }
     {
         let mut text = String::new(alloc);
         match open_journal(alloc, disk, &mut text) {
@@ -87,7 +90,7 @@ impl Script {
     ) -> Result<Option<String>, QueueFault>
         ensures ok { IfOk result (λ printed. MatchOption printed (IsStopped self.old)
             (λ text. OnRunning self.old (λ s. Crashes s (string_bytes text) self.new))) }
-        ensures err { IfErr result (λ fault. fault ≢ QueueFault.CountTooLarge) }
+        ensures told { IfErr result (λ fault. IsCrashTold fault × (self.new ≡ Script.Over)) }
     {
         match mem::replace(self, Script::Over) {
             Script::Running(script) => match script.crash(alloc, calls, fill) {
@@ -109,6 +112,7 @@ impl Script {
         ensures ok { IfOk result (λ printed. MatchOption printed (IsStopped self.old)
             (λ text. GoesBy self.old (λ s u. (string_bytes text ≡ flush_text s.queue) × (u ≡ record s { queue = flushed s.queue })) self.new)) }
         ensures err { IfErr result (λ fault. fault ≢ QueueFault.CountTooLarge) }
+        ensures told { IfErr result (IsRunTold self.new) }
     {
         match self {
             Script::Running(script) => Ok(Some(script.flush(alloc)?)),
@@ -121,6 +125,7 @@ impl Script {
         ensures ok { IfOk result (λ printed. MatchOption printed (IsStopped self.old)
             (λ text. GoesBy self.old (λ s u. Loses s n (string_bytes text) u) self.new)) }
         ensures err { IfErr result (λ fault. fault ≡ QueueFault.CountTooLarge → OnRunning self.old (λ s. LosesTooFar s n)) }
+        ensures told { IfErr result (IsRunTold self.new) }
     {
         match self {
             Script::Running(script) => Ok(Some(script.lose(alloc, n)?)),
@@ -133,6 +138,7 @@ impl Script {
         ensures ok { IfOk result (λ printed. MatchOption printed (IsStopped self.old)
             (λ answer. GoesBy self.old (λ s u. Receives s n (decoded text.now) (string_bytes answer) u) self.new)) }
         ensures err { IfErr result (λ fault. fault ≡ QueueFault.CountTooLarge → OnRunning self.old (λ s. ReceivesTooFar s n (decoded text.now))) }
+        ensures told { IfErr result (IsRunTold self.new) }
     {
         match self {
             Script::Running(script) => {
@@ -161,7 +167,7 @@ fn open_journal(alloc: Global, disk: MemDisk, text: &mut String) -> Result<Journ
     ensures durable { IfOk result (λ journal. journal.durable ≡ true) }
     ensures text { IfOk result (λ journal. string_bytes text.new ≡ string_bytes text.old ++ open_text journal.state) }
     ensures small { IfOk result (λ journal. journal.state.count ≤ 2 ^ 61) }
-    ensures err { IfErr result (λ fault. fault ≢ QueueFault.CountTooLarge) }
+    ensures told { IfErr result (IsOpeningTold (Script.Stopped disk)) }
 {
     match Journal::open(alloc, disk) {
         Ok(journal) => match tell(alloc, &journal, text) {
@@ -178,7 +184,7 @@ fn open_journal(alloc: Global, disk: MemDisk, text: &mut String) -> Result<Journ
 // Adds the line that tells of a journal to the text: how many commands it counts, and how many messages it holds.
 fn tell(alloc: Global, journal: &Journal, text: &mut String) -> Result<(), QueueFault>
     ensures ok { OnOk result (string_bytes text.new ≡ string_bytes text.old ++ open_text journal.now.state) }
-    ensures err { IfErr result (λ fault. fault ≢ QueueFault.CountTooLarge) }
+    ensures told { IfErr result IsPrintTold }
 {
     let Some(held) = journal.held() else {
         return Err(QueueFault::Storing(FlushFault::Broken));
