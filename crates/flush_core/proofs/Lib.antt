@@ -3,3 +3,4 @@ pub mod Keeping
 pub mod Sessions
 pub mod Taken
 pub mod Turns
+pub mod Room

@@ -10,11 +10,11 @@ use Rattle.flush_core.specs.Outcomes.{Falls, IsOutcome}
 use Rattle.flush_core.specs.declared.faults.FlushFault.{FlushFault}
 use Rattle.flush_core.specs.declared.faults.FlushFault.TheVariants.{Device, Full, Broken, Memory}
 
-abbrev fault_of : Result (Unit {0}) FlushFault → FlushFault
+abbrev fault_of : {T : Type 0} → Result T FlushFault → FlushFault
 fault_of (Ok _) = Broken
 fault_of (Err fault) = fault
 
-pub same_fault : (one other : FlushFault) → IsErrOf {T = Unit {0}} (Err one) other → one ≡ other
+pub same_fault : {T : Type 0} (one other : FlushFault) → IsErrOf {T = T} (Err one) other → one ≡ other
 same_fault one other is = ap fault_of is
 
 pub only_full : (fault : AreaFault) → of_area fault ≡ Full → fault ≡ area.Full

@@ -2,4 +2,5 @@ pub mod Batches
 pub mod Faults
 pub mod Flushed
 pub mod Outcomes
+pub mod Room
 pub mod Sessions

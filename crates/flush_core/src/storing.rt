@@ -8,6 +8,7 @@ ghost use Rattle.flush_core.specs.Batches.{state_at, state_taken};
 ghost use Rattle.flush_core.specs.Faults.{IsFlushCaused};
 ghost use Rattle.flush_core.specs.Flushed.{gathered};
 ghost use Rattle.flush_core.specs.Outcomes.{IsOutcome, storing};
+ghost use Rattle.flush_core.specs.Room.{HasNoRoom};
 
 use crate::FlushFault;
 use crate::flusher::Flusher;
@@ -38,6 +39,8 @@ impl<D: Disk, B: Bell> Flusher<D, B> {
         ensures nothing { self.old.broken ≡ false → gathered self.old ≡ [] → IsOk result × (self.new ≡ self.old) }
         ensures full { IsErrOf result FlushFault.Full →
             (self.old.size < self.old.used + 9 + length (records (gathered self.old))) × (self.new.disk ≡ self.old.disk) }
+        ensures no_room { D.honest self.old.disk → IsErrOf result FlushFault.Full →
+            HasNoRoom (D.content self.old.disk) (state_at self.old.opening self.old.seat self.old.stored) (gathered self.old) }
         ensures outcome { IsOutcome self.old self.new result }
         ensures stops { OnErr result ((self.new.broken ≡ true) × (self.new.seat.stopped ≡ true)) }
         ensures cause { IsFlushCaused (D.failures self.old.disk) (D.failures self.new.disk) result }

@@ -9,6 +9,7 @@ ghost use Rattle.recover_core.specs.Standing.{StandFor, StandsForEither};
 ghost use Rattle.flush_core.specs.Batches.{IsBatch, from_on, state_at, state_taken};
 ghost use Rattle.flush_core.specs.Faults.{IsFlushCaused};
 ghost use Rattle.flush_core.specs.Outcomes.{IsTurn, IsTurned};
+ghost use Rattle.flush_core.specs.Room.{HasNoRoom};
 
 use crate::FlushFault;
 use crate::flusher::Flusher;
@@ -21,7 +22,8 @@ impl<D: Disk, B: Bell> Flusher<D, B> {
     /// Takes what is ready, makes it durable in one block, carries it out and publishes it. Answers how many commands it took.
     ///
     /// At each moment of the call an image of the disk stands for the state after what was stored before, or after all that
-    /// is taken at the end, and for none between; after it, for the latter alone.
+    /// is taken at the end, and for none between; after it, for the latter alone. `Full` where the block of what waits to be
+    /// stored doesn't fit, with the closed gate behind it: the disk is then as it was.
     pub fn turn(
         &mut self,
         alloc: Global,
@@ -37,7 +39,10 @@ impl<D: Disk, B: Bell> Flusher<D, B> {
         ensures turned { IfOk result (λ count. (more : List (EntryValue SenderValue)) × (length more ≡ count) × IsTurned self.old self.new more) }
         ensures batch { IfOk result (λ count. IsBatch (from_on self.new.seat self.old.stored)) }
         ensures full { IsErrOf result FlushFault.Full →
-            self.old.size < self.old.used + 9 + length (records (from_on self.new.seat self.old.stored)) }
+            (self.old.size < self.old.used + 9 + length (records (from_on self.new.seat self.old.stored)))
+            × (self.new.disk ≡ self.old.disk) × IsBatch (from_on self.new.seat self.old.stored) }
+        ensures no_room { D.honest self.old.disk → IsErrOf result FlushFault.Full →
+            HasNoRoom (D.content self.old.disk) (state_at self.old.opening self.old.seat self.old.stored) (from_on self.new.seat self.old.stored) }
         ensures outcome { IsTurn self.old self.new result }
         ensures stops { OnErr result ((self.new.broken ≡ true) × (self.new.seat.stopped ≡ true)) }
         ensures cause { IsFlushCaused (D.failures self.old.disk) (D.failures self.new.disk) result }

@@ -1,6 +1,6 @@
 -- How far a flusher has gone.
-use Rattle.std.proofs.Common.{ne_eqb, ◌≡◌, ◌==◌, suc, ◌+◌, ◌-◌, ◌≤◌, ◌++◌, ℕ, List, [], ◌∷◌, false, Err, length, take, refl, sym, ap, ◌∙◌, subst, arith, length-append, true, Option, Some, None, is_none, is_some, if◌then◌else◌}
-use Rattle.std.proofs.lemmas.List.{append-nil, append_assoc, take_all}
+use Rattle.std.proofs.Common.{ne_eqb, ◌≡◌, ◌==◌, suc, ◌+◌, ◌-◌, ◌≤◌, ◌++◌, ℕ, List, [], ◌∷◌, false, Err, length, take, drop, refl, sym, ap, ◌∙◌, subst, arith, length-append, true, Option, Some, None, is_none, is_some, if◌then◌else◌}
+use Rattle.std.proofs.lemmas.List.{append-nil, append_assoc, take_all, take-append-drop}
 use Rattle.std.proofs.lemmas.Bool.{false≢true}
 use Rattle.command_core.specs.Commands.{CommandValue}
 use Rattle.command_core.specs.Entries.{EntryValue}
@@ -14,11 +14,13 @@ use Rattle.claim_core.specs.Seats.{FlushSeatValue, SessionSeatValue, flushing, n
 use Rattle.recover_core.proofs.Stores.{after-append}
 use Rattle.flush_core.specs.declared.faults.FlushFault.{FlushFault}
 use Rattle.flush_core.specs.declared.faults.FlushFault.TheVariants.{Device, Full, Broken, Memory}
-use Rattle.flush_core.specs.Batches.{from_on, state_taken, with_more}
+use Rattle.flush_core.specs.Batches.{IsBatch, from_on, state_at, state_taken, with_more}
 use Rattle.flush_core.specs.Flushed.{Flushed}
 use Rattle.flush_core.specs.Outcomes.{IsTurn, IsTurned, TurnFalls, turned_boxes, turned_outs}
-use Rattle.flush_core.proofs.Taken.{from_end, from_more}
-use Rattle.script_journal.specs.Going.{HasGone, HasGoneFront, HasGoneSomeWay, IsIdle}
+use Rattle.flush_core.specs.Room.{HasNoRoom}
+use Rattle.flush_core.proofs.Taken.{all_at, from_end, from_more}
+use Rattle.script_journal.specs.Going.{HasFilled, HasGone, HasGoneFront, HasGoneSomeWay, IsIdle}
+use Rattle.script_journal.specs.Journals.{IsFull}
 use Rattle.script_journal.specs.Placed.{AgreeAll, ArePlaced}
 use Rattle.script_journal.proofs.Fronts.{took_front}
 
@@ -142,4 +144,40 @@ module _ {D : Type 0} where
         few = fits;
         taken = way.taken ∙ ap (λ (l : List CommandValue). f.seat.taken ++ l) front;
         published = way.published;
+      }
+
+  -- a turn whose block has no room, behind those that went
+  pub filled : (f g h : Flushed D) (more : List CommandValue) (was now : List ℕ) → HasGone f g more → TurnFalls g h → now ≡ was → IsBatch (from_on h.seat g.stored)
+      → HasNoRoom was (state_at g.opening g.seat g.stored) (from_on h.seat g.stored) → HasFilled f h now
+  filled f g h more was now gone fell same batch room =
+      let next = fell.taken.0 in
+      let few : g.stored ≤ next_ticket g.seat = omega (arith, gone.idle.stored) in
+      let rest : from_on h.seat g.stored ≡ next = (λ i. drop (g.stored - fell.base i) (fell.taken.1 i))
+      ∙ (from_more g.seat next g.stored few ∙ ap (λ (l : List CommandValue). l ++ next) (from_end g.seat g.stored gone.idle.stored)) in
+      let state : state_at g.opening g.seat g.stored ≡ state_after f.broker.state more = all_at g.opening g.seat g.stored gone.idle.stored ∙ (sym gone.idle.state ∙ gone.state) in
+      record {
+        done = more;
+        batch = next;
+        base = fell.base ∙ ap (λ (s : FlushSeatValue). s.base) gone.seat;
+        taken = fell.taken.1 ∙ (ap (λ (s : FlushSeatValue). s.taken ++ next) gone.seat ∙ append_assoc f.seat.taken more next);
+        is_batch = subst IsBatch rest batch;
+        no_room = subst (λ (image : List ℕ). HasNoRoom image (state_after f.broker.state more) next) (sym same)
+            (subst (λ (z : State × List CommandValue). HasNoRoom was z.0 z.1) (λ i. (state i, rest i)) room);
+      }
+
+  -- and these are of what the seats have there
+  pub filled_full : (f g : Flushed D) (first last count : ℕ) (seats : List SessionSeatValue) (cs : List CommandValue) (image : List ℕ) → first ≡ next_ticket f.seat → last ≡ next_ticket g.seat → last - first ≤ count → count ≡ length cs
+      → HasFilled f g image → ArePlaced first seats cs → AgreeAll g.seat seats → IsFull f.broker.state cs image
+  filled_full f g first last count seats cs image begins ends few many filled placed agree =
+      let both = filled.done ++ filled.batch in
+      let long : length g.seat.taken ≡ length f.seat.taken + length both = ap length filled.taken ∙ length-append f.seat.taken both in
+      let fits : length both ≤ length cs = omega (arith, begins, ends, few, many, filled.base, long) in
+      let front : both ≡ take (length both) cs = took_front first seats g.seat f.seat.taken both cs (omega (arith, begins, filled.base)) filled.taken placed agree fits in
+      record {
+        done = filled.done;
+        batch = filled.batch;
+        behind = drop (length both) cs;
+        split = sym (ap (λ (l : List CommandValue). l ++ drop (length both) cs) front ∙ take-append-drop (length both) cs);
+        is_batch = filled.is_batch;
+        no_room = filled.no_room;
       }

@@ -17,7 +17,7 @@ use Rattle.recover_core.proofs.Stores.{after-append}
 use Rattle.flush_core.specs.Flushed.{AfterSome, Flushed, IsSame}
 use Rattle.flush_core.specs.Batches.{state_at, state_taken}
 use Rattle.script_journal.specs.Going.{HasGoneFront, IsIdle}
-use Rattle.script_journal.specs.Journals.{IsAtRest, JournalValue, StandsAfterFront}
+use Rattle.script_journal.specs.Journals.{IsAtRest, IsFull, JournalValue, StandsAfterFront}
 use Rattle.script_journal.specs.Placed.{AreSeatsOf}
 use Rattle.script_journal.proofs.Placing.{below, still_ring}
 
@@ -87,17 +87,21 @@ pub crashed : {C D : Type 0} (f : Flushed C) (u g : Flushed D) (cs : List Comman
 crashed f u g cs image s idle same front is after = ∥∥₁_map after (λ it.
     subst (λ (t : State). StandsAfterFront t cs image) (ap (λ (b : BrokerValue). b.state) same.broker ∙ is) (stands_front u g cs image (same_idle f u same idle) front it))
 
--- a journal of the broker that a store was opened with, whose disk has failed so often
-abbrev pub IsMade : Option BrokerValue → ℕ → Result JournalValue OpenFault → Type 0
-IsMade opened failures result = IfOk result (λ journal. IfSome opened (λ broker. journal ≡ record { state = broker.state; durable = true; failures = failures }))
+-- a disk without room for some of the commands, named by its image
+pub full_somewhere : (s t : State) (cs : List CommandValue) (image : List ℕ) → s ≡ t → IsFull s cs image → (some : List ℕ) × IsFull t cs some
+full_somewhere s t cs image same full = (image, subst (λ (x : State). IsFull x cs image) same full)
 
-pub opened_state : (opened : Option BrokerValue) (result : Result JournalValue OpenFault) (content : List ℕ) (failures : ℕ) → IsSome opened → IfSome opened (λ broker. (s : State) → Stands content s → broker.state ≡ restarted s)
-    → IsMade opened failures result → IfOk result (λ journal. (s : State) → Stands content s → journal.state ≡ restarted s)
-opened_state None result content failures there states made = absurd (false≢true there)
-opened_state (Some broker) (Ok journal) content failures there states made = λ s stands. ap (λ (j : JournalValue). j.state) made ∙ states s stands
-opened_state (Some broker) (Err fault) content failures there states made = tt
+-- a journal of the broker that a store was opened with, whose disk holds this and has failed so often
+abbrev pub IsMade : Option BrokerValue → List ℕ → ℕ → Result JournalValue OpenFault → Type 0
+IsMade opened holds failures result = IfOk result (λ journal. IfSome opened (λ broker. journal ≡ record { state = broker.state; durable = true; content = holds; failures = failures }))
 
-pub opened_calm : (opened : Option BrokerValue) (result : Result JournalValue OpenFault) (now before : ℕ) → IsSome opened → now ≡ before → IsMade opened now result → IfOk result (λ journal. journal.failures ≡ before)
-opened_calm None result now before there same made = absurd (false≢true there)
-opened_calm (Some broker) (Ok journal) now before there same made = ap (λ (j : JournalValue). j.failures) made ∙ same
-opened_calm (Some broker) (Err fault) now before there same made = tt
+pub opened_state : (opened : Option BrokerValue) (result : Result JournalValue OpenFault) (content holds : List ℕ) (failures : ℕ) → IsSome opened → IfSome opened (λ broker. (s : State) → Stands content s → broker.state ≡ restarted s)
+    → IsMade opened holds failures result → IfOk result (λ journal. (s : State) → Stands content s → journal.state ≡ restarted s)
+opened_state None result content holds failures there states made = absurd (false≢true there)
+opened_state (Some broker) (Ok journal) content holds failures there states made = λ s stands. ap (λ (j : JournalValue). j.state) made ∙ states s stands
+opened_state (Some broker) (Err fault) content holds failures there states made = tt
+
+pub opened_calm : (opened : Option BrokerValue) (result : Result JournalValue OpenFault) (holds : List ℕ) (now before : ℕ) → IsSome opened → now ≡ before → IsMade opened holds now result → IfOk result (λ journal. journal.failures ≡ before)
+opened_calm None result holds now before there same made = absurd (false≢true there)
+opened_calm (Some broker) (Ok journal) holds now before there same made = ap (λ (j : JournalValue). j.failures) made ∙ same
+opened_calm (Some broker) (Err fault) holds now before there same made = tt

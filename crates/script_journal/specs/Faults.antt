@@ -18,6 +18,13 @@ IsNotOfDisk Full = Unit {0}
 IsNotOfDisk Broken = Unit {0}
 IsNotOfDisk (Memory refused) = Unit {0}
 
+-- the disk failed, or a call came where none may
+abbrev pub IsOutOfStep : FlushFault → Type 0
+IsOutOfStep Device = Unit {0}
+IsOutOfStep Full = ⊥
+IsOutOfStep Broken = Unit {0}
+IsOutOfStep (Memory refused) = ⊥
+
 -- the disk failed just where that is the fault
 abbrev pub IsCausedBy : ℕ → ℕ → FlushFault → Type 0
 IsCausedBy before now Device = IsOneMore before now

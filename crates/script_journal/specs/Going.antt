@@ -3,8 +3,9 @@ use Rattle.std.specs.Prelude.{◌≡◌, ◌≤◌, ◌++◌, ℕ, List, [], fal
 use Rattle.command_core.specs.Commands.{CommandValue}
 use Rattle.broker_core.specs.Steps.{outs_of, state_after}
 use Rattle.claim_core.specs.Seats.{next_ticket, with_mark}
-use Rattle.flush_core.specs.Batches.{state_taken, with_more}
+use Rattle.flush_core.specs.Batches.{IsBatch, state_taken, with_more}
 use Rattle.flush_core.specs.Flushed.{Flushed}
+use Rattle.flush_core.specs.Room.{HasNoRoom}
 
 -- all that was taken is stored, carried out and published, and all outputs are handed out or may be
 pub record IsIdle {D : Type 0} (f : Flushed D) : Type 0 where
@@ -40,3 +41,12 @@ pub record HasGoneFront {D : Type 0} (old new : Flushed D) (commands : List Comm
   pub few : n ≤ length commands
   pub taken : new.seat.taken ≡ old.seat.taken ++ take n commands
   pub published : old.seat.published ≤ new.seat.published
+
+-- more commands were taken, of which the first are on the disk, and the block of the others, a batch, has no room there
+pub record HasFilled {D : Type 0} (old new : Flushed D) (image : List ℕ) : Type 0 where
+  pub done : List CommandValue
+  pub batch : List CommandValue
+  pub base : new.seat.base ≡ old.seat.base
+  pub taken : new.seat.taken ≡ old.seat.taken ++ (done ++ batch)
+  pub is_batch : IsBatch batch
+  pub no_room : HasNoRoom image (state_after old.broker.state done) batch

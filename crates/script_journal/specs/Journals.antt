@@ -1,19 +1,23 @@
 -- What a script's journal keeps.
-use Rattle.std.specs.Prelude.{◌≡◌, ◌≤◌, ℕ, Bool, List, [], length, take}
+use Rattle.std.specs.Prelude.{◌≡◌, ◌≤◌, ◌++◌, ℕ, Bool, List, [], length, take}
 use Rattle.atomic_table.specs.Seated.{TableId}
 use Rattle.command_core.specs.Commands.{CommandValue}
 use Rattle.broker_core.specs.States.{State}
 use Rattle.broker_core.specs.Steps.{state_after}
 use Rattle.claim_core.specs.Seats.{SessionSeatValue}
+use Rattle.flush_core.specs.Batches.{IsBatch}
 use Rattle.flush_core.specs.Flushed.{Flushed}
+use Rattle.flush_core.specs.Room.{HasNoRoom}
 use Rattle.recover_core.specs.Standing.{Stands}
 use Rattle.script_journal.specs.Going.{IsIdle}
 use Rattle.script_journal.specs.Placed.{AreSeatsOf}
 
--- A journal: the broker's state after its commands, whether they are durable, and how many calls of its disk have failed.
+-- A journal: the broker's state after its commands, whether they are durable, what a read of its disk gives, and how many
+-- calls of the disk have failed.
 pub record JournalValue : Type 0 where
   pub state : State
   pub durable : Bool
+  pub content : List ℕ
   pub failures : ℕ
 
 -- the seats and the flusher are at this ring, and the flusher is idle and has handed all outputs out
@@ -28,3 +32,13 @@ pub record StandsAfterFront (s : State) (commands : List CommandValue) (image : 
   pub n : ℕ
   pub few : n ≤ length commands
   pub stands : Stands image (state_after s (take n commands))
+
+-- The image stands for the state after the first of these commands, and the block of the next ones, which are a batch, has no
+-- room there.
+pub record IsFull (s : State) (commands : List CommandValue) (image : List ℕ) : Type 0 where
+  pub done : List CommandValue
+  pub batch : List CommandValue
+  pub behind : List CommandValue
+  pub split : commands ≡ (done ++ batch) ++ behind
+  pub is_batch : IsBatch batch
+  pub no_room : HasNoRoom image (state_after s done) batch

@@ -1,6 +1,6 @@
 //! The journal that the commands of a script are kept in.
 
-ghost use Rattle.std.specs.Prelude.{◌≡◌, ◌≤◌, ◌^◌, List, ℕ, IfErr, IfOk, IfSome, IsSome, OnErr, OnOk, false, true};
+ghost use Rattle.std.specs.Prelude.{◌≡◌, ◌≤◌, ◌^◌, List, ℕ, IfErr, IfOk, IfSome, IsErrOf, IsSome, OnErr, OnOk, false, true};
 ghost use Rattle.broker_core.specs.Operations.{restarted};
 ghost use Rattle.broker_core.specs.States.{State, held_messages};
 ghost use Rattle.broker_core.specs.Steps.{state_after, outs_of};
@@ -9,9 +9,9 @@ ghost use Rattle.disk_core.specs.Images.{IsImage};
 ghost use Rattle.recover_core.specs.Standing.{StandFor, Stands};
 ghost use Rattle.recover_core.specs.Stores.{disk_of, is_broken, opened_by};
 ghost use Rattle.recover_core.specs.Told.{IsOpenTold};
-ghost use Rattle.flush_core.specs.declared.faults.FlushFault.TheVariants.{Broken};
+ghost use Rattle.flush_core.specs.declared.faults.FlushFault.TheVariants.{Broken, Full};
 ghost use Rattle.script_journal.specs.Faults.{IsCausedBy, IsNotOfDisk};
-ghost use Rattle.script_journal.specs.Journals.{StandsAfterFront};
+ghost use Rattle.script_journal.specs.Journals.{IsFull, StandsAfterFront};
 ghost use Rattle.script_journal.specs.Placed.{commands_of};
 
 use crate::turning::go;
@@ -28,8 +28,8 @@ use std::alloc::Global;
 use std::marker::Model;
 
 /// An opened journal with its ring, whose seats are all here, and the broker after its commands. Contracts see the broker's
-/// state, whether it is durable, and how many calls of the disk have failed. Where it is durable, whatever a stop leaves of
-/// the disk stands for it. Once a step failed it is not, and the journal takes nothing more.
+/// state, whether it is durable, what the disk holds, and how many of its calls have failed. Where it is durable, whatever a
+/// stop leaves of the disk stands for it. Once a step failed it is not, and the journal takes nothing more.
 #[derive(Drop)]
 pub struct Journal {
     ring: ScriptRing,
@@ -45,7 +45,7 @@ impl Model for Journal {
 
     ghost Value = { JournalValue };
 
-    ghost view = { λ a. record { state = a.flusher.broker.state; durable = a.whole; failures = a.flusher.disk.failures } };
+    ghost view = { λ a. record { state = a.flusher.broker.state; durable = a.whole; content = a.flusher.disk.content; failures = a.flusher.disk.failures } };
 
     ghost invariant = { λ a. a.whole ≡ true → IsAtRest a.ring a.seats.items a.flusher };
 }
@@ -94,13 +94,15 @@ impl Journal {
     /// in the flusher's turns. Answers their outputs, in order.
     ///
     /// After a fault the journal is not durable, and takes nothing more: `Device` just where a call of the disk failed, `Full`
-    /// and `Memory` where a turn failed so, `Broken` where one failed before.
+    /// where the block of some of the commands has no room behind those before, `Memory` where memory was refused, `Broken`
+    /// where a step failed before.
     pub fn record(&mut self, alloc: Global, waiting: Vec<Waiting>) -> Result<Vec<Out>, FlushFault>
-        ensures state { OnOk result (self.new ≡ record self.old { state = state_after self.old.state (commands_of waiting.items) }) }
+        ensures state { OnOk result (self.new ≡ record self.old { state = state_after self.old.state (commands_of waiting.items); content = self.new.content }) }
         ensures outs { IfOk result (λ outs. outs.items ≡ outs_of self.old.state (commands_of waiting.items)) }
         ensures durable { OnOk result (self.old.durable ≡ true) }
         ensures failed { OnErr result (self.new.durable ≡ false) }
         ensures cause { IfErr result (IsCausedBy self.old.failures self.new.failures) }
+        ensures full { IsErrOf result Full → IsFull self.old.state (commands_of waiting.items) self.new.content }
     {
         if !self.whole {
             drop(waiting);
@@ -143,6 +145,7 @@ impl Journal {
     /// The disk, unless a step failed.
     pub fn into_disk(self) -> Option<MemDisk>
         ensures stands { IfSome result (λ disk. Stands disk.content self.state) }
+        ensures held { IfSome result (λ disk. disk.content ≡ self.content) }
         ensures some { self.durable ≡ true → IsSome result }
     {
         let Journal { flusher, whole, .. } = self;
@@ -154,7 +157,7 @@ impl Journal {
     }
 
     /// Has waiting commands go through the ring while so many calls of the disk pass; the disk then stops, and has the fill
-    /// in what was not synced, or without one what was there before. A batch that does not fit is a fault.
+    /// in what was not synced, or without one what was there before. A batch that has no room is a fault.
     pub fn crash(
         self,
         alloc: Global,
@@ -164,6 +167,7 @@ impl Journal {
     ) -> Result<MemDisk, FlushFault>
         ensures stands { IfOk result (λ disk. ∥ StandsAfterFront self.state (commands_of waiting.items) disk.content ∥₁) }
         ensures fault { IfErr result IsNotOfDisk }
+        ensures full { IsErrOf result Full → (image : List ℕ) × IsFull self.state (commands_of waiting.items) image }
     {
         let Journal {
             ring,
@@ -197,7 +201,7 @@ fn with_broker(alloc: Global, store: Store<MemDisk>) -> Result<Journal, OpenFaul
     requires opened { IsSome (opened_by store) }
     requires stands { IfSome (opened_by store) (λ broker. StandFor (IsImage (disk_of store).content (disk_of store).held) broker.state × (broker.broken ≡ false) × (broker.state.count ≤ 2 ^ 61)) }
     requires whole { is_broken store ≡ false }
-    ensures made { IfOk result (λ journal. IfSome (opened_by store) (λ broker. journal ≡ record { state = broker.state; durable = true; failures = (disk_of store).failures })) }
+    ensures made { IfOk result (λ journal. IfSome (opened_by store) (λ broker. journal ≡ record { state = broker.state; durable = true; content = (disk_of store).content; failures = (disk_of store).failures })) }
     ensures refused { IfErr result (λ fault. (content : List ℕ) → IsOpenTold fault content) }
 {
     let mut store = store;
@@ -210,7 +214,7 @@ fn with_ring(alloc: Global, store: Store<MemDisk>, broker: Broker) -> Result<Jou
     requires stands { StandFor (IsImage (disk_of store).content (disk_of store).held) broker.state }
     requires broker { (broker.broken ≡ false) × (broker.state.count ≤ 2 ^ 61) }
     requires whole { is_broken store ≡ false }
-    ensures made { IfOk result (λ journal. journal ≡ record { state = broker.state; durable = true; failures = (disk_of store).failures }) }
+    ensures made { IfOk result (λ journal. journal ≡ record { state = broker.state; durable = true; content = (disk_of store).content; failures = (disk_of store).failures }) }
     ensures refused { IfErr result (λ fault. (content : List ℕ) → IsOpenTold fault content) }
 {
     match ScriptRing::new(alloc, broker.count()) {
@@ -226,7 +230,8 @@ fn with_ring(alloc: Global, store: Store<MemDisk>, broker: Broker) -> Result<Jou
 
 // The fault where a disk was to stop: that it did is none.
 fn beside_stop(fault: FlushFault) -> FlushFault
-    ensures { IsNotOfDisk result }
+    ensures kind { IsNotOfDisk result }
+    ensures full { result ≡ FlushFault.Full → fault ≡ FlushFault.Full }
 {
     match fault {
         FlushFault::Full => FlushFault::Full,

@@ -1,10 +1,12 @@
 //! How commands come out of the ring: in turns of the flusher.
 
-ghost use Rattle.std.specs.Prelude.{◌≡◌, List, IfErr, IfOk, OnOk, length, false, true};
+ghost use Rattle.std.specs.Prelude.{◌≡◌, ℕ, List, IfErr, IfOk, IsErrOf, OnOk, length, false, true};
 ghost use Rattle.command_core.specs.Commands.{CommandValue};
 ghost use Rattle.disk_core.specs.Faults.{IsOneMore};
-ghost use Rattle.script_journal.specs.Faults.{IsCausedBy};
-ghost use Rattle.script_journal.specs.Going.{HasGone, HasGoneFront, HasGoneSomeWay, IsIdle};
+ghost use Rattle.flush_core.specs.declared.faults.FlushFault.TheVariants.{Full};
+ghost use Rattle.script_journal.specs.Faults.{IsCausedBy, IsOutOfStep};
+ghost use Rattle.script_journal.specs.Going.{HasFilled, HasGone, HasGoneFront, HasGoneSomeWay, IsIdle};
+ghost use Rattle.script_journal.specs.Journals.{IsFull};
 ghost use Rattle.script_journal.specs.Placed.{AgreeAll, AreSeatsOf, commands_of};
 
 use crate::appending::append_all;
@@ -16,8 +18,8 @@ use std::alloc::Global;
 
 /// Turns until so many commands are taken, which are then stored, carried out and published.
 ///
-/// `Broken` where a turn takes none of them, or more, or where a session has a box: none does whose commands are all in the
-/// ring, without boxes.
+/// `Full` where the block of the last turn's commands has no room on the disk, `Broken` where a turn takes none of them, or
+/// more, or where a session has a box: none does whose commands are all in the ring, without boxes.
 pub fn take_all<D: Disk>(
     alloc: Global,
     ring: &ScriptRing,
@@ -28,6 +30,7 @@ pub fn take_all<D: Disk>(
     requires idle { IsIdle flusher.old }
     ensures taken { OnOk result ((more : List CommandValue) × (length more ≡ count) × HasGone flusher.old flusher.new more) }
     ensures fallen { IfErr result (λ fault. HasGoneSomeWay flusher.old flusher.new) }
+    ensures full { D.honest flusher.old.disk → IsErrOf result Full → HasFilled flusher.old flusher.new (D.content flusher.new.disk) }
     ensures calm { OnOk result (D.failures flusher.new.disk ≡ D.failures flusher.old.disk) }
     ensures cause { IfErr result (IsCausedBy (D.failures flusher.old.disk) (D.failures flusher.new.disk)) }
 {
@@ -58,7 +61,8 @@ fn take_until_stop<D: Disk>(
     requires ring { flusher.old.seat.ring ≡ ring.now }
     requires idle { IsIdle flusher.old }
     ensures all { IfOk result (λ all. all ≡ true → (more : List CommandValue) × (length more ≡ count) × HasGone flusher.old flusher.new more) }
-    ensures some { IfOk result (λ all. HasGoneSomeWay flusher.old flusher.new) }
+    ensures way { HasGoneSomeWay flusher.old flusher.new }
+    ensures full { D.honest flusher.old.disk → IsErrOf result Full → HasFilled flusher.old flusher.new (D.content flusher.new.disk) }
     ensures calm { IfOk result (λ all. all ≡ true → D.failures flusher.new.disk ≡ D.failures flusher.old.disk) }
     ensures stopped { IfOk result (λ all. all ≡ false → IsOneMore (D.failures flusher.old.disk) (D.failures flusher.new.disk)) }
     ensures cause { IfErr result (IsCausedBy (D.failures flusher.old.disk) (D.failures flusher.new.disk)) }
@@ -72,9 +76,23 @@ fn take_until_stop<D: Disk>(
     }
 }
 
+// The fault where more was taken than waited: that the disk failed, or none of the disk.
+fn out_of_step(went: Result<bool, FlushFault>) -> FlushFault
+    ensures kind { IsOutOfStep result }
+    ensures cause { (before now : ℕ) → IfOk went (λ all. all ≡ true → now ≡ before) → IfOk went (λ all. all ≡ false → IsOneMore before now) →
+        IfErr went (IsCausedBy before now) → IsCausedBy before now result }
+{
+    match went {
+        Ok(false) | Err(FlushFault::Device) => FlushFault::Device,
+        Ok(true) => FlushFault::Broken,
+        Err(FlushFault::Full | FlushFault::Broken | FlushFault::Memory(_)) => FlushFault::Broken,
+    }
+}
+
 /// Has waiting commands go into the ring and through the flusher, and answers whether all did; they do not where the disk
-/// fails, and then the first so many did. Where more was taken than waited, which is not so of a ring whose seats are all here,
-/// it is `Device` in place of that, or `Broken` where the disk did not fail.
+/// fails, and then the first so many did. `Full` where the block of some of them has no room behind those before. Where more
+/// was taken than waited, which is not so of a ring whose seats are all here, it is `Device` in place of that, or `Broken`
+/// where the disk did not fail.
 pub fn go<D: Disk>(
     alloc: Global,
     ring: &ScriptRing,
@@ -88,6 +106,8 @@ pub fn go<D: Disk>(
     ensures seats { AreSeatsOf ring.now seats.new.items }
     ensures all { IfOk result (λ all. all ≡ true → HasGone flusher.old flusher.new (commands_of waiting.items)) }
     ensures some { IfOk result (λ all. HasGoneFront flusher.old flusher.new (commands_of waiting.items)) }
+    ensures full { D.honest flusher.old.disk → IsErrOf result Full →
+        IsFull flusher.old.broker.state (commands_of waiting.items) (D.content flusher.new.disk) }
     ensures calm { IfOk result (λ all. all ≡ true → D.failures flusher.new.disk ≡ D.failures flusher.old.disk) }
     ensures stopped { IfOk result (λ all. all ≡ false → IsOneMore (D.failures flusher.old.disk) (D.failures flusher.new.disk)) }
     ensures cause { IfErr result (IsCausedBy (D.failures flusher.old.disk) (D.failures flusher.new.disk)) }
@@ -95,16 +115,12 @@ pub fn go<D: Disk>(
     let first = flusher.next();
     let count = waiting.len() as u64;
     append_all(alloc, ring, seats, first, waiting)?;
-    let all = take_until_stop(alloc, ring, flusher, count)?;
+    let went = take_until_stop(alloc, ring, flusher, count);
     if flusher.next().saturating_sub(first) > count {
-        return Err(if all {
-            FlushFault::Broken
-        } else {
-            FlushFault::Device
-        });
+        return Err(out_of_step(went));
     }
     compare_all(ring, seats, flusher);
-    Ok(all)
+    went
 }
 
 /// Brings each seat beside the flusher's. Nothing changes.

@@ -4,4 +4,4 @@ use Rattle.script_journal.specs.Going.{HasGone}
 use Rattle.script_journal.proofs.turning.take_all.Given as goal
 
 abbrev pub invariant-loop-turn : goal.invariant-loop-turn
-invariant-loop-turn g l = (more : List CommandValue) × (length more + l.left ≡ l.fn.count) × HasGone l.fn.flusher l.flusher more × (g.D.Disk.failures l.flusher.disk ≡ g.D.Disk.failures l.fn.flusher.disk)
+invariant-loop-turn g l = (more : List CommandValue) × (length more + l.left ≡ l.fn.count) × HasGone l.fn.flusher l.flusher more × (g.D.Disk.failures l.flusher.disk ≡ g.D.Disk.failures l.fn.flusher.disk) × (g.D.Disk.honest l.fn.flusher.disk → g.D.Disk.honest l.flusher.disk)

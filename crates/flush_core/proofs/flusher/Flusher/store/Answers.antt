@@ -18,6 +18,8 @@ use Rattle.flush_core.specs.Batches.{from_on, state_at, state_taken}
 use Rattle.recover_core.specs.Stores.{disk_of, size_of, used_of}
 use Rattle.flush_core.specs.Flushed.{Flushed, flushed, gathered}
 use Rattle.flush_core.specs.Outcomes.{IsOutcome, storing}
+use Rattle.flush_core.specs.Room.{HasNoRoom}
+use Rattle.flush_core.proofs.Room.{lacks_room}
 use Rattle.flush_core.proofs.Turns.{unstored}
 use Rattle.flush_core.proofs.Keeping.{all_stored, hold_either, held_stored, store_fails, stored_brought, stores}
 use Rattle.flush_core.proofs.Taken.{all_at, at_rest, length_commands}
@@ -150,6 +152,28 @@ returns-in-Err-clause-full g c is =
     let batch : commands c.deref.result.now ≡ from_on it.seat it.stored = ap (λ l. commands l) c.deref.ensures.value ∙ (c.self.invariant.1 c.if-self.false).batch_is in
     subst (λ (f : Flushed g.row.D.Denot). (f.size < f.used + 9 + length (records (gathered f))) × (c.append.new.self.disk ≡ f.disk)) c.self.view_is
     (subst (λ (l : List CommandValue). size_of it.journal < used_of it.journal + 9 + length (records l)) batch told.0, told.1)
+
+pub returns-in-Err-clause-no_room : goal.returns-in-Err-clause-no_room
+returns-in-Err-clause-no_room g c honest is =
+    let it = c.self.inside in
+    let s = state_at it.opening.value.state it.seat it.stored in
+    let full = only_full c.in-Err.fault (sym c.from.ensures ∙ same_fault c.from.result Full is) in
+    let told = c.append.ensures.full (c.in-Err.is ∙ ap (λ (fault : AreaFault). Err fault) full) in
+    let batch : commands c.deref.result.now ≡ from_on it.seat it.stored = ap (λ l. commands l) c.deref.ensures.value ∙ (c.self.invariant.1 c.if-self.false).batch_is in
+    let was : g.D.Disk.honest it.journal.disk = subst (λ (f : Flushed g.row.D.Denot). g.D.Disk.honest f.disk) (sym c.self.view_is) honest in
+    subst (λ (f : Flushed g.row.D.Denot). HasNoRoom (g.D.Disk.content f.disk) (state_at f.opening f.seat f.stored) (gathered f)) c.self.view_is
+    (lacks_room it.journal.area (g.D.Disk.images it.journal.disk) (g.D.Disk.content it.journal.disk) s (from_on it.seat it.stored) (g.met.D.Disk.reads it.journal.disk was)
+    (it.journal.sound was (c.self.invariant.1 c.if-self.false).whole) ((c.self.invariant.0.running c.if-self.false).stands was)
+    (subst (λ (l : List CommandValue). size_of it.journal < used_of it.journal + 9 + length (records l)) batch told.0))
+
+pub returns-then-self-clause-no_room : goal.returns-then-self-clause-no_room
+returns-then-self-clause-no_room g c = λ honest is. absurd (cc is)
+
+pub returns-then-is_empty-clause-no_room : goal.returns-then-is_empty-clause-no_room
+returns-then-is_empty-clause-no_room g c = λ honest is. absurd (cc is)
+
+pub returns-in-Ok-clause-no_room : goal.returns-in-Ok-clause-no_room
+returns-in-Ok-clause-no_room g c = λ honest is. absurd (cc is)
 
 pub returns-in-Err-clause-outcome : goal.returns-in-Err-clause-outcome
 returns-in-Err-clause-outcome g c =

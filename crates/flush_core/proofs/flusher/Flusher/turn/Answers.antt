@@ -1,5 +1,9 @@
-use Rattle.std.proofs.Common.{◌∙◌, ◌≡◌, ap, refl, sym, true}
+use Rattle.std.proofs.Common.{◌∙◌, ◌≡◌, Err, ap, refl, sym, true}
+use Rattle.std.proofs.lemmas.Result.{err_from_is_err_and}
+use Rattle.flush_core.specs.declared.faults.FlushFault.{FlushFault}
+use Rattle.flush_core.specs.declared.faults.FlushFault.TheVariants.{Full}
 use Rattle.flush_core.specs.Flushed.{Flushed}
+use Rattle.flush_core.proofs.Room.{had_no_room, was_full}
 use Rattle.flush_core.proofs.Turns.{failed_keeps, stored, turned, unstored}
 use Rattle.flush_core.proofs.flusher.Flusher.turn.Goals as goal
 
@@ -58,6 +62,31 @@ returns-then-is_broken-clause-batch g c = tt
 
 pub returns-then-is_broken-clause-full : goal.returns-then-is_broken-clause-full
 returns-then-is_broken-clause-full g c = λ is. absurd (cc is)
+
+pub returns-then-is_broken-clause-no_room : goal.returns-then-is_broken-clause-no_room
+returns-then-is_broken-clause-no_room g c = λ honest is. absurd (cc is)
+
+pub returns-in_err-store-clause-full : goal.returns-in_err-store-clause-full
+returns-in_err-store-clause-full g c is =
+    let took = c.in_ok-count.ensures.taken in
+    let p = err_from_is_err_and c.from_residual-in_err-store.result c.from_residual-in_err-store.ensures.1 in
+    let same : c.in_err-store.field-0.0 ≡ Full = cc (p.1, p.2, is) in
+    let told = ap (λ (fault : FlushFault). Err fault) same in
+    was_full g.D.Disk c.args.self.now c.gather.new.self c.store.new.self took.0 _ c.is_broken.ensures.kept took.2 c.in_err-store.ensures.outcome (c.in_err-store.ensures.full told) c.in_ok-count.ensures.batch
+
+pub returns-in_err-store-clause-no_room : goal.returns-in_err-store-clause-no_room
+returns-in_err-store-clause-no_room g c honest is =
+    let took = c.in_ok-count.ensures.taken in
+    let p = err_from_is_err_and c.from_residual-in_err-store.result c.from_residual-in_err-store.ensures.1 in
+    let same : c.in_err-store.field-0.0 ≡ Full = cc (p.1, p.2, is) in
+    let told = ap (λ (fault : FlushFault). Err fault) same in
+    had_no_room g.D.Disk c.args.self.now c.gather.new.self c.store.new.self took.0 _ c.is_broken.ensures.kept took.2 c.in_err-store.ensures.outcome (λ h. c.in_err-store.ensures.no_room h told) honest
+
+pub returns-clause-full : goal.returns-clause-full
+returns-clause-full g c = λ is. absurd (cc is)
+
+pub returns-clause-no_room : goal.returns-clause-no_room
+returns-clause-no_room g c = λ honest is. absurd (cc is)
 
 pub returns-then-is_broken-clause-outcome : goal.returns-then-is_broken-clause-outcome
 returns-then-is_broken-clause-outcome g c =
