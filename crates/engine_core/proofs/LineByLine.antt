@@ -3,6 +3,8 @@ use Rattle.std.proofs.Common.{◌≡◌, ◌+◌, List, [], ◌∷◌, ◌++◌,
 use Rattle.std.specs.List.{AllByRecursion}
 use Rattle.std.specs.Io.KnownBytes.{Appends}
 use Rattle.std.proofs.lemmas.Grind.{flat_map-append}
+use Rattle.flush_core.specs.declared.faults.FlushFault.{FlushFault}
+use Rattle.flush_core.specs.declared.faults.FlushFault.TheVariants as flush
 use Rattle.engine_core.specs.OfQueue.{of_queue}
 use Rattle.engine_core.specs.StepFaults.{IsLineTold}
 use Rattle.engine_core.specs.Runs.{Goes, Halts, StopsIn, IsTooLong}
@@ -11,7 +13,7 @@ use Rattle.engine_core.specs.declared.fault.QueueFault.{QueueFault}
 use Rattle.engine_core.specs.declared.fault.QueueFault.TheVariants as queue
 use Rattle.engine_core.specs.declared.fault.ScriptFault.{ScriptFault}
 use Rattle.engine_core.specs.declared.fault.ScriptFault.TheVariants.{Memory, NotUnderstood, CountTooLarge, Opening, Storing, Input, Output}
-use Rattle.engine_core.specs.Scripts.{IsNotUnderstood, Prints, PrintsAll, Takes, IsLine, HasNoLf, RunsTooFar, Tries, text_of_lines}
+use Rattle.engine_core.specs.Scripts.{IsNotUnderstood, Prints, PrintsAll, Takes, IsLine, HasNoLf, IsNotStored, RunsFull, RunsTooFar, Tries, text_of_lines}
 use Rattle.engine_core.specs.declared.script.Script.{Script}
 
 pub prints_append : (s t u : Script) (a b : List (List ℕ)) (p q : List ℕ) → PrintsAll s a p t → PrintsAll t b q u → PrintsAll s (a ++ b) (p ++ q) u
@@ -64,20 +66,31 @@ no_lf_append (x ∷ a) b first second = (first.0, no_lf_append a b first.1 secon
 abbrev pub halts_nothing : (old : Run) (bytes : List ℕ) (contents : Option (List ℕ)) → Halts old bytes [] (old.begun.items ++ bytes) contents contents
 halts_nothing old bytes contents = record { printed = []; end = old.script; takes = takes_nothing old.script old.begun.items bytes; writes = appends_nothing contents }
 
+not_stored : (fault : FlushFault) (s : Script) (line : List ℕ) → (queue.Storing fault ≡ queue.Storing flush.Full → RunsFull s line) → IsNotStored fault s line
+not_stored flush.Device s line full = tt
+not_stored flush.Full s line full = full refl
+not_stored flush.Broken s line full = tt
+not_stored (flush.Memory refused) s line full = tt
+
 pub stops_at_queue : (fault : QueueFault) (given : ScriptFault) (old : Run) (new : Script) (bytes line : List ℕ) (contents : Option (List ℕ))
-    → line ≡ old.begun.items ++ bytes → IsLine line → (fault ≡ queue.CountTooLarge → RunsTooFar old.script line) → IsLineTold old.script line new fault → given ≡ of_queue fault → StopsIn given old (bytes ++ 10 ∷ []) contents contents
-stops_at_queue (queue.Memory refused) given old new bytes line contents same is_line far told e =
+    → line ≡ old.begun.items ++ bytes → IsLine line → (fault ≡ queue.CountTooLarge → RunsTooFar old.script line) → (fault ≡ queue.Storing flush.Full → RunsFull old.script line) → IsLineTold old.script line new fault → given ≡ of_queue fault → StopsIn given old (bytes ++ 10 ∷ []) contents contents
+stops_at_queue (queue.Memory refused) given old new bytes line contents same is_line far full told e =
     subst (λ f. StopsIn f old (bytes ++ 10 ∷ []) contents contents) (sym e) ([], old.begun.items ++ (bytes ++ 10 ∷ []), halts_nothing old (bytes ++ 10 ∷ []) contents)
-stops_at_queue (queue.Opening refused) given old new bytes line contents same is_line far told e =
+stops_at_queue (queue.Opening refused) given old new bytes line contents same is_line far full told e =
     subst (λ f. StopsIn f old (bytes ++ 10 ∷ []) contents contents) (sym e) (
       [],
       old.begun.items ++ (bytes ++ 10 ∷ []),
       halts_nothing old (bytes ++ 10 ∷ []) contents,
       ([], sym (append_assoc old.begun.items bytes (10 ∷ [])) ∙ ap (λ l. l ++ 10 ∷ []) (sym same ∙ told.0), told.1),
     )
-stops_at_queue (queue.Storing refused) given old new bytes line contents same is_line far told e =
-    subst (λ f. StopsIn f old (bytes ++ 10 ∷ []) contents contents) (sym e) ([], old.begun.items ++ (bytes ++ 10 ∷ []), halts_nothing old (bytes ++ 10 ∷ []) contents)
-stops_at_queue queue.CountTooLarge given old new bytes line contents same is_line far told e =
+stops_at_queue (queue.Storing refused) given old new bytes line contents same is_line far full told e =
+    subst (λ f. StopsIn f old (bytes ++ 10 ∷ []) contents contents) (sym e) (
+      [],
+      old.begun.items ++ (bytes ++ 10 ∷ []),
+      halts_nothing old (bytes ++ 10 ∷ []) contents,
+      (line, [], sym (append_assoc old.begun.items bytes (10 ∷ [])) ∙ ap (λ l. l ++ 10 ∷ []) (sym same), is_line, not_stored refused old.script line full),
+    )
+stops_at_queue queue.CountTooLarge given old new bytes line contents same is_line far full told e =
     subst (λ f. StopsIn f old (bytes ++ 10 ∷ []) contents contents) (sym e) (
       [],
       old.begun.items ++ (bytes ++ 10 ∷ []),

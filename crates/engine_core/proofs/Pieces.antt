@@ -2,9 +2,10 @@
 use Rattle.std.proofs.Common.{◌≡◌, ◌+◌, ◌-◌, ◌≤◌, List, [], ◌∷◌, ◌++◌, ℕ, Option, codes, length, take, drop, refl, ap, sym, ◌∙◌, append_assoc, append-nil, arith, subst, length-append, length-drop, inl, inr, take_all}
 use Rattle.std.proofs.Math.Seq.{take-add, take-append_seam}
 use Rattle.std.proofs.lemmas.List.{take-append-drop}
+use Rattle.flush_core.specs.declared.faults.FlushFault.{FlushFault}
 use Rattle.recover_core.specs.declared.faults.OpenFault.{OpenFault}
 use Rattle.engine_core.specs.declared.script.Script.{Script}
-use Rattle.engine_core.specs.Scripts.{Takes, IsLine, HasNoLf, HasNoLine, HasLineNotOpened, HasLineTooFar, HasLineThatPrints, text_of_lines}
+use Rattle.engine_core.specs.Scripts.{Takes, IsLine, HasNoLf, HasNoLine, HasLineNotOpened, HasLineNotStored, HasLineTooFar, HasLineThatPrints, text_of_lines}
 use Rattle.engine_core.specs.Runs.{Goes, Halts, StopsIn, IsTooLong}
 use Rattle.engine_core.specs.declared.run.Run.{Run}
 use Rattle.engine_core.specs.declared.fault.ScriptFault.{ScriptFault}
@@ -46,7 +47,7 @@ stops_later (NotUnderstood k) old mid x y before middle after g (lines, rest, h,
     (g.lines ++ lines, rest, halts_later old mid x y lines rest before middle after g h, omega (arith, e, g.count, length-append g.lines lines), none)
 stops_later (Memory refused) old mid x y before middle after g (lines, rest, h) = (g.lines ++ lines, rest, halts_later old mid x y lines rest before middle after g h)
 stops_later (Opening refused) old mid x y before middle after g (lines, rest, h, shut) = (g.lines ++ lines, rest, halts_later old mid x y lines rest before middle after g h, shut)
-stops_later (Storing refused) old mid x y before middle after g (lines, rest, h) = (g.lines ++ lines, rest, halts_later old mid x y lines rest before middle after g h)
+stops_later (Storing refused) old mid x y before middle after g (lines, rest, h, lost) = (g.lines ++ lines, rest, halts_later old mid x y lines rest before middle after g h, lost)
 stops_later CountTooLarge old mid x y before middle after g (lines, rest, h, far) = (g.lines ++ lines, rest, halts_later old mid x y lines rest before middle after g h, far)
 stops_later Input old mid x y before middle after g (lines, rest, h) = (g.lines ++ lines, rest, halts_later old mid x y lines rest before middle after g h)
 stops_later Output old mid x y before middle after g h = record {
@@ -83,6 +84,9 @@ too_far_before s rest z (line, behind, whole, is_line, far) = (line, behind ++ z
 not_opened_before : (s : Script) (fault : OpenFault) (rest z : List ℕ) → HasLineNotOpened s fault rest → HasLineNotOpened s fault (rest ++ z)
 not_opened_before s fault rest z (behind, whole, shut) = (behind ++ z, ap (λ l. l ++ z) whole ∙ append_assoc (codes "open") (10 ∷ behind) z, shut)
 
+not_stored_before : (s : Script) (fault : FlushFault) (rest z : List ℕ) → HasLineNotStored s fault rest → HasLineNotStored s fault (rest ++ z)
+not_stored_before s fault rest z (line, behind, whole, is_line, lost) = (line, behind ++ z, ap (λ l. l ++ z) whole ∙ append_assoc line (10 ∷ behind) z, is_line, lost)
+
 prints_before : (s : Script) (rest z : List ℕ) → HasLineThatPrints s rest → HasLineThatPrints s (rest ++ z)
 prints_before s rest z (line, behind, text, t, whole, is_line, prints) = (line, behind ++ z, text, t, ap (λ l. l ++ z) whole ∙ append_assoc line (10 ∷ behind) z, is_line, prints)
 
@@ -90,7 +94,7 @@ pub stops_before : (fault : ScriptFault) (old : Run) (x z : List ℕ) (before af
 stops_before (NotUnderstood k) old x z before after (lines, rest, h, e, none) = (lines, rest ++ z, halts_before old x z lines rest before after h, e, no_line_before h.end rest z none)
 stops_before (Memory refused) old x z before after (lines, rest, h) = (lines, rest ++ z, halts_before old x z lines rest before after h)
 stops_before (Opening refused) old x z before after (lines, rest, h, shut) = (lines, rest ++ z, halts_before old x z lines rest before after h, not_opened_before h.end refused rest z shut)
-stops_before (Storing refused) old x z before after (lines, rest, h) = (lines, rest ++ z, halts_before old x z lines rest before after h)
+stops_before (Storing refused) old x z before after (lines, rest, h, lost) = (lines, rest ++ z, halts_before old x z lines rest before after h, not_stored_before h.end refused rest z lost)
 stops_before CountTooLarge old x z before after (lines, rest, h, far) = (lines, rest ++ z, halts_before old x z lines rest before after h, too_far_before h.end rest z far)
 stops_before Input old x z before after (lines, rest, h) = (lines, rest ++ z, halts_before old x z lines rest before after h)
 stops_before Output old x z before after h = record {

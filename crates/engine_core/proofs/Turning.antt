@@ -86,7 +86,7 @@ stops_in state (NotUnderstood k) start bytes unread left before after script non
     (lines, rest, begins state start bytes lines rest unread left before after script none reads h, omega (arith, e, first), inl no_line)
 stops_in state (Memory refused) start bytes unread left before after script none first reads (lines, rest, h) = (lines, rest, begins state start bytes lines rest unread left before after script none reads h)
 stops_in state (Opening refused) start bytes unread left before after script none first reads (lines, rest, h, shut) = (lines, rest, begins state start bytes lines rest unread left before after script none reads h, shut)
-stops_in state (Storing refused) start bytes unread left before after script none first reads (lines, rest, h) = (lines, rest, begins state start bytes lines rest unread left before after script none reads h)
+stops_in state (Storing refused) start bytes unread left before after script none first reads (lines, rest, h, lost) = (lines, rest, begins state start bytes lines rest unread left before after script none reads h, lost)
 stops_in state CountTooLarge start bytes unread left before after script none first reads (lines, rest, h, far) = (lines, rest, begins state start bytes lines rest unread left before after script none reads h, far)
 stops_in state Input start bytes unread left before after script none first reads (lines, rest, h) = (lines, rest, begins state start bytes lines rest unread left before after script none reads h)
 stops_in state Output start bytes unread left before after script none first reads h = (bytes, reads, subst (λ b. Tries (Running (beginning state)) b bytes) none (subst (λ s. Tries s start.begun.items bytes) script h))

@@ -1,4 +1,4 @@
-use Rattle.std.specs.Prelude.{◌≡◌, ◌≤◌, ◌^◌, ◌+◌, List, [], ◌∷◌, ◌++◌, ℕ, Bool, Option, Some, None, cond, length, nat_le, nat_eq, flat_map, unwrap_or, count_by}
+use Rattle.std.specs.Prelude.{◌≡◌, ◌≤◌, ◌^◌, ◌+◌, List, [], ◌∷◌, ◌++◌, ℕ, Bool, Option, Some, None, true, cond, length, nat_le, nat_eq, flat_map, unwrap_or, count_by}
 use Rattle.std.specs.BTreeMap.{insert_entry, is_at}
 use Rattle.std.specs.Fmt.{decimal}
 use Rattle.std.specs.List.{fold}
@@ -14,6 +14,7 @@ use Rattle.broker_core.specs.States.{State}
 use Rattle.broker_core.specs.Steps.{state_after, outs_of}
 use Rattle.engine_core.specs.PercentTexts.{encoded}
 use Rattle.script_journal.specs.declared.waiting.Waiting.{Waiting}
+use Rattle.script_journal.specs.Journals.{IsFull}
 use Rattle.script_journal.specs.Placed.{commands_of}
 use Rattle.session_core.specs.declared.act.Act.{Act}
 use Rattle.session_core.specs.declared.act.Act.TheVariants.{Do, Direct, Close}
@@ -114,10 +115,20 @@ abbrev pub IsTooFar : ℕ → QueueValue → Act → Type 0
 IsTooFar connection queue (Do op receipt) = CountsTooFar connection queue
 IsTooFar connection queue _ = ⊥
 
--- one of a connection's acts, behind what those before it lead to, is such a command
-pub record GoTooFar (connection : ℕ) (start : Progress) (acts : List Act) : Type 0 where
+-- the journal has no room for some of the waiting commands: an image stands for the state after those before them, and is
+-- too short for their block
+abbrev pub LacksRoom : QueueValue → Type 0
+LacksRoom queue = (image : List ℕ) × IsFull queue.state (commands_of queue.waiting) image
+
+-- an act is a command that a flush comes before, for which the journal has no room
+abbrev pub IsFilling : ℕ → QueueValue → Act → Type 0
+IsFilling connection queue (Do op receipt) = (is_full connection queue ≡ true) × LacksRoom queue
+IsFilling connection queue _ = ⊥
+
+-- one of a connection's acts is such an act, behind what those before it lead to
+pub record ComeTo (connection : ℕ) (Such : ℕ → QueueValue → Act → Type 0) (start : Progress) (acts : List Act) : Type 0 where
   pub before : List Act
   pub act : Act
   pub behind : List Act
   pub split : acts ≡ before ++ act ∷ behind
-  pub too_far : IsTooFar connection (fold (acted connection) start before).queue act
+  pub such : Such connection (fold (acted connection) start before).queue act

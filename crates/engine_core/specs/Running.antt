@@ -8,7 +8,7 @@ use Rattle.broker_core.specs.States.{State}
 use Rattle.session_core.specs.Sessions.{Hearing, Hears, loss_of}
 use Rattle.session_core.specs.declared.act.Act.{Act}
 use Rattle.engine_core.specs.Connections.{new_connection}
-use Rattle.engine_core.specs.Queues.{QueueValue, Progress, acted, acted_on, IsTooFar, GoTooFar}
+use Rattle.engine_core.specs.Queues.{QueueValue, Progress, ComeTo, acted, acted_on}
 use Rattle.engine_core.specs.declared.running_script.Connection.{Connection}
 
 -- a script while its disk runs: its connections by rising number, and the queue
@@ -38,12 +38,12 @@ pub record Receives (s : ScriptValue) (n : ℕ) (bytes printed : List ℕ) (t : 
   pub same_text : printed ≡ progress.text
   pub after : t ≡ record { connections = with_connection n (record { session = session; number = progress.number }) s.connections; queue = progress.queue }
 
--- a connection receives bytes that ask for a command once as many have been carried out as may be
-pub record ReceivesTooFar (s : ScriptValue) (n : ℕ) (bytes : List ℕ) : Type 0 where
+-- a connection receives bytes of which one asks for such an act
+pub record ReceivesSuch (Such : ℕ → QueueValue → Act → Type 0) (s : ScriptValue) (n : ℕ) (bytes : List ℕ) : Type 0 where
   pub acts : List Act
   pub session : Hearing
   pub hears : Hears (connection_at n s).session bytes acts session
-  pub go_too_far : GoTooFar n (record { number = (connection_at n s).number; queue = s.queue; text = [] }) acts
+  pub come : ComeTo n Such (record { number = (connection_at n s).number; queue = s.queue; text = [] }) acts
 
 -- A connection is gone: the end of its session is done, where one is to come, and it is none of the connections.
 pub record Loses (s : ScriptValue) (n : ℕ) (printed : List ℕ) (t : ScriptValue) : Type 0 where
@@ -52,8 +52,8 @@ pub record Loses (s : ScriptValue) (n : ℕ) (printed : List ℕ) (t : ScriptVal
   pub same_text : printed ≡ progress.text
   pub after : t ≡ record { connections = remove_entry (is_at (nat_cmp n)) s.connections; queue = progress.queue }
 
--- a connection is gone, and the end of its session comes once as many commands have been carried out as may be
-pub record LosesTooFar (s : ScriptValue) (n : ℕ) : Type 0 where
+-- a connection is gone, and the end of its session is such an act
+pub record LosesSuch (Such : ℕ → QueueValue → Act → Type 0) (s : ScriptValue) (n : ℕ) : Type 0 where
   pub act : Act
   pub is_loss : loss_of (connection_at n s).session.phase ≡ Some act
-  pub too_far : IsTooFar n s.queue act
+  pub such : Such n s.queue act

@@ -3,9 +3,9 @@ use Rattle.std.specs.Io.KnownBytes.{Appends, Consumes, IsAtEnd}
 use Rattle.broker_core.specs.States.{State}
 use Rattle.recover_core.specs.Told.{IsOpenTold}
 use Rattle.engine_core.specs.Running.{beginning}
-use Rattle.engine_core.specs.Scripts.{BeginsWith, Takes, IsLine, HasNoLf, HasNoLine, HasLineNotOpened, HasLineTooFar, Tries}
+use Rattle.engine_core.specs.Scripts.{BeginsWith, Takes, IsLine, HasNoLf, HasNoLine, HasLineNotOpened, HasLineNotStored, HasLineTooFar, Tries}
 use Rattle.engine_core.specs.declared.fault.ScriptFault.{ScriptFault}
-use Rattle.engine_core.specs.declared.fault.ScriptFault.TheVariants.{Memory, NotUnderstood, CountTooLarge, Opening, Output}
+use Rattle.engine_core.specs.declared.fault.ScriptFault.TheVariants.{Memory, NotUnderstood, CountTooLarge, Opening, Storing, Output}
 use Rattle.engine_core.specs.declared.script.Script.{Script}
 use Rattle.engine_core.specs.declared.script.Script.TheVariants.{Running}
 use Rattle.engine_core.specs.declared.run.Run.{Run}
@@ -37,7 +37,8 @@ pub record Halts (old : Run) (bytes : List ℕ) (lines : List (List ℕ)) (rest 
 
 -- A fault stops a run within bytes: unless it is the writer's, what is written is what the lines before print. The
 -- commands are too many only where the next line is one that runs too far, a disk is not opened only where the next line is
--- `open` and what is told of the disk is so, and the writer fails only where the next line prints.
+-- `open` and what is told of the disk is so, the journal is full only where the next line flushes what it has no room for, and
+-- the writer fails only where the next line prints.
 abbrev pub StopsIn : ScriptFault → Run → List ℕ → Option (List ℕ) → Option (List ℕ) → Type 0
 StopsIn Output old bytes before after = Tries old.script old.begun.items bytes
 StopsIn (NotUnderstood k) old bytes before after =
@@ -46,6 +47,8 @@ StopsIn CountTooLarge old bytes before after =
     (lines : List (List ℕ)) × (rest : List ℕ) × (h : Halts old bytes lines rest before after) × HasLineTooFar h.end rest
 StopsIn (Opening fault) old bytes before after =
     (lines : List (List ℕ)) × (rest : List ℕ) × (h : Halts old bytes lines rest before after) × HasLineNotOpened h.end fault rest
+StopsIn (Storing fault) old bytes before after =
+    (lines : List (List ℕ)) × (rest : List ℕ) × (h : Halts old bytes lines rest before after) × HasLineNotStored h.end fault rest
 StopsIn _ old bytes before after = (lines : List (List ℕ)) × (rest : List ℕ) × Halts old bytes lines rest before after
 
 -- a line gets longer than a line may be, or memory is refused
@@ -85,7 +88,8 @@ pub record Begins (start : State) (lines : List (List ℕ)) (rest : List ℕ) (u
 -- A fault stops a script that began with this state. Unless it is the writer's, what is written is what the lines before
 -- print, and a line is told only where it is none: it has too many bytes, says nothing that is understood, or ends the
 -- script with no LF. The commands are too many only where the next line is one that runs too far, a disk is not opened only
--- where the next line is `open` and what is told of the disk is so, and the writer fails only where the next line prints.
+-- where the next line is `open` and what is told of the disk is so, the journal is full only where the next line flushes what it
+-- has no room for, and the writer fails only where the next line prints.
 abbrev pub Stops : State → ScriptFault → Option (List ℕ) → Option (List ℕ) → Option (List ℕ) → Option (List ℕ) → Type 0
 Stops start Output unread left before after = (input : List ℕ) × Consumes unread left input × Tries (Running (beginning start)) [] input
 Stops start (NotUnderstood k) unread left before after =
@@ -95,6 +99,8 @@ Stops start CountTooLarge unread left before after =
     (lines : List (List ℕ)) × (rest : List ℕ) × (b : Begins start lines rest unread left before after) × HasLineTooFar b.end rest
 Stops start (Opening fault) unread left before after =
     (lines : List (List ℕ)) × (rest : List ℕ) × (b : Begins start lines rest unread left before after) × HasLineNotOpened b.end fault rest
+Stops start (Storing fault) unread left before after =
+    (lines : List (List ℕ)) × (rest : List ℕ) × (b : Begins start lines rest unread left before after) × HasLineNotStored b.end fault rest
 Stops start _ unread left before after = (lines : List (List ℕ)) × (rest : List ℕ) × Begins start lines rest unread left before after
 
 -- memory was refused, or the disk was not opened, and what is told of it is so

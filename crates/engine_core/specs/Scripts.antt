@@ -8,12 +8,15 @@ use Rattle.broker_core.specs.States.{State, held_messages}
 use Rattle.recover_core.specs.Standing.{Stands}
 use Rattle.recover_core.specs.Told.{IsOpenTold}
 use Rattle.recover_core.specs.declared.faults.OpenFault.{OpenFault}
+use Rattle.flush_core.specs.declared.faults.FlushFault.{FlushFault}
+use Rattle.flush_core.specs.declared.faults.FlushFault.TheVariants.{Full}
 use Rattle.script_journal.specs.Journals.{StandsAfterFront}
 use Rattle.script_journal.specs.Placed.{commands_of}
 use Rattle.engine_core.specs.PercentTexts.{decoded}
 use Rattle.engine_core.specs.ScriptLines.{IsOfNoForm, IsLoss, IsCrash}
-use Rattle.engine_core.specs.Queues.{QueueValue, flush_text, flushed}
-use Rattle.engine_core.specs.Running.{ScriptValue, beginning, Loses, LosesTooFar, Receives, ReceivesTooFar}
+use Rattle.session_core.specs.declared.act.Act.{Act}
+use Rattle.engine_core.specs.Queues.{QueueValue, IsFilling, IsTooFar, LacksRoom, flush_text, flushed}
+use Rattle.engine_core.specs.Running.{ScriptValue, beginning, Loses, LosesSuch, Receives, ReceivesSuch}
 use Rattle.engine_core.specs.declared.script.Script.{Script}
 use Rattle.engine_core.specs.declared.script.Script.TheVariants.{Running, Stopped, Over}
 
@@ -51,12 +54,25 @@ pub record IsNotOpened (s : Script) (fault : OpenFault) : Type 0 where
   pub disk : HasDisk s content
   pub told : IsOpenTold fault content
 
--- a line has a connection receive such bytes, or be gone so: it runs too far
+-- a line has a connection receive bytes, or be gone, and comes to such an act
+abbrev pub ComesTo : (ℕ → QueueValue → Act → Type 0) → ScriptValue → List ℕ → Type 0
+ComesTo Such s line =
+    ((n : ℕ) × IsLoss line n × LosesSuch Such s n)
+    ⊎ ((n : ℕ) × (text : List ℕ) × (n < 32) × (line ≡ decimal n ++ 32 ∷ text) × ReceivesSuch Such s n (decoded text))
+
+-- a line comes to a command once as many have been carried out as may be
 abbrev pub RunsTooFar : Script → List ℕ → Type 0
-RunsTooFar (Running s) line =
-    ((n : ℕ) × IsLoss line n × LosesTooFar s n)
-    ⊎ ((n : ℕ) × (text : List ℕ) × (n < 32) × (line ≡ decimal n ++ 32 ∷ text) × ReceivesTooFar s n (decoded text))
+RunsTooFar (Running s) line = ComesTo IsTooFar s line
 RunsTooFar _ line = ⊥
+
+-- A line flushes, and the journal has no room for some of what waits: the line is `flush` or a `crash`, or it comes to a command
+-- that a flush comes before.
+abbrev pub RunsFull : Script → List ℕ → Type 0
+RunsFull (Running s) line =
+    ((line ≡ codes "flush") × LacksRoom s.queue)
+    ⊎ (((k : ℕ) × (fill : Option ℕ) × IsCrash line k fill × LacksRoom s.queue)
+    ⊎ ComesTo IsFilling s line)
+RunsFull _ line = ⊥
 
 -- what is printed of an opened journal: how many commands it counts, and how many messages it holds
 abbrev pub open_text : State → List ℕ
@@ -147,6 +163,15 @@ pub record IsScript (start : State) (input printed : List ℕ) : Type 0 where
 -- bytes with a line at their front that runs too far
 abbrev pub HasLineTooFar : Script → List ℕ → Type 0
 HasLineTooFar s bytes = (line : List ℕ) × (behind : List ℕ) × (bytes ≡ line ++ 10 ∷ behind) × IsLine line × RunsTooFar s line
+
+-- the line's commands are not stored, where the journal is told to be full for want of room
+abbrev pub IsNotStored : FlushFault → Script → List ℕ → Type 0
+IsNotStored Full s line = RunsFull s line
+IsNotStored _ s line = Unit {0}
+
+-- bytes with a line at their front whose commands are not stored
+abbrev pub HasLineNotStored : Script → FlushFault → List ℕ → Type 0
+HasLineNotStored s fault bytes = (line : List ℕ) × (behind : List ℕ) × (bytes ≡ line ++ 10 ∷ behind) × IsLine line × IsNotStored fault s line
 
 -- bytes with the line `open` at their front, which does not open the disk
 abbrev pub HasLineNotOpened : Script → OpenFault → List ℕ → Type 0

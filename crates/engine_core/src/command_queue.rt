@@ -47,7 +47,7 @@ const LAST_COUNT: u64 = 1 << 60;
 impl CommandQueue {
     ghost use Rattle.engine_core.specs.OfQueue.{IsMemory};
     ghost use Rattle.engine_core.specs.StepFaults.{IsCrashTold, IsStepTold};
-    ghost use Rattle.engine_core.specs.Queues.{QueueValue, flushed, flush_text, with_room, room_text, CountsTooFar, number_for, as_command, is_full, with_command};
+    ghost use Rattle.engine_core.specs.Queues.{QueueValue, flushed, flush_text, with_room, room_text, CountsTooFar, LacksRoom, number_for, as_command, is_full, with_command};
     ghost use Rattle.std.specs.Prelude.{[], List, Option, ℕ};
 
     /// A queue in which nothing waits, over a journal that was just opened. No memory is taken.
@@ -67,6 +67,7 @@ impl CommandQueue {
         ensures state { OnOk result (self.new ≡ flushed self.old) }
         ensures text { OnOk result (string_bytes text.new ≡ string_bytes text.old ++ flush_text self.old) }
         ensures err { IfErr result (λ fault. fault ≢ QueueFault.CountTooLarge) }
+        ensures full { IfErr result (λ fault. fault ≡ QueueFault.Storing FlushFault.Full → LacksRoom self.old) }
         ensures told { IfErr result (IsStepTold self.new.durable) }
     {
         let waiting = mem::replace(&mut self.waiting, Vec::new(alloc));
@@ -78,6 +79,7 @@ impl CommandQueue {
     /// synced, or without one what was there before.
     pub fn crash(self, alloc: Global, calls: u64, fill: Option<u8>) -> Result<MemDisk, QueueFault>
         ensures stands { IfOk result (λ disk. ∥ StandsWithin self disk.content ∥₁) }
+        ensures full { IfErr result (λ fault. fault ≡ QueueFault.Storing FlushFault.Full → LacksRoom self) }
         ensures told { IfErr result IsCrashTold }
     {
         let CommandQueue {
@@ -123,6 +125,7 @@ impl CommandQueue {
         ensures text { OnOk result (string_bytes text.new ≡ string_bytes text.old ++ room_text connection self.old) }
         ensures counts { OnOk result (CountsTooFar connection self.old → ⊥) }
         ensures err { IfErr result (λ fault. fault ≡ QueueFault.CountTooLarge → CountsTooFar connection self.old) }
+        ensures full { IfErr result (λ fault. fault ≡ QueueFault.Storing FlushFault.Full → (is_full connection self.old ≡ true) × LacksRoom self.old) }
         ensures told { IfErr result (IsStepTold self.new.durable) }
     {
         match self.make_room(alloc, connection, text) {
@@ -147,6 +150,7 @@ impl CommandQueue {
         ensures durable { OnOk result (self.new.durable ≡ true) }
         ensures few { OnOk result (self.new.state.count < 2 ^ 60) }
         ensures err { IfErr result (λ fault. fault ≡ QueueFault.CountTooLarge → CountsTooFar connection self.old) }
+        ensures full { IfErr result (λ fault. fault ≡ QueueFault.Storing FlushFault.Full → (is_full connection self.old ≡ true) × LacksRoom self.old) }
         ensures told { IfErr result (IsStepTold self.new.durable) }
     {
         if self.is_full(connection) {
@@ -160,6 +164,7 @@ impl CommandQueue {
         ensures durable { OnOk result (self.now.durable ≡ true) }
         ensures few { OnOk result (self.now.state.count < 2 ^ 60) }
         ensures err { IfErr result (λ fault. fault ≡ QueueFault.CountTooLarge → 2 ^ 60 ≤ self.now.state.count) }
+        ensures room { IfErr result (λ fault. fault ≢ QueueFault.Storing FlushFault.Full) }
         ensures told { IfErr result (IsStepTold self.now.durable) }
     {
         if !self.journal.is_durable() {

@@ -7,7 +7,7 @@ ghost use Rattle.std.specs.BTreeMap.{is_at};
 ghost use Rattle.std.specs.Map.{lookup, remove_entry};
 ghost use Rattle.std.specs.Ordering.{nat_cmp};
 ghost use Rattle.engine_core.specs.Connections.{new_connection};
-ghost use Rattle.engine_core.specs.Queues.{Progress, acted, acted_on, IsTooFar, GoTooFar};
+ghost use Rattle.engine_core.specs.Queues.{ComeTo, Progress, acted, acted_on, IsFilling, IsTooFar};
 ghost use Rattle.engine_core.specs.StepFaults.{IsStepTold};
 
 use crate::command_queue::CommandQueue;
@@ -15,6 +15,7 @@ use crate::fault::QueueFault;
 use crate::percent::decode_text;
 use crate::printing::print_frame;
 use disk_core::MemDisk;
+use flush_core::FlushFault;
 use script_journal::Journal;
 use session_core::{Act, Session};
 use std::alloc::Global;
@@ -46,8 +47,8 @@ impl Model for RunningScript {
 impl RunningScript {
     ghost use Rattle.std.specs.Prelude.{◌≡◌, [], IfOk, IfErr, OnOk, IfSome, IsSome, true, string_bytes};
     ghost use Rattle.recover_core.specs.Standing.{Stands};
-    ghost use Rattle.engine_core.specs.Queues.{flush_text, flushed};
-    ghost use Rattle.engine_core.specs.Running.{beginning, Loses, Receives, LosesTooFar, ReceivesTooFar};
+    ghost use Rattle.engine_core.specs.Queues.{IsFilling, IsTooFar, LacksRoom, flush_text, flushed};
+    ghost use Rattle.engine_core.specs.Running.{beginning, Loses, LosesSuch, Receives, ReceivesSuch};
     ghost use Rattle.engine_core.specs.Scripts.{StandsWithin};
     ghost use Rattle.engine_core.specs.StepFaults.{IsCrashTold};
 
@@ -68,6 +69,7 @@ impl RunningScript {
         ensures state { OnOk result (self.new ≡ record self.old { queue = flushed self.old.queue }) }
         ensures text { IfOk result (λ text. string_bytes text ≡ flush_text self.old.queue) }
         ensures err { IfErr result (λ fault. fault ≢ QueueFault.CountTooLarge) }
+        ensures full { IfErr result (λ fault. fault ≡ QueueFault.Storing FlushFault.Full → LacksRoom self.old.queue) }
         ensures told { IfErr result (IsStepTold self.new.queue.durable) }
     {
         let mut text = String::new(alloc);
@@ -87,6 +89,7 @@ impl RunningScript {
     /// without one what was there before.
     pub fn crash(self, alloc: Global, calls: u64, fill: Option<u8>) -> Result<MemDisk, QueueFault>
         ensures stands { IfOk result (λ disk. ∥ StandsWithin self.queue disk.content ∥₁) }
+        ensures full { IfErr result (λ fault. fault ≡ QueueFault.Storing FlushFault.Full → LacksRoom self.queue) }
         ensures told { IfErr result IsCrashTold }
     {
         self.queue.crash(alloc, calls, fill)
@@ -95,7 +98,8 @@ impl RunningScript {
     /// A connection receives bytes; answers what is printed.
     pub fn receive(&mut self, alloc: Global, n: u8, bytes: &[u8]) -> Result<String, QueueFault>
         ensures ok { IfOk result (λ text. Receives self.old n bytes.now (string_bytes text) self.new) }
-        ensures err { IfErr result (λ fault. fault ≡ QueueFault.CountTooLarge → ReceivesTooFar self.old n bytes.now) }
+        ensures err { IfErr result (λ fault. fault ≡ QueueFault.CountTooLarge → ReceivesSuch IsTooFar self.old n bytes.now) }
+        ensures full { IfErr result (λ fault. fault ≡ QueueFault.Storing FlushFault.Full → ReceivesSuch IsFilling self.old n bytes.now) }
         ensures told { IfErr result (IsStepTold self.new.queue.durable) }
     {
         let mut connection = take_connection(alloc, &mut self.connections, n);
@@ -116,7 +120,8 @@ impl RunningScript {
     /// A connection is gone; answers what is printed.
     pub fn lose(&mut self, alloc: Global, n: u8) -> Result<String, QueueFault>
         ensures ok { IfOk result (λ text. Loses self.old n (string_bytes text) self.new) }
-        ensures err { IfErr result (λ fault. fault ≡ QueueFault.CountTooLarge → LosesTooFar self.old n) }
+        ensures err { IfErr result (λ fault. fault ≡ QueueFault.CountTooLarge → LosesSuch IsTooFar self.old n) }
+        ensures full { IfErr result (λ fault. fault ≡ QueueFault.Storing FlushFault.Full → LosesSuch IsFilling self.old n) }
         ensures told { IfErr result (IsStepTold self.new.queue.durable) }
     {
         let Connection {
@@ -163,7 +168,9 @@ fn hear(
         × (record { number = connection.new.number; queue = queue.new; text = string_bytes text.new }
         ≡ fold (acted n) (record { number = connection.old.number; queue = queue.old; text = string_bytes text.old }) acts)) }
     ensures err { IfErr result (λ fault. fault ≡ QueueFault.CountTooLarge → (acts : List Act) × (session : Hearing) × Hears connection.old.session bytes.now acts session
-        × GoTooFar n (record { number = connection.old.number; queue = queue.old; text = string_bytes text.old }) acts) }
+        × ComeTo n IsTooFar (record { number = connection.old.number; queue = queue.old; text = string_bytes text.old }) acts) }
+    ensures full { IfErr result (λ fault. fault ≡ QueueFault.Storing FlushFault.Full → (acts : List Act) × (session : Hearing) × Hears connection.old.session bytes.now acts session
+        × ComeTo n IsFilling (record { number = connection.old.number; queue = queue.old; text = string_bytes text.old }) acts) }
     ensures told { IfErr result (IsStepTold queue.new.durable) }
 {
     let acts = connection.session.feed(alloc, bytes)?;
@@ -185,6 +192,7 @@ fn do_loss(
     ensures ok { IfOk result (λ n. record { number = n; queue = queue.new; text = string_bytes text.new }
         ≡ acted_on connection (record { number = number; queue = queue.old; text = string_bytes text.old }) act) }
     ensures err { IfErr result (λ fault. fault ≡ QueueFault.CountTooLarge → IsSomeAnd act (IsTooFar connection queue.old)) }
+    ensures full { IfErr result (λ fault. fault ≡ QueueFault.Storing FlushFault.Full → IsSomeAnd act (IsFilling connection queue.old)) }
     ensures told { IfErr result (IsStepTold queue.new.durable) }
 {
     match act {
@@ -206,7 +214,9 @@ fn do_acts(
     ensures ok { IfOk result (λ n. record { number = n; queue = queue.new; text = string_bytes text.new }
         ≡ fold (acted connection) (record { number = number; queue = queue.old; text = string_bytes text.old }) acts.items) }
     ensures err { IfErr result (λ fault. fault ≡ QueueFault.CountTooLarge
-        → GoTooFar connection (record { number = number; queue = queue.old; text = string_bytes text.old }) acts.items) }
+        → ComeTo connection IsTooFar (record { number = number; queue = queue.old; text = string_bytes text.old }) acts.items) }
+    ensures full { IfErr result (λ fault. fault ≡ QueueFault.Storing FlushFault.Full
+        → ComeTo connection IsFilling (record { number = number; queue = queue.old; text = string_bytes text.old }) acts.items) }
     ensures told { IfErr result (IsStepTold queue.new.durable) }
 {
     let mut number = number;
@@ -228,6 +238,7 @@ fn do_act(
     ensures ok { IfOk result (λ n. record { number = n; queue = queue.new; text = string_bytes text.new }
         ≡ acted connection (record { number = number; queue = queue.old; text = string_bytes text.old }) act) }
     ensures err { IfErr result (λ fault. fault ≡ QueueFault.CountTooLarge → IsTooFar connection queue.old act) }
+    ensures full { IfErr result (λ fault. fault ≡ QueueFault.Storing FlushFault.Full → IsFilling connection queue.old act) }
     ensures told { IfErr result (IsStepTold queue.new.durable) }
 {
     match act {

@@ -28,16 +28,17 @@ pub enum Script {
 impl Script {
     ghost use Rattle.recover_core.specs.Standing.{Stands};
     ghost use Rattle.engine_core.specs.PercentTexts.{decoded};
-    ghost use Rattle.engine_core.specs.Queues.{flush_text, flushed};
-    ghost use Rattle.engine_core.specs.Running.{Loses, LosesTooFar, Receives, ReceivesTooFar};
+    ghost use Rattle.engine_core.specs.Queues.{IsFilling, IsTooFar, LacksRoom, flush_text, flushed};
+    ghost use Rattle.engine_core.specs.Running.{Loses, LosesSuch, Receives, ReceivesSuch};
     ghost use Rattle.engine_core.specs.StepFaults.{IsCrashTold, IsLineTold, IsOpeningTold, IsRunTold};
-    ghost use Rattle.engine_core.specs.Scripts.{Crashes, GoesBy, IsNotUnderstood, IsStopped, OnRunning, Opens, Prints, RunsTooFar};
+    ghost use Rattle.engine_core.specs.Scripts.{Crashes, GoesBy, IsNotUnderstood, IsStopped, OnRunning, Opens, Prints, RunsFull, RunsTooFar};
 
     /// Does what a line says, and answers what it prints; `None` where the line says nothing that is understood.
     pub fn perform(&mut self, alloc: Global, line: &[u8]) -> Result<Option<String>, QueueFault>
         ensures ok { IfOk result (λ printed. MatchOption printed (IsNotUnderstood self.old line.now)
             (λ text. Prints self.old line.now (string_bytes text) self.new)) }
         ensures err { IfErr result (λ fault. fault ≡ QueueFault.CountTooLarge → RunsTooFar self.old line.now) }
+        ensures full { IfErr result (λ fault. fault ≡ QueueFault.Storing FlushFault.Full → RunsFull self.old line.now) }
         ensures told { IfErr result (IsLineTold self.old line.now self.new) }
     {
         match read_line(line) {
@@ -90,6 +91,7 @@ impl Script {
     ) -> Result<Option<String>, QueueFault>
         ensures ok { IfOk result (λ printed. MatchOption printed (IsStopped self.old)
             (λ text. OnRunning self.old (λ s. Crashes s (string_bytes text) self.new))) }
+        ensures full { IfErr result (λ fault. fault ≡ QueueFault.Storing FlushFault.Full → OnRunning self.old (λ s. LacksRoom s.queue)) }
         ensures told { IfErr result (λ fault. IsCrashTold fault × (self.new ≡ Script.Over)) }
     {
         match mem::replace(self, Script::Over) {
@@ -112,6 +114,7 @@ impl Script {
         ensures ok { IfOk result (λ printed. MatchOption printed (IsStopped self.old)
             (λ text. GoesBy self.old (λ s u. (string_bytes text ≡ flush_text s.queue) × (u ≡ record s { queue = flushed s.queue })) self.new)) }
         ensures err { IfErr result (λ fault. fault ≢ QueueFault.CountTooLarge) }
+        ensures full { IfErr result (λ fault. fault ≡ QueueFault.Storing FlushFault.Full → OnRunning self.old (λ s. LacksRoom s.queue)) }
         ensures told { IfErr result (IsRunTold self.new) }
     {
         match self {
@@ -124,7 +127,8 @@ impl Script {
     fn lose(&mut self, alloc: Global, n: u8) -> Result<Option<String>, QueueFault>
         ensures ok { IfOk result (λ printed. MatchOption printed (IsStopped self.old)
             (λ text. GoesBy self.old (λ s u. Loses s n (string_bytes text) u) self.new)) }
-        ensures err { IfErr result (λ fault. fault ≡ QueueFault.CountTooLarge → OnRunning self.old (λ s. LosesTooFar s n)) }
+        ensures err { IfErr result (λ fault. fault ≡ QueueFault.CountTooLarge → OnRunning self.old (λ s. LosesSuch IsTooFar s n)) }
+        ensures full { IfErr result (λ fault. fault ≡ QueueFault.Storing FlushFault.Full → OnRunning self.old (λ s. LosesSuch IsFilling s n)) }
         ensures told { IfErr result (IsRunTold self.new) }
     {
         match self {
@@ -137,7 +141,8 @@ impl Script {
     fn receive(&mut self, alloc: Global, n: u8, text: &[u8]) -> Result<Option<String>, QueueFault>
         ensures ok { IfOk result (λ printed. MatchOption printed (IsStopped self.old)
             (λ answer. GoesBy self.old (λ s u. Receives s n (decoded text.now) (string_bytes answer) u) self.new)) }
-        ensures err { IfErr result (λ fault. fault ≡ QueueFault.CountTooLarge → OnRunning self.old (λ s. ReceivesTooFar s n (decoded text.now))) }
+        ensures err { IfErr result (λ fault. fault ≡ QueueFault.CountTooLarge → OnRunning self.old (λ s. ReceivesSuch IsTooFar s n (decoded text.now))) }
+        ensures full { IfErr result (λ fault. fault ≡ QueueFault.Storing FlushFault.Full → OnRunning self.old (λ s. ReceivesSuch IsFilling s n (decoded text.now))) }
         ensures told { IfErr result (IsRunTold self.new) }
     {
         match self {

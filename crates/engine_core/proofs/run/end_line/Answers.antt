@@ -1,8 +1,9 @@
 use Rattle.std.proofs.Common.{◌≡◌, ◌∙◌, ◌∷◌, [], sym, ap, subst, ◌+◌, Option, Some, None, MatchOption, string_bytes}
-use Rattle.engine_core.specs.Scripts.{IsLine, IsNotUnderstood, Prints, RunsTooFar}
+use Rattle.engine_core.specs.Scripts.{IsLine, IsNotUnderstood, Prints, RunsFull, RunsTooFar}
 use Rattle.std.specs.Io.KnownBytes.{Appends}
 use Rattle.std.proofs.lemmas.Result.{err_from_is_err_and}
-use Rattle.engine_core.specs.declared.fault.QueueFault.TheVariants.{CountTooLarge}
+use Rattle.engine_core.specs.declared.fault.QueueFault.TheVariants.{CountTooLarge, Storing}
+use Rattle.flush_core.specs.declared.faults.FlushFault.TheVariants.{Full}
 use Rattle.engine_core.specs.StepFaults.{IsLineTold}
 use Rattle.engine_core.proofs.LineByLine.{stops_too_long, stops_at_queue, stops_at_no_form, stops_at_writer, goes_on_line}
 use Rattle.engine_core.proofs.run.end_line.Goals as goal
@@ -17,8 +18,9 @@ returns-in_err-perform-clause-err g c =
     let p = err_from_is_err_and c.from_residual-in_err-perform.result c.from_residual-in_err-perform.ensures.1 in
     let begun = c.in_ok-begin_line.ensures in
     let far = subst (λ s. c.in_err-perform.field-0.0 ≡ CountTooLarge → RunsTooFar s c.as_slice.result.now) begun.same.0 c.in_err-perform.ensures.err in
+    let full = subst (λ s. c.in_err-perform.field-0.0 ≡ Storing Full → RunsFull s c.as_slice.result.now) begun.same.0 c.in_err-perform.ensures.full in
     let told = subst (λ s. IsLineTold s c.as_slice.result.now c.perform.new.self c.in_err-perform.field-0.0) begun.same.0 c.in_err-perform.ensures.told in
-    rw (p.1) (stops_at_queue c.in_err-perform.field-0.0 p.0 c.args.run.now c.perform.new.self c.args.bytes.now c.as_slice.result.now _ (c.as_slice.ensures.value ∙ begun.ok.0) (subst IsLine (sym c.as_slice.ensures.value) begun.ok.1) far told p.2)
+    rw (p.1) (stops_at_queue c.in_err-perform.field-0.0 p.0 c.args.run.now c.perform.new.self c.args.bytes.now c.as_slice.result.now _ (c.as_slice.ensures.value ∙ begun.ok.0) (subst IsLine (sym c.as_slice.ensures.value) begun.ok.1) far full told p.2)
 
 option_none : {A : Type 0} (P : Type 0) (Q : A → Type 0) (o : Option A) → o ≡ None → MatchOption o P Q → P
 option_none P Q None e h = h

@@ -1,9 +1,16 @@
 use Rattle.std.proofs.lemmas.Result.{err_from_is_err_and}
-use Rattle.engine_core.proofs.Counting.{go_too_far}
+use Rattle.engine_core.specs.Queues.{IsFilling, IsTooFar}
+use Rattle.engine_core.proofs.Counting.{come_to}
 use Rattle.engine_core.proofs.running_script.do_acts.Goals as goal
 
 pub returns-in_err-number-clause-err : goal.returns-in_err-number-clause-err
 returns-in_err-number-clause-err c =
     let p = err_from_is_err_and c.from_residual.result c.from_residual.ensures.1 in
     let before = c.loop-act.invariant in
-    rw (p.1, p.2) (λ e. go_too_far c.args.connection _ _ c.args.acts.items c.loop-act.yielded _ _ c.in-Some.act before.whole c.in-Some.ensures.steps.0 before.done (c.in_err-number.ensures.err e))
+    rw (p.1, p.2) (λ e. come_to IsTooFar c.args.connection _ _ c.args.acts.items c.loop-act.yielded _ _ c.in-Some.act before.whole c.in-Some.ensures.steps.0 before.done (c.in_err-number.ensures.err e))
+
+pub returns-in_err-number-clause-full : goal.returns-in_err-number-clause-full
+returns-in_err-number-clause-full c =
+    let p = err_from_is_err_and c.from_residual.result c.from_residual.ensures.1 in
+    let before = c.loop-act.invariant in
+    rw (p.1, p.2) (λ e. come_to IsFilling c.args.connection _ _ c.args.acts.items c.loop-act.yielded _ _ c.in-Some.act before.whole c.in-Some.ensures.steps.0 before.done (c.in_err-number.ensures.full e))

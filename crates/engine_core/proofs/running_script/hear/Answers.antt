@@ -8,3 +8,8 @@ pub returns-in_err-number-clause-err : goal.returns-in_err-number-clause-err
 returns-in_err-number-clause-err c =
     let p = err_from_is_err_and c.from_residual-in_err-number.result c.from_residual-in_err-number.ensures.1 in
     rw (p.1, p.2) (λ e. (c.in_ok-acts.acts.items, c.feed.new.self, c.in_ok-acts.ensures.acts, c.in_err-number.ensures.err e))
+
+pub returns-in_err-number-clause-full : goal.returns-in_err-number-clause-full
+returns-in_err-number-clause-full c =
+    let p = err_from_is_err_and c.from_residual-in_err-number.result c.from_residual-in_err-number.ensures.1 in
+    rw (p.1, p.2) (λ e. (c.in_ok-acts.acts.items, c.feed.new.self, c.in_ok-acts.ensures.acts, c.in_err-number.ensures.full e))

@@ -1,6 +1,7 @@
 use Rattle.std.proofs.Common.{string_bytes, subst}
-use Rattle.engine_core.specs.Running.{Loses, LosesTooFar}
-use Rattle.engine_core.proofs.Counting.{loses_too_far}
+use Rattle.engine_core.specs.Queues.{IsFilling, IsTooFar}
+use Rattle.engine_core.specs.Running.{Loses, LosesSuch}
+use Rattle.engine_core.proofs.Counting.{loses_such}
 use Rattle.engine_core.proofs.Receiving.{lost_by}
 use Rattle.engine_core.proofs.running_script.RunningScript.lose.Goals as goal
 use Rattle.engine_core.proofs.running_script.RunningScript.lose.Goals.{in-Ok, in-Err}
@@ -16,7 +17,15 @@ returns-clause-ok c = elim c.match-do_loss.branch [
 pub returns-clause-err : goal.returns-clause-err
 returns-clause-err c = elim c.match-do_loss.branch [
   | in-Ok w ↦ rw (w.result-is) tt
-  | in-Err w ↦ rw (w.result-is) (λ e. subst (λ s. LosesTooFar s c.args.n) c.self.view_is
-      (loses_too_far (record { connections = c.self.inside.connections.entries; queue = c.self.inside.queue }) c.args.n c.take_connection-session.result c.lost-act.result
+  | in-Err w ↦ rw (w.result-is) (λ e. subst (λ s. LosesSuch IsTooFar s c.args.n) c.self.view_is
+      (loses_such IsTooFar (record { connections = c.self.inside.connections.entries; queue = c.self.inside.queue }) c.args.n c.take_connection-session.result c.lost-act.result
       c.take_connection-session.ensures.taken c.lost-act.ensures.act (w.in-Err.ensures.err e)))
+]
+
+pub returns-clause-full : goal.returns-clause-full
+returns-clause-full c = elim c.match-do_loss.branch [
+  | in-Ok w ↦ rw (w.result-is) tt
+  | in-Err w ↦ rw (w.result-is) (λ e. subst (λ s. LosesSuch IsFilling s c.args.n) c.self.view_is
+      (loses_such IsFilling (record { connections = c.self.inside.connections.entries; queue = c.self.inside.queue }) c.args.n c.take_connection-session.result c.lost-act.result
+      c.take_connection-session.ensures.taken c.lost-act.ensures.act (w.in-Err.ensures.full e)))
 ]

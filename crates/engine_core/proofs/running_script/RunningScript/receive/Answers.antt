@@ -1,7 +1,8 @@
 use Rattle.std.proofs.Common.{subst, string_bytes}
-use Rattle.engine_core.specs.Running.{Receives, ReceivesTooFar}
+use Rattle.engine_core.specs.Queues.{IsFilling, IsTooFar}
+use Rattle.engine_core.specs.Running.{Receives, ReceivesSuch}
 use Rattle.engine_core.proofs.Receiving.{received}
-use Rattle.engine_core.proofs.Counting.{receives_too_far}
+use Rattle.engine_core.proofs.Counting.{receives_such}
 use Rattle.engine_core.proofs.running_script.RunningScript.receive.Goals as goal
 
 pub returns-in_ok-insert-in-Ok-clause-ok : goal.returns-in_ok-insert-in-Ok-clause-ok
@@ -15,6 +16,13 @@ returns-in_ok-insert-in-Ok-clause-ok c =
 pub returns-in-Err-clause-err : goal.returns-in-Err-clause-err
 returns-in-Err-clause-err c = λ e.
     let far = c.in-Err.ensures.err e in
-    subst (λ s. ReceivesTooFar s c.args.n c.args.bytes.now) c.self.view_is
-    (receives_too_far (record { connections = c.self.inside.connections.entries; queue = c.self.inside.queue }) c.args.n c.args.bytes.now _ c.take_connection-connection.result far.0 far.1
+    subst (λ s. ReceivesSuch IsTooFar s c.args.n c.args.bytes.now) c.self.view_is
+    (receives_such IsTooFar (record { connections = c.self.inside.connections.entries; queue = c.self.inside.queue }) c.args.n c.args.bytes.now _ c.take_connection-connection.result far.0 far.1
     c.take_connection-connection.ensures.taken far.2 c.new-text.ensures.bytes far.3)
+
+pub returns-in-Err-clause-full : goal.returns-in-Err-clause-full
+returns-in-Err-clause-full c = λ e.
+    let such = c.in-Err.ensures.full e in
+    subst (λ s. ReceivesSuch IsFilling s c.args.n c.args.bytes.now) c.self.view_is
+    (receives_such IsFilling (record { connections = c.self.inside.connections.entries; queue = c.self.inside.queue }) c.args.n c.args.bytes.now _ c.take_connection-connection.result such.0 such.1
+    c.take_connection-connection.ensures.taken such.2 c.new-text.ensures.bytes such.3)
