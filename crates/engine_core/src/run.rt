@@ -51,9 +51,10 @@ pub fn run_script<R: Read, W: Write>(
     ensures ok { OnOk result ((input : List ℕ) × (printed : List ℕ) × (start : State) × BeginsWith disk.content start
         × Consumes (R.remaining reader.old) (R.remaining reader.new) input × IsAtEnd (R.remaining reader.new)
         × IsScript start input printed × Appends (W.contents writer.old) (W.contents writer.new) printed) }
-    // On a fault other than the writer's, it is what the lines before print; a line is told only where it is none, and a
-    // count too large only where the next line asks for a command once 2^60 have been carried out. The writer's fault comes
-    // only where the next line prints. Where the disk is not opened at the start, nothing is read or written.
+    // On a fault other than the writer's, it is what the lines before print; a line is told only where it is none, a count too
+    // large only where the next line asks for a command once 2^60 have been carried out, and a full journal only where the next
+    // line flushes what it has no room for. The writer's fault comes only where the next line prints. Where the disk is not
+    // opened at the start, nothing is read or written.
     ensures err { IfErr result (λ fault. StopsOver disk.content fault (R.remaining reader.old) (R.remaining reader.new) (W.contents writer.old) (W.contents writer.new)) }
 {
     match vec![in alloc; 0u8; PIECE] {
