@@ -123,15 +123,26 @@ stops_at_no_form old bytes line k contents begun no_lf same form e = (
 )
 
 -- the line is one, but what it prints could not be written
-pub stops_at_writer : (old : Run) (bytes line printed : List ℕ) (new : Script)
-    → line ≡ old.begun.items ++ bytes → IsLine line → Prints old.script line printed new → Tries old.script old.begun.items (bytes ++ 10 ∷ [])
-stops_at_writer old bytes line printed new same is_line prints = record {
+pub stops_at_writer : (old : Run) (bytes line printed : List ℕ) (new : Script) (before after : Option (List ℕ)) (written unwritten : List ℕ)
+    → line ≡ old.begun.items ++ bytes → IsLine line → Prints old.script line printed new → printed ≡ written ++ unwritten → Appends before after written
+    → Tries old.script old.begun.items (bytes ++ 10 ∷ []) before after
+stops_at_writer old bytes line printed new before after written unwritten same is_line prints split writes = record {
   lines = [];
   rest = old.begun.items ++ (bytes ++ 10 ∷ []);
   printed = [];
   end = old.script;
   takes = takes_nothing old.script old.begun.items (bytes ++ 10 ∷ []);
-  tried = (line, [], printed, new, sym (append_assoc old.begun.items bytes (10 ∷ [])) ∙ ap (λ l. l ++ 10 ∷ []) (sym same), is_line, prints);
+  line = line;
+  behind = [];
+  text = printed;
+  next = new;
+  begins = sym (append_assoc old.begun.items bytes (10 ∷ [])) ∙ ap (λ l. l ++ 10 ∷ []) (sym same);
+  is_line = is_line;
+  prints = prints;
+  written = written;
+  unwritten = unwritten;
+  split = split;
+  writes = writes;
 }
 
 pub goes_on_line : (old new : Run) (bytes line printed : List ℕ) (before after : Option (List ℕ))

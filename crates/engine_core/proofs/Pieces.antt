@@ -5,11 +5,12 @@ use Rattle.std.proofs.lemmas.List.{take-append-drop}
 use Rattle.flush_core.specs.declared.faults.FlushFault.{FlushFault}
 use Rattle.recover_core.specs.declared.faults.OpenFault.{OpenFault}
 use Rattle.engine_core.specs.declared.script.Script.{Script}
-use Rattle.engine_core.specs.Scripts.{Takes, IsLine, HasNoLf, HasNoLine, HasLineNotOpened, HasLineNotStored, HasLineTooFar, HasLineThatPrints, text_of_lines}
+use Rattle.engine_core.specs.Scripts.{Takes, IsLine, HasNoLf, HasNoLine, HasLineNotOpened, HasLineNotStored, HasLineTooFar, text_of_lines}
 use Rattle.engine_core.specs.Runs.{Goes, Halts, StopsIn, IsTooLong}
 use Rattle.engine_core.specs.declared.run.Run.{Run}
 use Rattle.engine_core.specs.declared.fault.ScriptFault.{ScriptFault}
 use Rattle.engine_core.specs.declared.fault.ScriptFault.TheVariants.{Memory, NotUnderstood, CountTooLarge, Opening, Storing, Input, Output}
+use Rattle.std.specs.Io.KnownBytes.{Appends}
 use Rattle.engine_core.proofs.LineByLine.{takes_append, appends_append, takes_nothing, appends_nothing, stops_too_long}
 
 pub goes_nothing : (run : Run) (contents : Option (List ℕ)) → IsLine run.begun.items → Goes run [] run contents contents
@@ -56,7 +57,17 @@ stops_later Output old mid x y before middle after g h = record {
   printed = g.printed ++ h.printed;
   end = h.end;
   takes = takes_append old.script mid.script h.end old.begun.items x y g.lines h.lines g.printed h.printed mid.begun.items h.rest g.takes h.takes;
-  tried = h.tried;
+  line = h.line;
+  behind = h.behind;
+  text = h.text;
+  next = h.next;
+  begins = h.begins;
+  is_line = h.is_line;
+  prints = h.prints;
+  written = h.written;
+  unwritten = h.unwritten;
+  split = h.split;
+  writes = subst (Appends before after) (sym (append_assoc g.printed h.printed h.written)) (appends_append before middle after g.printed (h.printed ++ h.written) g.writes h.writes);
 }
 
 takes_before : (s t : Script) (begun x z : List ℕ) (lines : List (List ℕ)) (printed rest : List ℕ) → Takes s begun x lines printed t rest → Takes s begun (x ++ z) lines printed t (rest ++ z)
@@ -87,9 +98,6 @@ not_opened_before s fault rest z (behind, whole, shut) = (behind ++ z, ap (λ l.
 not_stored_before : (s : Script) (fault : FlushFault) (rest z : List ℕ) → HasLineNotStored s fault rest → HasLineNotStored s fault (rest ++ z)
 not_stored_before s fault rest z (line, behind, whole, is_line, lost) = (line, behind ++ z, ap (λ l. l ++ z) whole ∙ append_assoc line (10 ∷ behind) z, is_line, lost)
 
-prints_before : (s : Script) (rest z : List ℕ) → HasLineThatPrints s rest → HasLineThatPrints s (rest ++ z)
-prints_before s rest z (line, behind, text, t, whole, is_line, prints) = (line, behind ++ z, text, t, ap (λ l. l ++ z) whole ∙ append_assoc line (10 ∷ behind) z, is_line, prints)
-
 pub stops_before : (fault : ScriptFault) (old : Run) (x z : List ℕ) (before after : Option (List ℕ)) → StopsIn fault old x before after → StopsIn fault old (x ++ z) before after
 stops_before (NotUnderstood k) old x z before after (lines, rest, h, e, none) = (lines, rest ++ z, halts_before old x z lines rest before after h, e, no_line_before h.end rest z none)
 stops_before (Memory refused) old x z before after (lines, rest, h) = (lines, rest ++ z, halts_before old x z lines rest before after h)
@@ -103,7 +111,17 @@ stops_before Output old x z before after h = record {
   printed = h.printed;
   end = h.end;
   takes = takes_before old.script h.end old.begun.items x z h.lines h.printed h.rest h.takes;
-  tried = prints_before h.end h.rest z h.tried;
+  line = h.line;
+  behind = h.behind ++ z;
+  text = h.text;
+  next = h.next;
+  begins = ap (λ l. l ++ z) h.begins ∙ append_assoc h.line (10 ∷ h.behind) z;
+  is_line = h.is_line;
+  prints = h.prints;
+  written = h.written;
+  unwritten = h.unwritten;
+  split = h.split;
+  writes = h.writes;
 }
 
 -- what is left of a piece from a place on

@@ -89,7 +89,7 @@ stops_in state (Opening refused) start bytes unread left before after script non
 stops_in state (Storing refused) start bytes unread left before after script none first reads (lines, rest, h, lost) = (lines, rest, begins state start bytes lines rest unread left before after script none reads h, lost)
 stops_in state CountTooLarge start bytes unread left before after script none first reads (lines, rest, h, far) = (lines, rest, begins state start bytes lines rest unread left before after script none reads h, far)
 stops_in state Input start bytes unread left before after script none first reads (lines, rest, h) = (lines, rest, begins state start bytes lines rest unread left before after script none reads h)
-stops_in state Output start bytes unread left before after script none first reads h = (bytes, reads, subst (λ b. Tries (Running (beginning state)) b bytes) none (subst (λ s. Tries s start.begun.items bytes) script h))
+stops_in state Output start bytes unread left before after script none first reads h = (bytes, reads, subst (λ b. Tries (Running (beginning state)) b bytes before after) none (subst (λ s. Tries s start.begun.items bytes before after) script h))
 
 ends_in : (state : State) (fault : ScriptFault) (start : Run) (bytes : List ℕ) (unread left before after : Option (List ℕ)) → start.script ≡ Running (beginning state) → start.begun.items ≡ [] → start.lines ≡ 0 → Consumes unread left bytes → EndsWithin fault start bytes left before after → Stops state fault unread left before after
 ends_in state (NotUnderstood k) start bytes unread left before after script none first reads (new, g, at_end, some, e) =

@@ -35,12 +35,13 @@ pub record Halts (old : Run) (bytes : List ℕ) (lines : List (List ℕ)) (rest 
   pub takes : Takes old.script old.begun.items bytes lines printed end rest
   pub writes : Appends before after printed
 
--- A fault stops a run within bytes: unless it is the writer's, what is written is what the lines before print. The
+-- A fault stops a run within bytes: what is written is what the lines before print, and where the writer fails, perhaps the
+-- beginning of what the next line does. The
 -- commands are too many only where the next line is one that runs too far, a disk is not opened only where the next line is
 -- `open` and what is told of the disk is so, the journal is full only where the next line flushes what it has no room for, and
 -- the writer fails only where the next line prints.
 abbrev pub StopsIn : ScriptFault → Run → List ℕ → Option (List ℕ) → Option (List ℕ) → Type 0
-StopsIn Output old bytes before after = Tries old.script old.begun.items bytes
+StopsIn Output old bytes before after = Tries old.script old.begun.items bytes before after
 StopsIn (NotUnderstood k) old bytes before after =
     (lines : List (List ℕ)) × (rest : List ℕ) × (h : Halts old bytes lines rest before after) × (k ≡ old.lines + length lines + 1) × HasNoLine h.end rest
 StopsIn CountTooLarge old bytes before after =
@@ -85,13 +86,13 @@ pub record Begins (start : State) (lines : List (List ℕ)) (rest : List ℕ) (u
   pub takes : Takes (Running (beginning start)) [] input lines printed end rest
   pub writes : Appends before after printed
 
--- A fault stops a script that began with this state. Unless it is the writer's, what is written is what the lines before
--- print, and a line is told only where it is none: it has too many bytes, says nothing that is understood, or ends the
+-- A fault stops a script that began with this state. What is written is what the lines before print, and where the writer
+-- fails, perhaps the beginning of what the next line does. A line is told only where it is none: it has too many bytes, says nothing that is understood, or ends the
 -- script with no LF. The commands are too many only where the next line is one that runs too far, a disk is not opened only
 -- where the next line is `open` and what is told of the disk is so, the journal is full only where the next line flushes what it
 -- has no room for, and the writer fails only where the next line prints.
 abbrev pub Stops : State → ScriptFault → Option (List ℕ) → Option (List ℕ) → Option (List ℕ) → Option (List ℕ) → Type 0
-Stops start Output unread left before after = (input : List ℕ) × Consumes unread left input × Tries (Running (beginning start)) [] input
+Stops start Output unread left before after = (input : List ℕ) × Consumes unread left input × Tries (Running (beginning start)) [] input before after
 Stops start (NotUnderstood k) unread left before after =
     (lines : List (List ℕ)) × (rest : List ℕ) × (b : Begins start lines rest unread left before after) × (k ≡ length lines + 1)
     × (HasNoLine b.end rest ⊎ (IsAtEnd left × (rest ≢ []) × HasNoLf rest))

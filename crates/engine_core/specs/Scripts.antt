@@ -2,6 +2,7 @@
 use Rattle.std.specs.Prelude.{◌≡◌, ◌≢◌, ◌⊎◌, ◌<◌, ◌≤◌, List, [], ◌∷◌, ◌++◌, ℕ, Option, codes, length, flat_map}
 use Rattle.std.specs.Fmt.{decimal}
 use Rattle.std.specs.List.{AllByRecursion}
+use Rattle.std.specs.Io.KnownBytes.{Appends}
 use Rattle.disk_core.specs.Memory.{Memory}
 use Rattle.broker_core.specs.Operations.{restarted}
 use Rattle.broker_core.specs.States.{State, held_messages}
@@ -177,19 +178,25 @@ HasLineNotStored s fault bytes = (line : List ℕ) × (behind : List ℕ) × (by
 abbrev pub HasLineNotOpened : Script → OpenFault → List ℕ → Type 0
 HasLineNotOpened s fault bytes = (behind : List ℕ) × (bytes ≡ codes "open" ++ 10 ∷ behind) × IsNotOpened s fault
 
--- bytes with a line at their front that prints
-abbrev pub HasLineThatPrints : Script → List ℕ → Type 0
-HasLineThatPrints s bytes =
-    (line : List ℕ) × (behind : List ℕ) × (text : List ℕ) × (t : Script) × (bytes ≡ line ++ 10 ∷ behind) × IsLine line × Prints s line text t
-
--- a part of a script leads as far as a line that prints
-pub record Tries (s : Script) (begun bytes : List ℕ) : Type 0 where
+-- A part of a script leads as far as a line that prints. What is written is what the lines before print, and the beginning of
+-- what that line does.
+pub record Tries (s : Script) (begun bytes : List ℕ) (before after : Option (List ℕ)) : Type 0 where
   pub lines : List (List ℕ)
   pub rest : List ℕ
   pub printed : List ℕ
   pub end : Script
   pub takes : Takes s begun bytes lines printed end rest
-  pub tried : HasLineThatPrints end rest
+  pub line : List ℕ
+  pub behind : List ℕ
+  pub text : List ℕ
+  pub next : Script
+  pub begins : rest ≡ line ++ 10 ∷ behind
+  pub is_line : IsLine line
+  pub prints : Prints end line text next
+  pub written : List ℕ
+  pub unwritten : List ℕ
+  pub split : text ≡ written ++ unwritten
+  pub writes : Appends before after (printed ++ written)
 
 -- Bytes with no line at their front that is understood: one has more bytes than a line may have, or says nothing.
 abbrev pub HasNoLine : Script → List ℕ → Type 0

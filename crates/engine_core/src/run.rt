@@ -24,6 +24,9 @@ const PIECE: usize = 65_536;
 /// How many reads are made at most.
 const MOST_READS: u64 = 4_294_967_296;
 
+/// How many times a line's text is offered to the writer at most.
+const MOST_WRITES: u64 = 4_294_967_296;
+
 /// How many bytes a line has at most, without its LF.
 const LONGEST_LINE: usize = 1_048_576;
 
@@ -38,8 +41,8 @@ pub struct Run {
 /// Runs a script over a disk: opens the disk's journal, reads the script to its end, and writes what each line prints as
 /// soon as the line is done. The bytes are read in pieces of 65,536, and at most 4,294,967,296 reads are made.
 ///
-/// Where it is refused, what was written is what the lines before the refused one print, unless it is the writer that
-/// failed. Commands that wait at the end of the script are dropped.
+/// Where it is refused, what was written is what the lines before the refused one print; where it is the writer that failed,
+/// a front of what that line prints may be written too. Commands that wait at the end of the script are dropped.
 pub fn run_script<R: Read, W: Write>(
     alloc: Global,
     reader: &mut R,
@@ -51,10 +54,10 @@ pub fn run_script<R: Read, W: Write>(
     ensures ok { OnOk result ((input : List ℕ) × (printed : List ℕ) × (start : State) × BeginsWith disk.content start
         × Consumes (R.remaining reader.old) (R.remaining reader.new) input × IsAtEnd (R.remaining reader.new)
         × IsScript start input printed × Appends (W.contents writer.old) (W.contents writer.new) printed) }
-    // On a fault other than the writer's, it is what the lines before print; a line is told only where it is none, a count too
-    // large only where the next line asks for a command once 2^60 have been carried out, and a full journal only where the next
-    // line flushes what it has no room for. The writer's fault comes only where the next line prints. Where the disk is not
-    // opened at the start, nothing is read or written.
+    // On a fault, it is what the lines before print; a line is told only where it is none, a count too large only where the next
+    // line asks for a command once 2^60 have been carried out, and a full journal only where the next line flushes what it has
+    // no room for. The writer's fault comes only where the next line prints, and a front of that may be written too. Where the
+    // disk is not opened at the start, nothing is read or written.
     ensures err { IfErr result (λ fault. StopsOver disk.content fault (R.remaining reader.old) (R.remaining reader.new) (W.contents writer.old) (W.contents writer.new)) }
 {
     match vec![in alloc; 0u8; PIECE] {
@@ -240,12 +243,38 @@ fn end_line<W: Write>(
     }
 }
 
+/// Writes a text. Where the writer fails, a front of the text is written.
 fn write_text<W: Write>(writer: &mut W, text: &str) -> Result<(), ScriptFault>
     ensures ok { OnOk result (Appends (W.contents writer.old) (W.contents writer.new) text.now) }
-    ensures err { IfErr result (λ fault. fault ≡ ScriptFault.Output) }
+    ensures err { IfErr result (λ fault. (fault ≡ ScriptFault.Output) × (written : List ℕ) × (unwritten : List ℕ)
+        × (text.now ≡ written ++ unwritten) × Appends (W.contents writer.old) (W.contents writer.new) written) }
 {
-    match writer.write_all(text.as_bytes()) {
-        Ok(()) => Ok(()),
-        Err(_) => Err(ScriptFault::Output),
+    let mut rest = text.as_bytes();
+    for _write in 0..MOST_WRITES {
+        if rest.is_empty() {
+            return Ok(());
+        }
+        match write_some(writer, rest) {
+            Ok(left) => rest = left,
+            Err(fault) => return Err(fault),
+        }
+    }
+    Err(ScriptFault::Output)
+}
+
+/// Writes as much as the writer takes at once, and answers what is left; all where the write was interrupted.
+fn write_some<'a, W: Write>(writer: &mut W, rest: &'a [u8]) -> Result<&'a [u8], ScriptFault>
+    ensures ok { IfOk result (λ left. (written : List ℕ) × (rest.now ≡ written ++ left.now) × Appends (W.contents writer.old) (W.contents writer.new) written) }
+    ensures err { IfErr result (λ fault. (fault ≡ ScriptFault.Output) × Appends (W.contents writer.old) (W.contents writer.new) []) }
+{
+    match writer.write(rest) {
+        Ok(0) => Err(ScriptFault::Output),
+        Ok(count) => Ok(&rest[count..]),
+        Err(error) => {
+            if error.kind() != ErrorKind::Interrupted {
+                return Err(ScriptFault::Output);
+            }
+            Ok(rest)
+        }
     }
 }

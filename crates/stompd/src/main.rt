@@ -76,7 +76,7 @@ fn run_tool(rt: &HostRuntime, words: &[String]) -> u8 {
     let mut reader = rt.stdin().lock();
     let mut writer = rt.stdout().lock();
     let mut errors = rt.stderr().lock();
-    tool(rt, rt.alloc(), words, &mut reader, &mut writer, &mut errors)
+    tool(rt, rt.alloc(), words, &mut reader, &mut writer, &mut errors).status
 }
 
 /// Runs a server to its end, and answers why that came.

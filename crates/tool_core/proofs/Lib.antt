@@ -1,1 +1,2 @@
 mod Nothing
+pub mod Words

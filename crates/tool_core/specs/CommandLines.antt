@@ -1,5 +1,34 @@
-use Rattle.std.specs.Prelude.{◌≡◌, List, [], ◌∷◌, ℕ, codes}
+-- What the words of a command line ask for.
+use Rattle.std.specs.Prelude.{◌≡◌, ◌≢◌, ◌⊎◌, ◌<◌, List, [], ◌∷◌, ◌++◌, ℕ, codes}
+use Rattle.std.specs.List.{AllByRecursion}
+use Rattle.std.specs.Str.Parse.{IsNumeral, digits_value}
+use Rattle.tool_core.specs.declared.command_line.Subcommand.{Subcommand}
+use Rattle.tool_core.specs.declared.command_line.Subcommand.TheVariants.{Script, Format, Show, Serve}
 
 -- the words are the program's name and `script`
 abbrev pub AsksForScript : List (List ℕ) → Type 0
 AsksForScript words = (name : List ℕ) × (words ≡ name ∷ codes "script" ∷ [])
+
+-- The words give these arguments: as they are, or with `--` among them, behind which a word is an argument whatever it is.
+-- Which words before it are options is for `clap` to tell.
+pub record Give (words arguments : List (List ℕ)) : Type 0 where
+  pub front : List (List ℕ)
+  pub behind : List (List ℕ)
+  pub all : arguments ≡ front ++ behind
+  pub plain : AllByRecursion (λ word. word ≢ codes "--") front
+  pub are : ((words ≡ front) × (behind ≡ [])) ⊎ (words ≡ front ++ codes "--" ∷ behind)
+
+-- the words are the program's name, this one, and what gives these arguments
+abbrev pub Name : List (List ℕ) → List ℕ → List (List ℕ) → Type 0
+Name words subcommand arguments = (program : List ℕ) × (rest : List (List ℕ)) × (words ≡ program ∷ subcommand ∷ rest) × Give rest arguments
+
+-- the text has decimal digits alone, and they mean this number
+abbrev pub IsNumber : List ℕ → ℕ → Type 0
+IsNumber text n = IsNumeral 10 text × (n ≡ digits_value 10 text)
+
+-- the words ask for just that
+abbrev pub AskFor : List (List ℕ) → Subcommand → Type 0
+AskFor words Script = Name words (codes "script") []
+AskFor words (Format file bytes) = (text : List ℕ) × Name words (codes "format") (file.now ∷ text ∷ []) × IsNumber text bytes
+AskFor words (Show file) = Name words (codes "show") (file.now ∷ [])
+AskFor words (Serve file port) = (text : List ℕ) × Name words (codes "serve") (file.now ∷ text ∷ []) × IsNumber text port × (0 < port)

@@ -6,4 +6,4 @@ mod command_line;
 mod program;
 
 pub use command_line::{Refused, Subcommand, subcommand_of};
-pub use program::{BAD_COMMAND_LINE, DONE, FAILED, Failure, run, tool};
+pub use program::{BAD_COMMAND_LINE, DONE, Ended, FAILED, Failure, run, tool};

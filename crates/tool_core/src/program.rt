@@ -79,9 +79,17 @@ impl Failure {
     }
 }
 
-/// Does what the words ask for, of which the first is the program's name, unless that is a server; answers the status to end
-/// with: 0 where it is done, 1 on a fault, 2 on a bad command line. A fault and a bad command line are told on `errors`; where that cannot
-/// be written, it is left out.
+/// How the program ends.
+#[derive(Drop)]
+pub struct Ended {
+    /// The status: 0 where it is done, 1 on a fault, 2 on a bad command line.
+    pub status: u8,
+    /// Whether what there was to tell could be written.
+    pub told: io::Result<()>,
+}
+
+/// Does what the words ask for, of which the first is the program's name, unless that is a server; answers how it ended. A fault
+/// and a bad command line are told on `errors`.
 pub fn tool<T: Files<File = File>, S: AsStr, R: Read, W: Write, E: Write>(
     rt: &T,
     alloc: Global,
@@ -89,23 +97,39 @@ pub fn tool<T: Files<File = File>, S: AsStr, R: Read, W: Write, E: Write>(
     reader: &mut R,
     writer: &mut W,
     errors: &mut E,
-) -> u8
-    ensures status { result ≤ 2 }
+) -> Ended
+    ensures status { result.status ≤ 2 }
     // It is done, and there is nothing to tell.
-    ensures done { result ≡ 0 → IsDone (R.remaining reader.old) (R.remaining reader.new) (W.contents writer.old) (W.contents writer.new)
+    ensures done { result.status ≡ 0 → IsDone (R.remaining reader.old) (R.remaining reader.new) (W.contents writer.old) (W.contents writer.new)
         × (errors.new ≡ errors.old) }
     // Where the words ask for the script, it was read to its end, and what it prints is written.
-    ensures script { AsksForScript (map S.text words.now) → result ≡ 0
+    ensures script { AsksForScript (map S.text words.now) → result.status ≡ 0
         → RunsToEnd (R.remaining reader.old) (R.remaining reader.new) (W.contents writer.old) (W.contents writer.new) }
     // Words that ask for the script are no bad command line, and a bad one leaves the script unread and writes nothing.
-    ensures refused { result ≡ 2 → (AsksForScript (map S.text words.now) → ⊥) × (reader.new ≡ reader.old) × (writer.new ≡ writer.old) }
+    ensures refused { result.status ≡ 2 → (AsksForScript (map S.text words.now) → ⊥) × (reader.new ≡ reader.old) × (writer.new ≡ writer.old) }
+    // A fault is the failure of what was asked for: what was read and written is what it leaves, and it is told in one line.
+    ensures failed { result.status ≡ 1 → (failure : Failure) × (status_of failure ≡ 1)
+        × StopsBy failure (R.remaining reader.old) (R.remaining reader.new) (W.contents writer.old) (W.contents writer.new)
+        × OnOk result.told (IsTold failure (E.contents errors.old) (E.contents errors.new)) }
 {
     match run(rt, alloc, words, reader, writer) {
-        Ok(()) => DONE,
-        Err(failure) => {
-            let _told = failure.tell(errors);
-            failure.status()
-        }
+        Ok(()) => Ended {
+            status: DONE,
+            told: Ok(()),
+        },
+        Err(failure) => end_by(&failure, errors),
+    }
+}
+
+/// Tells a failure, and how the program ends by it.
+fn end_by<E: Write>(failure: &Failure, errors: &mut E) -> Ended
+    ensures status { result.status ≡ status_of failure.now }
+    ensures told { OnOk result.told (IsTold failure.now (E.contents errors.old) (E.contents errors.new)) }
+{
+    let told = failure.tell(errors);
+    Ended {
+        status: failure.status(),
+        told,
     }
 }
 

@@ -90,7 +90,7 @@ fn expect_of(
     let mut reader = text;
     let mut written = Vec::new(alloc);
     let mut told = Vec::new(alloc);
-    let status = tool(rt, alloc, words, &mut reader, &mut written, &mut told);
+    let status = tool(rt, alloc, words, &mut reader, &mut written, &mut told).status;
     let same = compare(rt, status, written.as_slice(), told.as_slice(), wanted);
     drop(told);
     drop(written);
@@ -454,7 +454,7 @@ fn status_of(
     writer: &mut impl Write,
     errors: &mut impl Write,
 ) -> u8 {
-    tool(rt, alloc, &["stompd", "script"], reader, writer, errors)
+    tool(rt, alloc, &["stompd", "script"], reader, writer, errors).status
 }
 
 const STREAM_FAILED: &str = "stompd: input or output failed\n";
@@ -550,7 +550,7 @@ fn is_refused(rt: &(impl Abort + Files<File = File>), alloc: Global, words: &[&s
     let mut reader = b"flush\n".as_slice();
     let mut written = Vec::new(alloc);
     let mut told = Vec::new(alloc);
-    let status = tool(rt, alloc, words, &mut reader, &mut written, &mut told);
+    let status = tool(rt, alloc, words, &mut reader, &mut written, &mut told).status;
     let is_silent = written.is_empty() && !told.is_empty();
     drop(told);
     drop(written);
@@ -651,6 +651,15 @@ fn a_journal_file_is_made_and_shown(rt: HostRuntime) -> Result<(), Fail> {
     expect_show(&rt, alloc, 0, shown, "")?;
     expect_format(&rt, alloc, "8224", 1, "stompd: cannot open\n")?;
     expect_show(&rt, alloc, 0, shown, "")?;
+    // Behind `--` no word is an option.
+    for words in [
+        ["stompd", "show", "--", JOURNAL],
+        ["stompd", "show", JOURNAL, "--"],
+    ] {
+        expect_of(&rt, alloc, &words, b"", (0, shown, ""))?;
+    }
+    let option = ["stompd", "show", "--", "--no-such-file"];
+    expect_of(&rt, alloc, &option, b"", (1, "", "stompd: cannot open\n"))?;
     fs::write(&rt, JOURNAL, [0; 64].as_slice())?;
     expect_show(&rt, alloc, 1, "", "stompd: J1 not a journal\n")?;
     fs::remove_file(&rt, JOURNAL)?;

@@ -56,6 +56,7 @@ returns-in_err-written-in-Some-clause-err g c =
     let line = c.as_slice.result.now in
     let p = err_from_is_err_and c.from_residual-in_err-written-in-Some.result c.from_residual-in_err-written-in-Some.ensures.1 in
     let some = option_some (IsNotUnderstood c.begin_line.new.run.script line) (λ t. Prints c.begin_line.new.run.script line (string_bytes t) c.perform.new.self) c.in_ok-perform.field-0 text c.in-Some.is c.in_ok-perform.ensures.ok in
-    rw (p.1, p.2, c.in_err-written-in-Some.ensures.err) (stops_at_writer c.args.run.now c.args.bytes.now line (string_bytes text) c.perform.new.self (c.as_slice.ensures.value ∙ begun.ok.0)
+    let failed = c.in_err-written-in-Some.ensures.err in
+    rw (p.1, p.2, failed.0) (stops_at_writer c.args.run.now c.args.bytes.now line (string_bytes text) c.perform.new.self _ _ failed.1 failed.2 (c.as_slice.ensures.value ∙ begun.ok.0)
     (subst IsLine (sym c.as_slice.ensures.value) begun.ok.1)
-    (subst (λ s. Prints s line (string_bytes text) c.perform.new.self) begun.same.0 some))
+    (subst (λ s. Prints s line (string_bytes text) c.perform.new.self) begun.same.0 some) (sym c.as_str.ensures.value ∙ failed.3) failed.4)
