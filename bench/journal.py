@@ -116,14 +116,14 @@ WRITE = re.compile(r"pwrite64\((\d+), .*, \d+, \d+\) += (\d+)|<\.\.\. pwrite64 r
 
 def written(trace):
     """How many bytes were written into the file, in how many writes, and how many syncs there were."""
-    octets = writes = syncs = 0
+    count_of_bytes = writes = syncs = 0
     for line in trace.read_text(encoding="ascii", errors="replace").splitlines():
         if found := WRITE.search(line):
-            octets += int(found.group(2) or found.group(3))
+            count_of_bytes += int(found.group(2) or found.group(3))
             writes += 1
         elif re.search(r"(fsync|fdatasync)(\(\d+\)| resumed>\)) += 0", line):
             syncs += 1
-    return octets, writes, syncs
+    return count_of_bytes, writes, syncs
 
 
 def writes(bench):
@@ -139,13 +139,13 @@ def writes(bench):
         with Server(bench.program, bench.journal, before) as server:
             Load(bench.load, server, "receipts", connections, in_flight, 2)
         seen = shown(bench.program, bench.journal)
-        octets, count, syncs = written(trace)
+        count_of_bytes, count, syncs = written(trace)
         # The start writes a snapshot and the selector. Each block has a sync behind it and one behind its gate.
         blocks = (syncs - 3) // 2
         records = seen["used"] - 41 - 9 * blocks
         print(
             f"  {connections:>2} connections, {in_flight} in flight: {seen['count']:>6,} commands in {blocks:>6,} blocks of {seen['count'] / blocks:5.2f}:"
-            f" {octets / seen['count']:6.1f} bytes a command, its record {records / seen['count']:6.1f}; {count / seen['count']:.2f} writes, {syncs / seen['count']:.2f} syncs"
+            f" {count_of_bytes / seen['count']:6.1f} bytes a command, its record {records / seen['count']:6.1f}; {count / seen['count']:.2f} writes, {syncs / seen['count']:.2f} syncs"
         )
 
 

@@ -27,10 +27,10 @@ LAST = b"SEND\ndestination:/topic/bench\nreceipt:last\n\nend\0"
 LAST_RECORD = send_record(TOPIC, (), b"end", b"last")
 
 
-def show(octets):
+def show(data):
     """Bytes as the text of a script."""
     plain = range(0x20, 0x7F)
-    return b"".join(b"%c" % o if o in plain and o != 0x25 else b"%%%02X" % o for o in octets)
+    return b"".join(b"%c" % o if o in plain and o != 0x25 else b"%%%02X" % o for o in data)
 
 
 def connected(session):
@@ -80,13 +80,13 @@ class Input:
         self.piece = piece
         self.script = folder / (name + ".script")
         self.stream = folder / (name + ".stream")
-        self.text, self.octets, self.printed = [], [], []
+        self.text, self.data, self.printed = [], [], []
         self.frames = self.commands = self.used = 0
 
     def begin(self):
         """Begins with an area that has nothing but its front."""
         self.text.append(b"0 " + show(CONNECT) + b"\nflush\n")
-        self.octets.append(CONNECT)
+        self.data.append(CONNECT)
         self.printed.append(connected(self.commands))
         self.frames, self.commands = self.frames + 1, self.commands + 1
         self.used = FRONT + CONNECT_RECORD + LAST_RECORD + 2 * BLOCK
@@ -97,16 +97,16 @@ class Input:
             self.printed.append(b"open %d 0\n" % self.commands)
             self.begin()
         self.text += part.text
-        self.octets += part.stream
+        self.data += part.stream
         self.frames, self.commands = self.frames + part.frames, self.commands + part.frames
         self.used += part.room
 
     def end(self):
         self.script.write_bytes(b"".join(self.text) + b"0 " + show(LAST) + b"\nflush\n")
-        self.stream.write_bytes(b"".join(self.octets) + LAST)
+        self.stream.write_bytes(b"".join(self.data) + LAST)
         self.frames += 1
         self.expected = b"".join(self.printed) + receipt(b"last")
-        self.text = self.octets = self.printed = None
+        self.text = self.data = self.printed = None
         return self
 
     def megabytes(self):
@@ -139,13 +139,13 @@ def whole_frames(folder, name, make_frame, size, longest=LONGEST_LINE):
 
 def single_bytes(folder, name, size):
     """A script of about so many bytes, with one byte of the stream on a line."""
-    shown = [b"0 " + show(bytes([octet])) + b"\n" for octet in range(256)]
+    shown = [b"0 " + show(bytes([byte])) + b"\n" for byte in range(256)]
     made, number, total = Input(folder, name, piece=1), 0, 0
     made.begin()
     while total < size:
         part = Part()
         frame, record = small_frame(number)
-        part.add(b"".join(shown[octet] for octet in frame), frame, record)
+        part.add(b"".join(shown[byte] for byte in frame), frame, record)
         made.add(part)
         total += len(part.text[0])
         number += 1

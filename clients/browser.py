@@ -193,7 +193,7 @@ def they_watch(broker, checks, anna, ben):
     anna.toggle("feed")
     checks.check("numbers are drawn in both pages", all(page.comes("numbers.length > 20") for page in (anna, ben)))
     checks.check("some five a second", ben.comes("/ [456]\\.\\d a second/.test(document.getElementById('summary').textContent)"), ben.value("summary()"))
-    drawn = "[...document.getElementById('bars').getContext('2d').getImageData(0, 0, 9999, 999).data].some(octet => octet)"
+    drawn = "[...document.getElementById('bars').getContext('2d').getImageData(0, 0, 9999, 999).data].some(byte => byte)"
     checks.check("as bars", ben.value(drawn))
 
 

@@ -118,10 +118,10 @@ def subprotocols(broker, checks):
     still_served(broker, checks, "a refused handshake")
 
 
-def seconds_to_the_end(port, octets, ends):
+def seconds_to_the_end(port, data, ends):
     stream = Stream(port, timeout=LONGEST_READ + 10)
     start = time.perf_counter()
-    stream.write(octets)
+    stream.write(data)
     code = code_of(stream)
     ends.append((time.perf_counter() - start, code, bytes(stream.buffer)))
 
@@ -208,11 +208,11 @@ def half_a_frame(broker, checks):
     still_served(broker, checks, "halves of frames")
     checks.check("who is silent in the midst of a frame hears nothing for 2 seconds", not silent.hears_within(2))
     silent.send_message(TEXT, frame[40:].encode())
-    for octet in frame.encode():
-        silent.send_message(BINARY, bytes([octet]))
-    for place, octet in enumerate(frame.encode()):
+    for byte in frame.encode():
+        silent.send_message(BINARY, bytes([byte]))
+    for place, byte in enumerate(frame.encode()):
         opcode = TEXT if place == 0 else 0
-        silent.write(message_bytes(opcode, bytes([octet]), is_last=place + 1 == len(frame)))
+        silent.write(message_bytes(opcode, bytes([byte]), is_last=place + 1 == len(frame)))
     found = [frame.body for frame in silent.subscribe("a", "/queue/rubbish")]
     checks.same("it goes on: the frame came in halves, a byte a message and a byte a fragment", found, ["half and half"] * 3)
     silent.disconnect()
@@ -236,9 +236,9 @@ def broken_messages(broker, checks):
         ("2^62 bytes announced", over[:2] + struct.pack(">Q", 2**62) + b"mask", 1009),
         ("two fragments of 70,000 bytes", message_bytes(TEXT, b"\n" * 70_000, is_last=False) + message_bytes(0, b"\n" * 70_000), 1009),
     ]
-    for name, octets, code in cases:
+    for name, data, code in cases:
         client = Client(broker.port).connect()
-        client.write(octets)
+        client.write(data)
         checks.same(f"{name}: {code}", code_of(client), code)
         client.close()
     client = Client(broker.port).connect()

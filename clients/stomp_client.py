@@ -94,8 +94,8 @@ class Stream:
         self.socket.setsockopt(socket.IPPROTO_TCP, socket.TCP_NODELAY, 1)
         self.buffer = bytearray()
 
-    def write(self, octets):
-        self.socket.sendall(octets)
+    def write(self, data):
+        self.socket.sendall(data)
 
     def fill(self):
         """Waits for more bytes, up to the socket's timeout."""

@@ -106,10 +106,10 @@ def broken(folder):
     }
     assert good[8:16] == length
     for text, files in cases.items():
-        for number, octets in enumerate(files):
+        for number, data in enumerate(files):
             path = folder / f"{text[:2]}-{text[-2:]}-{number}"
-            path.write_bytes(octets)
-            yield path, octets, told(text)
+            path.write_bytes(data)
+            yield path, data, told(text)
 
 
 def shows(checks, folder):
@@ -121,9 +121,9 @@ def shows(checks, folder):
         checks.run(["show", str(folder / "journal")], 1, NOTHING, told("input or output failed"), sink=full)
     checks.run(["show", str(folder / "missing")], 1, NOTHING, CANNOT_OPEN)
     checks.run(["show", str(folder)], 1, NOTHING, CANNOT_OPEN)
-    for path, octets, text in broken(folder):
+    for path, data, text in broken(folder):
         checks.run(["show", str(path)], 1, NOTHING, text)
-        checks.expect(f"{path.name} is left as it was", path.read_bytes() == octets)
+        checks.expect(f"{path.name} is left as it was", path.read_bytes() == data)
 
 
 def serves(checks, folder):
@@ -134,9 +134,9 @@ def serves(checks, folder):
         checks.run(["serve", str(folder / "missing"), port], 1, NOTHING, CANNOT_OPEN)
         checks.run(["serve", str(folder / "journal"), port], 1, NOTHING, CANNOT_OPEN)
         # The journal is opened before the port.
-        for path, octets, text in broken(folder):
+        for path, data, text in broken(folder):
             checks.run(["serve", str(path), port], 1, NOTHING, text)
-            checks.expect(f"{path.name} is left as it was", path.read_bytes() == octets)
+            checks.expect(f"{path.name} is left as it was", path.read_bytes() == data)
     for number in ("0", "65536", "http", "80x", "+80", "", "99999999999999999999"):
         checks.run(["serve", str(folder / "journal"), number], 2, NOTHING, NOTHING)
     serving = subprocess.Popen([checks.program, "serve", str(folder / "journal"), port], stdout=subprocess.PIPE, stderr=subprocess.PIPE)

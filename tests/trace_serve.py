@@ -61,7 +61,7 @@ class Call:
         found = re.match(r"(\d+)", self.words)
         return int(found.group(1)) if found else None
 
-    def octets(self):
+    def data(self):
         """The bytes of all the texts in its words."""
         return b"".join(bytes.fromhex(text.replace("\\x", "")) for text in re.findall(r'"((?:\\x[0-9a-f]{2})*)"', self.words))
 
@@ -116,8 +116,8 @@ class Traced:
         self.process.stderr.close()
 
 
-def text(octets):
-    return struct.pack(">I", len(octets)) + octets
+def text(data):
+    return struct.pack(">I", len(data)) + data
 
 
 def send_record(session, receipt, destination, body):
@@ -131,13 +131,13 @@ OPEN_RECORD = bytes(8) + b"\0\1\0"
 class Reader:
     """Reads the parts of records."""
 
-    def __init__(self, octets):
-        self.octets, self.at = octets, 0
+    def __init__(self, data):
+        self.data, self.at = data, 0
 
     def take(self, count):
-        check(self.at + count <= len(self.octets), "a record passes its block's end")
+        check(self.at + count <= len(self.data), "a record passes its block's end")
         self.at += count
-        return self.octets[self.at - count : self.at]
+        return self.data[self.at - count : self.at]
 
     def number(self, count):
         return int.from_bytes(self.take(count), "big")
@@ -165,14 +165,14 @@ class Reader:
             check(self.number(1) == 1, "a session ended otherwise than by a lost connection")
         else:
             raise Wrong(f"a record of kind {kind}")
-        return kind, receipt, self.octets[start : self.at]
+        return kind, receipt, self.data[start : self.at]
 
 
 class Journal:
     """The calls at a journal's file, taken one after the other."""
 
     def __init__(self, calls, path):
-        opened = [call for call in calls if call.name == "openat" and path.encode() == call.octets()]
+        opened = [call for call in calls if call.name == "openat" and path.encode() == call.data()]
         check(len(opened) == 1, "the file is not opened just once")
         self.file = opened[0].answer
         names = ("pread64", "pwrite64", "pwritev", "write", "writev", "fsync", "fdatasync", "ftruncate")
@@ -199,9 +199,9 @@ class Journal:
     def write(self, what):
         call = self.next(what)
         check(call.name == "pwrite64", f"{what}: {call.name} in place of a write")
-        octets = call.octets()
-        check(call.answer == len(octets), f"{what}: not written in one call")
-        return call.place(), octets
+        data = call.data()
+        check(call.answer == len(data), f"{what}: not written in one call")
+        return call.place(), data
 
     def reads(self):
         while self.has_next() and self.calls[self.at].name == "pread64":
@@ -216,38 +216,38 @@ def start(journal, live, snapshot):
     front, idle = b"", HEAD + AREA * (1 - live)
     wanted = struct.pack(">Q", len(snapshot)) + snapshot + b"\0"
     while len(front) < len(wanted):
-        place, octets = journal.write("the snapshot")
+        place, data = journal.write("the snapshot")
         check(place == idle + len(front), f"the snapshot is written at {place}")
-        front += octets
+        front += data
     check(front == wanted, "another snapshot is written than that of the restart")
     journal.sync("the snapshot's sync")
-    place, octets = journal.write("the selector")
-    check(place == 16 and len(octets) == 1 and octets[0] % 2 == 1 - live, f"the selector is written as {octets} at {place}")
+    place, data = journal.write("the selector")
+    check(place == 16 and len(data) == 1 and data[0] % 2 == 1 - live, f"the selector is written as {data} at {place}")
     return journal.sync("the selector's sync"), idle + 8 + len(snapshot)
 
 
 def blocks(journal, gate):
     """The blocks behind a gate: their records' bytes, and the call that ended each."""
     while journal.has_next():
-        place, octets = journal.write("a block")
+        place, data = journal.write("a block")
         check(place == gate + 1, f"a block is written at {place} and not behind its gate at {gate}")
-        length = int.from_bytes(octets[:8], "big")
-        check(length > 0 and len(octets) == 9 + length and octets[-1] == 0, "a block is not its length, its records and a closed gate")
+        length = int.from_bytes(data[:8], "big")
+        check(length > 0 and len(data) == 9 + length and data[-1] == 0, "a block is not its length, its records and a closed gate")
         if not journal.has_next(3):
             # The server was killed before the block's end: nobody may have heard of it.
             return
         journal.sync("a block's sync")
         check(journal.write("a gate") == (gate, b"\1"), "a gate is not opened by one byte")
-        yield octets[8:-1], journal.sync("a gate's sync")
+        yield data[8:-1], journal.sync("a gate's sync")
         gate += 9 + length
 
 
 def durable(journal, gate, count):
     """What stands in the blocks, in order: kind, receipt, bytes, number, and the line behind which it is durable."""
     found = []
-    for octets, synced in blocks(journal, gate):
-        reader = Reader(octets)
-        while reader.at < len(octets):
+    for data, synced in blocks(journal, gate):
+        reader = Reader(data)
+        while reader.at < len(data):
             found.append((*reader.record(), count + len(found), synced.ended))
     return found
 
@@ -264,7 +264,7 @@ def heard(calls, found, journal):
     for call in calls:
         if call.name not in ("write", "writev", "sendto", "sendmsg") or call.descriptor() in (1, 2, journal.file):
             continue
-        for session, receipt, message in SPOKEN.findall(call.octets()):
+        for session, receipt, message in SPOKEN.findall(call.data()):
             line = receipts.get(receipt) if receipt else numbers.get(int(session or message))
             check(line is not None, f"{(session, receipt, message)} leaves, and its command is in no block")
             check(call.begun > line, f"{(session, receipt, message)} leaves before its command is durable")
@@ -336,7 +336,7 @@ def first_run(program, folder, path):
     listens_after(calls, ended)
     found = durable(journal, gate, 0)
     count = heard(calls, found, journal)
-    check([octets for _, _, octets, _, _ in found] == records, "the blocks hold other records than what the client asked for")
+    check([data for _, _, data, _, _ in found] == records, "the blocks hold other records than what the client asked for")
     lines = [line for *_, line in found]
     check(len(set(lines)) == len(lines), "two commands of a client that waits stand in one block")
     check(count == len(records), f"{count} frames left for {len(records)} commands")
