@@ -10,7 +10,7 @@ use Rattle.area_core.specs.Areas.{closed, front, IsArea}
 use Rattle.area_core.specs.Held.{IsAt}
 use Rattle.area_core.specs.Journals.{is_odd, other, start, IsJournal, Reads}
 use Rattle.area_core.specs.Puts.{Each, IsTorn}
-use Rattle.area_core.specs.Switches.{HasIdle, IsBoth, KeepsLive, KeepsBoth}
+use Rattle.area_core.specs.Switches.{HasIdle, IsBoth, KeepsBoth, KeepsLive, KeepsRest}
 use Rattle.area_core.proofs.Areas.{fresh, length-closed, length-fresh}
 use Rattle.area_core.proofs.Journals.{start_least, start_most, journal_stays, area_stays}
 use Rattle.area_core.proofs.Ranges.{patched_start}
@@ -46,6 +46,14 @@ keeps_live area images at n c is le torn snapshot blocks held =
       };
       gate = was.gate;
     }
+
+-- a range that may be torn lies in a longer one
+widened : (at n m : ℕ) (d c : List ℕ) → Torn at n d c → n ≤ m → Torn at m d c
+widened at n m d c torn le = record { size = torn.size; before = torn.before; after = drop_after at n (at + m) d c torn (omega (arith, le)) }
+
+pub keeps_rest : (area : Area) (images : List ℕ → Type 0) (at n : ℕ) (c : List ℕ) → at ≡ start area.size (other (is_odd area.selector)) → n ≤ area.size → IsTorn at n images c → KeepsRest images area c
+keeps_rest area images at n c is le torn =
+    (torn.0, torn.1, widened (start area.size (other (is_odd area.selector))) n area.size torn.0 c (subst (λ (m : ℕ). Torn m n torn.0 c) is torn.2) le)
 
 pub idle_is : (size at base : ℕ) (snapshot bytes d : List ℕ) → at ≡ base → base ≤ length d → length snapshot + 9 ≤ size → bytes ≡ closed snapshot → IsArea size snapshot [] (drop base (patched at bytes d))
 idle_is size at base snapshot bytes d is le room are =

@@ -1,5 +1,5 @@
 -- What is no journal, and which byte of a damaged one is told.
-use Rattle.std.specs.Prelude.{◌≡◌, ◌≢◌, ◌⊎◌, ◌<◌, ◌≤◌, ◌+◌, ◌*◌, ℕ, List, [], ◌∷◌, ◌++◌, length, take, drop, codes, Result, Ok, Err}
+use Rattle.std.specs.Prelude.{◌≡◌, ◌≢◌, ◌⊎◌, ◌<◌, ◌≤◌, ◌+◌, ◌*◌, ◌^◌, ℕ, List, [], ◌∷◌, ◌++◌, length, take, drop, codes, Result, Ok, Err}
 use Rattle.std.specs.Int.{w64, to_be_bytes}
 use Rattle.std.specs.List.{AllByRecursion}
 use Rattle.command_core.specs.Commands.{CommandValue}
@@ -23,13 +23,15 @@ pub record IsOtherVersion (content : List ℕ) : Type 0 where
   pub named : take 6 content ≡ codes "STOMPJ"
   pub version : take 2 (drop 6 content) ≢ codes "01"
 
--- it has name and version, but its areas are too short, or the disk is shorter than both
+-- It has name and version, but its areas are too short, or the disk is shorter than both. Eight bytes spell many numbers, of
+-- which the one that fits eight bytes is meant; so here and below.
 pub record IsTooSmall (content : List ℕ) : Type 0 where
   pub long : 32 ≤ length content
   pub named : take 6 content ≡ codes "STOMPJ"
   pub version : take 2 (drop 6 content) ≡ codes "01"
   pub size : ℕ
   pub told : take 8 (drop 8 content) ≡ to_be_bytes w64 size
+  pub word : size < 2 ^ 64
   pub small : (size < 4096) ⊎ (length content < 32 + 2 * size)
 
 -- the live area's snapshot, with the gate behind it, doesn't fit into the area
@@ -40,6 +42,7 @@ pub record IsLongSnapshot (content : List ℕ) (place : ℕ) : Type 0 where
   pub at : place ≡ start size (is_odd selector)
   pub count : ℕ
   pub told : take 8 (drop place content) ≡ to_be_bytes w64 count
+  pub word : count < 2 ^ 64
   pub long : size < count + 9
 
 -- the byte at that place
@@ -50,6 +53,7 @@ HasByte place byte content = take 1 (drop place content) ≡ byte ∷ []
 pub record HasBadCount (area : Area) (content : List ℕ) (place : ℕ) : Type 0 where
   pub count : ℕ
   pub told : take 8 (drop place content) ≡ to_be_bytes w64 count
+  pub word : count < 2 ^ 64
   pub bad : (count ≡ 0) ⊎ (area.size < area.gate + 10 + count)
 
 -- behind the area's gate there is no room for a block, or not for the one that is told

@@ -36,3 +36,8 @@ abbrev pub IsBeforeWriting : Result (Unit {0}) FormatFault → Type 0 → Type 0
 IsBeforeWriting (Err faults.TooSmall) P = P
 IsBeforeWriting (Err (faults.Memory _)) P = P
 IsBeforeWriting _ P = Unit {0}
+
+-- where memory was refused, this holds
+abbrev pub IfMemory : {T : Type 0} → Result T AreaFault → Type 0 → Type 0
+IfMemory (Err (Memory _)) P = P
+IfMemory _ P = Unit {0}

@@ -5,7 +5,7 @@ use Rattle.area_core.specs.declared.area.Area.{Area}
 use Rattle.area_core.specs.Areas.{IsArea}
 use Rattle.area_core.specs.Held.{IsAt}
 use Rattle.area_core.specs.Journals.{IsJournal, is_odd, other, start}
-use Rattle.area_core.specs.Puts.{Each}
+use Rattle.area_core.specs.Puts.{Each, IsTorn}
 
 -- the area that is not live has the snapshot last written, and no block
 pub record HasIdle (area : Area) (snapshot : List ℕ) (image : List ℕ) : Type 0 where
@@ -22,6 +22,10 @@ pub record IsBoth (area : Area) (snapshot : List ℕ) (blocks : List (List Comma
 -- where each image held the same at the start, so does this one
 abbrev pub KeepsLive : (List ℕ → Type 0) → Area → List ℕ → Type 0
 KeepsLive images area c = (snapshot : List ℕ) (blocks : List (List CommandValue)) → Each images (IsAt area snapshot blocks) → IsAt area snapshot blocks c
+
+-- one of these images with any bytes in the area that is not live
+abbrev pub KeepsRest : (List ℕ → Type 0) → Area → List ℕ → Type 0
+KeepsRest images area c = IsTorn (start area.size (other (is_odd area.selector))) area.size images c
 
 -- where each image had both areas at the start, so has this one
 abbrev pub KeepsBoth : (List ℕ → Type 0) → Area → List ℕ → Type 0

@@ -7,7 +7,7 @@ ghost use Rattle.disk_core.specs.Moments.{LeavesOnly};
 ghost use Rattle.area_core.specs.Areas.{commands, records};
 ghost use Rattle.area_core.specs.Held.{IsAt};
 ghost use Rattle.area_core.specs.Puts.{Each};
-ghost use Rattle.area_core.specs.Steps.{IsBeforeOrAfter, IsCaused};
+ghost use Rattle.area_core.specs.Steps.{IfMemory, IsBeforeOrAfter, IsCaused};
 
 use crate::batch::{block_of, records_len};
 use crate::put::put_behind_gate;
@@ -40,8 +40,10 @@ impl Area {
             OnOk result (Only (D.content disk.new) (D.images disk.new)) }
         ensures full { IsErrOf result AreaFault.Full →
             (self.old.size < self.old.gate + 10 + length (records (commands batch.now))) × (disk.new ≡ disk.old) }
+        ensures memory { IfMemory result (disk.new ≡ disk.old) }
         ensures broken { self.old.broken ≡ true →
             IsErrOf result AreaFault.Broken × (disk.new ≡ disk.old) }
+        ensures same { self.old.broken ≡ true → self.new ≡ self.old }
         ensures sound { IsErrOf result AreaFault.Broken → self.old.broken ≡ true }
         ensures ok { OnOk result (self.new.broken ≡ false) }
         ensures err { OnErr result (self.new.broken ≡ true) }

@@ -1,13 +1,13 @@
 //! A snapshot is written into the other area, which is then made the live one.
 
-ghost use Rattle.std.specs.Prelude.{◌≡◌, ◌+◌, ◌*◌, ◌<◌, ◌≤◌, [], ℕ, List, true, false, length, OnOk, OnErr, IsErrOf};
+ghost use Rattle.std.specs.Prelude.{◌≡◌, ◌+◌, ◌*◌, ◌%◌, ◌<◌, ◌≤◌, [], ℕ, List, true, false, length, OnOk, OnErr, IsErrOf};
 ghost use Rattle.command_core.specs.Commands.{CommandValue};
 ghost use Rattle.disk_core.specs.Images.{Only};
 ghost use Rattle.disk_core.specs.Moments.{LeavesOnly};
 ghost use Rattle.area_core.specs.Held.{IsAt};
 ghost use Rattle.area_core.specs.Puts.{Each};
-ghost use Rattle.area_core.specs.Steps.{IsCaused};
-ghost use Rattle.area_core.specs.Switches.{HasIdle, KeepsLive, KeepsBoth};
+ghost use Rattle.area_core.specs.Steps.{IfMemory, IsCaused};
+ghost use Rattle.area_core.specs.Switches.{HasIdle, KeepsBoth, KeepsLive, KeepsRest};
 
 use crate::put::{closed, put};
 use crate::{Area, AreaFault};
@@ -15,7 +15,8 @@ use disk_core::Disk;
 use std::alloc::Global;
 
 impl Area {
-    /// Writes a snapshot into the area that is not live. The live one stays as it is.
+    /// Writes a snapshot into the area that is not live. A stop at any moment leaves every other byte as it was, the live
+    /// area too.
     pub fn write_snapshot<D: Disk>(
         &mut self,
         alloc: Global,
@@ -26,6 +27,9 @@ impl Area {
         ensures any_moment { D.honest disk.old →
             LeavesOnly D.moment D.images_since disk.old disk.new
             (KeepsLive (D.images disk.old) self.old) }
+        ensures outside { D.honest disk.old →
+            LeavesOnly D.moment D.images_since disk.old disk.new
+            (KeepsRest (D.images disk.old) self.old) }
         ensures idle { D.honest disk.old →
             OnOk result (Each (D.images disk.new) (HasIdle self.new snapshot.now)) }
         ensures full { IsErrOf result AreaFault.Full →
@@ -33,8 +37,10 @@ impl Area {
         ensures place { (self.new.size ≡ self.old.size) × (self.new.selector ≡ self.old.selector) × (self.new.gate ≡ self.old.gate) }
         ensures only { D.honest disk.old →
             OnOk result (Only (D.content disk.new) (D.images disk.new)) }
+        ensures memory { IfMemory result (disk.new ≡ disk.old) }
         ensures broken { self.old.broken ≡ true →
             IsErrOf result AreaFault.Broken × (disk.new ≡ disk.old) }
+        ensures same { self.old.broken ≡ true → self.new ≡ self.old }
         ensures sound { IsErrOf result AreaFault.Broken → self.old.broken ≡ true }
         ensures ok { OnOk result (self.new.broken ≡ false) }
         ensures err { OnErr result (self.new.broken ≡ true) }
@@ -58,7 +64,7 @@ impl Area {
         Ok(())
     }
 
-    /// Makes the other area, which has the snapshot last written, the live one.
+    /// Makes the other area, which has the snapshot last written, the live one: the selector goes on by one, and 255 to 0.
     ///
     /// A stop at any moment leaves both areas as they are, and one of them live.
     pub fn switch<D: Disk>(&mut self, disk: &mut D) -> Result<(), AreaFault>
@@ -72,11 +78,13 @@ impl Area {
             Each (D.images disk.old) (HasIdle self.old next) →
             Each (D.images disk.new) (IsAt self.new next [])) }
         ensures place { self.new.size ≡ self.old.size }
+        ensures selector { OnOk result (self.new.selector ≡ (self.old.selector + 1) % 256) }
         ensures room { IsErrOf result AreaFault.Full → self.old.broken ≡ true }
         ensures only { D.honest disk.old →
             OnOk result (Only (D.content disk.new) (D.images disk.new)) }
         ensures broken { self.old.broken ≡ true →
             IsErrOf result AreaFault.Broken × (disk.new ≡ disk.old) }
+        ensures same { self.old.broken ≡ true → self.new ≡ self.old }
         ensures sound { IsErrOf result AreaFault.Broken → self.old.broken ≡ true }
         ensures ok { OnOk result (self.new.broken ≡ false) }
         ensures err { OnErr result (self.new.broken ≡ true) }

@@ -1,5 +1,5 @@
 -- Reading block after block.
-use Rattle.std.proofs.Common.{◌≡◌, inl, inr, Bool, true, false, if◌then◌else◌, ◌-◌, ℕ, ◌+◌, ◌<◌, ◌≤◌, ◌^◌, List, [], ◌∷◌, ◌++◌, refl, ◌∙◌, arith}
+use Rattle.std.proofs.Common.{◌≡◌, inl, inr, Bool, true, false, Result, Ok, Err, IfErr, if◌then◌else◌, ◌-◌, ℕ, ◌+◌, ◌<◌, ◌≤◌, ◌^◌, List, [], ◌∷◌, ◌++◌, refl, ◌∙◌, arith}
 use Rattle.command_core.specs.Commands.{CommandValue}
 use Rattle.broker_core.specs.States.{State}
 use Rattle.broker_core.specs.Steps.{state_after}
@@ -16,7 +16,7 @@ use Rattle.recover_core.specs.declared.faults.OpenFault.{OpenFault}
 use Rattle.recover_core.specs.declared.faults.OpenFault.TheVariants.{Read, CountTooLarge, Area as Areas}
 use Rattle.recover_core.specs.Opens.{HasRead, IsFolded}
 use Rattle.recover_core.specs.Standing.{joined}
-use Rattle.recover_core.specs.Told.{IsOpenTold, IsSnapshotTold, IsStateRefused, IsTooLarge, IsWalkTold, IsWriteTold}
+use Rattle.recover_core.specs.Told.{IfRead, IsOpenTold, IsSnapshotTold, IsStateRefused, IsTooLarge, IsWalkTold, IsWriteTold}
 use Rattle.recover_core.specs.Walks.{HasEnded, HasWalked}
 use Rattle.recover_core.proofs.Folded.{follows_leads, follows_more, leads_large}
 use Rattle.recover_core.proofs.Stores.{stands}
@@ -65,7 +65,7 @@ too_large area s content ended large =
 -- what is told of a block is so of the content
 pub block_told : (fault : ReadFault) (area : Area) (s : State) (content : List ℕ) → HasWalked area s content → IsBlockTold fault area content → IsWalkTold (Read fault) content
 block_told reads.NotAJournal area s content w told = told
-block_told (reads.Damaged place) area s content w told = record { area = area; snapshot = w.snapshot; blocks = w.blocks; past = w.past; damaged = told }
+block_told (reads.Damaged place) area s content w told = record { area = area; snapshot = w.snapshot; first = w.follows.first; spells = w.follows.spells; blocks = w.blocks; past = w.past; damaged = told }
 block_told reads.Device area s content w told = told
 block_told reads.UnknownVersion area s content w told = told
 block_told reads.TooSmall area s content w told = told
@@ -99,20 +99,34 @@ walk_told (Areas areas.Broken) content so = absurd so
 walk_told (Areas (areas.Memory refused)) content told = told
 
 -- what is told of writing is so of the content that was read
-pub write_told : (fault : OpenFault) (area : Area) (s : State) (content : List ℕ) → HasRead area s content → IsWriteTold fault area.size s → IsOpenTold fault content
-write_told (Read fault) area s content has so = absurd so
-write_told CountTooLarge area s content has so = absurd so
-write_told (Areas areas.Device) area s content has told = told
-write_told (Areas areas.Full) area s content has told = record {
+pub write_told : (fault : OpenFault) (area : Area) (s : State) (content : List ℕ) → HasRead area s content → s.count ≤ 2 ^ 61 → IsWriteTold fault area.size s → IsOpenTold fault content
+write_told (Read fault) area s content has small so = absurd so
+write_told CountTooLarge area s content has small so = absurd so
+write_told (Areas areas.Device) area s content has small told = told
+write_told (Areas areas.Full) area s content has small told = record {
   size = area.size;
   selector = area.selector;
   journal = has.at.reads.journal;
   state = s;
   stands = stands area.size area.selector has.snapshot has.blocks content s has.at.reads has.leads;
+  small = small;
   long = told;
 }
-write_told (Areas areas.Broken) area s content has so = absurd so
-write_told (Areas (areas.Memory refused)) area s content has told = told
+write_told (Areas areas.Broken) area s content has small so = absurd so
+write_told (Areas (areas.Memory refused)) area s content has small told = told
+
+-- what holds whatever the answer is holds where it is of what was read
+pub if_read : {T P : Type 0} (answer : Result T OpenFault) → P → IfErr answer (λ fault. IfRead fault P)
+if_read (Ok read) p = tt
+if_read (Err (Read fault)) p = p
+if_read (Err CountTooLarge) p = p
+if_read (Err (Areas fault)) p = tt
+
+-- what is told of writing is told of nothing that was read
+pub written_told : (P : Type 0) (fault : OpenFault) (size : ℕ) (s : State) → IsWriteTold fault size s → IfRead fault P
+written_told P (Read fault) size s so = absurd so
+written_told P CountTooLarge size s so = absurd so
+written_told P (Areas fault) size s told = tt
 
 -- each block read takes the gate on, within the area
 pub measure : (was more : Bool) (size now gate next : ℕ) → was ≡ true → now ≡ size → gate ≤ next → (more ≡ true → gate < next) → next + 1 ≤ now

@@ -1,5 +1,7 @@
 -- What opening a journal keeps.
 use Rattle.std.specs.Prelude.{◌≡◌, ◌<◌, ◌^◌, ◌⊎◌, ℕ, List}
+use Rattle.disk_core.specs.declared.disk.Disk.{Ghosts}
+use Rattle.disk_core.specs.Images.{Within}
 use Rattle.command_core.specs.Commands.{CommandValue}
 use Rattle.broker_core.specs.Operations.{restarted}
 use Rattle.broker_core.specs.States.{State}
@@ -21,6 +23,17 @@ pub record HasRead (area : Area) (s : State) (image : List ℕ) : Type 0 where
 pub record StandsForSome (image : List ℕ) : Type 0 where
   pub state : State
   pub stands : Stands image state
+
+-- the content stands for a state of which this is the restart
+pub record IsRestartOf (content : List ℕ) (now : State) : Type 0 where
+  pub before : State
+  pub stood : Stands content before
+  pub is : now ≡ restarted before
+
+-- nothing was written: the content stays, and a stop leaves nothing that it might not have left before
+pub record IsUnwritten {D : Type 0} (disk : Ghosts D) (old new : D) : Type 0 where
+  pub content : disk.content new ≡ disk.content old
+  pub images : Within (disk.images new) (disk.images old)
 
 -- the image stands for a state that restarts as one of those does that one of these images stands for
 pub record RestartsAs (images : List ℕ → Type 0) (c : List ℕ) : Type 0 where

@@ -1,5 +1,5 @@
 -- Which fault is told, and what is so of the content where it is.
-use Rattle.std.specs.Prelude.{◌≡◌, ◌⊎◌, ◌<◌, ◌+◌, ◌^◌, ℕ, List, [], length, Result, Ok, Err}
+use Rattle.std.specs.Prelude.{◌≡◌, ◌⊎◌, ◌<◌, ◌≤◌, ◌+◌, ◌^◌, ℕ, List, [], length, Result, Ok, Err}
 use Rattle.disk_core.specs.Faults.{IsOneMore}
 use Rattle.command_core.specs.Commands.{CommandValue}
 use Rattle.broker_core.specs.Operations.{restarted}
@@ -26,10 +26,12 @@ pub record IsBadSnapshot (content : List ℕ) (place : ℕ) : Type 0 where
   pub at : place ≡ start area.size (is_odd area.selector) + 8
   pub none : (s : State) → Spells snapshot s → ⊥
 
--- behind some blocks of the live area stands what is damaged at that place
+-- the live area's snapshot spells a state, and behind some of its blocks stands what is damaged at that place
 pub record IsBadBlock (content : List ℕ) (place : ℕ) : Type 0 where
   pub area : Area
   pub snapshot : List ℕ
+  pub first : State
+  pub spells : Spells snapshot first
   pub blocks : List (List CommandValue)
   pub past : IsPast area snapshot blocks content
   pub damaged : IsDamagedAt area content place
@@ -51,13 +53,15 @@ pub record IsLong (size : ℕ) (s : State) : Type 0 where
   pub spells : Spells snapshot (restarted s)
   pub long : size < length snapshot + 9
 
--- the content stands for a state whose snapshot after the restart doesn't fit into one of its areas
+-- The content stands for a state whose snapshot after the restart doesn't fit into one of its areas. Its count is not too
+-- large, which is told first.
 pub record IsTooLong (content : List ℕ) : Type 0 where
   pub size : ℕ
   pub selector : ℕ
   pub journal : IsJournal size selector content
   pub state : State
   pub stands : Stands content state
+  pub small : state.count ≤ 2 ^ 61
   pub long : IsLong size state
 
 -- what is told of writing is so
@@ -111,3 +115,9 @@ IsStateRefused (Read fault) content = IsStateTold fault content
 IsStateRefused CountTooLarge content = IsTooLarge content
 IsStateRefused (Areas (areas.Memory _)) content = Unit {0}
 IsStateRefused _ content = ⊥
+
+-- where it is told by what was read, before anything is written, this holds
+abbrev pub IfRead : OpenFault → Type 0 → Type 0
+IfRead (Read _) P = P
+IfRead CountTooLarge P = P
+IfRead (Areas _) P = Unit {0}

@@ -7,11 +7,11 @@ ghost use Rattle.area_core.specs.Held.{IsAt};
 ghost use Rattle.area_core.specs.Puts.{Each};
 ghost use Rattle.broker_core.specs.Operations.{restarted};
 ghost use Rattle.broker_core.specs.States.{State};
-ghost use Rattle.recover_core.specs.Opens.{HasRestarted, KeepsEither, KeepsRestart};
+ghost use Rattle.recover_core.specs.Opens.{HasRestarted, IsRestartOf, IsUnwritten, KeepsEither, KeepsRestart};
 ghost use Rattle.recover_core.specs.Sound.{IsSound};
 ghost use Rattle.recover_core.specs.Standing.{Stands, StandFor};
 ghost use Rattle.recover_core.specs.Stores.{disk_of, is_broken, opened_by};
-ghost use Rattle.recover_core.specs.Told.{IsCausedBy, IsOpenCaused, IsOpenTold, IsWriteTold};
+ghost use Rattle.recover_core.specs.Told.{IfRead, IsCausedBy, IsOpenCaused, IsOpenTold, IsWriteTold};
 ghost use Rattle.snapshot_core.specs.Snapshots.{Spells};
 
 use crate::OpenFault;
@@ -74,11 +74,13 @@ fn open_area<D: Disk>(alloc: Global, disk: &mut D) -> Result<(Area, Broker), Ope
     ensures sound { D.honest disk.old → IfOk result (λ opened. IsSound (D.images disk.new) opened.0) }
     ensures state { D.honest disk.old → IfOk result (λ opened.
         (s : State) → Stands (D.content disk.old) s → opened.1.state ≡ restarted s) }
+    ensures stood { D.honest disk.old → IfOk result (λ opened. IsRestartOf (D.content disk.old) opened.1.state) }
     ensures stands { D.honest disk.old → IfOk result (λ opened. StandFor (D.images disk.new) opened.1.state) }
     ensures small { IfOk result (λ opened. opened.1.state.count ≤ 2 ^ 61) }
     ensures whole { IfOk result (λ opened. (opened.0.broken ≡ false) × (opened.1.broken ≡ false)) }
     ensures room { IfOk result (λ opened. 32 + 2 * opened.0.size ≤ length (D.content disk.new)) }
     ensures refused { D.honest disk.old → IfErr result (λ fault. IsOpenTold fault (D.content disk.old)) }
+    ensures unwritten { D.honest disk.old → IfErr result (λ fault. IfRead fault (IsUnwritten D.Disk disk.old disk.new)) }
     ensures cause { IsOpenCaused (D.failures disk.old) (D.failures disk.new) result }
     ensures size { length (D.content disk.new) ≡ length (D.content disk.old) }
     ensures honest { D.honest disk.old → D.honest disk.new }
@@ -96,7 +98,7 @@ fn open_area<D: Disk>(alloc: Global, disk: &mut D) -> Result<(Area, Broker), Ope
 /// and makes that one live.
 ///
 /// A stop at any moment leaves a disk that stands for a state with the same restart. A refusal hands the disk back, and it
-/// may be opened again.
+/// may be opened again; where what was read is the reason, nothing was written.
 pub fn open<D: Disk>(alloc: Global, disk: D) -> Result<Store<D>, (D, OpenFault)>
     ensures any_moment { D.honest disk → IfOk result (λ store.
         LeavesOnly D.moment D.images_since disk (disk_of store) (KeepsRestart (D.images disk))) }
@@ -104,11 +106,14 @@ pub fn open<D: Disk>(alloc: Global, disk: D) -> Result<Store<D>, (D, OpenFault)>
         LeavesOnly D.moment D.images_since disk back.0 (KeepsRestart (D.images disk))) }
     ensures state { D.honest disk → IfOk result (λ store. IfSome (opened_by store) (λ broker.
         (s : State) → Stands (D.content disk) s → broker.state ≡ restarted s)) }
+    ensures stood { D.honest disk → IfOk result (λ store. IfSome (opened_by store) (λ broker.
+        IsRestartOf (D.content disk) broker.state)) }
     ensures stands { D.honest disk → IfOk result (λ store. IfSome (opened_by store) (λ broker. StandFor (D.images (disk_of store)) broker.state)) }
     ensures opened { IfOk result (λ store. IsSome (opened_by store)) }
     ensures small { IfOk result (λ store. IfSome (opened_by store) (λ broker. (broker.state.count ≤ 2 ^ 61) × (broker.broken ≡ false))) }
     ensures whole { IfOk result (λ store. is_broken store ≡ false) }
     ensures refused { D.honest disk → IfErr result (λ back. IsOpenTold back.1 (D.content disk)) }
+    ensures unwritten { D.honest disk → IfErr result (λ back. IfRead back.1 (IsUnwritten D.Disk disk back.0)) }
     ensures cause { IfOk result (λ store. D.failures (disk_of store) ≡ D.failures disk) }
     ensures cause_err { IfErr result (λ back. IsCausedBy back.1 (D.failures disk) (D.failures back.0)) }
     ensures size { IfOk result (λ store. length (D.content (disk_of store)) ≡ length (D.content disk)) }

@@ -4,7 +4,7 @@ ghost use Rattle.std.specs.Prelude.{◌≡◌, ◌≢◌, ◌<◌, ◌+◌, [], 
 ghost use Rattle.disk_core.specs.Fuse.{calls_left, fused};
 ghost use Rattle.disk_core.specs.Moments.{LeavesOnly};
 ghost use Rattle.area_core.specs.Areas.{commands, records};
-ghost use Rattle.area_core.specs.Steps.{IsCaused};
+ghost use Rattle.area_core.specs.Steps.{IfMemory, IsCaused};
 ghost use Rattle.broker_core.specs.States.{State};
 ghost use Rattle.broker_core.specs.Steps.{state_after};
 ghost use Rattle.recover_core.specs.Standing.{StandFor, StandsForEither};
@@ -41,8 +41,10 @@ impl<D: Disk> Store<D> {
         ensures full { IsErrOf result AreaFault.Full →
             (size_of self.old < used_of self.old + 9 + length (records (commands batch.now)))
             × (disk_of self.new ≡ disk_of self.old) }
+        ensures memory { IfMemory result (disk_of self.new ≡ disk_of self.old) }
         ensures broken { is_broken self.old ≡ true →
             IsErrOf result AreaFault.Broken × (disk_of self.new ≡ disk_of self.old) }
+        ensures same { is_broken self.old ≡ true → self.new ≡ self.old }
         ensures sound { IsErrOf result AreaFault.Broken → is_broken self.old ≡ true }
         ensures ok { OnOk result (is_broken self.new ≡ false) }
         ensures err { OnErr result (is_broken self.new ≡ true) }

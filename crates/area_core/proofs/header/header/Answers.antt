@@ -38,3 +38,6 @@ returns-clause-most g c = search rules
 
 pub returns-clause-room : goal.returns-clause-room
 returns-clause-room g c = search rules
+
+pub returns-then-size-lt4096-clause-refused : goal.returns-then-size-lt4096-clause-refused
+returns-then-size-lt4096-clause-refused g c = search rules

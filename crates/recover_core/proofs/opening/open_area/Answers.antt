@@ -2,10 +2,11 @@ use Rattle.std.proofs.Common.{◌≡◌, ℕ, List, sym, ◌∙◌, subst, ap}
 use Rattle.disk_core.proofs.Runs.{joined, weaker}
 use Rattle.broker_core.specs.Operations.{restarted}
 use Rattle.broker_core.specs.States.{State}
-use Rattle.recover_core.specs.Opens.{HasRead, KeepsRestart}
+use Rattle.recover_core.specs.Opens.{HasRead, IsUnwritten, KeepsRestart}
 use Rattle.recover_core.specs.Standing.{StandFor}
 use Rattle.recover_core.proofs.Opens.{after_read, after_sync, held_now, is_read, Known, while_restarted}
-use Rattle.recover_core.proofs.Walking.{write_told}
+use Rattle.recover_core.proofs.Stores.{stands}
+use Rattle.recover_core.proofs.Walking.{if_read, write_told, written_told}
 use Rattle.recover_core.proofs.opening.open_area.Goals as goal
 
 pub returns-in_err-sync-clause-any_moment : goal.returns-in_err-sync-clause-any_moment
@@ -119,4 +120,29 @@ returns-in-Err-clause-refused g c honest =
       has = subst (λ (l : List ℕ). HasRead area s l) same (c.in_ok-area.ensures.read at_sync);
       only = λ d image. c.in_ok-sync.ensures.stable honest d ((c.read_state.ensures.quiet at_sync).images.no_more d image);
     } in
-    write_told c.in-Err.fault area s content known.has c.in-Err.ensures.refused
+    write_told c.in-Err.fault area s content known.has c.in_ok-area.ensures.small c.in-Err.ensures.refused
+
+pub returns-in-Ok-clause-stood : goal.returns-in-Ok-clause-stood
+returns-in-Ok-clause-stood g c honest =
+    let area = c.in_ok-area.area in
+    let s = c.in_ok-area.broker.state in
+    let content = g.D.Disk.content c.args.disk.now in
+    let same : g.D.Disk.content c.sync.new.self ≡ content = c.sync.ensures.content honest in
+    let has : HasRead area s content = subst (λ (l : List ℕ). HasRead area s l) same (c.in_ok-area.ensures.read (c.sync.ensures.honest honest)) in
+    record {
+      before = s;
+      stood = stands area.size area.selector has.snapshot has.blocks content s has.at.reads has.leads;
+      is = c.in-Ok.ensures.state;
+    }
+
+pub returns-in_err-area-clause-unwritten : goal.returns-in_err-area-clause-unwritten
+returns-in_err-area-clause-unwritten g c honest =
+    let quiet = c.read_state.ensures.quiet (c.sync.ensures.honest honest) in
+    let none : IsUnwritten g.D.Disk c.args.disk.now c.read_state.new.disk = record {
+      content = quiet.content ∙ c.sync.ensures.content honest;
+      images = λ image is. c.sync.ensures.images honest image (quiet.images.no_more image is);
+    } in
+    if_read c.from_residual-in_err-area.result none
+
+pub returns-in-Err-clause-unwritten : goal.returns-in-Err-clause-unwritten
+returns-in-Err-clause-unwritten g c honest = written_told _ c.in-Err.fault c.in_ok-area.area.size c.in_ok-area.broker.state c.in-Err.ensures.refused

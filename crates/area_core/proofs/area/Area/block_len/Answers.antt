@@ -1,5 +1,5 @@
 use Rattle.area_core.proofs.Unwritten.{quiet_yet}
-use Rattle.std.proofs.Common.{arith}
+use Rattle.std.proofs.Common.{arith, rules}
 use Rattle.area_core.proofs.area.Area.block_len.Goals as goal
 
 pub returns-then-left-lt10-clause-quiet : goal.returns-then-left-lt10-clause-quiet
@@ -19,3 +19,6 @@ returns-clause-some g c = omega arith
 
 pub returns-clause-fits : goal.returns-clause-fits
 returns-clause-fits g c = omega arith
+
+pub returns-then-count-eq0-clause-refused : goal.returns-then-count-eq0-clause-refused
+returns-then-count-eq0-clause-refused g c = search rules

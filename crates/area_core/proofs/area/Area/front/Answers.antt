@@ -55,5 +55,6 @@ returns-then-length-size-clause-refused g c honest =
       at = c.begins-base.ensures;
       count = c.in_ok-length.length;
       told = ap (λ (l : List ℕ). take 8 (drop c.begins-base.result l)) (sym same) ∙ c.in_ok-length.ensures.number (c.header.ensures.honest honest);
+      word = omega arith;
       long = omega (arith, c.if-length-size.true);
     }

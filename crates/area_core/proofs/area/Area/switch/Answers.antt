@@ -1,4 +1,4 @@
-use Rattle.std.proofs.Common.{ℕ, ◌+◌, ◌%◌, List, [], sym, subst, arith}
+use Rattle.std.proofs.Common.{ℕ, ◌+◌, ◌%◌, List, [], sym, subst, arith, rules}
 use Rattle.disk_core.proofs.Runs.{weaker}
 use Rattle.area_core.specs.Journals.{Reads}
 use Rattle.area_core.proofs.Areas.{length-fresh}
@@ -31,3 +31,6 @@ returns-then-self-clause-any_moment g c honest = untouched g.D.Disk c.args.disk.
   live = (held image is).reads.area;
   idle = (idle image is).idle;
 })
+
+pub returns-clause-selector : goal.returns-clause-selector
+returns-clause-selector g c = search rules

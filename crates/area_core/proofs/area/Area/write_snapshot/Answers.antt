@@ -1,10 +1,11 @@
 use Rattle.std.proofs.Common.{rules, ◌≡◌, ℕ, ◌+◌, ◌≤◌, List, [], length, drop, refl, sym, subst, ap, arith}
 use Rattle.disk_core.proofs.Runs.{weaker}
+use Rattle.disk_core.proofs.Torn.{torn_same}
 use Rattle.area_core.specs.Areas.{closed, IsArea}
 use Rattle.area_core.specs.Journals.{is_odd, other, start}
 use Rattle.area_core.proofs.Areas.{length-closed}
 use Rattle.area_core.proofs.Journals.{start_most}
-use Rattle.area_core.proofs.Switches.{keeps_live, idle_is}
+use Rattle.area_core.proofs.Switches.{keeps_live, keeps_rest, idle_is}
 use Rattle.area_core.proofs.Unwritten.{untouched}
 use Rattle.area_core.proofs.area.Area.write_snapshot.Goals as goal
 
@@ -44,3 +45,26 @@ returns-then-size-self-clause-any_moment g c honest = untouched g.D.Disk c.args.
 
 pub returns-in_err-bytes-clause-any_moment : goal.returns-in_err-bytes-clause-any_moment
 returns-in_err-bytes-clause-any_moment g c honest = untouched g.D.Disk c.args.disk.now (g.met.D.Disk.only_now c.args.disk.now) _ (λ image is snapshot blocks held. held image is)
+
+pub returns-in_err-put-clause-outside : goal.returns-in_err-put-clause-outside
+returns-in_err-put-clause-outside g c honest =
+    let are : c.deref.result.now ≡ closed c.args.snapshot.now = search rules in
+    let fits : length c.deref.result.now ≤ c.args.self.now.size = omega (arith, ap (λ (l : List ℕ). length l) are, length-closed c.args.snapshot.now, c.if-size-self.false, c.args.self.now.idle) in
+    weaker g.D.Disk c.args.disk.now c.put.new.disk _ _ (c.put.ensures.any_moment honest)
+    (λ image torn. keeps_rest c.args.self.now (g.D.Disk.images c.args.disk.now) c.idle_begins.result (length c.deref.result.now) image c.idle_begins.ensures fits torn)
+
+pub returns-clause-outside : goal.returns-clause-outside
+returns-clause-outside g c honest =
+    let are : c.deref.result.now ≡ closed c.args.snapshot.now = search rules in
+    let fits : length c.deref.result.now ≤ c.args.self.now.size = omega (arith, ap (λ (l : List ℕ). length l) are, length-closed c.args.snapshot.now, c.if-size-self.false, c.args.self.now.idle) in
+    weaker g.D.Disk c.args.disk.now c.put.new.disk _ _ (c.put.ensures.any_moment honest)
+    (λ image torn. keeps_rest c.args.self.now (g.D.Disk.images c.args.disk.now) c.idle_begins.result (length c.deref.result.now) image c.idle_begins.ensures fits torn)
+
+pub returns-then-self-clause-outside : goal.returns-then-self-clause-outside
+returns-then-self-clause-outside g c honest = untouched g.D.Disk c.args.disk.now (g.met.D.Disk.only_now c.args.disk.now) _ (λ image is. (image, is, torn_same (start c.args.self.now.size (other (is_odd c.args.self.now.selector))) c.args.self.now.size image))
+
+pub returns-then-size-self-clause-outside : goal.returns-then-size-self-clause-outside
+returns-then-size-self-clause-outside g c honest = untouched g.D.Disk c.args.disk.now (g.met.D.Disk.only_now c.args.disk.now) _ (λ image is. (image, is, torn_same (start c.args.self.now.size (other (is_odd c.args.self.now.selector))) c.args.self.now.size image))
+
+pub returns-in_err-bytes-clause-outside : goal.returns-in_err-bytes-clause-outside
+returns-in_err-bytes-clause-outside g c honest = untouched g.D.Disk c.args.disk.now (g.met.D.Disk.only_now c.args.disk.now) _ (λ image is. (image, is, torn_same (start c.args.self.now.size (other (is_odd c.args.self.now.selector))) c.args.self.now.size image))
