@@ -5,6 +5,7 @@ ghost use Rattle.claim_core.specs.Steps.{claimer};
 
 use crate::ring::Ring;
 use crate::seats::{FlushSeat, SessionSeat};
+use crate::sizes::{BrokerRing, BrokerSeat};
 use crate::steps::{claim, ready};
 use crate::views::Place;
 use command_core::{Command, Entry, Op};
@@ -51,8 +52,14 @@ fn append(alloc: Global, ring: &SmallRing, seats: &mut [SmallSeat], delivery: u6
     }
 }
 
-fn append_for(alloc: Global, ring: &SmallRing, seat: &mut SmallSeat, delivery: u64) -> Option<u64>
+fn append_for<const SEATS: usize, const WINDOW: usize, const PLACES: usize>(
+    alloc: Global,
+    ring: &Ring<(), SEATS, WINDOW, PLACES>,
+    seat: &mut SessionSeat<(), WINDOW>,
+    delivery: u64,
+) -> Option<u64>
     requires { seat.old.ring ≡ ring.now }
+    ensures { seat.new.ring ≡ ring.now }
 {
     match entry(alloc, delivery) {
         Some(entry) => ring.append(seat, entry).ok(),
@@ -155,5 +162,66 @@ fn play_anew(alloc: Global) -> Option<[Option<u64>; 4]> {
 fn an_entry_that_is_not_ready_holds_up_the_next(rt: HostRuntime) -> Result<(), Fail> {
     let played = play_anew(rt.alloc());
     assert_eq!(rt; played, Some([Some(1), None, Some(70), Some(71)]));
+    Ok(())
+}
+
+// Appends an entry, which is taken and published.
+fn go_on(
+    alloc: Global,
+    ring: &BrokerRing<()>,
+    seat: &mut BrokerSeat<()>,
+    flush: &mut FlushSeat<()>,
+) -> bool
+    requires { (seat.old.ring ≡ ring.now) × (flush.old.ring ≡ ring.now) }
+    ensures { (seat.new.ring ≡ ring.now) × (flush.new.ring ≡ ring.now) }
+{
+    let appended = append_for(alloc, ring, seat, 1).is_some();
+    drop(ring.take(flush));
+    let mark = flush.next();
+    ring.raise(flush, mark);
+    appended
+}
+
+// One round: an entry at each of the 256 places.
+fn go_round(
+    alloc: Global,
+    ring: &BrokerRing<()>,
+    seat: &mut BrokerSeat<()>,
+    flush: &mut FlushSeat<()>,
+) -> bool
+    requires { (seat.old.ring ≡ ring.now) × (flush.old.ring ≡ ring.now) }
+    ensures { (seat.new.ring ≡ ring.now) × (flush.new.ring ≡ ring.now) }
+{
+    for _ in 0..256 {
+        if !go_on(alloc, ring, seat, flush) {
+            return false;
+        }
+    }
+    true
+}
+
+// The word of the first place before and after ticket 256 is claimed, and that ticket.
+fn words_at_the_second_round(
+    alloc: Global,
+    ring: &BrokerRing<()>,
+    seat: &mut BrokerSeat<()>,
+) -> (u64, Option<u64>, u64)
+    requires { seat.old.ring ≡ ring.now }
+{
+    let free = ring.table.shared.peek(3);
+    let ticket = append_for(alloc, ring, seat, 1);
+    (free, ticket, ring.table.shared.peek(3))
+}
+
+#[test]
+fn ticket_256_lands_on_the_first_place(rt: HostRuntime) -> Result<(), Fail> {
+    let alloc = rt.alloc();
+    let (ring, mut seats, mut flush) = BrokerRing::<()>::new(alloc, 0)?;
+    let Some(mut seat) = seats.pop() else {
+        panic!(rt; "a seat is missing")
+    };
+    assert!(rt; go_round(alloc, &ring, &mut seat, &mut flush));
+    let words = words_at_the_second_round(alloc, &ring, &mut seat);
+    assert_eq!(rt; words, (768, Some(256), 769));
     Ok(())
 }
