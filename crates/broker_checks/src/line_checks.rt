@@ -2,7 +2,7 @@
 
 ghost use Rattle.std.specs.Prelude.{◌≡◌, ◌↔◌, [], IfOk, IfSome, IsTrue, false, true};
 ghost use Rattle.std.specs.List.{AllByRecursion};
-ghost use Rattle.command_core.specs.Destinations.{is_queue};
+ghost use Rattle.record_core.specs.Destinations.{is_queue};
 ghost use Rattle.broker_state.specs.Lists.{is_none};
 ghost use Rattle.broker_state.specs.Operations.{topic_of};
 ghost use Rattle.broker_state.specs.PartsOf.{state_of_parts};

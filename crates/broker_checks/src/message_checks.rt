@@ -1,6 +1,6 @@
 //! Whether no message stands twice in a line and what is unacknowledged from it.
 
-ghost use Rattle.std.specs.Prelude.{◌≡◌, ◌+◌, ◌++◌, ◌≤◌, ◌↔◌, IfOk, IsTrue, List, MatchOption, ℕ, cond, count_by, false};
+ghost use Rattle.std.specs.Prelude.{◌≡◌, ◌+◌, ◌++◌, ◌≤◌, ◌↔◌, IfOk, Bool, IsTrue, List, MatchOption, ℕ, cond, count_by, false};
 ghost use Rattle.std.specs.BTreeMap.{is_at};
 ghost use Rattle.std.specs.List.{AllByRecursion};
 ghost use Rattle.line_core.specs.Lines.{is_same};
@@ -8,7 +8,8 @@ ghost use Rattle.line_core.specs.declared.message.MessageNumber.{MessageNumber};
 ghost use Rattle.broker_state.specs.Kept.{takes_from, unacknowledged_by};
 ghost use Rattle.broker_state.specs.Names.{AreSame, Name, name_cmp, text_cmp};
 ghost use Rattle.broker_state.specs.Operations.{uses};
-ghost use Rattle.broker_checks.specs.Seen.{count_of, seen_at};
+ghost use Rattle.broker_checks.specs.Seen.{Tells, count_of, seen_at};
+ghost use Rattle.broker_state.specs.declared.subscription.Subscription.{Subscription};
 ghost use Rattle.broker_state.specs.Sound.{AreOnce, had_by};
 ghost use Rattle.broker_state.specs.Waiting.{line_at};
 
@@ -90,19 +91,34 @@ fn queue_of(sub: &Subscription) -> Option<&Dest>
     }
 }
 
-/// Whether what the subscriptions of each queue have not acknowledged has numbers that differ and that were not seen
-/// under the queue.
-fn are_new_in_queues<'a>(
-    seen: &mut BTreeSet<(&'a Dest, MessageNumber)>,
+/// The durable name that a subscription uses, where it uses one.
+fn name_of(sub: &Subscription) -> Option<&DurableName>
+    ensures { MatchOption result ((name : Name) → uses name sub.now ≡ false)
+        (λ own. (name : Name) → uses name sub.now ≡ is_at (name_cmp name) own.now) }
+{
+    match &sub.durable {
+        Some(name) => Some(name),
+        None => None,
+    }
+}
+
+/// Whether what the subscriptions of each key have not acknowledged has numbers that differ and that were not seen under
+/// the key, where `key_of` tells the key of a subscription.
+fn unacknowledged_are_new<'a, K: Ord, F: Fn(&'a Subscription) -> Option<&'a K>>(
+    seen: &mut BTreeSet<(&'a K, MessageNumber)>,
     subscriptions: &'a [Subscription],
+    key_of: F,
 ) -> Result<bool, AllocError>
-    ensures { IfOk result (λ yes. IsTrue yes
-        ↔ ((to : List ℕ) (number : MessageNumber) → seen_at text_cmp seen.old to number
-        + count_of number (unacknowledged_by (takes_from to) subscriptions.now) ≤ 1)) }
+    requires same { AreSame K.cmp }
+    requires callable { F.IsAlwaysCallable key_of }
+    ensures { (takes : K → Subscription → Bool) → Tells K.cmp (F.post key_of) takes
+        → IfOk result (λ yes. IsTrue yes
+        ↔ ((key : K) (number : MessageNumber) → seen_at K.cmp seen.old key number
+        + count_of number (unacknowledged_by (takes key) subscriptions.now) ≤ 1)) }
 {
     for sub in subscriptions {
-        if let Some(queue) = queue_of(sub) {
-            if !deliveries_are_new(seen, queue, sub.unacknowledged.as_slice())? {
+        if let Some(key) = key_of(sub) {
+            if !deliveries_are_new(seen, key, sub.unacknowledged.as_slice())? {
                 return Ok(false);
             }
         }
@@ -110,24 +126,25 @@ fn are_new_in_queues<'a>(
     Ok(true)
 }
 
-/// Whether what the subscriptions of each durable name have not acknowledged has numbers that differ and that were not
-/// seen under the name.
-fn are_new_under_names<'a>(
-    seen: &mut BTreeSet<(&'a DurableName, MessageNumber)>,
+/// Whether of each key no message stands twice: in its line, or in what is unacknowledged by its subscriptions, of which
+/// `key_of` tells the key.
+fn are_once_by<'a, K: Ord, F: Fn(&'a Subscription) -> Option<&'a K>>(
+    alloc: Global,
+    lines: &'a BTreeMap<K, Line>,
     subscriptions: &'a [Subscription],
+    key_of: F,
 ) -> Result<bool, AllocError>
-    ensures { IfOk result (λ yes. IsTrue yes
-        ↔ ((name : Name) (number : MessageNumber) → seen_at name_cmp seen.old name number
-        + count_of number (unacknowledged_by (uses name) subscriptions.now) ≤ 1)) }
+    requires same { AreSame K.cmp }
+    requires callable { F.IsAlwaysCallable key_of }
+    ensures { (takes : K → Subscription → Bool) → Tells K.cmp (F.post key_of) takes
+        → IfOk result (λ yes. IsTrue yes
+        ↔ ((key : K) → AreOnce (line_at K.cmp key lines.now.entries ++ unacknowledged_by (takes key) subscriptions.now))) }
 {
-    for sub in subscriptions {
-        if let Some(name) = &sub.durable {
-            if !deliveries_are_new(seen, name, sub.unacknowledged.as_slice())? {
-                return Ok(false);
-            }
-        }
+    let mut seen = BTreeSet::new(alloc);
+    if !lines_are_new(&mut seen, lines)? {
+        return Ok(false);
     }
-    Ok(true)
+    unacknowledged_are_new(&mut seen, subscriptions, key_of)
 }
 
 /// Whether of each queue no message stands twice in its line and what is unacknowledged.
@@ -135,11 +152,8 @@ pub fn are_once_in_queues(alloc: Global, parts: &Parts) -> Result<bool, AllocErr
     ensures { IfOk result (λ yes. IsTrue yes
         ↔ ((to : List ℕ) → AreOnce (line_at text_cmp to parts.now.queues.entries ++ unacknowledged_by (takes_from to) parts.now.subscriptions.items))) }
 {
-    let mut seen = BTreeSet::new(alloc);
-    if !lines_are_new(&mut seen, &parts.queues)? {
-        return Ok(false);
-    }
-    are_new_in_queues(&mut seen, parts.subscriptions.as_slice())
+    let subscriptions = parts.subscriptions.as_slice();
+    are_once_by(alloc, &parts.queues, subscriptions, |sub| queue_of(sub))
 }
 
 /// Whether of each durable name no message stands twice in its line and what is unacknowledged.
@@ -147,11 +161,8 @@ pub fn are_once_under_names(alloc: Global, parts: &Parts) -> Result<bool, AllocE
     ensures { IfOk result (λ yes. IsTrue yes
         ↔ ((name : Name) → AreOnce (line_at name_cmp name parts.now.names.entries ++ unacknowledged_by (uses name) parts.now.subscriptions.items))) }
 {
-    let mut seen = BTreeSet::new(alloc);
-    if !lines_are_new(&mut seen, &parts.names)? {
-        return Ok(false);
-    }
-    are_new_under_names(&mut seen, parts.subscriptions.as_slice())
+    let subscriptions = parts.subscriptions.as_slice();
+    are_once_by(alloc, &parts.names, subscriptions, |sub| name_of(sub))
 }
 
 /// Whether a subscription has no message twice. They are seen under its id, the only key here.

@@ -1,7 +1,8 @@
 //! A command is carried out.
 
 ghost use Rattle.std.specs.Prelude.{◌≡◌, ◌∷◌, ◌++◌, ◌<◌, ◌^◌, [], false, IfOk, IsErr, OnOk};
-ghost use Rattle.command_core.specs.Operations.{IsGiven, IsOp};
+ghost use Rattle.record_core.specs.Texts.{IsGiven};
+ghost use Rattle.command_core.specs.Operations.{IsOp};
 ghost use Rattle.command_core.specs.Replies.{connected};
 ghost use Rattle.broker_state.specs.HandOut.{settled};
 ghost use Rattle.broker_state.specs.Operations.{ended, executed, opened};

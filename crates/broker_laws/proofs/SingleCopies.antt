@@ -3,8 +3,8 @@ use Rattle.std.specs.List.{AllByRecursion, sum_by}
 use Rattle.std.specs.Ordering.{is_eq}
 use Rattle.std.proofs.lemmas.List.Sums.{sum_by-cons, sum_by_push}
 use Rattle.frame_core.proofs.Lists.{all_push, all_weaker}
-use Rattle.command_core.specs.Destinations.{is_queue}
-use Rattle.command_core.specs.Sendings.{SendingValue}
+use Rattle.record_core.specs.Destinations.{is_queue}
+use Rattle.record_core.specs.Sendings.{SendingValue}
 use Rattle.line_core.specs.declared.message.Message.{Message}
 use Rattle.line_core.proofs.Flights.{sum_by-settled}
 use Rattle.line_core.proofs.Inserted.{sum_by-inserted}

@@ -4,7 +4,7 @@ use Rattle.std.specs.List.{list_any}
 use Rattle.std.specs.Map.{remove_entry}
 use Rattle.std.specs.Ordering.{nat_cmp}
 use Rattle.std.proofs.lemmas.Option.{none-some, same_Some, slice_get_within}
-use Rattle.command_core.specs.declared.ack_mode.AckMode.{AckMode}
+use Rattle.record_core.specs.declared.ack_mode.AckMode.{AckMode}
 use Rattle.command_core.specs.declared.command.Op.TheVariants.{Unsubscribe}
 use Rattle.command_core.specs.declared.fault.Fault.{Fault}
 use Rattle.command_core.specs.declared.fault.Fault.TheVariants.{DurableSubscription, SubscriptionIdInUse, UnknownSubscription, UnknownAcknowledgement, TooManyEntries}

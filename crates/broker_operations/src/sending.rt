@@ -2,7 +2,7 @@
 
 ghost use Rattle.std.specs.Prelude.{◌≡◌, ◌+◌, ◌<◌, ◌≤◌, ◌&&◌, ◌^◌, ℕ, IfOk, IsErr, OnOk, count_by, false, map};
 ghost use Rattle.std.specs.Str.{bytes_eq};
-ghost use Rattle.command_core.specs.Destinations.{is_queue};
+ghost use Rattle.record_core.specs.Destinations.{is_queue};
 ghost use Rattle.broker_state.specs.Operations.{copied, copied_to_names, sent};
 ghost use Rattle.broker_state.specs.Parts.{copies_to, find_room, leaving};
 ghost use Rattle.broker_operations.specs.Sendings.{IsFannedOut};

@@ -1,6 +1,6 @@
 //! The lines that stay when a subscription ends.
 
-ghost use Rattle.std.specs.Prelude.{◌≡◌, ◌+◌, [], IfOk, None, OnOk, Some, drop, false, not, ℕ};
+ghost use Rattle.std.specs.Prelude.{◌≡◌, ◌+◌, [], IfOk, None, OnErr, OnOk, Some, drop, false, not, ℕ};
 ghost use Rattle.std.specs.BTreeMap.{is_at};
 ghost use Rattle.std.specs.List.{sum_by};
 ghost use Rattle.std.specs.List.Sorted.{IsStrictlySortedBy};
@@ -10,8 +10,8 @@ ghost use Rattle.line_core.specs.Lines.{first_of};
 ghost use Rattle.broker_state.specs.Lists.{is_none};
 ghost use Rattle.broker_state.specs.Names.{name_cmp, text_cmp};
 ghost use Rattle.broker_state.specs.States.{weight_of_subscription};
-ghost use Rattle.broker_operations.specs.Returns.{returned_to};
-ghost use Rattle.broker_state.specs.Waiting.{left_line, left_shared, line_at, line_for, returned, weight_of_shared, with_message};
+ghost use Rattle.broker_operations.specs.Returns.{KeepsWeight, returned_to};
+ghost use Rattle.broker_state.specs.Waiting.{left_line, left_shared, line_at, line_for, returned, weight_of_lines, weight_of_shared, with_line, with_message};
 
 use crate::keyed_lines::{self, Side};
 use broker_state::{DurableName, Subscription, has_waiting, stand_in_order};
@@ -42,6 +42,22 @@ impl Model for SharedLines {
 pub(crate) struct Gone {
     pub line: Line,
     pub deliveries: Vec<(u64, Message)>,
+}
+
+/// Takes the least message out of the line of that queue. Where memory is refused, that line is gone, and the others stand.
+fn take_from_queue(
+    queues: &mut BTreeMap<Dest, Line>,
+    destination: &Dest,
+) -> Result<Option<Message>, AllocError>
+    ensures taken { IfOk result (λ m. m ≡ first_of (line_at text_cmp destination.now queues.old.entries)) }
+    ensures err { OnErr result (queues.new.entries ≡ remove_entry (is_at (text_cmp destination.now)) queues.old.entries) }
+    ensures rest { OnOk result (queues.new.entries
+        ≡ with_line text_cmp destination.now (drop 1 (line_at text_cmp destination.now queues.old.entries)) queues.old.entries) }
+    ensures weight { OnOk result ((weight : Message → ℕ) → weight_of_lines weight queues.new.entries
+        + sum_by weight (line_at text_cmp destination.now queues.old.entries)
+        ≡ weight_of_lines weight queues.old.entries + sum_by weight (drop 1 (line_at text_cmp destination.now queues.old.entries))) }
+{
+    keyed_lines::take(queues, destination)
 }
 
 impl SharedLines {
@@ -109,7 +125,7 @@ impl SharedLines {
     {
         let message = match &sub.durable {
             Some(name) => keyed_lines::take(&mut self.names, name)?,
-            None if sub.destination.is_queue() => keyed_lines::take(
+            None if sub.destination.is_queue() => take_from_queue(
                 &mut self.queues,
                 &sub.destination,
             )?,
@@ -178,9 +194,7 @@ impl SharedLines {
         deliveries: Vec<(u64, Message)>,
     ) -> Result<Vec<(u64, Message)>, AllocError>
         ensures shared { OnOk result (self.new ≡ returned_to self.old durable.now destination.now deliveries.items) }
-        ensures weight { IfOk result (λ gone. (weight : Message → ℕ) → weight_of_shared weight self.new
-            + sum_by (λ delivery. weight delivery.1) gone.items
-            ≡ weight_of_shared weight self.old + sum_by (λ delivery. weight delivery.1) deliveries.items) }
+        ensures weight { IfOk result (λ gone. KeepsWeight self.old deliveries.items self.new gone.items) }
     {
         match durable {
             Some(name) => self.return_to_name(alloc, name, deliveries),
@@ -197,9 +211,7 @@ impl SharedLines {
         deliveries: Vec<(u64, Message)>,
     ) -> Result<Vec<(u64, Message)>, AllocError>
         ensures shared { OnOk result (self.new ≡ returned_to self.old (Some name.now) [] deliveries.items) }
-        ensures weight { IfOk result (λ gone. (weight : Message → ℕ) → weight_of_shared weight self.new
-            + sum_by (λ delivery. weight delivery.1) gone.items
-            ≡ weight_of_shared weight self.old + sum_by (λ delivery. weight delivery.1) deliveries.items) }
+        ensures weight { IfOk result (λ gone. KeepsWeight self.old deliveries.items self.new gone.items) }
     {
         match keyed_lines::put_back(alloc, &mut self.names, name, deliveries) {
             Ok(()) => Ok(Vec::new(alloc)),
@@ -216,9 +228,7 @@ impl SharedLines {
         deliveries: Vec<(u64, Message)>,
     ) -> Result<Vec<(u64, Message)>, AllocError>
         ensures shared { OnOk result (self.new ≡ returned_to self.old None destination.now deliveries.items) }
-        ensures weight { IfOk result (λ gone. (weight : Message → ℕ) → weight_of_shared weight self.new
-            + sum_by (λ delivery. weight delivery.1) gone.items
-            ≡ weight_of_shared weight self.old + sum_by (λ delivery. weight delivery.1) deliveries.items) }
+        ensures weight { IfOk result (λ gone. KeepsWeight self.old deliveries.items self.new gone.items) }
     {
         if !destination.is_queue() {
             return Ok(deliveries);

@@ -5,7 +5,7 @@ ghost use Rattle.std.specs.BTreeMap.{insert_entry};
 ghost use Rattle.std.specs.List.{list_any, sum_by};
 ghost use Rattle.std.specs.Str.{bytes_eq};
 ghost use Rattle.line_core.specs.declared.message.Message.{Message};
-ghost use Rattle.command_core.specs.Operations.{IsGiven};
+ghost use Rattle.record_core.specs.Texts.{IsGiven};
 ghost use Rattle.command_core.specs.declared.command.Op.TheVariants.{Unsubscribe};
 ghost use Rattle.broker_state.specs.Names.{name_cmp};
 ghost use Rattle.broker_state.specs.Operations.{begun, executed, client_in, ended, forgotten, given_up, given_up_for, is_named, is_of, name_for, restarted, subscribed, uses, with_subscription, without};

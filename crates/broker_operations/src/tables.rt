@@ -1,7 +1,7 @@
 //! What the broker keeps: sessions, durable names, lines and subscriptions, and how much is held.
 
 ghost use Rattle.std.specs.Prelude.{◌≡◌, OnOk};
-ghost use Rattle.command_core.specs.Operations.{IsGiven};
+ghost use Rattle.record_core.specs.Texts.{IsGiven};
 ghost use Rattle.broker_state.specs.Operations.{opened};
 ghost use Rattle.broker_state.specs.States.{empty_state, held_bytes, held_messages};
 ghost use Rattle.broker_state.specs.PartsOf.{state_of_parts};

@@ -1,10 +1,9 @@
 -- Operations in records.
-use Rattle.std.proofs.Common.{◌≡◌, ◌≢◌, ◌<◌, ◌^◌, ◌&&◌, ◌||◌, ◌⊎◌, ◌++◌, ◌∷◌, [], ℕ, Bool, true, false, cond, eqb, List, Option, Some, None, IfSome, inl, inr, refl, sym, ap, subst, ◌∙◌, append_assoc}
+use Rattle.std.proofs.Common.{◌≡◌, ◌≢◌, ◌<◌, ◌^◌, arith, ◌&&◌, ◌||◌, ◌⊎◌, ◌++◌, ◌∷◌, [], ℕ, Bool, true, false, cond, eqb, List, Option, Some, None, IfSome, inl, inr, refl, sym, ap, subst, ◌∙◌, append_assoc}
 use Rattle.std.specs.Prelude.{is_some, IsSome}
 use Rattle.std.specs.Int.{w64, to_be_bytes}
-use Rattle.std.proofs.lemmas.Bool.{eqb-true, false≢true}
-use Rattle.command_core.specs.declared.ack_mode.AckMode.{AckMode}
-use Rattle.command_core.specs.declared.ack_mode.AckMode.TheVariants.{Auto, Client, ClientIndividual}
+use Rattle.std.proofs.lemmas.Bool.{false≢true}
+use Rattle.record_core.specs.declared.ack_mode.AckMode.{AckMode}
 use Rattle.command_core.specs.declared.command.End.{End as ending}
 use Rattle.command_core.specs.declared.command.End.TheVariants.{Bye, Lost, Bad}
 use Rattle.command_core.specs.declared.command.Op.{Op}
@@ -13,34 +12,26 @@ use Rattle.command_core.specs.declared.fault.Fault.{Fault}
 use Rattle.command_core.specs.declared.fault.Fault.TheVariants.{MalformedFrame, FrameTooLarge, UndefinedEscape, UnknownCommand, MissingHeader, UnsupportedVersion, UnexpectedFrame, BadDestination, SubscriptionIdInUse, UnknownSubscription, UnknownAcknowledgement, NoRoom, NoClientId, DurableSubscription, TransactionBegun, TransactionNotBegun, TransactionTooLarge, TooManyEntries, BodyNotAllowed, BadHeaderValue}
 use Rattle.command_core.specs.declared.member.Member.{Member}
 use Rattle.command_core.specs.declared.member.Member.TheVariants as kinds
-use Rattle.command_core.specs.Destinations.{IsDestination, is_queue}
+use Rattle.record_core.specs.Destinations.{IsDestination, is_queue}
 use Rattle.command_core.specs.Faults.{code_of}
-use Rattle.command_core.specs.Operations.{IsOp}
-use Rattle.command_core.specs.Spellings.{AreBytes, IsText, IsSent, IsMember, IsOperation, counted, optional, sending, member, mode_byte, operation}
+use Rattle.command_core.specs.Operations.{IsOp, op_of}
+use Rattle.record_core.specs.Spellings.{AreBytes, IsText, IsSent, counted, optional, sending, mode_byte}
+use Rattle.command_core.specs.Spellings.{IsMember, IsOperation, member, operation}
 use Rattle.command_core.specs.Spellings.{end as end_bytes}
-use Rattle.command_core.specs.Reading.{◌>>=◌, Reader, made, all_faults, byte_at, number_at, text_at, optional_at, name_at, destination_at, sending_at, list_at, mode_at, fault_with, fault_at, end_at, subscribe_at, unsubscribe_at, member_at, operation_at}
-use Rattle.command_core.proofs.Formats.{Takes, Takes-then, Format, FewEach, spell_list, bind_some, first_takes, first_again, last_takes, last_if, last_if_not, byte, number, wide64, list}
-use Rattle.command_core.proofs.RecordTexts.{IsName, text_format, optional_format, name_format, destination_format}
-use Rattle.command_core.proofs.RecordMessages.{sending_format}
+use Rattle.record_core.specs.Reading.{◌>>=◌, Reader, made, byte_at, number_at, text_at, optional_at, name_at, destination_at, sending_at, mode_at, few_at}
+use Rattle.command_core.specs.Reading.{all_faults, fault_with, fault_at, end_at, subscribe_at, unsubscribe_at, member_at, member_behind, operation_at}
+use Rattle.record_core.proofs.Formats.{Takes, Takes-then, Format, FewEach, HasBytes, spell_few, bind_some, first_takes, first_again, last_takes, last_if, last_if_not, byte, few, number, wide64}
+use Rattle.record_core.proofs.RecordTexts.{IsName, text_format, optional_format, name_format, destination_format}
+use Rattle.record_core.proofs.RecordMessages.{sending_format}
+use Rattle.record_core.proofs.RecordModes.{Always, chosen, kind_is, mode_bytes, mode_format}
+use Rattle.record_core.specs.Sendings.{SendingValue}
 
 -- ---- kinds
-
-chosen_by : {A : Type 0} (b k : ℕ) (t : Bool) (x y : Option A) (z : A) (P : Type 0) → eqb b k ≡ t → (b ≡ k → x ≡ Some z → P) → (y ≡ Some z → P) → cond t x y ≡ Some z → P
-chosen_by b k true x y z P is when otherwise e = when (eqb-true b k is) e
-chosen_by b k false x y z P is when otherwise e = otherwise e
-
--- what is read behind a kind, by whether it is that one
-chosen : {A : Type 0} (b k : ℕ) (x y : Option A) (z : A) (P : Type 0) → (b ≡ k → x ≡ Some z → P) → (y ≡ Some z → P) → cond (eqb b k) x y ≡ Some z → P
-chosen b k x y z P when otherwise e = chosen_by b k (eqb b k) x y z P refl when otherwise e
 
 -- the kind that has nothing behind it
 pub note_read : (bytes rest : List ℕ) (kind : ℕ) → byte_at bytes ≡ Some (kind, rest) → kind ≡ 8 → operation_at bytes ≡ Some (Note, rest)
 unfolding operation_at
 note_read bytes rest kind e is = rw (e, is) refl
-
--- a kind that is read as that one
-kind_is : (bytes rest : List ℕ) (b k : ℕ) → Takes bytes (b ∷ []) rest → b ≡ k → Takes bytes (k ∷ []) rest
-kind_is bytes rest b k taken is = subst (λ (n : ℕ). Takes bytes (n ∷ []) rest) is taken
 
 -- what stands behind its kind
 tagged_takes : {A B : Type 0} (spell : A → List ℕ) (Form : A → Type 0) (read : Reader A) → Format spell Form read → (f : A → B) (whole : B → List ℕ) (Whole : B → Type 0) (tag : ℕ) → ((x : A) → tag ∷ spell x ≡ whole (f x)) → ((x : A) → Form x → Whole (f x))
@@ -49,32 +40,6 @@ tagged_takes {A} spell Form read format f whole Whole tag same formed bytes fron
     let x = first_takes spell Form read format (λ (x : A × List ℕ). Some (f x.0, x.1)) front (y, rest) taken.fits e in
     let both = Takes-then bytes (tag ∷ []) front (spell x.value) x.rest taken x.taken in
     last_takes whole Whole bytes (f x.value, x.rest) (y, rest) x.then (subst (λ (t : List ℕ). Takes bytes t x.rest) (same x.value) both, formed x.value x.form)
-
-abbrev Always : {A : Type 0} → A → Type 0
-Always x = Unit {0}
-
--- ---- modes
-
-abbrev mode_bytes : AckMode → List ℕ
-mode_bytes mode = mode_byte mode ∷ []
-
-mode_takes : (bytes : List ℕ) (m : AckMode) (rest : List ℕ) → AreBytes bytes → mode_at bytes ≡ Some (m, rest) → Takes bytes (mode_bytes m) rest × Always m
-unfolding mode_at
-mode_takes bytes m rest fits e =
-    let b = first_takes (λ (b : ℕ). b ∷ []) (λ b. b < 256) byte_at byte (λ mode. cond (eqb mode.0 0) (Some (Auto, mode.1)) (cond (eqb mode.0 1) (Some (Client, mode.1)) (cond (eqb mode.0 2) (Some (ClientIndividual, mode.1)) None))) bytes (m, rest) fits e in
-    let P = Takes bytes (mode_bytes m) rest × Always m in
-    chosen b.value 0 _ _ (m, rest) P (λ is e. last_takes mode_bytes Always bytes (Auto, b.rest) (m, rest) e (kind_is bytes b.rest b.value 0 b.taken is, tt))
-    (chosen b.value 1 _ _ (m, rest) P (λ is e. last_takes mode_bytes Always bytes (Client, b.rest) (m, rest) e (kind_is bytes b.rest b.value 1 b.taken is, tt))
-    (chosen b.value 2 _ _ (m, rest) P (λ is e. last_takes mode_bytes Always bytes (ClientIndividual, b.rest) (m, rest) e (kind_is bytes b.rest b.value 2 b.taken is, tt)) (λ e. absurd cc))) b.then
-
-mode_again : (m : AckMode) (rest : List ℕ) → Always m → mode_at (mode_bytes m ++ rest) ≡ Some (m, rest)
-unfolding mode_at
-mode_again Auto rest form = refl
-mode_again Client rest form = refl
-mode_again ClientIndividual rest form = refl
-
-pub mode_format : Format mode_bytes Always mode_at
-mode_format = record { takes = mode_takes; again = mode_again }
 
 -- ---- faults
 
@@ -159,26 +124,49 @@ IsNumber n = n < 2 ^ 64
 abbrev numbers : Format (to_be_bytes w64) IsNumber (number_at w64)
 numbers = number w64 (2 ^ 64) wide64
 
+-- behind its kind
+behind_takes : (bytes front : List ℕ) (kind : ℕ) (m : Member) (rest : List ℕ) → Takes bytes (kind ∷ []) front → member_behind kind front ≡ Some (m, rest) → Takes bytes (member m) rest × IsMember m
+unfolding member_behind
+behind_takes bytes front kind m rest taken e =
+    let P = Takes bytes (member m) rest × IsMember m in
+    chosen kind 2 _ _ (m, rest) P (λ is e. tagged_takes sending IsSent sending_at sending_format kinds.Send member IsMember 2 (λ s. refl) (λ s form. form) bytes front rest m (kind_is bytes front kind 2 taken is) e)
+    (chosen kind 5 _ _ (m, rest) P (λ is e. tagged_takes (to_be_bytes w64) IsNumber (number_at w64) numbers kinds.Ack member IsMember 5 (λ n. refl) (λ n form. form) bytes front rest m (kind_is bytes front kind 5 taken is) e)
+    (chosen kind 6 _ _ (m, rest) P (λ is e. tagged_takes (to_be_bytes w64) IsNumber (number_at w64) numbers kinds.Nack member IsMember 6 (λ n. refl) (λ n form. form) bytes front rest m (kind_is bytes front kind 6 taken is) e) (λ e. absurd cc))) e
+
+sent_again : (s : SendingValue) (rest : List ℕ) → IsSent s → member_behind 2 (sending s ++ rest) ≡ Some (kinds.Send s, rest)
+unfolding member_behind
+sent_again s rest form = ap (λ o. made kinds.Send o) (sending_format.again s rest form)
+
+acknowledged_again : (n : ℕ) (rest : List ℕ) → IsNumber n → member_behind 5 (to_be_bytes w64 n ++ rest) ≡ Some (kinds.Ack n, rest)
+unfolding member_behind
+acknowledged_again n rest form = ap (λ o. made kinds.Ack o) (numbers.again n rest form)
+
+refused_again : (n : ℕ) (rest : List ℕ) → IsNumber n → member_behind 6 (to_be_bytes w64 n ++ rest) ≡ Some (kinds.Nack n, rest)
+unfolding member_behind
+refused_again n rest form = ap (λ o. made kinds.Nack o) (numbers.again n rest form)
+
 member_takes : (bytes : List ℕ) (m : Member) (rest : List ℕ) → AreBytes bytes → member_at bytes ≡ Some (m, rest) → Takes bytes (member m) rest × IsMember m
 unfolding member_at
 member_takes bytes m rest fits e =
-    let b = first_takes (λ (b : ℕ). b ∷ []) (λ b. b < 256) byte_at byte (λ kind. cond (eqb kind.0 2) (made kinds.Send (sending_at kind.1)) (cond (eqb kind.0 5) (made kinds.Ack (number_at w64 kind.1)) (cond (eqb kind.0 6) (made kinds.Nack (number_at w64 kind.1)) None))) bytes (m, rest) fits e in
-    let P = Takes bytes (member m) rest × IsMember m in
-    chosen b.value 2 _ _ (m, rest) P (λ is e. tagged_takes sending IsSent sending_at sending_format kinds.Send member IsMember 2 (λ s. refl) (λ s form. form) bytes b.rest rest m (kind_is bytes b.rest b.value 2 b.taken is) e)
-    (chosen b.value 5 _ _ (m, rest) P (λ is e. tagged_takes (to_be_bytes w64) IsNumber (number_at w64) numbers kinds.Ack member IsMember 5 (λ n. refl) (λ n form. form) bytes b.rest rest m (kind_is bytes b.rest b.value 5 b.taken is) e)
-    (chosen b.value 6 _ _ (m, rest) P (λ is e. tagged_takes (to_be_bytes w64) IsNumber (number_at w64) numbers kinds.Nack member IsMember 6 (λ n. refl) (λ n form. form) bytes b.rest rest m (kind_is bytes b.rest b.value 6 b.taken is) e) (λ e. absurd cc))) b.then
+    let b = first_takes (λ (b : ℕ). b ∷ []) (λ b. b < 256) byte_at byte (λ kind. member_behind kind.0 kind.1) bytes (m, rest) fits e in
+    behind_takes bytes b.rest b.value m rest b.taken b.then
 
 member_again : (m : Member) (rest : List ℕ) → IsMember m → member_at (member m ++ rest) ≡ Some (m, rest)
 unfolding member_at
-member_again (kinds.Send s) rest form = ap (λ o. made kinds.Send o) (sending_format.again s rest form)
-member_again (kinds.Ack delivery) rest form = ap (λ o. made kinds.Ack o) (numbers.again delivery rest form)
-member_again (kinds.Nack delivery) rest form = ap (λ o. made kinds.Nack o) (numbers.again delivery rest form)
+member_again (kinds.Send s) rest form = sent_again s rest form
+member_again (kinds.Ack delivery) rest form = acknowledged_again delivery rest form
+member_again (kinds.Nack delivery) rest form = refused_again delivery rest form
 
 pub member_format : Format member IsMember member_at
 member_format = record { takes = member_takes; again = member_again }
 
-abbrev members_format : Format (spell_list member) (FewEach IsMember) (list_at member_at)
-members_format = list member IsMember member_at member_format
+some_bytes : HasBytes member
+some_bytes (kinds.Send s) = omega arith
+some_bytes (kinds.Ack delivery) = omega arith
+some_bytes (kinds.Nack delivery) = omega arith
+
+abbrev members_format : Format (spell_few member) (FewEach IsMember) (few_at member_at)
+members_format = few member IsMember member_at member_format some_bytes
 
 -- ---- subscriptions
 
@@ -252,17 +240,25 @@ unsubscribe_again id name rest form =
 
 -- ---- operations
 
+-- a member as an operation
+as_operation : (bytes rest : List ℕ) (m : Member) → Takes bytes (member m) rest × IsMember m → Takes bytes (operation (op_of m)) rest × IsFormed (op_of m)
+as_operation bytes rest (kinds.Send s) read = (read.0, (read.1, tt))
+as_operation bytes rest (kinds.Ack delivery) read = (read.0, (read.1, tt))
+as_operation bytes rest (kinds.Nack delivery) read = (read.0, (read.1, tt))
+
+member_operation_takes : (bytes front : List ℕ) (kind : ℕ) (op : Op) (rest : List ℕ) → Takes bytes (kind ∷ []) front → made op_of (member_behind kind front) ≡ Some (op, rest) → Takes bytes (operation op) rest × IsFormed op
+member_operation_takes bytes front kind op rest taken e =
+    let m = bind_some (member_behind kind front) (λ (x : Member × List ℕ). Some (op_of x.0, x.1)) (op, rest) e in
+    last_takes operation IsFormed bytes (op_of m.0.0, m.0.1) (op, rest) m.2 (as_operation bytes m.0.1 m.0.0 (behind_takes bytes front kind m.0.0 m.0.1 taken m.1))
+
 abbrev by_kind : ℕ × List ℕ → Option (Op × List ℕ)
 by_kind kind =
     cond (eqb kind.0 1) (made Open (name_at kind.1))
-    (cond (eqb kind.0 2) (made Send (sending_at kind.1))
     (cond (eqb kind.0 3) (subscribe_at kind.1)
     (cond (eqb kind.0 4) (unsubscribe_at kind.1)
-    (cond (eqb kind.0 5) (made Ack (number_at w64 kind.1))
-    (cond (eqb kind.0 6) (made Nack (number_at w64 kind.1))
-    (cond (eqb kind.0 7) (made Commit (list_at member_at kind.1))
+    (cond (eqb kind.0 7) (made Commit (few_at member_at kind.1))
     (cond (eqb kind.0 8) (Some (Note, kind.1))
-    (cond (eqb kind.0 9) (made End (end_at kind.1)) None))))))))
+    (cond (eqb kind.0 9) (made End (end_at kind.1)) (made op_of (member_behind kind.0 kind.1)))))))
 
 operation_takes : (bytes : List ℕ) (op : Op) (rest : List ℕ) → AreBytes bytes → operation_at bytes ≡ Some (op, rest) → Takes bytes (operation op) rest × IsFormed op
 unfolding operation_at
@@ -271,23 +267,20 @@ operation_takes bytes op rest fits e =
     let P = Takes bytes (operation op) rest × IsFormed op in
     let kind : (k : ℕ) → b.value ≡ k → Takes bytes (k ∷ []) b.rest = λ k is. kind_is bytes b.rest b.value k b.taken is in
     chosen b.value 1 _ _ (op, rest) P (λ is e. tagged_takes optional IsName name_at name_format Open operation IsFormed 1 (λ c. refl) (λ c form. form) bytes b.rest rest op (kind 1 is) e)
-    (chosen b.value 2 _ _ (op, rest) P (λ is e. tagged_takes sending IsSent sending_at sending_format Send operation IsFormed 2 (λ s. refl) (λ s form. (form, tt)) bytes b.rest rest op (kind 2 is) e)
     (chosen b.value 3 _ _ (op, rest) P (λ is e. subscribe_takes bytes b.rest op rest (kind 3 is) e)
     (chosen b.value 4 _ _ (op, rest) P (λ is e. unsubscribe_takes bytes b.rest op rest (kind 4 is) e)
-    (chosen b.value 5 _ _ (op, rest) P (λ is e. tagged_takes (to_be_bytes w64) IsNumber (number_at w64) numbers Ack operation IsFormed 5 (λ n. refl) (λ n form. (form, tt)) bytes b.rest rest op (kind 5 is) e)
-    (chosen b.value 6 _ _ (op, rest) P (λ is e. tagged_takes (to_be_bytes w64) IsNumber (number_at w64) numbers Nack operation IsFormed 6 (λ n. refl) (λ n form. (form, tt)) bytes b.rest rest op (kind 6 is) e)
-    (chosen b.value 7 _ _ (op, rest) P (λ is e. tagged_takes (spell_list member) (FewEach IsMember) (list_at member_at) members_format Commit operation IsFormed 7 (λ ms. refl) (λ ms form. (form, tt)) bytes b.rest rest op (kind 7 is) e)
+    (chosen b.value 7 _ _ (op, rest) P (λ is e. tagged_takes (spell_few member) (FewEach IsMember) (few_at member_at) members_format Commit operation IsFormed 7 (λ ms. refl) (λ ms form. (form, tt)) bytes b.rest rest op (kind 7 is) e)
     (chosen b.value 8 _ _ (op, rest) P (λ is e. last_takes operation IsFormed bytes (Note, b.rest) (op, rest) e (kind 8 is, (tt, tt)))
-    (chosen b.value 9 _ _ (op, rest) P (λ is e. tagged_takes end_bytes Always end_at end_format End operation IsFormed 9 (λ x. refl) (λ x form. (tt, tt)) bytes b.rest rest op (kind 9 is) e) (λ e. absurd cc))))))))) b.then
+    (chosen b.value 9 _ _ (op, rest) P (λ is e. tagged_takes end_bytes Always end_at end_format End operation IsFormed 9 (λ x. refl) (λ x form. (tt, tt)) bytes b.rest rest op (kind 9 is) e) (λ e. member_operation_takes bytes b.rest b.value op rest b.taken e)))))) b.then
 
 operation_again : (op : Op) (rest : List ℕ) → IsFormed op → operation_at (operation op ++ rest) ≡ Some (op, rest)
 unfolding operation_at
 operation_again (Open c) rest form = ap (λ o. made Open o) (name_format.again c rest form)
-operation_again (Send s) rest form = ap (λ o. made Send o) (sending_format.again s rest form.0)
+operation_again (Send s) rest form = ap (λ o. made op_of o) (sent_again s rest form.0)
 operation_again (Subscribe id d m name) rest form = subscribe_again id d m name rest form
 operation_again (Unsubscribe id name) rest form = unsubscribe_again id name rest form
-operation_again (Ack n) rest form = ap (λ o. made Ack o) (numbers.again n rest form.0)
-operation_again (Nack n) rest form = ap (λ o. made Nack o) (numbers.again n rest form.0)
+operation_again (Ack n) rest form = ap (λ o. made op_of o) (acknowledged_again n rest form.0)
+operation_again (Nack n) rest form = ap (λ o. made op_of o) (refused_again n rest form.0)
 operation_again (Commit ms) rest form = ap (λ o. made Commit o) (members_format.again ms rest form.0)
 operation_again Note rest form = refl
 operation_again (End x) rest form = ap (λ o. made End o) (end_format.again x rest tt)

@@ -1,13 +1,12 @@
-use Rattle.std.proofs.Common.{◌≡◌, ◌≢◌, ◌≤◌, ◌<◌, ◌^◌, ◌%◌, ◌+◌, ◌++◌, ◌∷◌, [], List, ℕ, Option, None, Some, IfSome, MatchOption, arith, codes, length, refl, rules, subst, sym, true, zero, suc}
+use Rattle.std.proofs.Common.{◌≡◌, ◌≢◌, ◌≤◌, ◌<◌, ◌^◌, ◌%◌, ◌+◌, ◌++◌, ◌∷◌, [], List, ℕ, Option, None, Some, IfSome, MatchOption, arith, codes, length, refl, rules, subst, sym}
 use Rattle.std.specs.List.{AllByRecursion}
 use Rattle.std.specs.Fmt.{decimal}
 use Rattle.std.proofs.lemmas.Fmt.{decimal_by_steps}
 use Rattle.frame_core.proofs.Lists.{all_append}
 use Rattle.frame_core.specs.Writable.{HasNoNul, IsHeader, IsOneLine, Writable, first_of}
-use Rattle.command_core.specs.Texts.{IsHeaderText}
-use Rattle.command_core.specs.Destinations.{IsDestination, is_destination_byte}
-use Rattle.command_core.specs.Sendings.{SendingValue, IsSending, IsKept}
-use Rattle.command_core.proofs.DestinationBytes.{each_byte}
+use Rattle.record_core.specs.Texts.{IsHeaderText}
+use Rattle.record_core.specs.Sendings.{SendingValue, IsSending, IsKept}
+use Rattle.record_core.proofs.DestinationBytes.{dest_no_nul}
 use Rattle.command_core.specs.Replies.{ack_header, connected, message_frame, message_id, own_headers}
 
 abbrev AllDigits : List ℕ → Type 0
@@ -37,14 +36,6 @@ connected_writable n h =
     let plain : HasNoNul (decimal n) = no_nul _ digits in
     let line : IsOneLine (decimal n) = one_line _ digits in
     search (rules, plain, line)
-
--- what may stand in a destination is no NUL
-byte_is_no_nul : (b : ℕ) → is_destination_byte b ≡ true → b ≢ 0
-byte_is_no_nul zero h = absurd cc
-byte_is_no_nul (suc b) h = λ e. cc
-
-pub dest_no_nul : (d : List ℕ) → IsDestination d → HasNoNul d
-dest_no_nul d h = each_byte (λ b. b ≢ 0) byte_is_no_nul (search rules) (search rules) d h
 
 kept_headers_fit : (hs : List (List ℕ × List ℕ)) → AllByRecursion IsKept hs → AllByRecursion IsHeader hs
 kept_headers_fit [] each = tt

@@ -1,8 +1,5 @@
 pub mod Entries
 pub mod Faults
-pub mod Texts
-pub mod Destinations
-pub mod Sendings
 pub mod Operations
 pub mod Sizes
 pub mod Commands

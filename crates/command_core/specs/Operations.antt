@@ -1,19 +1,16 @@
-use Rattle.std.specs.Prelude.{◌≡◌, ◌<◌, ◌⊎◌, List, ℕ, Option, IfSome, IsSome, false, length}
+use Rattle.std.specs.Prelude.{◌≡◌, ◌⊎◌, IfSome, IsSome, false}
 use Rattle.command_core.specs.declared.command.Op.{Op}
 use Rattle.command_core.specs.declared.command.Op.TheVariants.{Open, Send, Subscribe, Unsubscribe, Ack, Nack}
 use Rattle.command_core.specs.declared.member.Member.{Member}
 use Rattle.command_core.specs.declared.member.Member.TheVariants as members
-use Rattle.command_core.specs.Destinations.{is_queue}
+use Rattle.record_core.specs.Destinations.{is_queue}
+use Rattle.record_core.specs.Texts.{IsGiven}
 
 -- a member as an operation of its own
 abbrev pub op_of : Member → Op
 op_of (members.Send sending) = Send sending
 op_of (members.Ack delivery) = Ack delivery
 op_of (members.Nack delivery) = Nack delivery
-
--- a name that is given isn't empty
-abbrev pub IsGiven : Option (List ℕ) → Type 0
-IsGiven name = IfSome name (λ text. 0 < length text)
 
 -- The form of an operation: a client's name and a durable one aren't empty, a durable name comes with a topic alone, and
 -- what ends a subscription has an id or a name.

@@ -3,12 +3,9 @@
 ghost use Rattle.std.specs.Prelude.{◌≡◌, Option};
 ghost use Rattle.command_core.specs.Commands.{IsCommand};
 
-use crate::ack_mode::AckMode;
-use crate::destination::Dest;
 use crate::fault::Fault;
-use crate::header_text::HeaderText;
 use crate::member::{Member, Members};
-use crate::sending::Sending;
+use record_core::{AckMode, Dest, HeaderText, Sending};
 use std::marker::Model;
 
 /// How a session ends.

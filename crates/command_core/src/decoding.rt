@@ -1,31 +1,28 @@
 //! Commands, read from their records.
 
-ghost use Rattle.std.specs.Prelude.{◌≡◌, ◌≤◌, ◌&&◌, ℕ, IfOk, IfErr, is_some, length, nat_lt, take};
-ghost use Rattle.std.specs.Int.{w64};
-ghost use Rattle.command_core.specs.declared.decode_fault.DecodeFault.{DecodeFault};
+ghost use Rattle.std.specs.Prelude.{◌≡◌, ◌≤◌, ◌&&◌, ℕ, IfOk, IfErr, is_some, length, take};
+ghost use Rattle.record_core.specs.declared.decode_fault.DecodeFault.{DecodeFault};
 ghost use Rattle.command_core.specs.Commands.{CommandValue};
-ghost use Rattle.command_core.specs.Destinations.{is_queue};
-ghost use Rattle.command_core.specs.Reading.{Gives, fault_at, end_at, subscribe_at, unsubscribe_at, member_at, list_at, operation_at, command_at};
+ghost use Rattle.record_core.specs.Destinations.{is_queue};
+ghost use Rattle.record_core.specs.Reading.{Gives, few_at};
+ghost use Rattle.command_core.specs.Reading.{fault_at, end_at, subscribe_at, unsubscribe_at, member_at, member_behind, operation_at, command_at};
 ghost use Rattle.command_core.specs.Reading.{fits as fits_with};
 ghost use Rattle.command_core.specs.Spellings.{Spells};
 
 use crate::command::{Command, End, Op};
-use crate::decode_fault::DecodeFault;
-use crate::destination::Dest;
 use crate::fault::Fault;
-use crate::header_text::HeaderText;
 use crate::member::{Member, Members};
-use crate::reading::{
-    byte_of, destination_of, many_of, mode_of, name_of, optional_of, sending_of, text_of, u16_of,
-    u64_of,
+use record_core::{
+    DecodeFault, Dest, HeaderText, read_byte, read_destination, read_few, read_mode, read_name,
+    read_optional, read_sending, read_text, read_u64,
 };
 use std::alloc::Global;
 
 #[tactic(auto, unfolding(crate::specs::Reading::fault_at))]
-fn fault_of(bytes: &[u8]) -> Result<(Fault, &[u8]), DecodeFault>
+fn read_fault(bytes: &[u8]) -> Result<(Fault, &[u8]), DecodeFault>
     ensures { Gives (λ x. (x.0, x.1.now)) result (fault_at bytes.now) }
 {
-    let (code, rest) = byte_of(bytes)?;
+    let (code, rest) = read_byte(bytes)?;
     match Fault::from_code(code) {
         Some(fault) => Ok((fault, rest)),
         None => Err(DecodeFault::NoSpelling),
@@ -33,15 +30,15 @@ fn fault_of(bytes: &[u8]) -> Result<(Fault, &[u8]), DecodeFault>
 }
 
 #[tactic(auto, unfolding(crate::specs::Reading::end_at))]
-fn end_of(bytes: &[u8]) -> Result<(End, &[u8]), DecodeFault>
+fn read_end(bytes: &[u8]) -> Result<(End, &[u8]), DecodeFault>
     ensures { Gives (λ x. (x.0, x.1.now)) result (end_at bytes.now) }
 {
-    let (kind, rest) = byte_of(bytes)?;
+    let (kind, rest) = read_byte(bytes)?;
     match kind {
         0 => Ok((End::Bye, rest)),
         1 => Ok((End::Lost, rest)),
         2 => {
-            let (fault, rest) = fault_of(rest)?;
+            let (fault, rest) = read_fault(rest)?;
             Ok((End::Bad(fault), rest))
         }
         _ => Err(DecodeFault::NoSpelling),
@@ -56,13 +53,13 @@ fn is_of_queue(durable: &Option<HeaderText>, destination: &Dest) -> bool
 }
 
 #[tactic(auto, unfolding(crate::specs::Reading::subscribe_at))]
-fn subscribe_of(alloc: Global, bytes: &[u8]) -> Result<(Op, &[u8]), DecodeFault>
+fn read_subscribe(alloc: Global, bytes: &[u8]) -> Result<(Op, &[u8]), DecodeFault>
     ensures { Gives (λ x. (x.0, x.1.now)) result (subscribe_at bytes.now) }
 {
-    let (id, rest) = text_of(alloc, bytes)?;
-    let (destination, rest) = destination_of(alloc, rest)?;
-    let (mode, rest) = mode_of(rest)?;
-    let (durable, rest) = name_of(alloc, rest)?;
+    let (id, rest) = read_text(alloc, bytes)?;
+    let (destination, rest) = read_destination(alloc, rest)?;
+    let (mode, rest) = read_mode(rest)?;
+    let (durable, rest) = read_name(alloc, rest)?;
     if is_of_queue(&durable, &destination) {
         return Err(DecodeFault::NoSpelling);
     }
@@ -76,92 +73,80 @@ fn subscribe_of(alloc: Global, bytes: &[u8]) -> Result<(Op, &[u8]), DecodeFault>
 }
 
 #[tactic(auto, unfolding(crate::specs::Reading::unsubscribe_at))]
-fn unsubscribe_of(alloc: Global, bytes: &[u8]) -> Result<(Op, &[u8]), DecodeFault>
+fn read_unsubscribe(alloc: Global, bytes: &[u8]) -> Result<(Op, &[u8]), DecodeFault>
     ensures { Gives (λ x. (x.0, x.1.now)) result (unsubscribe_at bytes.now) }
 {
-    let (id, rest) = optional_of(alloc, bytes)?;
-    let (durable, rest) = name_of(alloc, rest)?;
+    let (id, rest) = read_optional(alloc, bytes)?;
+    let (durable, rest) = read_name(alloc, rest)?;
     if id.is_none() && durable.is_none() {
         return Err(DecodeFault::NoSpelling);
     }
     Ok((Op::Unsubscribe { id, durable }, rest))
 }
 
-#[tactic(auto, unfolding(crate::specs::Reading::member_at))]
-fn member_of(alloc: Global, bytes: &[u8]) -> Result<(Member, &[u8]), DecodeFault>
-    ensures { Gives (λ x. (x.0, x.1.now)) result (member_at bytes.now) }
+// A member, behind the byte for its kind.
+#[tactic(auto, unfolding(crate::specs::Reading::member_behind))]
+fn read_member_behind(alloc: Global, kind: u8, bytes: &[u8]) -> Result<(Member, &[u8]), DecodeFault>
+    ensures { Gives (λ x. (x.0, x.1.now)) result (member_behind kind bytes.now) }
 {
-    let (kind, rest) = byte_of(bytes)?;
     match kind {
         2 => {
-            let (sending, rest) = sending_of(alloc, rest)?;
+            let (sending, rest) = read_sending(alloc, bytes)?;
             Ok((Member::Send(sending), rest))
         }
         5 => {
-            let (delivery, rest) = u64_of(rest)?;
+            let (delivery, rest) = read_u64(bytes)?;
             Ok((Member::Ack(delivery), rest))
         }
         6 => {
-            let (delivery, rest) = u64_of(rest)?;
+            let (delivery, rest) = read_u64(bytes)?;
             Ok((Member::Nack(delivery), rest))
         }
         _ => Err(DecodeFault::NoSpelling),
     }
 }
 
-// Whether so many members are more than a transaction has.
-fn is_too_many(count: u16) -> bool
-    ensures { result ≡ nat_lt 64 count }
+#[tactic(auto, unfolding(crate::specs::Reading::member_at))]
+fn read_member(alloc: Global, bytes: &[u8]) -> Result<(Member, &[u8]), DecodeFault>
+    ensures { Gives (λ x. (x.0, x.1.now)) result (member_at bytes.now) }
 {
-    count > 64
+    let (kind, rest) = read_byte(bytes)?;
+    read_member_behind(alloc, kind, rest)
 }
 
-#[tactic(auto, unfolding(crate::specs::Reading::list_at))]
-fn members_of(alloc: Global, bytes: &[u8]) -> Result<(Members, &[u8]), DecodeFault>
-    ensures { Gives (λ x. (x.0, x.1.now)) result (list_at member_at bytes.now) }
+fn read_members(alloc: Global, bytes: &[u8]) -> Result<(Members, &[u8]), DecodeFault>
+    ensures { Gives (λ x. (x.0, x.1.now)) result (few_at member_at bytes.now) }
 {
-    let (count, rest) = u16_of(bytes)?;
-    if is_too_many(count) {
-        return Err(DecodeFault::NoSpelling);
-    }
-    let (members, rest) = many_of(alloc, u32::from(count), rest, |rest| member_of(alloc, rest))?;
+    let (members, rest) = read_few(alloc, bytes, |rest| read_member(alloc, rest))?;
     Ok((Members::new(members), rest))
 }
 
+// An operation. One that may be a member of a transaction is read as that.
 #[tactic(auto, unfolding(crate::specs::Reading::operation_at))]
-fn operation_of(alloc: Global, bytes: &[u8]) -> Result<(Op, &[u8]), DecodeFault>
+fn read_operation(alloc: Global, bytes: &[u8]) -> Result<(Op, &[u8]), DecodeFault>
     ensures { Gives (λ x. (x.0, x.1.now)) result (operation_at bytes.now) }
 {
-    let (kind, rest) = byte_of(bytes)?;
+    let (kind, rest) = read_byte(bytes)?;
     match kind {
         1 => {
-            let (client_id, rest) = name_of(alloc, rest)?;
+            let (client_id, rest) = read_name(alloc, rest)?;
             Ok((Op::Open { client_id }, rest))
         }
-        2 => {
-            let (sending, rest) = sending_of(alloc, rest)?;
-            Ok((Op::Send(sending), rest))
-        }
-        3 => subscribe_of(alloc, rest),
-        4 => unsubscribe_of(alloc, rest),
-        5 => {
-            let (delivery, rest) = u64_of(rest)?;
-            Ok((Op::Ack(delivery), rest))
-        }
-        6 => {
-            let (delivery, rest) = u64_of(rest)?;
-            Ok((Op::Nack(delivery), rest))
-        }
+        3 => read_subscribe(alloc, rest),
+        4 => read_unsubscribe(alloc, rest),
         7 => {
-            let (members, rest) = members_of(alloc, rest)?;
+            let (members, rest) = read_members(alloc, rest)?;
             Ok((Op::Commit(members), rest))
         }
         8 => Ok((Op::Note, rest)),
         9 => {
-            let (end, rest) = end_of(rest)?;
+            let (end, rest) = read_end(rest)?;
             Ok((Op::End(end), rest))
         }
-        _ => Err(DecodeFault::NoSpelling),
+        kind => {
+            let (member, rest) = read_member_behind(alloc, kind, rest)?;
+            Ok((Op::from(member), rest))
+        }
     }
 }
 
@@ -177,12 +162,12 @@ fn fits(op: &Op, session: u64, receipt: &Option<HeaderText>) -> bool
 }
 
 #[tactic(auto, unfolding(crate::specs::Reading::command_at))]
-fn command_of(alloc: Global, bytes: &[u8]) -> Result<(Command, &[u8]), DecodeFault>
+fn read_command(alloc: Global, bytes: &[u8]) -> Result<(Command, &[u8]), DecodeFault>
     ensures { Gives (λ x. (x.0, x.1.now)) result (command_at bytes.now) }
 {
-    let (session, rest) = u64_of(bytes)?;
-    let (receipt, rest) = optional_of(alloc, rest)?;
-    let (op, rest) = operation_of(alloc, rest)?;
+    let (session, rest) = read_u64(bytes)?;
+    let (receipt, rest) = read_optional(alloc, rest)?;
+    let (op, rest) = read_operation(alloc, rest)?;
     if !fits(&op, session, &receipt) {
         return Err(DecodeFault::NoSpelling);
     }
@@ -200,6 +185,6 @@ pub fn decode(alloc: Global, bytes: &[u8]) -> Result<(Command, usize), DecodeFau
     ensures none { IfErr result (λ e.
         e ≡ DecodeFault.NoSpelling → (c : CommandValue) (n : ℕ) → Spells (take n bytes.now) c → ⊥) }
 {
-    let (command, rest) = command_of(alloc, bytes)?;
+    let (command, rest) = read_command(alloc, bytes)?;
     Ok((command, bytes.len() - rest.len()))
 }

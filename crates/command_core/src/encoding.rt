@@ -3,18 +3,18 @@
 ghost use Rattle.std.specs.Prelude.{◌≡◌, ◌<◌, ◌≤◌, ◌^◌, ◌∷◌, ◌++◌, IfOk, OnOk, length};
 ghost use Rattle.std.specs.Int.{w64, to_be_bytes};
 ghost use Rattle.std.specs.List.{AllByRecursion};
-ghost use Rattle.command_core.specs.Spellings.{Spells, IsMember, IsOperation, IsSent};
+ghost use Rattle.record_core.specs.Spellings.{IsSent, sending as spelled_sending};
+ghost use Rattle.command_core.specs.Spellings.{Spells, IsMember, IsOperation};
 ghost use Rattle.command_core.specs.Spellings as records;
 ghost use Rattle.command_core.specs.declared.command.Op.TheVariants.{Subscribe, Unsubscribe};
 
-use crate::ack_mode::AckMode;
 use crate::command::{Command, End, Op};
-use crate::destination::Dest;
-use crate::header_text::HeaderText;
 use crate::member::Member;
-use crate::sending::Sending;
-use crate::sizes::{op_size, option_size};
-use crate::writing::{mode_byte, put_destination, put_optional, put_sending, put_text};
+use crate::sizes::op_size;
+use record_core::{
+    AckMode, Dest, HeaderText, Sending, mode_byte, option_size, put_destination, put_optional,
+    put_sending, put_text,
+};
 use std::alloc::{AllocError, Global};
 
 // A kind and a number of eight bytes.
@@ -27,7 +27,7 @@ fn put_numbered(out: &mut Vec<u8>, kind: u8, number: u64) -> Result<(), AllocErr
 }
 
 fn put_message(out: &mut Vec<u8>, sending: &Sending) -> Result<(), AllocError>
-    ensures put { OnOk result (out.new.items ≡ out.old.items ++ 2 ∷ records.sending sending.now) }
+    ensures put { OnOk result (out.new.items ≡ out.old.items ++ 2 ∷ spelled_sending sending.now) }
     ensures form { OnOk result (IsSent sending.now) }
 {
     out.push(2)?;

@@ -4,13 +4,11 @@ ghost use Rattle.std.specs.Prelude.{◌≡◌, ◌<◌, ◌≤◌, ◌^◌, ◌�
 ghost use Rattle.std.specs.Fmt.{decimal};
 ghost use Rattle.frame_core.specs.Writable.{Writable};
 ghost use Rattle.command_core.specs.Replies.{ack_header, connected, error_frame, message_frame, message_id, own_headers, receipt_frame, receipt_header};
-ghost use Rattle.command_core.specs.Texts.{IsHeaderText};
+ghost use Rattle.record_core.specs.Texts.{IsHeaderText};
 
-use crate::destination::Dest;
 use crate::fault::{Fault, fault_text};
-use crate::header_text::HeaderText;
-use crate::sending::Sending;
 use frame_core::{Bytes, Frame, Headers, Text, Verb};
+use record_core::{Dest, HeaderText, Sending};
 use std::alloc::{AllocError, Global};
 
 /// Adds a header behind the others.

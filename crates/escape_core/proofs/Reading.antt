@@ -11,7 +11,7 @@ abbrev pub after : List ℕ → Option (List ℕ) → Option (List ℕ)
 after text None = None
 after text (Some more) = Some (text ++ more)
 
--- an byte that is no backslash is itself, whatever follows
+-- a byte that is no backslash is itself, whatever follows
 pub unescaped_plain : (b : ℕ) (more : List ℕ) → b ≢ 92 → unescaped (b ∷ more) ≡ behind (Some b) (unescaped more)
 unescaped_plain b [] ne = rw (ne_eqb b 92 ne) refl
 unescaped_plain b (c ∷ more) ne = rw (ne_eqb b 92 ne) refl
@@ -28,7 +28,7 @@ after-nil (Some more) = refl
 pub after_end : (text : List ℕ) → after text (Some []) ≡ Some text
 after_end text = ap Some (append-nil text)
 
--- the code of an byte means that byte
+-- the code of a byte means that byte
 pub unescaped-code_of : (b : ℕ) (more : List ℕ) → unescaped (code_of b ++ more) ≡ behind (Some b) (unescaped more)
 unescaped-code_of b more =
     elim (cases_eq b 13) [

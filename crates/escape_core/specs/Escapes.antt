@@ -1,6 +1,6 @@
 use Rattle.std.specs.Prelude.{List, [], ◌∷◌, ℕ, Option, Some, None, ◌==◌, if◌then◌else◌, flat_map}
 
--- how an byte of a name or value is written: CR, LF, colon and backslash have an escape (STOMP 1.2, "Value Encoding")
+-- how a byte of a name or value is written: CR, LF, colon and backslash have an escape (STOMP 1.2, "Value Encoding")
 abbrev pub code_of : ℕ → List ℕ
 code_of b =
     if b == 13 then 92 ∷ 114 ∷ []

@@ -108,7 +108,7 @@ one_list verb lines others (header ∷ headers) (second ∷ seconds) cr other_cr
     let s = one_list verb h.1 k.1 headers seconds cr other_cr x y h.4 k.4 r.3 in
     (λ i. first i ∷ s.0 i, s.1)
 
--- whether an byte may stand within a line
+-- whether a byte may stand within a line
 in_line : ℕ → Bool
 in_line b = not (eqb b 0) && (not (eqb b 10) && not (eqb b 13))
 

@@ -70,7 +70,7 @@ byte_line head line cr lines b l no_cr no_lf no_nul room =
       | inr ne ↦ let Q : Bool → Type 0 = λ x. IsLine (head ++ b ∷ []) line x lines in subst Q (sym (ne_eqb b 13 ne)) (more_line head line lines b open_line (no_nul, no_lf, ne) room)
     ]
 
--- an byte of a line is kept
+-- a byte of a line is kept
 pub byte_kept : (stage : Stage) (head : List ℕ) (line : ℕ) (cr : Bool) (headers : List (List ℕ × List ℕ)) (body : List ℕ) (b : ℕ) → IsInHead stage → IsAt stage head line cr headers body
     → cr ≡ false → b ≢ 10 → b ≢ 0 → length head < 8192 → IsAt stage (head ++ b ∷ []) line (eqb b 13) headers body
 byte_kept Command head line cr headers body b i h no_cr no_lf no_nul room = (byte_line head line cr [] b h.0 no_cr no_lf no_nul room, h.1, h.2)
@@ -95,7 +95,7 @@ part_of_head stage head line cr headers body i h =
     let o = open_line stage head line cr headers body i h in
     (record { lines = o.0; part = o.1.part; with_cr = cr; whole = o.1.whole; begun = o.2; each = o.1.each; size = o.1.size }, refl)
 
--- an byte more of a head is an byte more of the unfinished frame
+-- a byte more of a head is a byte more of the unfinished frame
 pub byte_reads : (head body : List ℕ) (b : ℕ) → body ≡ [] → Frames ((head ++ body) ++ b ∷ []) [] ((head ++ b ∷ []) ++ body)
 byte_reads head body b e =
     let P : List ℕ → Type 0 = λ x. Frames ((head ++ x) ++ b ∷ []) [] ((head ++ b ∷ []) ++ x) in

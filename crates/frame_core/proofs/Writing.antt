@@ -36,7 +36,7 @@ text_written headers i h name value lt is n v name_utf8 value_utf8 before =
 abbrev IsInName : ℕ → Type 0
 IsInName b = IsInLine b × (b ≢ 58)
 
--- the code of an byte but NUL may stand in a name
+-- the code of a byte but NUL may stand in a name
 code_of_in_name : (b : ℕ) → b ≢ 0 → AllByRecursion IsInName (Escape.code_of b)
 code_of_in_name b no_nul =
     elim (cases_eq b 13) [

@@ -123,7 +123,7 @@ abbrev pub HasLongBody : List ℕ → Type 0
 HasLongBody bytes = (verb : Verb) × (body : List ℕ) × (last : ℕ) × IsNextByte verb None body last bytes × (last ≢ 0)
     × (has_body verb ≡ true) × (length body ≡ 65536)
 
--- an byte where no body may stand
+-- a byte where no body may stand
 abbrev pub HasWrongBody : List ℕ → Type 0
 HasWrongBody bytes = (verb : Verb) × (last : ℕ) × IsNextByte verb None [] last bytes × (last ≢ 0) × (has_body verb ≡ false)
 

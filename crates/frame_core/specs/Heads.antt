@@ -5,7 +5,7 @@ use Rattle.escape_core.specs.Escapes.{unescaped}
 use Rattle.frame_core.specs.declared.frame.Verb.{Verb}
 use Rattle.frame_core.specs.Verbs.{name_of, is_raw}
 
--- an byte that may stand within a line: no NUL, LF or CR
+-- a byte that may stand within a line: no NUL, LF or CR
 abbrev pub IsInLine : ℕ → Type 0
 IsInLine b = (b ≢ 0) × (b ≢ 10) × (b ≢ 13)
 

@@ -128,7 +128,7 @@ impl Partial {
         }
     }
 
-    /// Takes bytes of a line up to its end, or an byte of its end.
+    /// Takes bytes of a line up to its end, or a byte of its end.
     fn take_head(&mut self, alloc: Global, piece: &[u8]) -> Result<usize, Stop>
         requires some_byte { 0 < length piece.now }
         requires in_head { IsInHead self.old.stage }

@@ -1,4 +1,4 @@
-//! Where an byte stands first.
+//! Where a byte stands first.
 
 ghost use Rattle.std.specs.Prelude.{◌≡◌, ◌≢◌, ◌<◌, ◌≤◌, false, MatchOption, length, take, slice_index};
 ghost use Rattle.std.specs.List.{AllByRecursion};

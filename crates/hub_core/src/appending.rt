@@ -29,7 +29,7 @@ pub enum Step {
 
 /// What the acts of a turn came to.
 #[derive(Clone, Copy)]
-pub struct Carried {
+pub struct Executed {
     /// A command was appended.
     pub appended: bool,
     /// The mark at which the window was found full.
@@ -43,37 +43,37 @@ fn asks_last(command: &Command) -> bool {
 
 impl<B: Bell> Connection<B> {
     /// Does the acts in their order, until one has to wait for its turn or the connection is to be closed.
-    pub fn carry_out<M: Ringers<B>, L: Link>(
+    pub fn execute<M: Ringers<B>, L: Link>(
         &mut self,
         alloc: Global,
         ring: &BrokerRing<OutSender<B>>,
         seat: &mut BrokerSeat<OutSender<B>>,
         link: &mut L,
         ringers: &M,
-    ) -> Carried
+    ) -> Executed
         requires { seat.old.ring ≡ ring.now }
         ensures { Continues self.old.progress seat.old self.new.progress seat.new }
     {
-        let mut carried = Carried {
+        let mut executed = Executed {
             appended: false,
             full: None,
         };
         // The acts, the kept entry, the loss of the connection, and that nothing is left.
         for _ in 0..self.acts.len().saturating_add(3) {
-            if !self.stage.carries_out() {
-                return carried;
+            if !self.stage.executes() {
+                return executed;
             }
             match self.step(alloc, ring, seat, link, ringers) {
-                Step::Appended => carried.appended = true,
+                Step::Appended => executed.appended = true,
                 Step::Done => {}
                 Step::Full(mark) => {
-                    carried.full = Some(mark);
-                    return carried;
+                    executed.full = Some(mark);
+                    return executed;
                 }
-                Step::Rest => return carried,
+                Step::Rest => return executed,
             }
         }
-        carried
+        executed
     }
 
     // The kept entry, or else the next act.

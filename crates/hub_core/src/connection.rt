@@ -34,7 +34,7 @@ pub enum Stage {
 
 impl Stage {
     // Whether acts are still to be done.
-    pub fn carries_out(self) -> bool
+    pub fn executes(self) -> bool
         ensures yes { result ≡ true → (self ≡ Running) ⊎ (self ≡ Leaving) }
         ensures no { result ≡ false → (self ≢ Running) × (self ≢ Leaving) }
     {

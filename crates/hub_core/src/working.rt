@@ -80,13 +80,13 @@ impl<B: Bell> Connection<B> {
             return;
         }
         self.read(alloc, link);
-        let carried = self.carry_out(alloc, ring, seat, link, ringers);
-        if carried.appended {
+        let executed = self.execute(alloc, ring, seat, link, ringers);
+        if executed.appended {
             gate.appended(number);
         }
         self.pass_on(alloc, ring, seat, link);
         self.close_link(link);
-        self.wait(gate, number, carried.full);
+        self.wait(gate, number, executed.full);
     }
 
     // Reads where nothing else is to be done first.
@@ -116,7 +116,7 @@ impl<B: Bell> Connection<B> {
     // Leaves it to the gate when to try again, where the window was found full.
     fn wait<G: Gate>(&self, gate: &G, worker: u32, full: Option<u64>) {
         if let Some(mark) = full
-            && self.stage.carries_out()
+            && self.stage.executes()
         {
             gate.is_full(worker, mark);
         }

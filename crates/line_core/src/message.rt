@@ -2,7 +2,7 @@
 
 ghost use Rattle.std.specs.Prelude.{◌≡◌, ◌+◌, ◌<◌, ◌≤◌, ◌*◌, ◌^◌, List, ℕ, length};
 ghost use Rattle.std.specs.List.{sum_by, AllByRecursion};
-ghost use Rattle.command_core.specs.Sendings.{IsKept, IsSending};
+ghost use Rattle.record_core.specs.Sendings.{IsKept, IsSending};
 ghost use Rattle.line_core.specs.Messages.{header_size, size_of};
 
 use command_core::Sending;

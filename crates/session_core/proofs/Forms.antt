@@ -6,14 +6,15 @@ use Rattle.frame_core.specs.declared.frame.Verb.{Verb}
 use Rattle.frame_core.specs.declared.frame.Verb.TheVariants as verbs
 use Rattle.frame_core.proofs.Lists.{all_append}
 use Rattle.frame_core.specs.Writable.{first_of}
-use Rattle.command_core.specs.declared.ack_mode.AckMode.{AckMode}
+use Rattle.record_core.specs.declared.ack_mode.AckMode.{AckMode}
 use Rattle.command_core.specs.declared.command.Op.TheVariants as ops
 use Rattle.command_core.specs.declared.fault.Fault.{Fault}
 use Rattle.command_core.specs.declared.member.Member.{Member}
 use Rattle.command_core.specs.declared.member.Member.TheVariants as members
 use Rattle.command_core.specs.Commands.{Fits}
-use Rattle.command_core.specs.Destinations.{is_destination, is_queue}
-use Rattle.command_core.specs.Operations.{IsGiven, IsOp}
+use Rattle.record_core.specs.Destinations.{is_destination, is_queue}
+use Rattle.record_core.specs.Texts.{IsGiven}
+use Rattle.command_core.specs.Operations.{IsOp}
 use Rattle.tx_core.specs.Refusals.{refusal_of_add, refusal_of_begin, refusal_of_end}
 use Rattle.tx_core.specs.Transactions.{added, begun, members_of, without}
 use Rattle.session_core.specs.declared.act.Act.{Act}
@@ -23,7 +24,7 @@ use Rattle.session_core.specs.declared.phase.Phase.{Phase}
 use Rattle.session_core.specs.declared.phase.Phase.TheVariants.{New, Open, Ended, Failed}
 use Rattle.session_core.specs.ReadFrames.{delivery_of, durable_of, is_connect, mode_of, receipt_of, some_text}
 use Rattle.session_core.specs.Requests.{asked_by, first_asked, joins, sends_to, subscribes_by, subscribes_to, transaction_of, unsubscribes_by, with_header}
-use Rattle.session_core.specs.Sessions.{HasForm, acts_of, answered, carried, committed, first_answered, next, note, refused, told, unless}
+use Rattle.session_core.specs.Sessions.{HasForm, acts_of, answered, executed, committed, first_answered, next, note, refused, told, unless}
 
 abbrev HaveForm : List Act → Type 0
 HaveForm acts = AllByRecursion HasForm acts
@@ -117,19 +118,19 @@ committed_form : (name : List ℕ) (all : Option (List Member)) (transactions : 
 committed_form name None transactions receipt = ((tt, tt), (tt, tt))
 committed_form name (Some all) transactions receipt = ((tt, tt), tt)
 
-carried_form : (transactions : List (List ℕ × List Member)) (request : Request) (receipt : Option (List ℕ)) → IsFine (Ok request) → HaveForm (carried transactions request receipt).acts
-carried_form transactions (Ask op) receipt fine = ((fine.0 receipt, fine.1), tt)
-carried_form transactions (Join (members.Send sending) None) receipt fine = ((tt, tt), tt)
-carried_form transactions (Join (members.Ack delivery) None) receipt fine = ((tt, tt), tt)
-carried_form transactions (Join (members.Nack delivery) None) receipt fine = ((tt, tt), tt)
-carried_form transactions (Join member (Some name)) receipt fine = unless_form (refusal_of_add name member transactions) (added name member transactions) receipt
-carried_form transactions (Begin name) receipt fine = unless_form (refusal_of_begin name transactions) (begun name transactions) receipt
-carried_form transactions (Commit name) receipt fine = committed_form name (members_of name transactions) transactions receipt
-carried_form transactions (Abort name) receipt fine = unless_form (refusal_of_end name transactions) (without name transactions) receipt
-carried_form transactions Disconnect receipt fine = ((tt, tt), (tt, tt))
+executed_form : (transactions : List (List ℕ × List Member)) (request : Request) (receipt : Option (List ℕ)) → IsFine (Ok request) → HaveForm (executed transactions request receipt).acts
+executed_form transactions (Ask op) receipt fine = ((fine.0 receipt, fine.1), tt)
+executed_form transactions (Join (members.Send sending) None) receipt fine = ((tt, tt), tt)
+executed_form transactions (Join (members.Ack delivery) None) receipt fine = ((tt, tt), tt)
+executed_form transactions (Join (members.Nack delivery) None) receipt fine = ((tt, tt), tt)
+executed_form transactions (Join member (Some name)) receipt fine = unless_form (refusal_of_add name member transactions) (added name member transactions) receipt
+executed_form transactions (Begin name) receipt fine = unless_form (refusal_of_begin name transactions) (begun name transactions) receipt
+executed_form transactions (Commit name) receipt fine = committed_form name (members_of name transactions) transactions receipt
+executed_form transactions (Abort name) receipt fine = unless_form (refusal_of_end name transactions) (without name transactions) receipt
+executed_form transactions Disconnect receipt fine = ((tt, tt), (tt, tt))
 
 answered_form : (transactions : List (List ℕ × List Member)) (request : Result Request Fault) (receipt : Option (List ℕ)) → IsFine request → HaveForm (answered transactions request receipt).acts
-answered_form transactions (Ok request) receipt fine = carried_form transactions request receipt fine
+answered_form transactions (Ok request) receipt fine = executed_form transactions request receipt fine
 answered_form transactions (Err fault) receipt fine = ((tt, tt), (tt, tt))
 
 told_form : (phase : Phase) (frame : Frame) → HaveForm (told phase frame)

@@ -20,7 +20,7 @@ use Rattle.session_core.specs.Requests.{asked, asked_first}
 use Rattle.tx_core.specs.Refusals.{refusal_of_add, refusal_of_begin, refusal_of_end}
 use Rattle.tx_core.specs.Transactions.{added, begun, members_of, without}
 use Rattle.session_core.specs.declared.act.Act.{Act}
-use Rattle.session_core.specs.Sessions.{Hearing, Hears, HearsFrames, HearsFault, IsOver, acts_of, phase_of, told, next, refused, answered, carried, committed, unless, first_answered}
+use Rattle.session_core.specs.Sessions.{Hearing, Hears, HearsFrames, HearsFault, IsOver, acts_of, phase_of, told, next, refused, answered, executed, committed, unless, first_answered}
 
 acts_append : (phase : Phase) (f g : List Frame) → acts_of phase (f ++ g) ≡ acts_of phase f ++ acts_of (phase_of phase f) g
 acts_append phase [] g = refl
@@ -82,7 +82,7 @@ after_commit : (name : List ℕ) (members : Option (List Member)) (transactions 
 after_commit name None transactions receipt = inl refl
 after_commit name (Some members) transactions receipt = inr (open_goes (without name transactions))
 
-after_request : (transactions : List (List ℕ × List Member)) (request : Request) (receipt : Option (List ℕ)) → IsEndedOrGoing (carried transactions request receipt).phase
+after_request : (transactions : List (List ℕ × List Member)) (request : Request) (receipt : Option (List ℕ)) → IsEndedOrGoing (executed transactions request receipt).phase
 after_request transactions (Ask op) receipt = inr (open_goes transactions)
 after_request transactions (Join member None) receipt = inr (open_goes transactions)
 after_request transactions (Join member (Some name)) receipt = after_unless (refusal_of_add name member transactions) (added name member transactions) receipt

@@ -1,5 +1,4 @@
 pub mod ReadFrames
-pub mod Items
 pub mod Acting
 pub mod Hearings
 pub mod Decimals

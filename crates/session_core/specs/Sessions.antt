@@ -60,17 +60,17 @@ committed name None transactions receipt = ends_by TransactionNotBegun receipt
 committed name (Some members) transactions receipt = does (ops.Commit members) receipt (without name transactions)
 
 -- what a session with these open transactions does for a request (STOMP 1.2, "BEGIN", "COMMIT", "ABORT" and "DISCONNECT")
-abbrev pub carried : List (List ℕ × List Member) → Request → Option (List ℕ) → Heard
-carried transactions (Ask op) receipt = does op receipt transactions
-carried transactions (Join member None) receipt = does (op_of member) receipt transactions
-carried transactions (Join member (Some name)) receipt = unless (refusal_of_add name member transactions) (added name member transactions) receipt
-carried transactions (Begin name) receipt = unless (refusal_of_begin name transactions) (begun name transactions) receipt
-carried transactions (Commit name) receipt = committed name (members_of name transactions) transactions receipt
-carried transactions (Abort name) receipt = unless (refusal_of_end name transactions) (without name transactions) receipt
-carried transactions Disconnect receipt = record { acts = Do (ops.End Bye) receipt ∷ Close NormalClosure ∷ []; phase = Ended }
+abbrev pub executed : List (List ℕ × List Member) → Request → Option (List ℕ) → Heard
+executed transactions (Ask op) receipt = does op receipt transactions
+executed transactions (Join member None) receipt = does (op_of member) receipt transactions
+executed transactions (Join member (Some name)) receipt = unless (refusal_of_add name member transactions) (added name member transactions) receipt
+executed transactions (Begin name) receipt = unless (refusal_of_begin name transactions) (begun name transactions) receipt
+executed transactions (Commit name) receipt = committed name (members_of name transactions) transactions receipt
+executed transactions (Abort name) receipt = unless (refusal_of_end name transactions) (without name transactions) receipt
+executed transactions Disconnect receipt = record { acts = Do (ops.End Bye) receipt ∷ Close NormalClosure ∷ []; phase = Ended }
 
 abbrev pub answered : List (List ℕ × List Member) → Result Request Fault → Option (List ℕ) → Heard
-answered transactions (Ok request) receipt = carried transactions request receipt
+answered transactions (Ok request) receipt = executed transactions request receipt
 answered transactions (Err fault) receipt = ends_by fault receipt
 
 abbrev pub first_answered : Result Op Fault → Option (List ℕ) → Heard

@@ -2,8 +2,8 @@
 
 ghost use Rattle.std.specs.Prelude.{◌≡◌, codes, IfOk};
 ghost use Rattle.frame_core.specs.Writable.{first_of};
-ghost use Rattle.command_core.specs.Sendings.{kept_headers as kept};
-ghost use Rattle.command_core.specs.Texts.{IsHeaderText};
+ghost use Rattle.record_core.specs.Sendings.{kept_headers as kept};
+ghost use Rattle.record_core.specs.Texts.{IsHeaderText};
 ghost use Rattle.session_core.specs.ReadFrames.{IsRead, receipt_of, some_text, durable_at, durable_of, mode_of, delivery_of};
 
 use crate::numbers::number_of;

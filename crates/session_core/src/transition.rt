@@ -4,7 +4,7 @@ ghost use Rattle.std.specs.Prelude.{◌≡◌, ◌++◌, None, IfOk, IsSome, OnO
 ghost use Rattle.std.specs.List.{AllByRecursion};
 ghost use Rattle.tx_core.specs.TxFaults.{fault_of};
 ghost use Rattle.session_core.specs.ReadFrames.{IsRead};
-ghost use Rattle.session_core.specs.Sessions.{acts_of, carried, ends_by, first_answered, heard, next, note, phase_of, refused, told, unless, does};
+ghost use Rattle.session_core.specs.Sessions.{acts_of, executed, ends_by, first_answered, heard, next, note, phase_of, refused, told, unless, does};
 ghost use Rattle.session_core.specs.declared.phase.Phase.TheVariants as phases;
 ghost use Rattle.session_core.specs.declared.requests.Request.TheVariants as requests;
 
@@ -87,7 +87,7 @@ fn answer_next(
 {
     let receipt = receipt(alloc, &frame)?;
     match ask(alloc, frame)? {
-        Ok(request) => carry_out(alloc, transactions, request, receipt, acts),
+        Ok(request) => execute(alloc, transactions, request, receipt, acts),
         Err(fault) => {
             end_by(fault, receipt, acts)?;
             Ok(Phase::Ended)
@@ -96,15 +96,15 @@ fn answer_next(
 }
 
 /// What is to be done for a request.
-fn carry_out(
+fn execute(
     alloc: Global,
     transactions: OpenTx,
     request: Request,
     receipt: Option<HeaderText>,
     acts: &mut Vec<Act>,
 ) -> Result<Phase, AllocError>
-    ensures acts { OnOk result (acts.new.items ≡ acts.old.items ++ (carried transactions request receipt).acts) }
-    ensures phase { IfOk result (λ end. end ≡ (carried transactions request receipt).phase) }
+    ensures acts { OnOk result (acts.new.items ≡ acts.old.items ++ (executed transactions request receipt).acts) }
+    ensures phase { IfOk result (λ end. end ≡ (executed transactions request receipt).phase) }
 {
     let mut transactions = transactions;
     match request {
@@ -135,8 +135,8 @@ fn join(
     receipt: Option<HeaderText>,
     acts: &mut Vec<Act>,
 ) -> Result<Phase, AllocError>
-    ensures acts { OnOk result (acts.new.items ≡ acts.old.items ++ (carried transactions (requests.Join member name) receipt).acts) }
-    ensures phase { IfOk result (λ end. end ≡ (carried transactions (requests.Join member name) receipt).phase) }
+    ensures acts { OnOk result (acts.new.items ≡ acts.old.items ++ (executed transactions (requests.Join member name) receipt).acts) }
+    ensures phase { IfOk result (λ end. end ≡ (executed transactions (requests.Join member name) receipt).phase) }
 {
     let mut transactions = transactions;
     match name {
@@ -155,8 +155,8 @@ fn commit(
     receipt: Option<HeaderText>,
     acts: &mut Vec<Act>,
 ) -> Result<Phase, AllocError>
-    ensures acts { OnOk result (acts.new.items ≡ acts.old.items ++ (carried transactions (requests.Commit name) receipt).acts) }
-    ensures phase { IfOk result (λ end. end ≡ (carried transactions (requests.Commit name) receipt).phase) }
+    ensures acts { OnOk result (acts.new.items ≡ acts.old.items ++ (executed transactions (requests.Commit name) receipt).acts) }
+    ensures phase { IfOk result (λ end. end ≡ (executed transactions (requests.Commit name) receipt).phase) }
 {
     let mut transactions = transactions;
     match transactions.commit(name.as_str()) {

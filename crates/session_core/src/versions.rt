@@ -9,16 +9,8 @@ ghost use Rattle.session_core.specs.Versions.{offers, is_version, without_blanks
 pub fn offers_version(text: &[u8]) -> bool
     ensures { result ≡ offers text.now }
 {
-    let mut start = 0;
-    for at in 0..text.len() {
-        if text[at] == b',' {
-            if is_version_item(&text[start..at]) {
-                return true;
-            }
-            start = at + 1;
-        }
-    }
-    is_version_item(&text[start..])
+    text.split(|byte| *byte == b',')
+        .any(|item| is_version_item(item))
 }
 
 fn is_version_item(item: &[u8]) -> bool

@@ -1,17 +1,18 @@
 -- Lists, messages and lines in snapshots.
-use Rattle.std.proofs.Common.{◌≡◌, ℕ, ◌<◌, ◌^◌, ◌++◌, List, length, flat_map, Option, Some, refl, sym, subst, ◌∙◌, append_assoc}
+use Rattle.std.proofs.Common.{◌≡◌, ℕ, ◌<◌, ◌^◌, ◌++◌, List, Option, Some, length, refl, ◌∙◌, append_assoc, arith}
 use Rattle.std.specs.Int.{w32, w64, to_be_bytes}
-use Rattle.std.specs.List.{AllByRecursion}
 use Rattle.std.specs.List.Sorted.{IsStrictlySortedBy}
 use Rattle.std.specs.Map.{keys_of}
 use Rattle.std.specs.declared.cmp.Ordering.{Ordering}
-use Rattle.command_core.specs.Reading.{◌>>=◌, Reader, many_at, number_at, sending_at}
-use Rattle.command_core.specs.Sendings.{SendingValue}
-use Rattle.command_core.specs.Spellings.{AreBytes, sending}
-use Rattle.command_core.proofs.Formats.{Format, Takes, Takes-then, First, first_again, first_takes, last_takes, many_again, many_takes, number, tested, wide32, wide64}
-use Rattle.command_core.proofs.RecordMessages.{sending_format}
+use Rattle.record_core.specs.Reading.{◌>>=◌, Reader, number_at, sending_at}
+use Rattle.record_core.specs.Sendings.{SendingValue}
+use Rattle.record_core.specs.Spellings.{AreBytes, sending}
+use Rattle.record_core.proofs.Formats.{Format, HasBytes, Listed, Takes, Takes-then, First, first_again, first_takes, last_takes, number, tested, wide32, wide64}
+use Rattle.record_core.proofs.Formats.{listed as format_of_list}
+use Rattle.record_core.proofs.RecordMessages.{sending_format}
 use Rattle.line_core.specs.declared.message.Message.{Message}
-use Rattle.snapshot_core.specs.Reading.{delivery_at, is_rising, keyed_at, listed_at, message_at, rises, waiting_at}
+use Rattle.record_core.specs.Reading.{listed_at}
+use Rattle.snapshot_core.specs.Reading.{delivery_at, is_rising, keyed_at, message_at, rises, waiting_at}
 use Rattle.snapshot_core.specs.Snapshots.{IsDelivery, IsLine, IsMessage, delivery, line, listed, message}
 use Rattle.snapshot_core.proofs.RisingLists.{from_rising, rises_from, rising_from, sorted_from}
 
@@ -35,37 +36,17 @@ numbers64 = number w64 (2 ^ 64) wide64
 
 -- ---- lists
 
-abbrev pub Listed : {A : Type 0} → (A → Type 0) → List A → Type 0
-Listed Form xs = (length xs < 2 ^ 32) × AllByRecursion Form xs
-
 abbrev pub Keyed : {K X : Type 0} → (K → K → Ordering) → (K × X → Type 0) → List (K × X) → Type 0
 Keyed cmp Form xs = Listed Form xs × IsStrictlySortedBy cmp (keys_of xs)
 
-module _ {A : Type 0} {spell : A → List ℕ} {Form : A → Type 0} {read : Reader A} (format : Format spell Form read) where
-  -- behind their count
-  listed_takes : (bytes : List ℕ) (xs : List A) (rest : List ℕ) → AreBytes bytes → listed_at read bytes ≡ Some (xs, rest) → Takes bytes (listed spell xs) rest × Listed Form xs
-  unfolding listed_at
-  listed_takes bytes xs rest fits e =
-      let count = step_takes numbers32 (λ n. many_at read n.0 n.1) bytes (xs, rest) fits e in
-      let many = many_takes spell Form read format count.value count.rest xs rest count.taken.fits count.then in
-      let both = Takes-then bytes (to_be_bytes w32 count.value) count.rest (flat_map spell xs) rest count.taken many.0 in
-      (subst (λ (n : ℕ). Takes bytes (to_be_bytes w32 n ++ flat_map spell xs) rest) (sym many.1.0) both, (subst (λ (n : ℕ). n < 2 ^ 32) (sym many.1.0) count.form, many.1.1))
+-- behind their count, which has four bytes; no item is without bytes
+pub listed_format : {A : Type 0} {spell : A → List ℕ} {Form : A → Type 0} {read : Reader A} → Format spell Form read → HasBytes spell → Format (listed spell) (Listed Form) (listed_at read)
+listed_format {A} {spell} {Form} {read} format bytes = format_of_list spell Form read format bytes
 
-  listed_again : (xs : List A) (rest : List ℕ) → Listed Form xs → listed_at read (listed spell xs ++ rest) ≡ Some (xs, rest)
-  unfolding listed_at
-  listed_again xs rest form =
-      step_again numbers32 (λ n. many_at read n.0 n.1) (listed spell xs ++ rest) (length xs) (flat_map spell xs ++ rest) (Some (xs, rest))
-      (append_assoc (to_be_bytes w32 (length xs)) (flat_map spell xs) rest) form.0 (many_again spell Form read format xs rest form.1)
-
-  pub listed_format : Format (listed spell) (Listed Form) (listed_at read)
-  listed_format = record { takes = listed_takes; again = listed_again }
-
--- ---- lists by rising key
-
-pub keyed_format : {K X : Type 0} {spell : K × X → List ℕ} {Form : K × X → Type 0} {read : Reader (K × X)} (cmp : K → K → Ordering) → Format spell Form read → Format (listed spell) (Keyed cmp Form) (keyed_at cmp read)
+pub keyed_format : {K X : Type 0} {spell : K × X → List ℕ} {Form : K × X → Type 0} {read : Reader (K × X)} (cmp : K → K → Ordering) → Format spell Form read → HasBytes spell → Format (listed spell) (Keyed cmp Form) (keyed_at cmp read)
 unfolding keyed_at
-keyed_format {K} {X} {spell} {Form} {read} cmp format =
-    tested (listed spell) (Listed Form) (Keyed cmp Form) (listed_at read) (λ xs. rises cmp (keys_of xs)) (listed_format format) (λ xs e form. (form, sorted_from cmp (keys_of xs) e)) (λ xs form. (form.0, rises_from cmp (keys_of xs) form.1))
+keyed_format {K} {X} {spell} {Form} {read} cmp format bytes =
+    tested (listed spell) (Listed Form) (Keyed cmp Form) (listed_at read) (λ xs. rises cmp (keys_of xs)) (listed_format format bytes) (λ xs e form. (form, sorted_from cmp (keys_of xs) e)) (λ xs form. (form.0, rises_from cmp (keys_of xs) form.1))
 
 -- ---- messages
 
@@ -104,7 +85,7 @@ IsWaiting messages = (length messages < 2 ^ 32) × IsLine messages
 pub waiting_format : Format line IsWaiting waiting_at
 unfolding waiting_at
 waiting_format =
-    tested line (Listed IsMessage) IsWaiting (listed_at message_at) is_rising (listed_format message_format)
+    tested line (Listed IsMessage) IsWaiting (listed_at message_at) is_rising (listed_format message_format (λ m. omega arith))
     (λ messages e form. (form.0, record { each = form.1; rising = rising_from messages e })) (λ messages form. ((form.0, form.1.each), from_rising messages form.1.rising))
 
 -- ---- deliveries

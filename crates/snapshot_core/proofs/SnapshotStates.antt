@@ -1,20 +1,21 @@
 -- States in snapshots.
-use Rattle.std.proofs.Common.{◌≡◌, ℕ, ◌<◌, ◌^◌, ◌++◌, List, length, flat_map, map, Option, Some, refl, ap, sym, subst, ◌∙◌, append_assoc}
+use Rattle.std.proofs.Common.{◌≡◌, ℕ, ◌<◌, ◌^◌, ◌++◌, List, length, flat_map, map, Option, Some, refl, ap, sym, subst, ◌∙◌, append_assoc, arith}
 use Rattle.std.specs.Int.{w32, w64, to_be_bytes}
 use Rattle.std.specs.List.{AllByRecursion}
 use Rattle.std.specs.Ordering.{nat_cmp}
 use Rattle.std.proofs.lemmas.List.{length-map}
 use Rattle.std.proofs.lemmas.List.Folds.{flat_map-map}
-use Rattle.command_core.specs.Reading.{◌>>=◌, number_at}
-use Rattle.command_core.specs.Spellings.{AreBytes}
-use Rattle.command_core.proofs.Formats.{Format, Takes, Takes-then, last_takes}
+use Rattle.record_core.specs.Reading.{◌>>=◌, number_at}
+use Rattle.record_core.specs.Spellings.{AreBytes}
+use Rattle.record_core.proofs.Formats.{Format, Listed, Takes, Takes-then, last_takes}
 use Rattle.broker_state.specs.declared.subscription.Subscription.{Subscription}
 use Rattle.broker_core.specs.Names.{Name, name_cmp, text_cmp}
 use Rattle.broker_core.specs.States.{State}
 use Rattle.broker_core.specs.Waiting.{Lines, Shared}
-use Rattle.snapshot_core.specs.Reading.{durable_at, keyed_at, lines_of, listed_at, queue_at, session_at, state_at, subscription_at}
+use Rattle.record_core.specs.Reading.{listed_at}
+use Rattle.snapshot_core.specs.Reading.{durable_at, keyed_at, lines_of, queue_at, session_at, state_at, subscription_at}
 use Rattle.snapshot_core.specs.Snapshots.{IsSession, durable, listed, queue, session, snapshot_of, subscription}
-use Rattle.snapshot_core.proofs.SnapshotParts.{Keyed, Listed, keyed_format, listed_format, numbers64, step_again, step_takes}
+use Rattle.snapshot_core.proofs.SnapshotParts.{Keyed, keyed_format, listed_format, numbers64, step_again, step_takes}
 use Rattle.snapshot_core.proofs.SnapshotEntries.{Entry, IsEntry, IsQueueEntry, durable_format, entry, queue_format, session_format}
 use Rattle.snapshot_core.proofs.SnapshotSubscriptions.{IsRead, subscription_format}
 use Rattle.snapshot_core.proofs.SnapshotNames.{bound_again, bound_in, entries_again, entry_in}
@@ -42,16 +43,16 @@ entries_spell shared durables =
 -- ---- steps
 
 abbrev sessions_format : Format (listed session) (Keyed nat_cmp IsSession) (keyed_at nat_cmp session_at)
-sessions_format = keyed_format nat_cmp session_format
+sessions_format = keyed_format nat_cmp session_format (λ x. omega arith)
 
 abbrev entries_format : Format (listed entry) (Keyed name_cmp IsEntry) (keyed_at name_cmp durable_at)
-entries_format = keyed_format name_cmp durable_format
+entries_format = keyed_format name_cmp durable_format (λ x. omega arith)
 
 abbrev queues_format : Format (listed queue) (Keyed text_cmp IsQueueEntry) (keyed_at text_cmp queue_at)
-queues_format = keyed_format text_cmp queue_format
+queues_format = keyed_format text_cmp queue_format (λ x. omega arith)
 
 subscriptions_format : (sessions : List (ℕ × Option (List ℕ))) → AllByRecursion IsSession sessions → Format (listed subscription) (Listed (IsRead sessions)) (listed_at (subscription_at sessions))
-subscriptions_format sessions each = listed_format (subscription_format sessions each)
+subscriptions_format sessions each = listed_format (subscription_format sessions each) (λ x. omega arith)
 
 abbrev made : ℕ → ℕ → List (ℕ × Option (List ℕ)) → List Entry → Lines (List ℕ) → List Subscription → State
 made count next sessions entries queues subscriptions =

@@ -6,9 +6,9 @@ use Rattle.std.specs.List.{list_all}
 use Rattle.std.specs.Map.{keys_of}
 use Rattle.std.specs.Ordering.{is_lt, nat_cmp}
 use Rattle.std.specs.declared.cmp.Ordering.{Ordering}
-use Rattle.command_core.specs.declared.ack_mode.AckMode.{AckMode}
-use Rattle.command_core.specs.Destinations.{is_queue}
-use Rattle.command_core.specs.Reading.{◌>>=◌, Reader, destination_at, many_at, mode_at, name_at, number_at, sending_at, text_at}
+use Rattle.record_core.specs.declared.ack_mode.AckMode.{AckMode}
+use Rattle.record_core.specs.Destinations.{is_queue}
+use Rattle.record_core.specs.Reading.{◌>>=◌, Reader, destination_at, listed_at, mode_at, name_at, number_at, sending_at, text_at}
 use Rattle.line_core.specs.declared.message.Message.{Message}
 use Rattle.line_core.specs.Lines.{by_number}
 use Rattle.broker_state.specs.declared.subscription.Subscription.{Subscription}
@@ -19,12 +19,6 @@ use Rattle.broker_core.specs.States.{State}
 use Rattle.broker_core.specs.Waiting.{Lines}
 
 -- lists
-
--- a list behind its count
-unfoldable pub listed_at : {A : Type 0} → Reader A → Reader (List A)
-listed_at one bytes = do
-  n ← number_at w32 bytes
-  many_at one n.0 n.1
 
 -- whether each key is under those after it
 unfoldable pub rises : {K : Type 0} → (K → K → Ordering) → List K → Bool

@@ -4,9 +4,9 @@ ghost use Rattle.std.specs.Prelude.{◌≡◌, false, IfErr, IfOk};
 ghost use Rattle.broker_core.specs.States.{State};
 ghost use Rattle.snapshot_core.specs.Snapshots.{Spells};
 
-use crate::reading::parts_of;
+use crate::reading::read_parts;
 use broker_core::Broker;
-use command_core::DecodeFault;
+use record_core::DecodeFault;
 use std::alloc::Global;
 
 /// The broker of the state that the bytes spell, from the first to the last. `NoSpelling` where they spell no state that a
@@ -19,7 +19,7 @@ pub fn decode_state(alloc: Global, bytes: &[u8]) -> Result<Broker, DecodeFault>
     // Where no broker is found, they are the snapshot of no state.
     ensures none { IfErr result (λ e. e ≡ DecodeFault.NoSpelling → (s : State) → Spells bytes.now s → ⊥) }
 {
-    let (parts, rest) = parts_of(alloc, bytes)?;
+    let (parts, rest) = read_parts(alloc, bytes)?;
     if !rest.is_empty() {
         return Err(DecodeFault::NoSpelling);
     }

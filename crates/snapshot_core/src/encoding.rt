@@ -4,9 +4,9 @@
 ghost use Rattle.std.specs.Prelude.{◌≡◌, ◌<◌, ◌++◌, ◌^◌, [], ℕ, false, IfOk, IfSome, OnOk, length, option_map};
 ghost use Rattle.std.specs.Int.{w32, to_be_bytes};
 ghost use Rattle.std.specs.List.{AllByRecursion};
-ghost use Rattle.command_core.specs.Destinations.{IsDestination};
-ghost use Rattle.command_core.specs.Operations.{IsGiven};
-ghost use Rattle.command_core.specs.Spellings.{IsText, counted, optional};
+ghost use Rattle.record_core.specs.Destinations.{IsDestination};
+ghost use Rattle.record_core.specs.Texts.{IsGiven};
+ghost use Rattle.record_core.specs.Spellings.{IsText, counted, optional};
 ghost use Rattle.broker_core.specs.Names.{Name, name_cmp};
 ghost use Rattle.broker_core.specs.Sound.{IsSound};
 ghost use Rattle.broker_core.specs.Waiting.{is_own, line_at};
@@ -15,8 +15,8 @@ ghost use Rattle.snapshot_core.specs.Snapshots.{Spells, listed};
 ghost use Rattle.snapshot_core.specs.Snapshots as spelled;
 
 use broker_core::{Broker, DurableName, GivenName, SharedLines, Subscription};
-use command_core::{Dest, mode_byte, put_destination, put_sending, put_text};
 use line_core::{Line, Message};
+use record_core::{Dest, mode_byte, put_destination, put_sending, put_text};
 use std::alloc::{AllocError, Global};
 use std::collections::BTreeMap;
 

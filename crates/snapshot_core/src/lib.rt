@@ -6,7 +6,6 @@ mod decoding;
 mod encoding;
 mod entry_reading;
 mod laws;
-mod list_reading;
 mod message_reading;
 mod name_tables;
 mod reading;

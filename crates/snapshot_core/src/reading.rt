@@ -2,28 +2,28 @@
 //! `NoSpelling` just where no spelling of its part begins the bytes, and `Memory` where memory is refused. No room is
 //! taken by a count that was read: it may lie.
 
-ghost use Rattle.command_core.specs.Reading.{Gives};
+ghost use Rattle.record_core.specs.Reading.{Gives};
 ghost use Rattle.broker_core.specs.PartsOf.{state_of_parts};
 ghost use Rattle.snapshot_core.specs.Reading.{state_at};
 
-use crate::entry_reading::{durables_of, queues_of, sessions_of};
+use crate::entry_reading::{read_durables, read_queues, read_sessions};
 use crate::name_tables::tables_of;
-use crate::subscription_reading::subscriptions_of;
+use crate::subscription_reading::read_subscriptions;
 use broker_core::Parts;
-use command_core::{DecodeFault, u64_of};
+use record_core::{DecodeFault, read_u64};
 use std::alloc::Global;
 
 /// The parts of a state, and the bytes behind them.
 #[tactic(auto, unfolding(crate::specs::Reading::state_at))]
-pub fn parts_of(alloc: Global, bytes: &[u8]) -> Result<(Parts, &[u8]), DecodeFault>
+pub fn read_parts(alloc: Global, bytes: &[u8]) -> Result<(Parts, &[u8]), DecodeFault>
     ensures { Gives (λ x. (state_of_parts x.0, x.1.now)) result (state_at bytes.now) }
 {
-    let (count, rest) = u64_of(bytes)?;
-    let (next_delivery, rest) = u64_of(rest)?;
-    let (sessions, rest) = sessions_of(alloc, rest)?;
-    let (names, rest) = durables_of(alloc, rest)?;
-    let (queues, rest) = queues_of(alloc, rest)?;
-    let (subscriptions, rest) = subscriptions_of(alloc, &sessions, rest)?;
+    let (count, rest) = read_u64(bytes)?;
+    let (next_delivery, rest) = read_u64(rest)?;
+    let (sessions, rest) = read_sessions(alloc, rest)?;
+    let (names, rest) = read_durables(alloc, rest)?;
+    let (queues, rest) = read_queues(alloc, rest)?;
+    let (subscriptions, rest) = read_subscriptions(alloc, &sessions, rest)?;
     let tables = tables_of(alloc, names)?;
     let parts = Parts {
         count,

@@ -1,19 +1,20 @@
 //! Subscriptions, read from the front of bytes, as `reading` says.
 
 ghost use Rattle.std.specs.Prelude.{◌≡◌, ◌||◌, is_some, not, option_map};
-ghost use Rattle.command_core.specs.Destinations.{is_queue};
-ghost use Rattle.command_core.specs.Reading.{Gives};
+ghost use Rattle.record_core.specs.Destinations.{is_queue};
+ghost use Rattle.record_core.specs.Reading.{Gives};
 ghost use Rattle.broker_core.specs.Operations.{client_in as client_among};
-ghost use Rattle.snapshot_core.specs.Reading.{durable_name_at, front_at, had_at, listed_at, named_by, own_line_at, subscription_at};
+ghost use Rattle.record_core.specs.Reading.{listed_at};
+ghost use Rattle.snapshot_core.specs.Reading.{durable_name_at, front_at, had_at, named_by, own_line_at, subscription_at};
 
-use crate::entry_reading::optional_name_of;
-use crate::list_reading::listed_of;
-use crate::message_reading::{flight_of, line_of};
+use crate::entry_reading::read_optional_name;
+use crate::message_reading::{read_flight, read_line};
 use broker_core::{DurableName, GivenName, Subscription};
-use command_core::{
-    AckMode, DecodeFault, Dest, HeaderText, destination_of, mode_of, text_of, u64_of,
-};
 use line_core::{Flight, Line, Message};
+use record_core::{
+    AckMode, DecodeFault, Dest, HeaderText, read_destination, read_list, read_mode, read_text,
+    read_u64,
+};
 use std::alloc::Global;
 use std::collections::BTreeMap;
 
@@ -44,11 +45,11 @@ fn durable_of(
 }
 
 /// The line of a subscription's own. Nothing is read where it has none.
-fn own_line_of(alloc: Global, is_own: bool, bytes: &[u8]) -> Result<(Line, &[u8]), DecodeFault>
+fn read_own_line(alloc: Global, is_own: bool, bytes: &[u8]) -> Result<(Line, &[u8]), DecodeFault>
     ensures { Gives (λ x. (x.0, x.1.now)) result (own_line_at is_own bytes.now) }
 {
     if is_own {
-        line_of(alloc, bytes)
+        read_line(alloc, bytes)
     } else {
         Ok((Line::new(alloc), bytes))
     }
@@ -56,22 +57,22 @@ fn own_line_of(alloc: Global, is_own: bool, bytes: &[u8]) -> Result<(Line, &[u8]
 
 /// What a subscription begins with: its session, id, destination and mode.
 #[tactic(auto, unfolding(crate::specs::Reading::front_at))]
-fn front_of(
+fn read_front(
     alloc: Global,
     bytes: &[u8],
 ) -> Result<((u64, HeaderText, Dest, AckMode), &[u8]), DecodeFault>
     ensures { Gives (λ x. (x.0, x.1.now)) result (front_at bytes.now) }
 {
-    let (session, rest) = u64_of(bytes)?;
-    let (id, rest) = text_of(alloc, rest)?;
-    let (destination, rest) = destination_of(alloc, rest)?;
-    let (mode, rest) = mode_of(rest)?;
+    let (session, rest) = read_u64(bytes)?;
+    let (id, rest) = read_text(alloc, rest)?;
+    let (destination, rest) = read_destination(alloc, rest)?;
+    let (mode, rest) = read_mode(rest)?;
     Ok(((session, id, destination, mode), rest))
 }
 
 /// The durable name of a subscription of that session, where it has one.
 #[tactic(auto, unfolding(crate::specs::Reading::durable_name_at))]
-fn durable_name_of<'a>(
+fn read_durable_name<'a>(
     alloc: Global,
     sessions: &BTreeMap<u64, Option<GivenName>>,
     session: u64,
@@ -79,22 +80,22 @@ fn durable_name_of<'a>(
 ) -> Result<(Option<DurableName>, &'a [u8]), DecodeFault>
     ensures { Gives (λ x. (x.0, x.1.now)) result (durable_name_at (client_among sessions.now.entries session) bytes.now) }
 {
-    let (own, rest) = optional_name_of(alloc, bytes)?;
+    let (own, rest) = read_optional_name(alloc, bytes)?;
     let durable = durable_of(client_in(sessions, session), own)?;
     Ok((durable, rest))
 }
 
 /// What a subscription has: the line of its own, where it has one, and what it has not acknowledged.
 #[tactic(auto, unfolding(crate::specs::Reading::had_at))]
-fn had_of(
+fn read_had(
     alloc: Global,
     is_own: bool,
     bytes: &[u8],
 ) -> Result<((Line, Flight<Message>), &[u8]), DecodeFault>
     ensures { Gives (λ x. (x.0, x.1.now)) result (had_at is_own bytes.now) }
 {
-    let (line, rest) = own_line_of(alloc, is_own, bytes)?;
-    let (unacknowledged, rest) = flight_of(alloc, rest)?;
+    let (line, rest) = read_own_line(alloc, is_own, bytes)?;
+    let (unacknowledged, rest) = read_flight(alloc, rest)?;
     Ok(((line, unacknowledged), rest))
 }
 
@@ -106,17 +107,17 @@ fn has_own_line(durable: &Option<DurableName>, destination: &Dest) -> bool
 }
 
 /// A subscription of one of these sessions.
-fn subscription_of<'a>(
+fn read_subscription<'a>(
     alloc: Global,
     sessions: &BTreeMap<u64, Option<GivenName>>,
     bytes: &'a [u8],
 ) -> Result<(Subscription, &'a [u8]), DecodeFault>
     ensures { Gives (λ x. (x.0, x.1.now)) result (subscription_at sessions.now.entries bytes.now) }
 {
-    let ((session, id, destination, mode), rest) = front_of(alloc, bytes)?;
-    let (durable, rest) = durable_name_of(alloc, sessions, session, rest)?;
+    let ((session, id, destination, mode), rest) = read_front(alloc, bytes)?;
+    let (durable, rest) = read_durable_name(alloc, sessions, session, rest)?;
     let is_own = has_own_line(&durable, &destination);
-    let ((line, unacknowledged), rest) = had_of(alloc, is_own, rest)?;
+    let ((line, unacknowledged), rest) = read_had(alloc, is_own, rest)?;
     let subscription = Subscription {
         session,
         id,
@@ -130,12 +131,16 @@ fn subscription_of<'a>(
 }
 
 /// The subscriptions of these sessions, in waiting order behind their count.
-pub fn subscriptions_of<'a>(
+pub fn read_subscriptions<'a>(
     alloc: Global,
     sessions: &BTreeMap<u64, Option<GivenName>>,
     bytes: &'a [u8],
 ) -> Result<(Vec<Subscription>, &'a [u8]), DecodeFault>
     ensures { Gives (λ x. (x.0.items, x.1.now)) result (listed_at (subscription_at sessions.now.entries) bytes.now) }
 {
-    listed_of(alloc, bytes, |rest| subscription_of(alloc, sessions, rest))
+    read_list(
+        alloc,
+        bytes,
+        |rest| read_subscription(alloc, sessions, rest),
+    )
 }

@@ -1,2 +1,1 @@
-pub mod Items
 pub mod Choices

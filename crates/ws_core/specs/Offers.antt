@@ -1,18 +1,12 @@
 -- Which subprotocol a handshake answers.
 use Rattle.std.specs.Prelude.{List, [], ◌∷◌, ℕ, Bool, ◌==◌, ◌&&◌, ◌||◌, if◌then◌else◌, codes, drop, nat_eq}
-use Rattle.std.specs.List.{list_any, list_all, starts_with}
+use Rattle.std.specs.List.{list_any, list_all, slice_split, starts_with}
 use Rattle.ws_core.specs.declared.offers.Choice.{Choice}
 use Rattle.ws_core.specs.declared.offers.Choice.TheVariants.{Stomp, Nothing, Refuse}
 
--- a byte at the front of the first item
-abbrev pub on_first : ℕ → List (List ℕ) → List (List ℕ)
-on_first b [] = (b ∷ []) ∷ []
-on_first b (item ∷ items) = (b ∷ item) ∷ items
-
 -- the items between commas
 abbrev pub items_of : List ℕ → List (List ℕ)
-items_of [] = [] ∷ []
-items_of (b ∷ text) = if b == 44 then [] ∷ items_of text else on_first b (items_of text)
+items_of offer = slice_split (λ b. b == 44) offer
 
 -- a blank or a tab
 abbrev pub is_blank : ℕ → Bool

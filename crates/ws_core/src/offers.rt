@@ -42,16 +42,7 @@ pub fn choose(headers: &HeaderMap) -> Choice
 fn has_stomp(offer: &[u8]) -> bool
     ensures { result ≡ has_stomp offer.now }
 {
-    let mut start = 0;
-    for at in 0..offer.len() {
-        if offer[at] == b',' {
-            if is_stomp(&offer[start..at]) {
-                return true;
-            }
-            start = at + 1;
-        }
-    }
-    is_stomp(&offer[start..])
+    offer.split(|byte| *byte == b',').any(|item| is_stomp(item))
 }
 
 fn is_stomp(item: &[u8]) -> bool

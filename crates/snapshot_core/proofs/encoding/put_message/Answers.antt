@@ -1,6 +1,6 @@
 use Rattle.std.proofs.Common.{◌≡◌, ◌++◌, rules}
 use Rattle.std.specs.Int.{w32, w64, to_be_bytes}
-use Rattle.command_core.specs.Spellings.{sending}
+use Rattle.record_core.specs.Spellings.{sending}
 use Rattle.snapshot_core.proofs.Puts.{last_put, then_put}
 use Rattle.snapshot_core.proofs.encoding.put_message.Goals as goal
 

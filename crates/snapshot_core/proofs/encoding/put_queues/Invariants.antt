@@ -1,6 +1,6 @@
 use Rattle.std.proofs.Common.{◌≡◌, ◌<◌, ◌^◌, ◌++◌, length}
 use Rattle.std.specs.List.{AllByRecursion, flat_map}
-use Rattle.command_core.specs.Destinations.{IsDestination}
+use Rattle.record_core.specs.Destinations.{IsDestination}
 use Rattle.snapshot_core.specs.Snapshots.{IsLine, listed, queue}
 use Rattle.snapshot_core.proofs.encoding.put_queues.Given as goal
 

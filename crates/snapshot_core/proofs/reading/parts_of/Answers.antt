@@ -1,7 +1,0 @@
-use Rattle.std.proofs.Common.{rules}
-use Rattle.snapshot_core.specs.Reading.{state_at}
-use Rattle.snapshot_core.proofs.reading.parts_of.Goals as goal
-
-pub returns : goal.returns
-unfolding state_at
-returns c = search rules
