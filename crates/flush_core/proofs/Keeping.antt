@@ -80,7 +80,7 @@ held_more seat next more stored settled journal batch done next_batch bytes now 
   room_is = held.room_is;
 }
 
--- what waited to be stored waits to be carried out
+-- what waited to be stored waits to be executed
 pub held_stored : {B : Type 0} (seat : FlushSeatValue) (stored next settled : ℕ) (journal now : Bool) (batch done next_batch next_done : List (EntryValue B)) (bytes left waiting room : ℕ)
     → next_batch ≡ done → next_done ≡ batch → next ≡ next_ticket seat → next ≤ 2 ^ 62 → now ≡ false → settled ≡ stored → seat.base ≤ stored
     → IsHeld seat stored settled journal batch done bytes left waiting room → IsHeld seat next settled now next_batch next_done 0 left waiting room
@@ -95,7 +95,7 @@ held_stored {B} seat stored next settled journal now batch done next_batch next_
       room_is = held.room_is;
     }
 
--- nothing waits to be carried out
+-- nothing waits to be executed
 pub held_settled : {B : Type 0} (seat : FlushSeatValue) (stored settled : ℕ) (journal : Bool) (batch done next_done : List (EntryValue B)) (bytes left waiting room l w r : ℕ)
     → next_done ≡ [] → (0 < l → l + w ≤ r) → IsHeld seat stored settled journal batch done bytes left waiting room → IsHeld seat stored stored journal batch next_done bytes l w r
 held_settled {B} seat stored settled journal batch done next_done bytes left waiting room l w r none fits held = record {
@@ -278,7 +278,7 @@ module _ {D : Type 0} (honest : D → Type 0) (images : D → List ℕ → Type 
       let state : f.broker.state ≡ state_at f.opening f.seat f.settled = ap (λ (b : BrokerValue). b.state) (kept.running whole).broker in
       ap (λ (s : State). state_after s (unsettled f)) state ∙ at_between f.opening f.seat f.settled f.stored (omega (arith, kept.begun, kept.marked)) kept.settled
 
-  -- the numbers that are carried out are counted in 62 bits
+  -- the numbers that are executed are counted in 62 bits
   pub counts : {B : Type 0} (f : Flushed D) (done : List (EntryValue B)) → f.broken ≡ false → IsFlusher honest images f → commands done ≡ unsettled f → f.stored ≤ 2 ^ 62 → f.broker.state.count + length done ≤ 2 ^ 62
   counts f done whole kept is few =
       let begun : f.seat.base ≤ f.settled = omega (arith, kept.begun, kept.marked) in
@@ -293,7 +293,7 @@ module _ {D : Type 0} (honest : D → Type 0) (images : D → List ℕ → Type 
       let all : broker ≡ record { state = state_at f.opening f.seat f.stored; broken = false } = is ∙ ap (λ (s : State). record { state = s; broken = false }) (settled_state f whole kept) in
       λ i. record f { settled = f.stored; brought = entries i; broker = all i; boxes = given i; ended = ends i; past = last i; waiting = outs i; left = same i }
 
-  -- all that is stored is carried out
+  -- all that is stored is executed
   pub settles : (f : Flushed D) (brought : List (EntryValue SenderValue)) (broker : BrokerValue) (boxes : Kept) (ended past : List ℕ) (waiting left : List OutValue) → commands brought ≡ from_on f.seat f.stored
       → broker ≡ record { state = state_after f.broker.state (unsettled f); broken = false } → waiting ≡ f.waiting ++ outs_of f.broker.state (unsettled f) → left ≡ f.left → f.broken ≡ false
       → IsFlusher honest images f → IsFlusher honest images (record f { settled = f.stored; brought = brought; broker = broker; boxes = boxes; ended = ended; past = past; waiting = waiting; left = left })

@@ -18,7 +18,7 @@ use Rattle.flush_core.specs.Batches.{IsBatch, between, from_on, state_at}
 
 -- A flusher: its disk, the bytes of an area of the journal and those used; its seat at the ring, with the commands taken
 -- and the mark; the state that the journal stood for when the flusher was made; the first number that is not stored, and
--- the first that the broker has not carried out; the entries that are taken and not carried out; the broker; the outboxes of
+-- the first that the broker has not executed; the entries that are taken and not executed; the broker; the outboxes of
 -- sessions; the sessions that ended and whose last outputs wait for the mark, and those whose last outputs are given; the
 -- outputs that wait for the mark, and those under it that went to no box; and whether a step failed.
 pub record Flushed (D : Type 0) : Type 0 where
@@ -46,7 +46,7 @@ flushed store seat opening stored settled brought broker boxes ended past waitin
 abbrev pub gathered : {D : Type 0} → Flushed D → List CommandValue
 gathered f = from_on f.seat f.stored
 
--- the commands that are stored and not carried out
+-- the commands that are stored and not executed
 abbrev pub unsettled : {D : Type 0} → Flushed D → List CommandValue
 unsettled f = between f.seat f.settled f.stored
 
@@ -91,6 +91,8 @@ pub record IsFlusher {D : Type 0} (honest : D → Type 0) (images : D → List �
 
 -- two flushers are the same but for their disks
 pub record IsSame {C D : Type 0} (one : Flushed C) (other : Flushed D) : Type 0 where
+  pub size : other.size ≡ one.size
+  pub used : other.used ≡ one.used
   pub seat : other.seat ≡ one.seat
   pub opening : other.opening ≡ one.opening
   pub stored : other.stored ≡ one.stored
@@ -105,7 +107,7 @@ pub record IsSame {C D : Type 0} (one : Flushed C) (other : Flushed D) : Type 0 
   pub broken : other.broken ≡ one.broken
 
 -- How the fields show it while no step has failed: the journal is whole, entries stand for the commands that wait to be
--- stored and for those that wait to be carried out, and there is room for the outputs that wait.
+-- stored and for those that wait to be executed, and there is room for the outputs that wait.
 pub record IsHeld {B : Type 0} (seat : FlushSeatValue) (stored settled : ℕ) (journal : Bool) (batch done : List (EntryValue B)) (bytes left waiting room : ℕ) : Type 0 where
   pub whole : journal ≡ false
   pub batch_is : commands batch ≡ from_on seat stored

@@ -40,11 +40,11 @@ taking f more = record f { seat = with_more f.seat (commands more); brought = f.
 abbrev pub storing : {D : Type 0} → Flushed D → D → ℕ → ℕ → Flushed D
 storing f disk size used = record f { disk = disk; size = size; used = used; stored = next_ticket f.seat }
 
--- the entries of what is stored and not carried out
+-- the entries of what is stored and not executed
 abbrev pub stored_entries : {D : Type 0} → Flushed D → List (EntryValue SenderValue)
 stored_entries f = take (f.stored - f.settled) f.brought
 
--- All that is stored is carried out: the outputs of that wait behind the others, the boxes that came with Opens are kept, and
+-- All that is stored is executed: the outputs of that wait behind the others, the boxes that came with Opens are kept, and
 -- the sessions that ended are noted.
 abbrev pub settling : {D : Type 0} → Flushed D → Flushed D
 settling f = record f {
@@ -80,7 +80,7 @@ turned_outs old new = old.waiting ++ outs_of old.broker.state (from_on new.seat 
 abbrev pub turned_boxes : {D : Type 0} → Flushed D → List (EntryValue SenderValue) → Kept
 turned_boxes old more = without (boxes_after old.settled old.boxes (old.brought ++ more)) old.past
 
--- A turn has taken these entries, and all that was taken is stored, carried out and published: the outputs of all that was not
+-- A turn has taken these entries, and all that was taken is stored, executed and published: the outputs of all that was not
 -- published were given to the boxes of their sessions, or may be handed out, behind those that might be already.
 pub record IsTurned {D : Type 0} (old new : Flushed D) (more : List (EntryValue SenderValue)) : Type 0 where
   pub seat : new.seat ≡ with_mark (with_more old.seat (commands more)) (next_ticket (with_more old.seat (commands more)))

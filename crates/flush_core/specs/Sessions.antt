@@ -1,4 +1,4 @@
--- What becomes of the outboxes of sessions when commands are carried out.
+-- What becomes of the outboxes of sessions when commands are executed.
 use Rattle.std.specs.Prelude.{◌+◌, ◌&&◌, ◌++◌, ℕ, List, [], ◌∷◌, Option, Some, None, not, if◌then◌else◌}
 use Rattle.command_core.specs.Commands.{CommandValue}
 use Rattle.command_core.specs.Entries.{EntryValue}

@@ -19,7 +19,7 @@ use std::alloc::Global;
 use std::marker::Model;
 use std::snapshot::Snapshot;
 
-/// The one that takes commands from a ring, makes them durable, carries them out and publishes them.
+/// The one that takes commands from a ring, makes them durable, executes them and publishes them.
 ///
 /// Each image of its disk stands for the state after the commands taken up to some number from the mark on, also once a
 /// step has failed. No output is handed out but under the mark.
@@ -33,9 +33,9 @@ pub struct Flusher<D: Disk, B: Bell> {
     // What waits to be stored, and how many bytes its records have.
     pub(crate) batch: Vec<Entry<OutSender<B>>>,
     pub(crate) bytes: u64,
-    // What is stored and waits to be carried out.
+    // What is stored and waits to be executed.
     pub(crate) done: Vec<Entry<OutSender<B>>>,
-    // The first numbers that are not stored, and not carried out.
+    // The first numbers that are not stored, and not executed.
     pub(crate) stored: u64,
     pub(crate) settled: u64,
     // The outboxes of sessions, and the outputs on their way there.
@@ -98,7 +98,7 @@ impl<D: Disk, B: Bell> Flusher<D, B> {
         self.broken
     }
 
-    /// The broker after the commands that are carried out.
+    /// The broker after the commands that are executed.
     pub fn broker(&self) -> &Broker
         ensures { result.now ≡ self.now.broker }
     {

@@ -31,7 +31,7 @@ fn take_ready<B: Bell>(
     bytes: &mut u64,
 ) -> u64
     requires ring { seat.old.ring ≡ ring.now }
-    requires room { 32 ≤ vec_capacity batch.old }
+    requires room { BATCH_ENTRIES ≤ vec_capacity batch.old }
     requires bytes { bytes.old ≡ length (records (commands batch.old.items)) }
     requires batch { IsBatch (commands batch.old.items) }
     ensures taken { (more : List (EntryValue SenderValue)) × (length more ≡ result) × (seat.new ≡ with_more seat.old (commands more))

@@ -1,4 +1,4 @@
-//! The flusher: it takes commands from the ring, makes them durable in one block, carries them out, and publishes them.
+//! The flusher: it takes commands from the ring, makes them durable in one block, executes them, and publishes them.
 
 #![tactic(auto)]
 

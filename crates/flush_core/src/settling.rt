@@ -1,4 +1,4 @@
-//! Carrying the commands out.
+//! Executing the commands.
 
 ghost use Rattle.std.specs.Prelude.{◌≡◌, ◌<◌, ◌≤◌, ◌+◌, ◌++◌, ◌&&◌, ◌^◌, [], ◌∷◌, OnErr, OnOk, true, false, not, if◌then◌else◌, length, vec_capacity};
 ghost use Rattle.area_core.specs.Areas.{commands};
@@ -73,9 +73,9 @@ fn take_step(
     Ok(())
 }
 
-// Carries one command out: its outputs wait behind those that wait, the box that comes with an Open is kept, and the session
+// Executes one command: its outputs wait behind those that wait, the box that comes with an Open is kept, and the session
 // that it ends is noted.
-fn carry_out_one<B: Bell>(
+fn execute_one<B: Bell>(
     alloc: Global,
     broker: &mut Broker,
     entry: Entry<OutSender<B>>,
@@ -108,7 +108,7 @@ fn carry_out_one<B: Bell>(
 }
 
 // The same of commands in turn.
-fn carry_out<B: Bell>(
+fn execute_each<B: Bell>(
     alloc: Global,
     broker: &mut Broker,
     batch: Vec<Entry<OutSender<B>>>,
@@ -125,13 +125,13 @@ fn carry_out<B: Bell>(
     ensures fault { IsMemory result }
 {
     for entry in batch {
-        carry_out_one(alloc, broker, entry, waiting, boxes, ended)?;
+        execute_one(alloc, broker, entry, waiting, boxes, ended)?;
     }
     Ok(())
 }
 
 // The same of all that is stored; then makes the room that publishing needs.
-fn carry_all_out<B: Bell>(
+fn execute_all<B: Bell>(
     alloc: Global,
     broker: &mut Broker,
     done: &mut Vec<Entry<OutSender<B>>>,
@@ -152,7 +152,7 @@ fn carry_all_out<B: Bell>(
     ensures fault { IsMemory result }
 {
     let batch = replace(done, Vec::new(alloc));
-    carry_out(
+    execute_each(
         alloc,
         broker,
         batch,
@@ -165,7 +165,7 @@ fn carry_all_out<B: Bell>(
 }
 
 impl<D: Disk, B: Bell> Flusher<D, B> {
-    /// Carries out what is stored: the broker's state is then the one after all that is stored, and the outputs wait behind
+    /// Executes what is stored: the broker's state is then the one after all that is stored, and the outputs wait behind
     /// those that wait already, in the order of their commands. The room is made that `publish` needs.
     pub fn settle(
         &mut self,
@@ -182,7 +182,7 @@ impl<D: Disk, B: Bell> Flusher<D, B> {
         if self.broken {
             return Err(FlushFault::Broken);
         }
-        match carry_all_out(alloc, &mut self.broker, &mut self.done, &mut self.outlet) {
+        match execute_all(alloc, &mut self.broker, &mut self.done, &mut self.outlet) {
             Ok(()) => {
                 self.settled = self.stored;
                 Ok(())

@@ -1,6 +1,6 @@
 //! One turn of the flusher.
 
-ghost use Rattle.std.specs.Prelude.{◌≡◌, ◌<◌, ◌+◌, ◌++◌, List, IfOk, IsErrOf, OnErr, true, false, length};
+ghost use Rattle.std.specs.Prelude.{◌≡◌, ◌≢◌, ◌<◌, ◌+◌, ◌++◌, [], List, IfOk, IsErrOf, OnErr, true, false, length};
 ghost use Rattle.command_core.specs.Entries.{EntryValue};
 ghost use Rattle.outbox_core.specs.Boxes.{SenderValue};
 ghost use Rattle.area_core.specs.Areas.{records};
@@ -19,11 +19,11 @@ use outbox_core::{Bell, OutSender};
 use std::alloc::Global;
 
 impl<D: Disk, B: Bell> Flusher<D, B> {
-    /// Takes what is ready, makes it durable in one block, carries it out and publishes it. Answers how many commands it took.
+    /// Takes what is ready, makes it durable in one block, executes it and publishes it. Answers how many commands it took.
     ///
     /// At each moment of the call an image of the disk stands for the state after what was stored before, or after all that
     /// is taken at the end, and for none between; after it, for the latter alone. `Full` where the block of what waits to be
-    /// stored doesn't fit, with the closed gate behind it: the disk is then as it was.
+    /// stored doesn't fit, with the closed gate behind it: the disk is then as it was. So it is where nothing waits to be stored.
     pub fn turn(
         &mut self,
         alloc: Global,
@@ -38,9 +38,10 @@ impl<D: Disk, B: Bell> Flusher<D, B> {
             IfOk result (λ count. StandFor (D.images self.new.disk) (state_taken self.new.opening self.new.seat)) }
         ensures turned { IfOk result (λ count. (more : List (EntryValue SenderValue)) × (length more ≡ count) × IsTurned self.old self.new more) }
         ensures batch { IfOk result (λ count. IsBatch (from_on self.new.seat self.old.stored)) }
+        ensures nothing { from_on self.new.seat self.old.stored ≡ [] → self.new.disk ≡ self.old.disk }
         ensures full { IsErrOf result FlushFault.Full →
             (self.old.size < self.old.used + 9 + length (records (from_on self.new.seat self.old.stored)))
-            × (self.new.disk ≡ self.old.disk) × IsBatch (from_on self.new.seat self.old.stored) }
+            × (self.new.disk ≡ self.old.disk) × IsBatch (from_on self.new.seat self.old.stored) × (from_on self.new.seat self.old.stored ≢ []) }
         ensures no_room { D.honest self.old.disk → IsErrOf result FlushFault.Full →
             HasNoRoom (D.content self.old.disk) (state_at self.old.opening self.old.seat self.old.stored) (from_on self.new.seat self.old.stored) }
         ensures outcome { IsTurn self.old self.new result }

@@ -5,9 +5,9 @@ use Rattle.std.specs.List.{AllByRecursion, list_all, sum_by}
 use Rattle.std.specs.Map.{values_of}
 use Rattle.std.proofs.lemmas.Bool.{and_parts, leb-true}
 use Rattle.std.proofs.lemmas.List.Sums.{sum_by-cons}
-use Rattle.command_core.specs.Destinations.{IsDestination, is_destination_byte, is_name, is_queue, is_topic}
-use Rattle.command_core.specs.Sendings.{SendingValue}
-use Rattle.command_core.specs.Spellings.{counted, headers, pair, sending}
+use Rattle.record_core.specs.Destinations.{IsDestination, is_destination_byte, is_name, is_queue, is_topic}
+use Rattle.record_core.specs.Sendings.{SendingValue}
+use Rattle.record_core.specs.Spellings.{counted, headers, pair, sending}
 use Rattle.line_core.specs.declared.message.Message.{Message}
 use Rattle.line_core.specs.Messages.{header_size, size_of}
 use Rattle.broker_state.specs.declared.subscription.Subscription.{Subscription}

@@ -70,6 +70,8 @@ impl<D: Disk> Store<D> {
     pub fn fuse(self, calls: u64) -> Store<FuseDisk<D>>
         ensures disk { fused (disk_of result) ≡ disk_of self }
         ensures calls { calls_left (disk_of result) ≡ calls }
+        ensures size { size_of result ≡ size_of self }
+        ensures used { used_of result ≡ used_of self }
         ensures whole { is_broken result ≡ is_broken self }
         ensures opened { opened_by result ≡ opened_by self }
     {

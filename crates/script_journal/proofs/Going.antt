@@ -1,5 +1,5 @@
 -- How far a flusher has gone.
-use Rattle.std.proofs.Common.{ne_eqb, ◌≡◌, ◌==◌, suc, ◌+◌, ◌-◌, ◌≤◌, ◌++◌, ℕ, List, [], ◌∷◌, false, Err, length, take, drop, refl, sym, ap, ◌∙◌, subst, arith, length-append, true, Option, Some, None, is_none, is_some, if◌then◌else◌}
+use Rattle.std.proofs.Common.{ne_eqb, ◌≡◌, ◌≢◌, ◌==◌, suc, ◌+◌, ◌-◌, ◌≤◌, ◌++◌, ℕ, List, [], ◌∷◌, false, Err, length, take, drop, refl, sym, ap, ◌∙◌, subst, arith, length-append, true, Option, Some, None, is_none, is_some, if◌then◌else◌}
 use Rattle.std.proofs.lemmas.List.{append-nil, append_assoc, take_all, take-append-drop}
 use Rattle.std.proofs.lemmas.Bool.{false≢true}
 use Rattle.command_core.specs.Commands.{CommandValue}
@@ -147,9 +147,9 @@ module _ {D : Type 0} where
       }
 
   -- a turn whose block has no room, behind those that went
-  pub filled : (f g h : Flushed D) (more : List CommandValue) (was now : List ℕ) → HasGone f g more → TurnFalls g h → now ≡ was → IsBatch (from_on h.seat g.stored)
+  pub filled : (f g h : Flushed D) (more : List CommandValue) (was now : List ℕ) → HasGone f g more → TurnFalls g h → now ≡ was → IsBatch (from_on h.seat g.stored) → from_on h.seat g.stored ≢ []
       → HasNoRoom was (state_at g.opening g.seat g.stored) (from_on h.seat g.stored) → HasFilled f h now
-  filled f g h more was now gone fell same batch room =
+  filled f g h more was now gone fell same batch some room =
       let next = fell.taken.0 in
       let few : g.stored ≤ next_ticket g.seat = omega (arith, gone.idle.stored) in
       let rest : from_on h.seat g.stored ≡ next = (λ i. drop (g.stored - fell.base i) (fell.taken.1 i))
@@ -161,6 +161,7 @@ module _ {D : Type 0} where
         base = fell.base ∙ ap (λ (s : FlushSeatValue). s.base) gone.seat;
         taken = fell.taken.1 ∙ (ap (λ (s : FlushSeatValue). s.taken ++ next) gone.seat ∙ append_assoc f.seat.taken more next);
         is_batch = subst IsBatch rest batch;
+        some = λ none. some (rest ∙ none);
         no_room = subst (λ (image : List ℕ). HasNoRoom image (state_after f.broker.state more) next) (sym same)
             (subst (λ (z : State × List CommandValue). HasNoRoom was z.0 z.1) (λ i. (state i, rest i)) room);
       }
@@ -179,5 +180,6 @@ module _ {D : Type 0} where
         behind = drop (length both) cs;
         split = sym (ap (λ (l : List CommandValue). l ++ drop (length both) cs) front ∙ take-append-drop (length both) cs);
         is_batch = filled.is_batch;
+        some = filled.some;
         no_room = filled.no_room;
       }

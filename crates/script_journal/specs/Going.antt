@@ -1,5 +1,5 @@
 -- A flusher between flushes, and how far it has gone.
-use Rattle.std.specs.Prelude.{◌≡◌, ◌≤◌, ◌++◌, ℕ, List, [], false, length, take}
+use Rattle.std.specs.Prelude.{◌≡◌, ◌≢◌, ◌≤◌, ◌++◌, ℕ, List, [], false, length, take}
 use Rattle.command_core.specs.Commands.{CommandValue}
 use Rattle.broker_core.specs.Steps.{outs_of, state_after}
 use Rattle.claim_core.specs.Seats.{next_ticket, with_mark}
@@ -42,11 +42,13 @@ pub record HasGoneFront {D : Type 0} (old new : Flushed D) (commands : List Comm
   pub taken : new.seat.taken ≡ old.seat.taken ++ take n commands
   pub published : old.seat.published ≤ new.seat.published
 
--- more commands were taken, of which the first are on the disk, and the block of the others, a batch, has no room there
+-- more commands were taken, of which the first are on the disk, and the block of the others, a batch and not none, has no room
+-- there
 pub record HasFilled {D : Type 0} (old new : Flushed D) (image : List ℕ) : Type 0 where
   pub done : List CommandValue
   pub batch : List CommandValue
   pub base : new.seat.base ≡ old.seat.base
   pub taken : new.seat.taken ≡ old.seat.taken ++ (done ++ batch)
   pub is_batch : IsBatch batch
+  pub some : batch ≢ []
   pub no_room : HasNoRoom image (state_after old.broker.state done) batch

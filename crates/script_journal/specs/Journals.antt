@@ -1,5 +1,5 @@
 -- What a script's journal keeps.
-use Rattle.std.specs.Prelude.{◌≡◌, ◌≤◌, ◌++◌, ℕ, Bool, List, [], length, take}
+use Rattle.std.specs.Prelude.{◌≡◌, ◌≢◌, ◌≤◌, ◌++◌, ℕ, Bool, List, [], length, take}
 use Rattle.atomic_table.specs.Seated.{TableId}
 use Rattle.command_core.specs.Commands.{CommandValue}
 use Rattle.broker_core.specs.States.{State}
@@ -33,12 +33,13 @@ pub record StandsAfterFront (s : State) (commands : List CommandValue) (image : 
   pub few : n ≤ length commands
   pub stands : Stands image (state_after s (take n commands))
 
--- The image stands for the state after the first of these commands, and the block of the next ones, which are a batch, has no
--- room there.
+-- The image stands for the state after the first of these commands, and the block of the next ones, which are a batch and not
+-- none, has no room there.
 pub record IsFull (s : State) (commands : List CommandValue) (image : List ℕ) : Type 0 where
   pub done : List CommandValue
   pub batch : List CommandValue
   pub behind : List CommandValue
   pub split : commands ≡ (done ++ batch) ++ behind
   pub is_batch : IsBatch batch
+  pub some : batch ≢ []
   pub no_room : HasNoRoom image (state_after s done) batch

@@ -22,7 +22,7 @@ returns-in_err-taken-clause-full g c honest is =
     let told = ap (λ (fault : FlushFault). Err fault) fault in
     let full = c.in_err-taken.ensures.full told in
     filled c.args.flusher.now c.loop-turn.flusher c.turn.new.self before.0 _ _ before.2 (subst (λ (fault : FlushFault). IsTurn {X = ℕ} c.loop-turn.flusher c.turn.new.self (Err fault)) fault c.in_err-taken.ensures.outcome)
-    (ap (λ d. g.D.Disk.content d) full.1) full.2 (c.in_err-taken.ensures.no_room (before.4 honest) told)
+    (ap (λ d. g.D.Disk.content d) full.1) full.2 full.3 (c.in_err-taken.ensures.no_room (before.4 honest) told)
 
 pub returns-in_err-taken-clause-fallen : goal.returns-in_err-taken-clause-fallen
 returns-in_err-taken-clause-fallen g c =

@@ -14,8 +14,8 @@ use Rattle.flush_core.specs.Sessions.{boxes_after, ended_of}
 use Rattle.flush_core.proofs.Keeping.{broker_count, counts, fails, held_settled, settled_entries, settles, settling_is}
 use Rattle.flush_core.proofs.flusher.Flusher.settle.Goals as goal
 
-pub carry_all_out-requires-clause-count : goal.carry_all_out-requires-clause-count
-carry_all_out-requires-clause-count g c =
+pub execute_all-requires-clause-count : goal.execute_all-requires-clause-count
+execute_all-requires-clause-count g c =
     let it = c.self.inside in
     let f = flushed it.journal it.seat it.opening.value.state it.stored it.settled (it.done.items ++ it.batch.items) it.broker it.outlet.boxes it.outlet.ended.items it.outlet.past.items it.outlet.waiting.items it.outlet.left.items it.broken in
     let held = c.self.invariant.1 c.if-self.false in
@@ -27,12 +27,12 @@ invariant_of-self g c =
     let f = flushed it.journal it.seat it.opening.value.state it.stored it.settled (it.done.items ++ it.batch.items) it.broker it.outlet.boxes it.outlet.ended.items it.outlet.past.items it.outlet.waiting.items it.outlet.left.items it.broken in
     let held = c.self.invariant.1 c.if-self.false in
     let did = c.in-Ok.ensures in
-    let now = c.carry_all_out.new in (
+    let now = c.execute_all.new in (
       settles g.D.Disk.honest g.D.Disk.images f (now.done.items ++ it.batch.items) now.broker now.outlet.boxes now.outlet.ended.items now.outlet.past.items now.outlet.waiting.items now.outlet.left.items
           (ap (λ (l : List (EntryValue SenderValue)). commands (l ++ it.batch.items)) did.done ∙ held.batch_is)
           (did.state ∙ ap (λ (l : List CommandValue). record { state = state_after it.broker.state l; broken = false }) held.done_is)
           (did.outs ∙ ap (λ (l : List CommandValue). it.outlet.waiting.items ++ outs_of it.broker.state l) held.done_is)
-          c.carry_all_out.ensures.left c.if-self.false c.self.invariant.0,
+          c.execute_all.ensures.left c.if-self.false c.self.invariant.0,
       λ w. held_settled it.seat it.stored it.settled _ it.batch.items it.done.items now.done.items it.bytes _ _ _ _ _ _ did.done did.room held,
       λ w. record { none = did.spare.0; room_is = did.spare.1 },
     )
@@ -41,9 +41,9 @@ pub invariant_of-self-in-Err : goal.invariant_of-self-in-Err
 invariant_of-self-in-Err g c =
     let it = c.self.inside in
     let f = flushed it.journal it.seat it.opening.value.state it.stored it.settled (it.done.items ++ it.batch.items) it.broker it.outlet.boxes it.outlet.ended.items it.outlet.past.items it.outlet.waiting.items it.outlet.left.items it.broken in
-    let now = c.carry_all_out.new in (
+    let now = c.execute_all.new in (
       fails g.D.Disk.honest g.D.Disk.images f c.stop.new.seat (now.done.items ++ it.batch.items) now.broker now.outlet.boxes now.outlet.ended.items now.outlet.past.items now.outlet.waiting.items now.outlet.left.items
-          c.stop.ensures c.carry_all_out.ensures.left c.self.invariant.0,
+          c.stop.ensures c.execute_all.ensures.left c.self.invariant.0,
       λ w. absurd (cc w),
       λ w. absurd (cc w),
     )
@@ -55,16 +55,16 @@ returns-in-Ok-clause-settled g c =
     let kept = c.self.invariant.0 in
     let held = c.self.invariant.1 c.if-self.false in
     let did = c.in-Ok.ensures in
-    let now = c.carry_all_out.new in
+    let now = c.execute_all.new in
     let entries = settled_entries it.seat it.stored it.settled _ it.batch.items it.done.items _ _ _ _ (omega (arith, kept.begun, kept.marked)) kept.settled kept.stored held in
     settling_is g.D.Disk.honest g.D.Disk.images f (now.done.items ++ it.batch.items) now.broker now.outlet.boxes now.outlet.ended.items now.outlet.past.items now.outlet.waiting.items now.outlet.left.items c.if-self.false kept
     (ap (λ (l : List (EntryValue SenderValue)). l ++ it.batch.items) did.done ∙ sym entries.1)
     (did.boxes ∙ (λ i. boxes_after (broker_count g.D.Disk.honest g.D.Disk.images f c.if-self.false kept i) it.outlet.boxes ((sym entries.0) i)))
     (did.ended ∙ ap (λ (l : List CommandValue). it.outlet.ended.items ++ ended_of it.broker.state l) held.done_is)
-    (λ i. (c.carry_all_out.ensures.past i).items)
+    (λ i. (c.execute_all.ensures.past i).items)
     (did.state ∙ ap (λ (l : List CommandValue). record { state = state_after it.broker.state l; broken = false }) held.done_is)
     (did.outs ∙ ap (λ (l : List CommandValue). it.outlet.waiting.items ++ outs_of it.broker.state l) held.done_is)
-    c.carry_all_out.ensures.left
+    c.execute_all.ensures.left
     ∙ ap (λ (f : Flushed g.row.D.Denot). settling f) c.self.view_is
 
 pub returns-then-self-clause-settled : goal.returns-then-self-clause-settled
@@ -102,14 +102,14 @@ returns-in-Err-clause-untouched g c = ap (λ (f : Flushed g.row.D.Denot). f.disk
 
 pub returns-in-Err-clause-outcome : goal.returns-in-Err-clause-outcome
 returns-in-Err-clause-outcome g c =
-    let memory : IsMemory {T = Unit {0}} (Err c.in-Err.fault) = subst (λ (r : Result (Unit {0}) FlushFault). IsMemory {T = Unit {0}} r) c.in-Err.is c.carry_all_out.ensures.fault in
+    let memory : IsMemory {T = Unit {0}} (Err c.in-Err.fault) = subst (λ (r : Result (Unit {0}) FlushFault). IsMemory {T = Unit {0}} r) c.in-Err.is c.execute_all.ensures.fault in
     fell_for_memory c.in-Err.fault _ _ memory (record {
       was = ap (λ (f : Flushed g.row.D.Denot). f.broken) (sym c.self.view_is) ∙ c.if-self.false;
       now = refl;
       seat = c.stop.ensures ∙ ap (λ (f : Flushed g.row.D.Denot). when_stopped f.seat) c.self.view_is;
       stored = ap (λ (f : Flushed g.row.D.Denot). f.stored) c.self.view_is;
       opening = ap (λ (f : Flushed g.row.D.Denot). f.opening) c.self.view_is;
-      left = c.carry_all_out.ensures.left ∙ ap (λ (f : Flushed g.row.D.Denot). f.left) c.self.view_is;
+      left = c.execute_all.ensures.left ∙ ap (λ (f : Flushed g.row.D.Denot). f.left) c.self.view_is;
     })
 
 pub returns-in-Err-clause-stops : goal.returns-in-Err-clause-stops
@@ -117,5 +117,5 @@ returns-in-Err-clause-stops g c = (refl, ap (λ (s : FlushSeatValue). s.stopped)
 
 pub returns-in-Err-clause-fault : goal.returns-in-Err-clause-fault
 returns-in-Err-clause-fault g c =
-    let memory : IsMemory {T = Unit {0}} (Err c.in-Err.fault) = subst (λ (r : Result (Unit {0}) FlushFault). IsMemory {T = Unit {0}} r) c.in-Err.is c.carry_all_out.ensures.fault in
+    let memory : IsMemory {T = Unit {0}} (Err c.in-Err.fault) = subst (λ (r : Result (Unit {0}) FlushFault). IsMemory {T = Unit {0}} r) c.in-Err.is c.execute_all.ensures.fault in
     needs_memory c.in-Err.fault memory

@@ -1,9 +1,10 @@
-use Rattle.std.proofs.Common.{◌∙◌, ◌≡◌, Err, ap, refl, sym, true}
+use Rattle.std.proofs.Common.{◌∙◌, ◌≡◌, [], Err, ap, refl, sym, true}
+use Rattle.std.proofs.lemmas.Bool.{false≢true}
 use Rattle.std.proofs.lemmas.Result.{err_from_is_err_and}
 use Rattle.flush_core.specs.declared.faults.FlushFault.{FlushFault}
 use Rattle.flush_core.specs.declared.faults.FlushFault.TheVariants.{Full}
-use Rattle.flush_core.specs.Flushed.{Flushed}
-use Rattle.flush_core.proofs.Room.{had_no_room, was_full}
+use Rattle.flush_core.specs.Flushed.{Flushed, gathered}
+use Rattle.flush_core.proofs.Room.{gathered_stays, had_no_room, still_published, still_unsettled, was_full}
 use Rattle.flush_core.proofs.Turns.{failed_keeps, stored, turned, unstored}
 use Rattle.flush_core.proofs.flusher.Flusher.turn.Goals as goal
 
@@ -73,6 +74,7 @@ returns-in_err-store-clause-full g c is =
     let same : c.in_err-store.field-0.0 ≡ Full = cc (p.1, p.2, is) in
     let told = ap (λ (fault : FlushFault). Err fault) same in
     was_full g.D.Disk c.args.self.now c.gather.new.self c.store.new.self took.0 _ c.is_broken.ensures.kept took.2 c.in_err-store.ensures.outcome (c.in_err-store.ensures.full told) c.in_ok-count.ensures.batch
+    (λ none. false≢true (c.in_err-store.ensures.nothing c.in_ok-count.ensures.outcome.1 none).0)
 
 pub returns-in_err-store-clause-no_room : goal.returns-in_err-store-clause-no_room
 returns-in_err-store-clause-no_room g c honest is =
@@ -100,3 +102,27 @@ returns-then-is_broken-clause-stops g c =
 
 pub returns-then-is_broken-clause-cause : goal.returns-then-is_broken-clause-cause
 returns-then-is_broken-clause-cause g c = refl
+
+pub returns-then-is_broken-clause-nothing : goal.returns-then-is_broken-clause-nothing
+returns-then-is_broken-clause-nothing g c = λ none. refl
+
+pub returns-in_err-count-clause-nothing : goal.returns-in_err-count-clause-nothing
+returns-in_err-count-clause-nothing g c = λ none. c.in_err-count.ensures.untouched.0
+
+pub returns-in_err-store-clause-nothing : goal.returns-in_err-store-clause-nothing
+returns-in_err-store-clause-nothing g c none =
+    let took = c.in_ok-count.ensures.taken in
+    let waits : gathered c.gather.new.self ≡ [] = gathered_stays g.D.Disk c.args.self.now c.gather.new.self c.store.new.self took.0 _ c.is_broken.ensures.kept took.2 c.in_err-store.ensures.outcome ∙ none in
+    absurd (false≢true (c.in_err-store.ensures.nothing c.in_ok-count.ensures.outcome.1 waits).0)
+
+pub returns-in_err-settle-clause-nothing : goal.returns-in_err-settle-clause-nothing
+returns-in_err-settle-clause-nothing g c none =
+    let took = c.in_ok-count.ensures.taken in
+    still_unsettled c.args.self.now c.gather.new.self c.store.new.self took.0 _ _ _ took.2 c.in_ok-store.ensures.stored (λ waits. (c.store.ensures.nothing c.in_ok-count.ensures.outcome.1 waits).1)
+    c.settle.new.self _ c.in_err-settle.ensures.outcome c.settle.ensures.untouched none
+
+pub returns-clause-nothing : goal.returns-clause-nothing
+returns-clause-nothing g c none =
+    let took = c.in_ok-count.ensures.taken in
+    still_published c.args.self.now c.gather.new.self c.store.new.self took.0 _ _ _ took.2 c.in_ok-store.ensures.stored (λ waits. (c.store.ensures.nothing c.in_ok-count.ensures.outcome.1 waits).1)
+    c.settle.new.self c.publish.new.self c.in_ok-settle.ensures.settled c.settle.ensures.untouched c.publish.ensures.published none

@@ -1,4 +1,4 @@
-use Rattle.flush_core.proofs.settling.carry_out_one.Goals as goal
+use Rattle.flush_core.proofs.settling.execute_one.Goals as goal
 
 pub returns-in-Err-clause-state : goal.returns-in-Err-clause-state
 returns-in-Err-clause-state g c = tt

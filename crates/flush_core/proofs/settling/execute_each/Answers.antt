@@ -13,10 +13,10 @@ use Rattle.outbox_core.specs.Boxes.{SenderValue}
 use Rattle.flush_core.specs.Sessions.{boxes_after, ended_by, ended_of, opened}
 use Rattle.flush_core.proofs.Sessions.{boxes_entries, ended_commands}
 use Rattle.flush_core.proofs.Taken.{commands_more, count_after, length_commands, outs_commands, state_commands}
-use Rattle.flush_core.proofs.settling.carry_out.Goals as goal
+use Rattle.flush_core.proofs.settling.execute_each.Goals as goal
 
-pub carry_out_one-requires-clause-count : goal.carry_out_one-requires-clause-count
-carry_out_one-requires-clause-count g c =
+pub execute_one-requires-clause-count : goal.execute_one-requires-clause-count
+execute_one-requires-clause-count g c =
     let h = c.into_iter-entry-iterator.ensures.into_iter_gives in
     let t = YieldsList-turn (YieldsList-from_vec {s = c.into_iter-entry-iterator.result} c.args.batch.items h.0 (search rules)) c.loop-entry.yielded c.loop-entry.entry-iterator c.loop-entry.yielded_by c.next.result c.next.new.self c.in-Some.entry c.in-Some.is c.next.ensures.steps in
     let counted = count_after (commands c.loop-entry.yielded) c.args.broker.now.state in
@@ -33,7 +33,7 @@ loop-entry-preserved g c =
     let was : c.loop-entry.broker.state ≡ state_after before so_far = ap (λ (b : BrokerValue). b.state) c.loop-entry.invariant.broker in
     let counted : c.loop-entry.broker.state.count ≡ before.count + length c.loop-entry.yielded =
     omega (arith, ap (λ (s : State). s.count) was, count_after so_far before, length_commands c.loop-entry.yielded) in
-    let did = c.in_ok-carry_out_one.ensures in
+    let did = c.in_ok-execute_one.ensures in
     record {
       broker = did.state ∙ ap (λ (s : State). record { state = s; broken = false }) (ap (λ (s : State). step s command) was ∙ (sym (state_commands so_far before command) ∙ ap (λ (l : List CommandValue). state_after before l) (sym is)));
       outs = did.outs
@@ -77,5 +77,5 @@ returns-clause-ended g c =
     let all : c.loop-entry.yielded ≡ c.args.batch.items = sym (map-id c.loop-entry.yielded) ∙ t.0 in
     c.loop-entry.invariant.ended ∙ ap (λ (l : List (EntryValue SenderValue)). c.args.ended.now.items ++ ended_of c.args.broker.now.state (commands l)) all
 
-pub carry_out_one-requires-clause-whole : goal.carry_out_one-requires-clause-whole
-carry_out_one-requires-clause-whole g c = ap (λ (b : BrokerValue). b.broken) c.loop-entry.invariant.broker
+pub execute_one-requires-clause-whole : goal.execute_one-requires-clause-whole
+execute_one-requires-clause-whole g c = ap (λ (b : BrokerValue). b.broken) c.loop-entry.invariant.broker
