@@ -7,3 +7,7 @@ pub mod Counting
 pub mod LineByLine
 pub mod Pieces
 pub mod Turning
+pub mod Alike
+pub mod LinesApart
+pub mod OneText
+pub mod TooFar

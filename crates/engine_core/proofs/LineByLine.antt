@@ -1,5 +1,5 @@
 -- How a run goes on, piece by piece.
-use Rattle.std.proofs.Common.{◌≡◌, ◌+◌, List, [], ◌∷◌, ◌++◌, ℕ, Option, Some, None, refl, ap, sym, ◌∙◌, append_assoc, append-nil, arith, subst, length-append, inl, inr}
+use Rattle.std.proofs.Common.{◌≡◌, ◌≢◌, ◌+◌, List, [], ◌∷◌, ◌++◌, ℕ, Option, Some, None, refl, ap, sym, ◌∙◌, append_assoc, append-nil, arith, subst, length-append, inl, inr}
 use Rattle.std.specs.List.{AllByRecursion}
 use Rattle.std.specs.Io.KnownBytes.{Appends}
 use Rattle.std.proofs.lemmas.Grind.{flat_map-append}
@@ -124,9 +124,9 @@ stops_at_no_form old bytes line k contents begun no_lf same form e = (
 
 -- the line is one, but what it prints could not be written
 pub stops_at_writer : (old : Run) (bytes line printed : List ℕ) (new : Script) (before after : Option (List ℕ)) (written unwritten : List ℕ)
-    → line ≡ old.begun.items ++ bytes → IsLine line → Prints old.script line printed new → printed ≡ written ++ unwritten → Appends before after written
+    → line ≡ old.begun.items ++ bytes → IsLine line → Prints old.script line printed new → printed ≡ written ++ unwritten → unwritten ≢ [] → Appends before after written
     → Tries old.script old.begun.items (bytes ++ 10 ∷ []) before after
-stops_at_writer old bytes line printed new before after written unwritten same is_line prints split writes = record {
+stops_at_writer old bytes line printed new before after written unwritten same is_line prints split left writes = record {
   lines = [];
   rest = old.begun.items ++ (bytes ++ 10 ∷ []);
   printed = [];
@@ -142,6 +142,7 @@ stops_at_writer old bytes line printed new before after written unwritten same i
   written = written;
   unwritten = unwritten;
   split = split;
+  left = left;
   writes = writes;
 }
 

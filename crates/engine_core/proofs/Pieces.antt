@@ -67,6 +67,7 @@ stops_later Output old mid x y before middle after g h = record {
   written = h.written;
   unwritten = h.unwritten;
   split = h.split;
+  left = h.left;
   writes = subst (Appends before after) (sym (append_assoc g.printed h.printed h.written)) (appends_append before middle after g.printed (h.printed ++ h.written) g.writes h.writes);
 }
 
@@ -121,6 +122,7 @@ stops_before Output old x z before after h = record {
   written = h.written;
   unwritten = h.unwritten;
   split = h.split;
+  left = h.left;
   writes = h.writes;
 }
 

@@ -8,7 +8,7 @@ use Rattle.broker_core.specs.States.{State}
 use Rattle.session_core.specs.Sessions.{Hearing, Hears, loss_of}
 use Rattle.session_core.specs.declared.act.Act.{Act}
 use Rattle.engine_core.specs.Connections.{new_connection}
-use Rattle.engine_core.specs.Queues.{QueueValue, Progress, ComeTo, acted, acted_on}
+use Rattle.engine_core.specs.Queues.{QueueValue, Progress, ComeTo, IsTooFar, acted, acted_on}
 use Rattle.engine_core.specs.declared.running_script.Connection.{Connection}
 
 -- a script while its disk runs: its connections by rising number, and the queue
@@ -28,11 +28,13 @@ connection_at n s = unwrap_or (lookup (is_at (nat_cmp n)) s.connections) new_con
 abbrev pub with_connection : ℕ → Connection → List (ℕ × Connection) → List (ℕ × Connection)
 with_connection n connection connections = insert_entry nat_cmp (remove_entry (is_at (nat_cmp n)) connections) n connection
 
--- A connection receives bytes: its session hears them, and what they ask for is done, act by act.
+-- A connection receives bytes: its session hears them, and what they ask for is done, act by act. None of it is a command that
+-- comes once as many have been carried out as may be.
 pub record Receives (s : ScriptValue) (n : ℕ) (bytes printed : List ℕ) (t : ScriptValue) : Type 0 where
   pub acts : List Act
   pub session : Hearing
   pub hears : Hears (connection_at n s).session bytes acts session
+  pub within : ComeTo n IsTooFar (record { number = (connection_at n s).number; queue = s.queue; text = [] }) acts → ⊥
   pub progress : Progress
   pub done : progress ≡ fold (acted n) (record { number = (connection_at n s).number; queue = s.queue; text = [] }) acts
   pub same_text : printed ≡ progress.text
@@ -45,15 +47,17 @@ pub record ReceivesSuch (Such : ℕ → QueueValue → Act → Type 0) (s : Scri
   pub hears : Hears (connection_at n s).session bytes acts session
   pub come : ComeTo n Such (record { number = (connection_at n s).number; queue = s.queue; text = [] }) acts
 
--- A connection is gone: the end of its session is done, where one is to come, and it is none of the connections.
-pub record Loses (s : ScriptValue) (n : ℕ) (printed : List ℕ) (t : ScriptValue) : Type 0 where
-  pub progress : Progress
-  pub done : progress ≡ acted_on n (record { number = (connection_at n s).number; queue = s.queue; text = [] }) (loss_of (connection_at n s).session.phase)
-  pub same_text : printed ≡ progress.text
-  pub after : t ≡ record { connections = remove_entry (is_at (nat_cmp n)) s.connections; queue = progress.queue }
-
 -- a connection is gone, and the end of its session is such an act
 pub record LosesSuch (Such : ℕ → QueueValue → Act → Type 0) (s : ScriptValue) (n : ℕ) : Type 0 where
   pub act : Act
   pub is_loss : loss_of (connection_at n s).session.phase ≡ Some act
   pub such : Such n s.queue act
+
+-- A connection is gone: the end of its session is done, where one is to come, and it is none of the connections. That end does
+-- not come once as many commands have been carried out as may be.
+pub record Loses (s : ScriptValue) (n : ℕ) (printed : List ℕ) (t : ScriptValue) : Type 0 where
+  pub within : LosesSuch IsTooFar s n → ⊥
+  pub progress : Progress
+  pub done : progress ≡ acted_on n (record { number = (connection_at n s).number; queue = s.queue; text = [] }) (loss_of (connection_at n s).session.phase)
+  pub same_text : printed ≡ progress.text
+  pub after : t ≡ record { connections = remove_entry (is_at (nat_cmp n)) s.connections; queue = progress.queue }

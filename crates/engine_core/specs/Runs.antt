@@ -36,10 +36,9 @@ pub record Halts (old : Run) (bytes : List ℕ) (lines : List (List ℕ)) (rest 
   pub writes : Appends before after printed
 
 -- A fault stops a run within bytes: what is written is what the lines before print, and where the writer fails, perhaps the
--- beginning of what the next line does. The
--- commands are too many only where the next line is one that runs too far, a disk is not opened only where the next line is
--- `open` and what is told of the disk is so, the journal is full only where the next line flushes what it has no room for, and
--- the writer fails only where the next line prints.
+-- beginning of what the next line does, but not all of it. The commands are too many only where the next line is one that runs
+-- too far, a disk is not opened only where the next line is `open` and what is told of the disk is so, the journal is full only
+-- where the next line flushes what it has no room for, and the writer fails only where the next line prints.
 abbrev pub StopsIn : ScriptFault → Run → List ℕ → Option (List ℕ) → Option (List ℕ) → Type 0
 StopsIn Output old bytes before after = Tries old.script old.begun.items bytes before after
 StopsIn (NotUnderstood k) old bytes before after =
@@ -87,10 +86,11 @@ pub record Begins (start : State) (lines : List (List ℕ)) (rest : List ℕ) (u
   pub writes : Appends before after printed
 
 -- A fault stops a script that began with this state. What is written is what the lines before print, and where the writer
--- fails, perhaps the beginning of what the next line does. A line is told only where it is none: it has too many bytes, says nothing that is understood, or ends the
--- script with no LF. The commands are too many only where the next line is one that runs too far, a disk is not opened only
--- where the next line is `open` and what is told of the disk is so, the journal is full only where the next line flushes what it
--- has no room for, and the writer fails only where the next line prints.
+-- fails, perhaps the beginning of what the next line does, but not all of it. A line is told only where it is none: it has too
+-- many bytes, says nothing that is understood, or ends the script with no LF. The commands are too many only where the next
+-- line is one that runs too far, a disk is not opened only where the next line is `open` and what is told of the disk is so, the
+-- journal is full only where the next line flushes what it has no room for, and the writer fails only where the next line
+-- prints.
 abbrev pub Stops : State → ScriptFault → Option (List ℕ) → Option (List ℕ) → Option (List ℕ) → Option (List ℕ) → Type 0
 Stops start Output unread left before after = (input : List ℕ) × Consumes unread left input × Tries (Running (beginning start)) [] input before after
 Stops start (NotUnderstood k) unread left before after =

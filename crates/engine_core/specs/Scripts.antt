@@ -179,7 +179,7 @@ abbrev pub HasLineNotOpened : Script → OpenFault → List ℕ → Type 0
 HasLineNotOpened s fault bytes = (behind : List ℕ) × (bytes ≡ codes "open" ++ 10 ∷ behind) × IsNotOpened s fault
 
 -- A part of a script leads as far as a line that prints. What is written is what the lines before print, and the beginning of
--- what that line does.
+-- what that line does, but not all of it.
 pub record Tries (s : Script) (begun bytes : List ℕ) (before after : Option (List ℕ)) : Type 0 where
   pub lines : List (List ℕ)
   pub rest : List ℕ
@@ -196,6 +196,7 @@ pub record Tries (s : Script) (begun bytes : List ℕ) (before after : Option (L
   pub written : List ℕ
   pub unwritten : List ℕ
   pub split : text ≡ written ++ unwritten
+  pub left : unwritten ≢ []
   pub writes : Appends before after (printed ++ written)
 
 -- Bytes with no line at their front that is understood: one has more bytes than a line may have, or says nothing.

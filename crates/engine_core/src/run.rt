@@ -42,7 +42,8 @@ pub struct Run {
 /// soon as the line is done. The bytes are read in pieces of 65,536, and at most 4,294,967,296 reads are made.
 ///
 /// Where it is refused, what was written is what the lines before the refused one print; where it is the writer that failed,
-/// a front of what that line prints may be written too. Commands that wait at the end of the script are dropped.
+/// a front of what that line prints may be written too, but not all of it. Commands that wait at the end of the script are
+/// dropped.
 pub fn run_script<R: Read, W: Write>(
     alloc: Global,
     reader: &mut R,
@@ -56,8 +57,8 @@ pub fn run_script<R: Read, W: Write>(
         × IsScript start input printed × Appends (W.contents writer.old) (W.contents writer.new) printed) }
     // On a fault, it is what the lines before print; a line is told only where it is none, a count too large only where the next
     // line asks for a command once 2^60 have been carried out, and a full journal only where the next line flushes what it has
-    // no room for. The writer's fault comes only where the next line prints, and a front of that may be written too. Where the
-    // disk is not opened at the start, nothing is read or written.
+    // no room for. The writer's fault comes only where the next line prints, and some of that is not written, though a front of
+    // it may be. Where the disk is not opened at the start, nothing is read or written.
     ensures err { IfErr result (λ fault. StopsOver disk.content fault (R.remaining reader.old) (R.remaining reader.new) (W.contents writer.old) (W.contents writer.new)) }
 {
     match vec![in alloc; 0u8; PIECE] {
@@ -243,23 +244,27 @@ fn end_line<W: Write>(
     }
 }
 
-/// Writes a text. Where the writer fails, a front of the text is written.
+/// Writes a text. Where the writer fails, a front of the text is written, and not all of it.
 fn write_text<W: Write>(writer: &mut W, text: &str) -> Result<(), ScriptFault>
     ensures ok { OnOk result (Appends (W.contents writer.old) (W.contents writer.new) text.now) }
     ensures err { IfErr result (λ fault. (fault ≡ ScriptFault.Output) × (written : List ℕ) × (unwritten : List ℕ)
-        × (text.now ≡ written ++ unwritten) × Appends (W.contents writer.old) (W.contents writer.new) written) }
+        × (text.now ≡ written ++ unwritten) × (unwritten ≢ []) × Appends (W.contents writer.old) (W.contents writer.new) written) }
 {
     let mut rest = text.as_bytes();
     for _write in 0..MOST_WRITES {
         if rest.is_empty() {
-            return Ok(());
+            break;
         }
         match write_some(writer, rest) {
             Ok(left) => rest = left,
             Err(fault) => return Err(fault),
         }
     }
-    Err(ScriptFault::Output)
+    if rest.is_empty() {
+        Ok(())
+    } else {
+        Err(ScriptFault::Output)
+    }
 }
 
 /// Writes as much as the writer takes at once, and answers what is left; all where the write was interrupted.

@@ -165,6 +165,7 @@ fn hear(
     text: &mut String,
 ) -> Result<(), QueueFault>
     ensures ok { OnOk result ((acts : List Act) × Hears connection.old.session bytes.now acts connection.new.session
+        × (ComeTo n IsTooFar (record { number = connection.old.number; queue = queue.old; text = string_bytes text.old }) acts → ⊥)
         × (record { number = connection.new.number; queue = queue.new; text = string_bytes text.new }
         ≡ fold (acted n) (record { number = connection.old.number; queue = queue.old; text = string_bytes text.old }) acts)) }
     ensures err { IfErr result (λ fault. fault ≡ QueueFault.CountTooLarge → (acts : List Act) × (session : Hearing) × Hears connection.old.session bytes.now acts session
@@ -191,6 +192,7 @@ fn do_loss(
     requires { IfSome act HasForm }
     ensures ok { IfOk result (λ n. record { number = n; queue = queue.new; text = string_bytes text.new }
         ≡ acted_on connection (record { number = number; queue = queue.old; text = string_bytes text.old }) act) }
+    ensures within { OnOk result (IsSomeAnd act (IsTooFar connection queue.old) → ⊥) }
     ensures err { IfErr result (λ fault. fault ≡ QueueFault.CountTooLarge → IsSomeAnd act (IsTooFar connection queue.old)) }
     ensures full { IfErr result (λ fault. fault ≡ QueueFault.Storing FlushFault.Full → IsSomeAnd act (IsFilling connection queue.old)) }
     ensures told { IfErr result (IsStepTold queue.new.durable) }
@@ -213,6 +215,7 @@ fn do_acts(
     requires { AllByRecursion HasForm acts.items }
     ensures ok { IfOk result (λ n. record { number = n; queue = queue.new; text = string_bytes text.new }
         ≡ fold (acted connection) (record { number = number; queue = queue.old; text = string_bytes text.old }) acts.items) }
+    ensures within { OnOk result (ComeTo connection IsTooFar (record { number = number; queue = queue.old; text = string_bytes text.old }) acts.items → ⊥) }
     ensures err { IfErr result (λ fault. fault ≡ QueueFault.CountTooLarge
         → ComeTo connection IsTooFar (record { number = number; queue = queue.old; text = string_bytes text.old }) acts.items) }
     ensures full { IfErr result (λ fault. fault ≡ QueueFault.Storing FlushFault.Full
@@ -237,6 +240,7 @@ fn do_act(
     requires { HasForm act }
     ensures ok { IfOk result (λ n. record { number = n; queue = queue.new; text = string_bytes text.new }
         ≡ acted connection (record { number = number; queue = queue.old; text = string_bytes text.old }) act) }
+    ensures within { OnOk result (IsTooFar connection queue.old act → ⊥) }
     ensures err { IfErr result (λ fault. fault ≡ QueueFault.CountTooLarge → IsTooFar connection queue.old act) }
     ensures full { IfErr result (λ fault. fault ≡ QueueFault.Storing FlushFault.Full → IsFilling connection queue.old act) }
     ensures told { IfErr result (IsStepTold queue.new.durable) }

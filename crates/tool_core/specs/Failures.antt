@@ -57,6 +57,15 @@ IsBeforehand (File fault) = ⊥
 IsBeforehand (Server fault) = ⊥
 IsBeforehand Number = ⊥
 
+-- the failure is that of a script, or its disk was not formatted
+abbrev pub IsOfScript : Failure → Type 0
+IsOfScript (CommandLine error) = ⊥
+IsOfScript (Script fault) = Unit {0}
+IsOfScript (Format fault) = Unit {0}
+IsOfScript (File fault) = ⊥
+IsOfScript (Server fault) = ⊥
+IsOfScript Number = ⊥
+
 -- the failure is the script's, which a fault stops, at once or once it began with an empty journal; or nothing was read, and
 -- written only where a journal is shown
 abbrev pub StopsBy : Failure → Option (List ℕ) → Option (List ℕ) → Option (List ℕ) → Option (List ℕ) → Type 0

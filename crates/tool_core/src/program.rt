@@ -4,7 +4,7 @@ ghost use Rattle.std.specs.Prelude.{◌≡◌, ◌≤◌, IfErr, IfOk, OnOk, map
 ghost use Rattle.broker_core.specs.States.{empty_state};
 ghost use Rattle.recover_core.specs.Standing.{Stands};
 ghost use Rattle.tool_core.specs.CommandLines.{AsksForScript};
-ghost use Rattle.tool_core.specs.Failures.{IsDone, RunsToEnd, StopsBy, IsBeforehand, IsTold, Tells, status_of};
+ghost use Rattle.tool_core.specs.Failures.{IsDone, RunsToEnd, StopsBy, IsBeforehand, IsOfScript, IsTold, Tells, status_of};
 
 use crate::command_line::{Refused, Subcommand, subcommand_of};
 use area_core::{FormatFault, format};
@@ -107,8 +107,10 @@ pub fn tool<T: Files<File = File>, S: AsStr, R: Read, W: Write, E: Write>(
         → RunsToEnd (R.remaining reader.old) (R.remaining reader.new) (W.contents writer.old) (W.contents writer.new) }
     // Words that ask for the script are no bad command line, and a bad one leaves the script unread and writes nothing.
     ensures refused { result.status ≡ 2 → (AsksForScript (map S.text words.now) → ⊥) × (reader.new ≡ reader.old) × (writer.new ≡ writer.old) }
-    // A fault is the failure of what was asked for: what was read and written is what it leaves, and it is told in one line.
+    // A fault is the failure of what was asked for, that of a script where the words ask for it: what was read and written is
+    // what it leaves, and it is told in one line.
     ensures failed { result.status ≡ 1 → (failure : Failure) × (status_of failure ≡ 1)
+        × (AsksForScript (map S.text words.now) → IsOfScript failure)
         × StopsBy failure (R.remaining reader.old) (R.remaining reader.new) (W.contents writer.old) (W.contents writer.new)
         × OnOk result.told (IsTold failure (E.contents errors.old) (E.contents errors.new)) }
 {
@@ -150,6 +152,7 @@ pub fn run<T: Files<File = File>, S: AsStr, R: Read, W: Write>(
     ensures command_line { IfErr result (λ failure. status_of failure ≡ 2
         → (AsksForScript (map S.text words.now) → ⊥) × (reader.new ≡ reader.old) × (writer.new ≡ writer.old)) }
     ensures script { IfErr result (λ failure. StopsBy failure (R.remaining reader.old) (R.remaining reader.new) (W.contents writer.old) (W.contents writer.new)) }
+    ensures of_script { AsksForScript (map S.text words.now) → IfErr result IsOfScript }
 {
     match subcommand_of(alloc, words) {
         Ok(Subcommand::Script) => script(alloc, reader, writer),
@@ -172,6 +175,7 @@ pub fn run<T: Files<File = File>, S: AsStr, R: Read, W: Write>(
 fn script<R: Read, W: Write>(alloc: Global, reader: &mut R, writer: &mut W) -> Result<(), Failure>
     ensures ok { OnOk result (RunsToEnd (R.remaining reader.old) (R.remaining reader.new) (W.contents writer.old) (W.contents writer.new)) }
     ensures status { IfErr result (λ failure. status_of failure ≡ 1) }
+    ensures of_script { IfErr result IsOfScript }
     ensures err { IfErr result (λ failure. StopsBy failure (R.remaining reader.old) (R.remaining reader.new) (W.contents writer.old) (W.contents writer.new)) }
 {
     match empty_journal(alloc, SCRIPT_DISK) {

@@ -59,4 +59,4 @@ returns-in_err-written-in-Some-clause-err g c =
     let failed = c.in_err-written-in-Some.ensures.err in
     rw (p.1, p.2, failed.0) (stops_at_writer c.args.run.now c.args.bytes.now line (string_bytes text) c.perform.new.self _ _ failed.1 failed.2 (c.as_slice.ensures.value ∙ begun.ok.0)
     (subst IsLine (sym c.as_slice.ensures.value) begun.ok.1)
-    (subst (λ s. Prints s line (string_bytes text) c.perform.new.self) begun.same.0 some) (sym c.as_str.ensures.value ∙ failed.3) failed.4)
+    (subst (λ s. Prints s line (string_bytes text) c.perform.new.self) begun.same.0 some) (sym c.as_str.ensures.value ∙ failed.3) failed.4 failed.5)

@@ -1,7 +1,24 @@
+use Rattle.std.proofs.Common.{◌≡◌, arith, subst}
+use Rattle.std.proofs.lemmas.Grind.{common_steps}
 use Rattle.std.proofs.lemmas.Result.{err_from_is_err_and}
 use Rattle.engine_core.specs.Queues.{IsFilling, IsTooFar}
-use Rattle.engine_core.proofs.Counting.{come_to}
+use Rattle.engine_core.proofs.Counting.{ComeToNone, come_to, come_to_no_more, come_to_none}
 use Rattle.engine_core.proofs.running_script.do_acts.Goals as goal
+
+pub loop-act-preserved : goal.loop-act-preserved
+loop-act-preserved c =
+    let before = c.loop-act.invariant in
+    record {
+      done = grind (arith, common_steps);
+      within = come_to_no_more IsTooFar c.args.connection _ _ c.loop-act.yielded c.in-Some.act before.within before.done c.in_ok-number.ensures.within;
+      whole = grind (arith, common_steps);
+      rest = grind (arith, common_steps);
+    }
+
+pub returns-clause-within : goal.returns-clause-within
+returns-clause-within c =
+    let all : c.loop-act.yielded ≡ c.args.acts.items = grind (arith, common_steps) in
+    come_to_none IsTooFar c.args.connection _ _ (subst (ComeToNone c.args.connection IsTooFar _) all c.loop-act.invariant.within)
 
 pub returns-in_err-number-clause-err : goal.returns-in_err-number-clause-err
 returns-in_err-number-clause-err c =

@@ -2,7 +2,7 @@ use Rattle.std.proofs.lemmas.Result.{err_from_is_err_and}
 use Rattle.engine_core.proofs.running_script.hear.Goals as goal
 
 pub returns-clause-ok : goal.returns-clause-ok
-returns-clause-ok c = (c.in_ok-acts.acts.items, c.in_ok-acts.ensures.acts, c.in_ok-number.ensures.ok)
+returns-clause-ok c = (c.in_ok-acts.acts.items, c.in_ok-acts.ensures.acts, c.in_ok-number.ensures.within, c.in_ok-number.ensures.ok)
 
 pub returns-in_err-number-clause-err : goal.returns-in_err-number-clause-err
 returns-in_err-number-clause-err c =

@@ -10,7 +10,7 @@ pub returns-clause-ok : goal.returns-clause-ok
 returns-clause-ok c = elim c.match-do_loss.branch [
   | in-Ok w ↦ rw (w.result-is) (subst (λ s. Loses s c.args.n (string_bytes c.do_loss.new.text) (record { connections = c.take_connection-session.new.connections.entries; queue = c.do_loss.new.queue })) c.self.view_is
       (lost_by c.self.inside.connections.entries c.self.inside.queue c.do_loss.new.queue c.args.n _ _ c.take_connection-session.result c.take_connection-session.new.connections.entries c.lost-act.result _
-      c.take_connection-session.ensures.taken c.take_connection-session.ensures.others c.lost-act.ensures.act c.new-text.ensures.bytes w.in-Ok.ensures.ok))
+      c.take_connection-session.ensures.taken c.take_connection-session.ensures.others c.lost-act.ensures.act w.in-Ok.ensures.within c.new-text.ensures.bytes w.in-Ok.ensures.ok))
   | in-Err w ↦ rw (w.result-is) tt
 ]
 

@@ -11,7 +11,7 @@ returns-in_ok-insert-in-Ok-clause-ok c =
     let heard = c.in-Ok.ensures.ok in
     subst (λ s. Receives s c.args.n c.args.bytes.now (string_bytes c.hear.new.text) (record { connections = c.insert.new.self.entries; queue = c.hear.new.queue })) c.self.view_is
     (received c.self.inside.connections.entries c.self.inside.queue c.hear.new.queue c.args.n c.args.bytes.now _ _ c.take_connection-connection.result c.take_connection-connection.new.connections.entries c.insert.new.self.entries heard.0 c.hear.new.connection.session c.hear.new.connection.number
-    taken.taken taken.others heard.1 c.new-text.ensures.bytes heard.2 c.in_ok-insert-in-Ok.ensures.entries)
+    taken.taken taken.others heard.1 heard.2 c.new-text.ensures.bytes heard.3 c.in_ok-insert-in-Ok.ensures.entries)
 
 pub returns-in-Err-clause-err : goal.returns-in-Err-clause-err
 returns-in-Err-clause-err c = λ e.
