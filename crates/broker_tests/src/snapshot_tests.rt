@@ -4,7 +4,7 @@ use snapshot_core::{decode_state, encode_state};
 use std::alloc::{AllocError, Global};
 use std::test::Fail;
 
-fn carry_out(alloc: Global, broker: &mut Broker, record: &[u8]) -> Result<(), Fail> {
+fn execute(alloc: Global, broker: &mut Broker, record: &[u8]) -> Result<(), Fail> {
     if broker.count() >= 1 << 62 {
         return Err(Fail::from("too many commands"));
     }
@@ -33,10 +33,10 @@ fn snapshot_of(
     last: &[u8],
 ) -> Result<Vec<u8>, Fail> {
     for record in records {
-        carry_out(alloc, broker, record)?;
+        execute(alloc, broker, record)?;
     }
     for _ in 0..times {
-        carry_out(alloc, broker, last)?;
+        execute(alloc, broker, last)?;
     }
     snapshot(alloc, broker)
 }

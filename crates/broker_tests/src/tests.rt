@@ -327,20 +327,20 @@ fn what_a_lost_session_had_goes_to_others(rt: HostRuntime) -> Result<(), Fail> {
 }
 
 #[test]
-fn a_transaction_is_carried_out_wholly_or_not_at_all(rt: HostRuntime) -> Result<(), Fail> {
+fn a_transaction_is_executed_wholly_or_not_at_all(rt: HostRuntime) -> Result<(), Fail> {
     let refused = [
         Event::Connect,
         Event::Connect,
         Event::Commit(0, "/queue/q", 7),
     ];
-    let carried_out = [
+    let executed = [
         Event::Subscribe(1, "s", "/queue/q", AckMode::Client),
         Event::Send(1, "/queue/q"),
         Event::Commit(1, "/queue/q", 0),
     ];
     let rows: [(&[Event<'_>], &str); 2] = [
         (&refused, "0 ERROR E11 unknown acknowledgement id ; 0 held"),
-        (&carried_out, "1 MESSAGE s 5.0; 1 held"),
+        (&executed, "1 MESSAGE s 5.0; 1 held"),
     ];
     answers_all(rt.alloc(), &rows)
 }

@@ -49,7 +49,8 @@ pub fn new_party(alloc: Global, area_bytes: u64) -> Option<Party>
     }
 }
 
-fn formatted(alloc: Global, area_bytes: u64) -> Option<MemDisk>
+/// The disk of an empty journal with areas of so many bytes.
+pub fn formatted(alloc: Global, area_bytes: u64) -> Option<MemDisk>
     requires { (4096 ≤ area_bytes) × (area_bytes ≤ 262144) }
 {
     let mut disk = MemDisk::new(alloc, 32 + 2 * area_bytes).ok()?;

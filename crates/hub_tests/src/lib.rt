@@ -6,6 +6,8 @@
 #[cfg(test)]
 mod closing_tests;
 #[cfg(test)]
+mod flusher_tests;
+#[cfg(test)]
 mod gates;
 #[cfg(test)]
 mod hubs;

@@ -6,4 +6,6 @@
 #[cfg(test)]
 mod area_tests;
 #[cfg(test)]
+mod call_tests;
+#[cfg(test)]
 mod disk_tests;

@@ -1,14 +1,17 @@
 use crate::journals::{OPEN, SEND, SIZE, formatted, journal_of, tells};
+use byteorder::{BigEndian, ByteOrder};
 use disk_core::{Disk, MemDisk};
 use recover_core::{OpenFault, read};
 use std::alloc::Global;
 use std::process::Abort;
 use std::test::Fail;
 
-// A journal whose second area is live, from place 4,128 on: the empty state, a block of an Open and a SEND, and two blocks
-// of a SEND each. The gates stand at 4,168, 4,217, 4,255 and 4,293.
-fn journal(alloc: Global) -> Result<MemDisk, Fail> {
-    journal_of(alloc, &[&[OPEN, SEND], &[SEND], &[SEND]])
+// What is written over a disk.
+#[derive(Clone, Copy)]
+enum Patch {
+    Bytes(&'static [u8]),
+    // A number, in eight bytes.
+    Word(u64),
 }
 
 // Writes these bytes over a disk.
@@ -18,93 +21,150 @@ fn write<D: Disk>(rt: &impl Abort, disk: &mut D, at: u64, bytes: &[u8]) -> Resul
     Ok(())
 }
 
-// Bytes that are written over the journal, from a place on, and what opening tells then.
-const DAMAGES: [(u64, &[u8], &str); 24] = [
-    (0, b"X", "J1 not a journal"),
-    (6, b"03", "J7 unknown version"),
-    (8, b"\0\0\0\0\0\0\x0f\xff", "J8 disk too small"),
-    (8, b"\0\0\0\0\0\0\x10\x01", "J8 disk too small"),
-    // Another odd selector, bytes that are not read, and an even selector: the area as it was formatted.
-    (16, b"\x7b", "4 3"),
-    (
-        17,
-        b"\xff\xff\xff\xff\xff\xff\xff\xff\xff\xff\xff\xff\xff\xff\xff",
-        "4 3",
-    ),
-    (16, b"\x7a", "0 0"),
-    // The snapshot's length: one less, one more, as much as fits, and one more than that.
-    (4_128, b"\0\0\0\0\0\0\0\x1f", "J2 damaged at 4136"),
-    (4_128, b"\0\0\0\0\0\0\0\x21", "J2 damaged at 4136"),
-    (4_128, b"\0\0\0\0\0\0\x0f\xf7", "J2 damaged at 4136"),
-    (4_128, b"\0\0\0\0\0\0\x0f\xf8", "J2 damaged at 4128"),
-    // A count of 2^61 and more before the blocks; one that is 2^61 behind them; and one more.
-    (4_136, b"\x20\0\0\0\0\0\0\x01", "J5 count too large"),
-    (
-        4_136,
-        b"\x1f\xff\xff\xff\xff\xff\xff\xfc",
-        "2305843009213693952 0",
-    ),
-    (
-        4_136,
-        b"\x1f\xff\xff\xff\xff\xff\xff\xfd",
-        "J5 count too large",
-    ),
-    // The gates: what is not 1 is closed.
-    (4_168, b"\0", "0 0"),
-    (4_217, b"\x37", "2 1"),
-    (4_255, b"\x02", "3 2"),
-    // A block's length: none, one less, one more, and more than the area has.
-    (4_169, b"\0\0\0\0\0\0\0\0", "J2 damaged at 4169"),
-    (4_169, b"\0\0\0\0\0\0\0\x27", "J2 damaged at 4188"),
-    (4_169, b"\0\0\0\0\0\0\0\x29", "J2 damaged at 4217"),
-    (4_218, b"\0\0\0\0\0\0\x0f\xff", "J2 damaged at 4218"),
-    // The tags of the first command and of the last.
-    (4_186, b"\x0a", "J2 damaged at 4177"),
-    (4_273, b"\x0a", "J2 damaged at 4264"),
-    // The last gate open, with nothing behind it.
-    (4_293, b"\x01", "J2 damaged at 4294"),
-];
-
-// Whether opening the journal tells that once these bytes are written over it.
-fn tells_of(
-    rt: &impl Abort,
-    alloc: Global,
-    at: u64,
-    bytes: &[u8],
-    wanted: &str,
-) -> Result<bool, Fail> {
-    let mut disk = journal(alloc)?;
-    match write(rt, &mut disk, at, bytes) {
-        Ok(()) => tells(alloc, disk, wanted),
-        Err(fail) => {
-            drop(disk);
-            Err(fail)
+fn write_patch(rt: &impl Abort, disk: &mut MemDisk, at: u64, patch: Patch) -> Result<(), Fail> {
+    match patch {
+        Patch::Bytes(bytes) => write(rt, disk, at, bytes),
+        Patch::Word(number) => {
+            let mut word = [0; 8];
+            BigEndian::write_u64(&mut word, number);
+            write(rt, disk, at, &word)
         }
     }
 }
 
+// A journal whose second area is live, from place 4,128 on: the empty state, a block of an Open and a SEND, and two blocks
+// of a SEND each. The gates stand at 4,168, 4,217, 4,255 and 4,293. What is not named here is zero.
+const JOURNAL: [(u64, Patch); 15] = [
+    (0, Patch::Bytes(b"STOMPJ01")),
+    (8, Patch::Word(4_096)),
+    (16, Patch::Bytes(b"\x01")),
+    // The first area, as it was formatted.
+    (32, Patch::Word(32)),
+    // The second.
+    (4_128, Patch::Word(32)),
+    (4_168, Patch::Bytes(b"\x01")),
+    (4_169, Patch::Word(40)),
+    (4_177, Patch::Bytes(OPEN)),
+    (4_188, Patch::Bytes(SEND)),
+    (4_217, Patch::Bytes(b"\x01")),
+    (4_218, Patch::Word(29)),
+    (4_226, Patch::Bytes(SEND)),
+    (4_255, Patch::Bytes(b"\x01")),
+    (4_256, Patch::Word(29)),
+    (4_264, Patch::Bytes(SEND)),
+];
+
+fn journal(rt: &impl Abort, alloc: Global) -> Result<MemDisk, Fail> {
+    let mut disk = MemDisk::new(alloc, SIZE)?;
+    for (at, patch) in JOURNAL {
+        write_patch(rt, &mut disk, at, patch)?;
+    }
+    Ok(disk)
+}
+
+fn bytes_of(rt: &impl Abort, disk: &mut MemDisk) -> Result<[u8; SIZE as usize], Fail> {
+    let mut bytes = [0; SIZE as usize];
+    assert!(rt; disk.size() == SIZE);
+    disk.read_at(0, &mut bytes)?;
+    Ok(bytes)
+}
+
+#[test]
+fn a_journal_is_written_as_its_format_says(rt: HostRuntime) -> Result<(), Fail> {
+    let mut made = journal(&rt, rt.alloc())?;
+    let mut written = journal_of(rt.alloc(), &[&[OPEN, SEND], &[SEND], &[SEND]])?;
+    let wanted = bytes_of(&rt, &mut made)?;
+    let bytes = bytes_of(&rt, &mut written)?;
+    assert!(rt; bytes == wanted);
+    Ok(())
+}
+
+// What is written over the journal, from a place on, and what opening tells then.
+const DAMAGES: [(u64, Patch, &str); 24] = [
+    (0, Patch::Bytes(b"X"), "J1 not a journal"),
+    (6, Patch::Bytes(b"03"), "J7 unknown version"),
+    (8, Patch::Word(4_095), "J8 disk too small"),
+    (8, Patch::Word(4_097), "J8 disk too small"),
+    // Another odd selector, bytes that are not read, and an even selector: the area as it was formatted.
+    (16, Patch::Bytes(b"\x7b"), "4 3"),
+    (17, Patch::Bytes(&[0xff; 15]), "4 3"),
+    (16, Patch::Bytes(b"\x7a"), "0 0"),
+    // The snapshot's length: one less, one more, as much as fits, and one more than that.
+    (4_128, Patch::Word(31), "J2 damaged at 4136"),
+    (4_128, Patch::Word(33), "J2 damaged at 4136"),
+    (4_128, Patch::Word(4_087), "J2 damaged at 4136"),
+    (4_128, Patch::Word(4_088), "J2 damaged at 4128"),
+    // A count of more than 2^61 before the blocks; one that is 2^61 behind them; and one more.
+    (4_136, Patch::Word((1 << 61) + 1), "J5 count too large"),
+    (4_136, Patch::Word((1 << 61) - 4), "2305843009213693952 0"),
+    (4_136, Patch::Word((1 << 61) - 3), "J5 count too large"),
+    // The gates: what is not 1 is closed.
+    (4_168, Patch::Bytes(b"\0"), "0 0"),
+    (4_217, Patch::Bytes(b"\x37"), "2 1"),
+    (4_255, Patch::Bytes(b"\x02"), "3 2"),
+    // A block's length: none, one less, one more, and more than the area has.
+    (4_169, Patch::Word(0), "J2 damaged at 4169"),
+    (4_169, Patch::Word(39), "J2 damaged at 4188"),
+    (4_169, Patch::Word(41), "J2 damaged at 4217"),
+    (4_218, Patch::Word(4_095), "J2 damaged at 4218"),
+    // The tags of the first command and of the last.
+    (4_186, Patch::Bytes(b"\x0a"), "J2 damaged at 4177"),
+    (4_273, Patch::Bytes(b"\x0a"), "J2 damaged at 4264"),
+    // The last gate open, with nothing behind it.
+    (4_293, Patch::Bytes(b"\x01"), "J2 damaged at 4294"),
+];
+
+// Whether opening the disk tells that once this is written over it.
+fn tells_of(
+    rt: &impl Abort,
+    alloc: Global,
+    mut disk: MemDisk,
+    at: u64,
+    patch: Patch,
+    wanted: &str,
+) -> Result<bool, Fail> {
+    write_patch(rt, &mut disk, at, patch)?;
+    tells(alloc, disk, wanted)
+}
+
 #[test]
 fn what_is_damaged_is_told_with_its_place(rt: HostRuntime) -> Result<(), Fail> {
-    for (at, bytes, wanted) in DAMAGES {
-        let is_told = tells_of(&rt, rt.alloc(), at, bytes, wanted)?;
+    for (at, patch, wanted) in DAMAGES {
+        let disk = journal(&rt, rt.alloc())?;
+        let is_told = tells_of(&rt, rt.alloc(), disk, at, patch, wanted)?;
         assert!(rt; is_told, "at {at}");
     }
     Ok(())
 }
 
-fn write_two(rt: &impl Abort, disk: &mut MemDisk) -> Result<(), Fail> {
-    write(rt, disk, 4_136, b"\x20\0\0\0\0\0\0\x01")?;
-    write(rt, disk, 4_273, b"\x0a")
+// The same of an empty journal, whose first area is live.
+const DAMAGES_OF_EMPTY: [(u64, Patch, &str); 5] = [
+    (6, Patch::Bytes(b"03"), "J7 unknown version"),
+    (8, Patch::Word(4_095), "J8 disk too small"),
+    (32, Patch::Word(31), "J2 damaged at 40"),
+    (40, Patch::Word(1 << 61), "2305843009213693952 0"),
+    (40, Patch::Word((1 << 61) + 1), "J5 count too large"),
+];
+
+#[test]
+fn what_is_damaged_in_an_empty_journal_is_told(rt: HostRuntime) -> Result<(), Fail> {
+    for (at, patch, wanted) in DAMAGES_OF_EMPTY {
+        let disk = formatted(rt.alloc())?;
+        let is_told = tells_of(&rt, rt.alloc(), disk, at, patch, wanted)?;
+        assert!(rt; is_told, "at {at}");
+    }
+    let zeros = MemDisk::new(rt.alloc(), 64)?;
+    let is_told = tells(rt.alloc(), zeros, "J1 not a journal")?;
+    assert!(rt; is_told);
+    Ok(())
 }
 
 // Damage behind a count that is too large is told, wherever in the live area it is.
 #[test]
 fn damage_is_told_before_a_count_that_is_too_large(rt: HostRuntime) -> Result<(), Fail> {
-    let mut disk = journal(rt.alloc())?;
-    if let Err(fail) = write_two(&rt, &mut disk) {
-        drop(disk);
-        return Err(fail);
-    }
+    let mut disk = journal(&rt, rt.alloc())?;
+    write_patch(&rt, &mut disk, 4_136, Patch::Word((1 << 61) + 1))?;
+    write_patch(&rt, &mut disk, 4_273, Patch::Bytes(b"\x0a"))?;
     let is_told = tells(rt.alloc(), disk, "J2 damaged at 4264")?;
     assert!(rt; is_told);
     Ok(())
@@ -130,36 +190,23 @@ fn turn_over(rt: &impl Abort, disk: &mut MemDisk, at: u64) -> Result<(), Fail> {
     write(rt, disk, at, &[byte[0] ^ 0xff])
 }
 
-fn tells_of_turned(rt: &impl Abort, alloc: Global, at: u64) -> Result<bool, Fail> {
-    let mut disk = journal(alloc)?;
-    match turn_over(rt, &mut disk, at) {
-        Ok(()) => tells(alloc, disk, wanted_at(at)),
-        Err(fail) => {
-            drop(disk);
-            Err(fail)
-        }
-    }
-}
-
 // The header, the first block's gate and its length.
 #[test]
 fn each_byte_of_the_frame_counts(rt: HostRuntime) -> Result<(), Fail> {
     for step in 0..41_u64 {
         let at = if step < 32 { step } else { step + 4_136 };
-        let is_told = tells_of_turned(&rt, rt.alloc(), at)?;
+        let mut disk = journal(&rt, rt.alloc())?;
+        turn_over(&rt, &mut disk, at)?;
+        let is_told = tells(rt.alloc(), disk, wanted_at(at))?;
         assert!(rt; is_told, "at {at}");
     }
     Ok(())
 }
 
-fn bytes_of(rt: &impl Abort, disk: &mut MemDisk) -> Result<[u8; SIZE as usize], Fail> {
-    let mut bytes = [0; SIZE as usize];
-    assert!(rt; disk.size() == SIZE);
-    disk.read_at(0, &mut bytes)?;
-    Ok(bytes)
-}
+// Where the journal has bytes that are not zero: its header with the first area's front, and the second area.
+const WRITTEN: [(u64, u64); 2] = [(0, 73), (4_128, 4_294)];
 
-// A disk of so many bytes, the first of these.
+// A disk of so many bytes, the first of these, which are the journal's.
 fn cut_to(
     rt: &impl Abort,
     alloc: Global,
@@ -167,20 +214,22 @@ fn cut_to(
     size: u64,
 ) -> Result<MemDisk, Fail> {
     let mut cut = MemDisk::new(alloc, size)?;
-    assert!(rt; cut.size() == size && size <= SIZE);
-    cut.write_at(0, &bytes[..size as usize])?;
+    for (from, to) in WRITTEN {
+        let end = to.min(size);
+        if from < end {
+            assert!(rt; cut.size() == size && end <= SIZE);
+            cut.write_at(from, &bytes[from as usize..end as usize])?;
+        }
+    }
     Ok(cut)
 }
 
-// Each length up to 64 bytes, and then each sixteenth up to the whole.
+// Each length up to the whole.
 #[test]
 fn a_disk_that_is_cut_is_told(rt: HostRuntime) -> Result<(), Fail> {
-    let mut disk = journal(rt.alloc())?;
-    let bytes = bytes_of(&rt, &mut disk);
-    drop(disk);
-    let bytes = bytes?;
-    for step in 0..=574_u64 {
-        let size = if step < 64 { step } else { step * 16 - 960 };
+    let mut disk = journal(&rt, rt.alloc())?;
+    let bytes = bytes_of(&rt, &mut disk)?;
+    for size in 0..=SIZE {
         let wanted = match size {
             0..=31 => "J1 not a journal",
             SIZE => "4 3",
@@ -220,7 +269,7 @@ fn show_again(rt: &impl Abort, alloc: Global, disk: &mut MemDisk) -> Result<(), 
         let seen = shown(alloc, disk)?;
         assert_eq!(rt; seen, [1, 1, 166, 4, 3, 27]);
     }
-    write(rt, disk, 4_136, b"\x20\0\0\0\0\0\0\x01")?;
+    write_patch(rt, disk, 4_136, Patch::Word((1 << 61) + 1))?;
     let refused = shown(alloc, disk);
     assert!(rt; matches!(refused, Err(OpenFault::CountTooLarge)));
     Ok(())
@@ -228,7 +277,7 @@ fn show_again(rt: &impl Abort, alloc: Global, disk: &mut MemDisk) -> Result<(), 
 
 #[test]
 fn a_journal_shows_what_it_holds(rt: HostRuntime) -> Result<(), Fail> {
-    let mut disk = journal(rt.alloc())?;
+    let mut disk = journal(&rt, rt.alloc())?;
     let done = show_again(&rt, rt.alloc(), &mut disk);
     drop(disk);
     done

@@ -7,4 +7,8 @@ mod damage_tests;
 #[cfg(test)]
 mod journals;
 #[cfg(test)]
+mod opening_tests;
+#[cfg(test)]
+mod script_tests;
+#[cfg(test)]
 mod stop_tests;

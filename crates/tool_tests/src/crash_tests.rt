@@ -185,34 +185,56 @@ fn a_crash_leaves_the_transaction_whole_or_not_at_all(rt: HostRuntime) -> Result
     Ok(())
 }
 
-// 33 commands: a batch of 32, and one of one.
+// 40 commands of five connections, which send in turn: a batch of 32, five CONNECTs and 27 messages, and one of eight.
 const MANY: Parts<'static> = &[
     ("0 CONNECT%0Aaccept-version:1.2~\n", 1),
-    ("0 SEND%0Adestination:/queue/q%0A%0Ax%00\n", 7),
     ("1 CONNECT%0Aaccept-version:1.2~\n", 1),
-    ("1 SEND%0Adestination:/queue/q%0A%0Ax%00\n", 7),
     ("2 CONNECT%0Aaccept-version:1.2~\n", 1),
-    ("2 SEND%0Adestination:/queue/q%0A%0Ax%00\n", 7),
     ("3 CONNECT%0Aaccept-version:1.2~\n", 1),
-    ("3 SEND%0Adestination:/queue/q%0A%0Ax%00\n", 7),
     ("4 CONNECT%0Aaccept-version:1.2~\n", 1),
+    (
+        "0 SEND%0Adestination:/queue/q%0Areceipt:a%0A%0Ax%00
+1 SEND%0Adestination:/queue/q%0Areceipt:b%0A%0Ax%00
+2 SEND%0Adestination:/queue/q%0Areceipt:c%0A%0Ax%00
+3 SEND%0Adestination:/queue/q%0Areceipt:d%0A%0Ax%00
+4 SEND%0Adestination:/queue/q%0Areceipt:e%0A%0Ax%00
+",
+        7,
+    ),
 ];
 
-// The records of a CONNECT and four messages have 262,267 bytes; the fifth is a batch of its own.
-const LONG: Parts<'static> = &[
-    ("0 CONNECT%0Aaccept-version:1.2~\n", 1),
-    ("0 SEND%0Adestination:/queue/q%0A%0A", 1),
-    ("x", 65_536),
-    ("%00\n0 SEND%0Adestination:/queue/q%0A%0A", 1),
-    ("x", 65_536),
-    ("%00\n0 SEND%0Adestination:/queue/q%0A%0A", 1),
-    ("x", 65_536),
-    ("%00\n0 SEND%0Adestination:/queue/q%0A%0A", 1),
-    ("x", 65_536),
-    ("%00\n0 SEND%0Adestination:/queue/q%0A%0A", 1),
-    ("x", 65_536),
-    ("%00\n", 1),
+// What they print: the answers to the CONNECTs, and the receipts.
+const MANY_PRINTED: Parts<'static> = &[
+    (
+        "0 CONNECTED%0Aversion:1.2%0Asession:0%0Aheart-beat:0,0~
+1 CONNECTED%0Aversion:1.2%0Asession:1%0Aheart-beat:0,0~
+2 CONNECTED%0Aversion:1.2%0Asession:2%0Aheart-beat:0,0~
+3 CONNECTED%0Aversion:1.2%0Asession:3%0Aheart-beat:0,0~
+4 CONNECTED%0Aversion:1.2%0Asession:4%0Aheart-beat:0,0~
+",
+        1,
+    ),
+    (
+        "0 RECEIPT%0Areceipt-id:a~
+1 RECEIPT%0Areceipt-id:b~
+2 RECEIPT%0Areceipt-id:c~
+3 RECEIPT%0Areceipt-id:d~
+4 RECEIPT%0Areceipt-id:e~
+",
+        7,
+    ),
+    ("open 40 35\n", 1),
 ];
+
+#[test]
+fn a_flush_of_two_batches_prints_all_in_order(rt: HostRuntime) -> Result<(), Fail> {
+    let alloc = rt.alloc();
+    let script = text_of_parts(alloc, MANY)?;
+    let parts = [(script.as_str(), 1), ("flush\nopen\n", 1)];
+    let same = expect_parts(&rt, alloc, &parts, 0, MANY_PRINTED, "");
+    drop(script);
+    same
+}
 
 fn expect_calls(
     rt: &(impl Abort + Files<File = File>),
@@ -230,17 +252,58 @@ fn expect_calls(
 #[test]
 fn calls_pass_over_all_batches(rt: HostRuntime) -> Result<(), Fail> {
     let cases = [
-        (MANY, "3", "open 0 0"),
-        (MANY, "4", "open 32 28"),
-        (MANY, "7", "open 32 28"),
-        (MANY, "8", "open 33 28"),
-        (MANY, "18446744073709551615", "open 33 28"),
-        (LONG, "3", "open 0 0"),
-        (LONG, "4", "open 5 4"),
-        (LONG, "8", "open 6 5"),
+        ("3", "open 0 0"),
+        ("4", "open 32 27"),
+        ("7", "open 32 27"),
+        ("8", "open 40 35"),
+        ("18446744073709551615", "open 40 35"),
     ];
-    for (script, calls, opened) in &cases {
-        expect_calls(&rt, rt.alloc(), script, calls, opened)?;
+    for (calls, opened) in &cases {
+        expect_calls(&rt, rt.alloc(), MANY, calls, opened)?;
+    }
+    Ok(())
+}
+
+const SEND_TO_Q: &str = "0 SEND%0Adestination:/queue/q%0A%0A";
+
+const NEXT_SEND: &str = "%00\n0 SEND%0Adestination:/queue/q%0A%0A";
+
+// A CONNECT, whose record has 11 bytes, and five messages, whose records have 28 bytes and their bodies: the first five
+// records have 196,638 bytes and the fourth body.
+fn expect_long(
+    rt: &(impl Abort + Files<File = File>),
+    alloc: Global,
+    fourth: usize,
+    calls: &str,
+    opened: &str,
+) -> Result<(), Fail> {
+    let script = [
+        ("0 CONNECT%0Aaccept-version:1.2~\n", 1),
+        (SEND_TO_Q, 1),
+        ("x", 65_505),
+        (NEXT_SEND, 1),
+        ("x", 65_505),
+        (NEXT_SEND, 1),
+        ("x", 65_505),
+        (NEXT_SEND, 1),
+        ("x", fourth),
+        (NEXT_SEND, 1),
+        ("x", 65_536),
+        ("%00\n", 1),
+    ];
+    expect_calls(rt, alloc, &script, calls, opened)
+}
+
+#[test]
+fn a_batch_of_262144_bytes_takes_no_further_command(rt: HostRuntime) -> Result<(), Fail> {
+    let cases = [
+        (65_505, "3", "open 0 0"),
+        (65_505, "4", "open 6 5"),
+        (65_506, "4", "open 5 4"),
+        (65_506, "8", "open 6 5"),
+    ];
+    for (fourth, calls, opened) in &cases {
+        expect_long(&rt, rt.alloc(), *fourth, calls, opened)?;
     }
     Ok(())
 }
@@ -286,33 +349,48 @@ const NO_LINES: [&str; 15] = [
     "crash x 01",
 ];
 
+// The disk's 2,097,184 bytes leave 1,048,576 for each area. Its snapshot and first gate have 41, the block of a CONNECT 20
+// more, and that of a message 37 and its body, the closed gate behind it counted and the one before it not. Behind 15 messages
+// of 65,536 bytes there are 64,920 bytes left.
+fn expect_last(
+    rt: &(impl Abort + Files<File = File>),
+    alloc: Global,
+    body: usize,
+    end: &str,
+    status: u8,
+    opened: &str,
+    told: &str,
+) -> Result<(), Fail> {
+    let longest = text_of_parts(alloc, &[(SEND_TO_Q, 1), ("x", 65_536), ("%00\nflush\n", 1)])?;
+    let script = [
+        (CON_0, 1),
+        ("\nflush\n", 1),
+        (longest.as_str(), 15),
+        (SEND_TO_Q, 1),
+        ("x", body),
+        ("%00\n", 1),
+        (end, 1),
+    ];
+    let printed = [(CONNECTED, 1), ("\n", 1), (opened, 1)];
+    let same = expect_parts(rt, alloc, &script, status, &printed, told);
+    drop(longest);
+    same
+}
+
 #[test]
 fn a_journal_that_is_full_ends_the_script(rt: HostRuntime) -> Result<(), Fail> {
     let told = "stompd: J4 journal full\n";
-    // 15 messages of 65,000 bytes fit in the area's 1,048,576 bytes, and the next batch of five does not.
+    expect_last(
+        &rt,
+        rt.alloc(),
+        64_883,
+        "flush\nopen\n",
+        0,
+        "open 17 16\n",
+        "",
+    )?;
     for end in ["flush\n", "crash 0\n"] {
-        expect_full(&rt, rt.alloc(), end, told)?;
+        expect_last(&rt, rt.alloc(), 64_884, end, 1, "", told)?;
     }
     Ok(())
-}
-
-// A CONNECT, 23 messages and an end.
-fn expect_full(
-    rt: &(impl Abort + Files<File = File>),
-    alloc: Global,
-    end: &str,
-    told: &str,
-) -> Result<(), Fail> {
-    let message = text_of_parts(
-        alloc,
-        &[
-            ("0 SEND%0Adestination:/queue/q%0A%0A", 1),
-            ("x", 65_000),
-            ("%00\n", 1),
-        ],
-    )?;
-    let script = [(CON_0, 1), ("\n", 1), (message.as_str(), 23), (end, 1)];
-    let same = expect_parts(rt, alloc, &script, 1, &[(CONNECTED, 1), ("\n", 1)], told);
-    drop(message);
-    same
 }

@@ -58,6 +58,11 @@ fn subscribers_of_a_queue_take_turns(rt: HostRuntime) -> Result<(), Fail> {
             "2 SEND%0Adestination:/queue/q%0A%0Ay%00",
             "2 SEND%0Adestination:/queue/q%0A%0Az%00",
             "flush",
+            "2 SUBSCRIBE%0Aid:c%0Adestination:/queue/q~",
+            "0 SEND%0Adestination:/queue/q%0A%0Aw%00",
+            "0 SEND%0Adestination:/queue/q%0A%0Av%00",
+            "0 SEND%0Adestination:/queue/q%0A%0Au%00",
+            "flush",
         ],
         &[
             "0 CONNECTED%0Aversion:1.2%0Asession:0%0Aheart-beat:0,0~",
@@ -66,6 +71,10 @@ fn subscribers_of_a_queue_take_turns(rt: HostRuntime) -> Result<(), Fail> {
             "0 MESSAGE%0Asubscription:a%0Amessage-id:5.0%0Adestination:/queue/q%0Acontent-length:1%0A%0Ax%00",
             "1 MESSAGE%0Asubscription:b%0Amessage-id:6.0%0Adestination:/queue/q%0Acontent-length:1%0A%0Ay%00",
             "0 MESSAGE%0Asubscription:a%0Amessage-id:7.0%0Adestination:/queue/q%0Acontent-length:1%0A%0Az%00",
+            // The turn is still b's, and who has come since waits behind all.
+            "1 MESSAGE%0Asubscription:b%0Amessage-id:9.0%0Adestination:/queue/q%0Acontent-length:1%0A%0Aw%00",
+            "0 MESSAGE%0Asubscription:a%0Amessage-id:10.0%0Adestination:/queue/q%0Acontent-length:1%0A%0Av%00",
+            "2 MESSAGE%0Asubscription:c%0Amessage-id:11.0%0Adestination:/queue/q%0Acontent-length:1%0A%0Au%00",
         ],
     )
 }

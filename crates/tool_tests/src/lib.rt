@@ -10,4 +10,10 @@ mod delivery_tests;
 #[cfg(test)]
 mod durable_tests;
 #[cfg(test)]
+mod file_tests;
+#[cfg(test)]
+mod start_tests;
+#[cfg(test)]
+mod stream_tests;
+#[cfg(test)]
 mod words_tests;

@@ -1,10 +1,8 @@
 use std::alloc::Global;
 use std::fs::File;
-use std::io::{ErrorKind, Read, Write};
 use std::process::Abort;
 use std::rt::Files;
 use std::test::Fail;
-use std::{fs, io};
 use tool_core::tool;
 
 /// A line in which connection 0 receives a CONNECT. `~` stands for the end of a frame with no body.
@@ -13,74 +11,16 @@ pub const CONNECT: &str = "0 CONNECT%0Aaccept-version:1.2~";
 /// The line printed for its answer.
 pub const CONNECTED: &str = "0 CONNECTED%0Aversion:1.2%0Asession:0%0Aheart-beat:0,0~";
 
-const SEND_WITH_RECEIPT: &str = "0 SEND%0Adestination:/queue/a%0Areceipt:r1%0A%0Ahi%00";
+/// A line in which connection 0 sends a message and asks for a receipt.
+pub const SEND_WITH_RECEIPT: &str = "0 SEND%0Adestination:/queue/a%0Areceipt:r1%0A%0Ahi%00";
 
 const RECEIPT: &str = "0 RECEIPT%0Areceipt-id:r1~";
 
 /// The longest line that a script may have.
 const LONGEST_LINE: usize = 1_048_576;
 
-/// A stream that cannot be read or written.
-#[derive(Drop)]
-struct Failing;
-
-impl Read for Failing {
-    fn read(&mut self, _buf: &mut [u8]) -> io::Result<usize> {
-        Err(io::Error::from(ErrorKind::BrokenPipe))
-    }
-}
-
-impl Write for Failing {
-    fn write(&mut self, _buf: &[u8]) -> io::Result<usize> {
-        Err(io::Error::from(ErrorKind::BrokenPipe))
-    }
-
-    fn flush(&mut self) -> io::Result<()> {
-        Ok(())
-    }
-}
-
-/// A script that comes a byte at a time, with an interruption before each.
-#[derive(Drop)]
-struct Trickle<'a> {
-    script: &'a [u8],
-    calls: usize,
-}
-
-impl Read for Trickle<'_> {
-    fn read(&mut self, buf: &mut [u8]) -> io::Result<usize> {
-        self.calls = self.calls.wrapping_add(1);
-        if self.calls % 2 == 1 {
-            return Err(io::Error::from(ErrorKind::Interrupted));
-        }
-        let at = (self.calls / 2).saturating_sub(1);
-        if buf.is_empty() || at >= self.script.len() {
-            return Ok(0);
-        }
-        buf[0] = self.script[at];
-        Ok(1)
-    }
-}
-
-/// A stream that cannot be written, and how often that was tried.
-#[derive(Drop)]
-struct Full {
-    writes: usize,
-}
-
-impl Write for Full {
-    fn write(&mut self, _buf: &[u8]) -> io::Result<usize> {
-        self.writes = self.writes.wrapping_add(1);
-        Err(io::Error::from(ErrorKind::StorageFull))
-    }
-
-    fn flush(&mut self) -> io::Result<()> {
-        Ok(())
-    }
-}
-
 /// Runs the program on the words and the text; the status and what is printed and told are these then.
-fn expect_of(
+pub fn expect_of(
     rt: &(impl Abort + Files<File = File>),
     alloc: Global,
     words: &[&str],
@@ -97,7 +37,8 @@ fn expect_of(
     same
 }
 
-fn compare(
+/// The status and what was printed and told are the wanted ones.
+pub fn compare(
     rt: &impl Abort,
     status: u8,
     written: &[u8],
@@ -182,21 +123,21 @@ fn expect_printed(
     same
 }
 
-/// How many bytes of a script's text stand for its first octet.
-fn octet_length(text: &[u8]) -> usize {
+/// How many bytes of a script's text stand for its first byte.
+fn byte_length(text: &[u8]) -> usize {
     match text {
         [b'%', high, low, ..] if high.is_ascii_hexdigit() && low.is_ascii_hexdigit() => 3,
         _ => 1,
     }
 }
 
-/// Adds a line for each octet that a connection receives.
-fn push_octets(cut: &mut String, connection: &str, text: &str) -> Result<(), Fail> {
+/// Adds a line for each byte that a connection receives.
+fn push_bytes(cut: &mut String, connection: &str, text: &str) -> Result<(), Fail> {
     let mut at = 0;
     for _ in 0..text.len() {
         if at < text.len() {
             let end = at
-                .saturating_add(octet_length(&text.as_bytes()[at..]))
+                .saturating_add(byte_length(&text.as_bytes()[at..]))
                 .min(text.len());
             cut.push_str(connection)?;
             cut.push(' ')?;
@@ -208,12 +149,12 @@ fn push_octets(cut: &mut String, connection: &str, text: &str) -> Result<(), Fai
     Ok(())
 }
 
-/// Adds the script with each line that a connection receives cut into lines of one octet.
-fn push_in_octets(cut: &mut String, script: &str) -> Result<(), Fail> {
+/// Adds the script with each line that a connection receives cut into lines of one byte.
+fn push_by_bytes(cut: &mut String, script: &str) -> Result<(), Fail> {
     for line in script.lines() {
         match line.split_once(' ') {
             Some((connection, text)) if connection != "lost" && connection != "crash" => {
-                push_octets(cut, connection, text)?;
+                push_bytes(cut, connection, text)?;
             }
             _ => {
                 cut.push_str(line)?;
@@ -224,22 +165,22 @@ fn push_in_octets(cut: &mut String, script: &str) -> Result<(), Fail> {
     Ok(())
 }
 
-fn in_octets(alloc: Global, script: &str) -> Result<String, Fail> {
+fn by_bytes(alloc: Global, script: &str) -> Result<String, Fail> {
     let mut cut = String::new(alloc);
-    push_in_octets(&mut cut, script)?;
+    push_by_bytes(&mut cut, script)?;
     Ok(cut)
 }
 
-/// The script as it stands, and with one octet a line.
-pub fn expect_whole_and_octets(
+/// The script as it stands, and with one byte a line.
+pub fn expect_whole_and_by_bytes(
     rt: &(impl Abort + Files<File = File>),
     alloc: Global,
     script: &str,
     printed: &str,
 ) -> Result<(), Fail> {
     expect(rt, alloc, script.as_bytes(), 0, printed, "")?;
-    let octets = in_octets(alloc, script)?;
-    expect(rt, alloc, octets.as_bytes(), 0, printed, "")
+    let bytes = by_bytes(alloc, script)?;
+    expect(rt, alloc, bytes.as_bytes(), 0, printed, "")
 }
 
 fn push_lines(text: &mut String, connection: &str, lines: &[&str]) -> Result<(), Fail> {
@@ -258,7 +199,7 @@ pub fn text_of(alloc: Global, lines: &[&str]) -> Result<String, Fail> {
     Ok(text.replace(alloc, '~', "%0A%0A%00")?)
 }
 
-/// The script as it stands, and with one octet a line, prints these lines.
+/// The script as it stands, and with one byte a line, prints these lines.
 fn expect_printed_lines(
     rt: &(impl Abort + Files<File = File>),
     alloc: Global,
@@ -266,12 +207,12 @@ fn expect_printed_lines(
     printed: &[&str],
 ) -> Result<(), Fail> {
     let printed = text_of(alloc, printed)?;
-    let same = expect_whole_and_octets(rt, alloc, script, printed.as_str());
+    let same = expect_whole_and_by_bytes(rt, alloc, script, printed.as_str());
     drop(printed);
     same
 }
 
-/// The script of these lines as it stands, and with one octet a line.
+/// The script of these lines as it stands, and with one byte a line.
 pub fn expect_lines(
     rt: &(impl Abort + Files<File = File>),
     alloc: Global,
@@ -319,7 +260,7 @@ fn expect_answers(
     printed: &[&str],
 ) -> Result<(), Fail> {
     let answers = text_between(alloc, CONNECTED, printed, "")?;
-    let same = expect_whole_and_octets(rt, alloc, script, answers.as_str());
+    let same = expect_whole_and_by_bytes(rt, alloc, script, answers.as_str());
     drop(answers);
     same
 }
@@ -404,13 +345,13 @@ fn each_fault_has_its_code(rt: HostRuntime) -> Result<(), Fail> {
 #[test]
 fn a_fault_before_the_connect_is_printed_at_once(rt: HostRuntime) -> Result<(), Fail> {
     let alloc = rt.alloc();
-    expect_whole_and_octets(
+    expect_whole_and_by_bytes(
         &rt,
         alloc,
         "0 SEND%0Adestination:/queue/a%0Areceipt:r1%0A%0A%00\n",
         "0 ERROR%0Amessage:E7 frame not expected here%0Areceipt-id:r1%0A%0A%00\n",
     )?;
-    expect_whole_and_octets(
+    expect_whole_and_by_bytes(
         &rt,
         alloc,
         "0 CONNECT%0Aaccept-version:1.1%0A%0A%00\n",
@@ -441,108 +382,6 @@ fn a_line_has_at_most_1048576_bytes(rt: HostRuntime) -> Result<(), Fail> {
     let longer = [("flush\n0 ", 1), ("a", LONGEST_LINE - 1), ("\n", 1)];
     let told = "stompd: line 2 not understood\n";
     expect_parts(&rt, alloc, &longer, 1, &[], told)
-}
-
-const SCRIPT: &[u8] =
-    b"0 CONNECT%0Aaccept-version:1.2%0A%0A%00\nflush\n0 SEND%0Adestination:/queue/a%0Areceipt:r1%0A%0Ahi%00\nflush\n";
-
-// Runs a script over these streams.
-fn status_of(
-    rt: &(impl Abort + Files<File = File>),
-    alloc: Global,
-    reader: &mut impl Read,
-    writer: &mut impl Write,
-    errors: &mut impl Write,
-) -> u8 {
-    tool(rt, alloc, &["stompd", "script"], reader, writer, errors).status
-}
-
-const STREAM_FAILED: &str = "stompd: input or output failed\n";
-
-fn expect_no_reading(rt: &(impl Abort + Files<File = File>), alloc: Global) -> Result<(), Fail> {
-    let mut written = Vec::new(alloc);
-    let mut told = Vec::new(alloc);
-    let status = status_of(rt, alloc, &mut Failing, &mut written, &mut told);
-    let wanted = (1, "", STREAM_FAILED);
-    let same = compare(rt, status, written.as_slice(), told.as_slice(), wanted);
-    drop(told);
-    drop(written);
-    same
-}
-
-fn expect_no_writing(rt: &(impl Abort + Files<File = File>), alloc: Global) -> Result<(), Fail> {
-    let mut script = SCRIPT;
-    let mut told = Vec::new(alloc);
-    let status = status_of(rt, alloc, &mut script, &mut Failing, &mut told);
-    let same = compare(rt, status, b"", told.as_slice(), (1, "", STREAM_FAILED));
-    drop(told);
-    same
-}
-
-#[test]
-fn a_stream_that_fails_is_told(rt: HostRuntime) -> Result<(), Fail> {
-    expect_no_reading(&rt, rt.alloc())?;
-    expect_no_writing(&rt, rt.alloc())?;
-    let mut written = Vec::new(rt.alloc());
-    let mut script = b"0\n".as_slice();
-    let status = status_of(&rt, rt.alloc(), &mut script, &mut written, &mut Failing);
-    drop(written);
-    assert_eq!(rt; status, 1);
-    Ok(())
-}
-
-// Runs a script that comes a byte at a time.
-fn expect_trickled(
-    rt: &(impl Abort + Files<File = File>),
-    alloc: Global,
-    script: &[u8],
-    printed: &str,
-) -> Result<(), Fail> {
-    let mut reader = Trickle { script, calls: 0 };
-    let mut written = Vec::new(alloc);
-    let mut told = Vec::new(alloc);
-    let status = status_of(rt, alloc, &mut reader, &mut written, &mut told);
-    let same = compare(
-        rt,
-        status,
-        written.as_slice(),
-        told.as_slice(),
-        (0, printed, ""),
-    );
-    drop(told);
-    drop(written);
-    same
-}
-
-#[test]
-fn a_script_comes_in_short_reads_with_interruptions(rt: HostRuntime) -> Result<(), Fail> {
-    let alloc = rt.alloc();
-    let parts = [
-        (CONNECT, 1),
-        ("\nflush\n", 1),
-        ("\n", 5_000),
-        (SEND_WITH_RECEIPT, 1),
-        ("\nflush\n", 1),
-    ];
-    let printed =
-        "0 CONNECTED%0Aversion:1.2%0Asession:0%0Aheart-beat:0,0%0A%0A%00\n0 RECEIPT%0Areceipt-id:r1%0A%0A%00\n";
-    let script = text_of_parts(alloc, &parts)?;
-    let same = expect_trickled(&rt, alloc, script.as_bytes(), printed);
-    drop(script);
-    same
-}
-
-#[test]
-fn a_write_that_fails_is_not_tried_again(rt: HostRuntime) -> Result<(), Fail> {
-    let alloc = rt.alloc();
-    let mut writer = Full { writes: 0 };
-    let mut told = Vec::new(alloc);
-    let mut script = SCRIPT;
-    let ended = status_of(&rt, alloc, &mut script, &mut writer, &mut told);
-    drop(told);
-    assert_eq!(rt; writer.writes, 1);
-    assert_eq!(rt; ended, 1);
-    Ok(())
 }
 
 // Runs the program on words that ask for nothing: nothing is read or printed, and something is told.
@@ -600,68 +439,4 @@ fn words_with_a_number_that_is_none_are_refused(rt: HostRuntime) -> Result<(), F
         b"",
         (2, "", ""),
     )
-}
-
-const JOURNAL: &str = "stompd_journal_file";
-
-fn expect_format(
-    rt: &(impl Abort + Files<File = File>),
-    alloc: Global,
-    bytes: &str,
-    status: u8,
-    told: &str,
-) -> Result<(), Fail> {
-    expect_of(
-        rt,
-        alloc,
-        &["stompd", "format", JOURNAL, bytes],
-        b"",
-        (status, "", told),
-    )
-}
-
-fn expect_show(
-    rt: &(impl Abort + Files<File = File>),
-    alloc: Global,
-    status: u8,
-    printed: &str,
-    told: &str,
-) -> Result<(), Fail> {
-    expect_of(
-        rt,
-        alloc,
-        &["stompd", "show", JOURNAL],
-        b"",
-        (status, printed, told),
-    )
-}
-
-#[test]
-fn a_journal_file_is_made_and_shown(rt: HostRuntime) -> Result<(), Fail> {
-    let alloc = rt.alloc();
-    let _ = fs::remove_file(&rt, JOURNAL);
-    let shown = "version 1\narea 0\nused 41\ncount 0\nheld 0\n";
-    expect_show(&rt, alloc, 1, "", "stompd: cannot open\n")?;
-    expect_format(&rt, alloc, "8223", 1, "stompd: J8 disk too small\n")?;
-    expect_format(&rt, alloc, "31", 1, "stompd: J8 disk too small\n")?;
-    for bytes in ["", "+8224", "8224 ", "18446744073709551616"] {
-        expect_format(&rt, alloc, bytes, 2, "")?;
-    }
-    expect_format(&rt, alloc, "08224", 0, "")?;
-    expect_show(&rt, alloc, 0, shown, "")?;
-    expect_format(&rt, alloc, "8224", 1, "stompd: cannot open\n")?;
-    expect_show(&rt, alloc, 0, shown, "")?;
-    // Behind `--` no word is an option.
-    for words in [
-        ["stompd", "show", "--", JOURNAL],
-        ["stompd", "show", JOURNAL, "--"],
-    ] {
-        expect_of(&rt, alloc, &words, b"", (0, shown, ""))?;
-    }
-    let option = ["stompd", "show", "--", "--no-such-file"];
-    expect_of(&rt, alloc, &option, b"", (1, "", "stompd: cannot open\n"))?;
-    fs::write(&rt, JOURNAL, [0; 64].as_slice())?;
-    expect_show(&rt, alloc, 1, "", "stompd: J1 not a journal\n")?;
-    fs::remove_file(&rt, JOURNAL)?;
-    Ok(())
 }

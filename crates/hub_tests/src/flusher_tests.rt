@@ -1,0 +1,381 @@
+ghost use Rattle.std.specs.Prelude.{◌≡◌, ◌≤◌, ◌^◌, IfSome, IsSome, IsTrue, true, false};
+ghost use Rattle.disk_core.specs.Images.{IsImage};
+ghost use Rattle.recover_core.specs.Standing.{StandFor};
+ghost use Rattle.recover_core.specs.Stores.{disk_of, is_broken, opened_by};
+
+use crate::hubs::{HubFlusher, HubRing, HubSeat, formatted};
+use claim_core::{NotYet, Refused, Ring};
+use command_core::{Entry, Out, connected_reply, decode};
+use disk_core::{Call, Disk, FuseDisk, MemDisk};
+use flush_core::{FlushFault, Flusher};
+use outbox_core::{OutSender, Silent};
+use recover_core::{Store, open};
+use std::alloc::{AllocError, Global};
+use std::test::Fail;
+
+// The bytes of an area.
+const AREA: u64 = 4_096;
+
+// A session opens.
+const OPEN: &[u8] = b"\0\0\0\0\0\0\0\0\0\x01\0";
+
+// What the two sessions send to `/queue/q` in turn: the last asks for a receipt.
+const FIRST_SEND: &[u8] = b"\0\0\0\0\0\0\0\0\0\x02\0\0\0\x08/queue/q\0\0\0\0\0\x01x";
+
+const SECOND_SEND: &[u8] = b"\0\0\0\0\0\0\0\x01\0\x02\0\0\0\x08/queue/q\0\0\0\0\0\x01y";
+
+const LAST_SEND: &[u8] = b"\0\0\0\0\0\0\0\0\x01\0\0\0\x01r\x02\0\0\0\x08/queue/q\0\0\0\0\0\x01z";
+
+// The ring before an empty journal, the seats of two sessions, and the flusher.
+#[derive(Drop)]
+struct Setup {
+    ring: HubRing,
+    first: HubSeat,
+    second: HubSeat,
+    flusher: HubFlusher,
+}
+
+// That of a journal that was just opened.
+fn begin(alloc: Global, store: Store<MemDisk>) -> Option<Setup>
+    requires whole { is_broken store ≡ false }
+    requires opened { IsSome (opened_by store) }
+    requires small { IfSome (opened_by store) (λ broker. (broker.state.count ≤ 2 ^ 61) × (broker.broken ≡ false)) }
+    requires stands { IfSome (opened_by store) (λ broker. StandFor (IsImage (disk_of store).content (disk_of store).held) broker.state) }
+    ensures ring { IfSome result (λ s. (s.first.ring ≡ s.ring) × (s.second.ring ≡ s.ring) × (s.flusher.seat.ring ≡ s.ring)) }
+    ensures settled { IfSome result (λ s. s.flusher.settled ≡ s.flusher.stored) }
+{
+    let mut store = store;
+    let broker = store.broker().unwrap();
+    match Ring::new(alloc, broker.count()) {
+        Ok((ring, mut seats, seat)) => {
+            let flusher = Flusher::new(alloc, store, broker, seat);
+            match (seats.pop(), seats.pop()) {
+                (Some(first), Some(second)) => Some(Setup {
+                    ring,
+                    first,
+                    second,
+                    flusher,
+                }),
+                _ => None,
+            }
+        }
+        Err(_) => None,
+    }
+}
+
+fn set_up(alloc: Global) -> Option<Setup>
+    ensures ring { IfSome result (λ s. (s.first.ring ≡ s.ring) × (s.second.ring ≡ s.ring) × (s.flusher.seat.ring ≡ s.ring)) }
+    ensures settled { IfSome result (λ s. s.flusher.settled ≡ s.flusher.stored) }
+{
+    match formatted(alloc, AREA) {
+        Some(disk) => match open(alloc, disk) {
+            Ok(store) => begin(alloc, store),
+            Err(_) => None,
+        },
+        None => None,
+    }
+}
+
+fn entry(alloc: Global, record: &[u8]) -> Option<Entry<OutSender<Silent>>> {
+    match decode(alloc, record) {
+        Ok((command, _)) => Entry::new(alloc, command, None).ok(),
+        Err(_) => None,
+    }
+}
+
+// Appends the command of a record, and answers its ticket or why it was refused.
+fn append(
+    alloc: Global,
+    ring: &HubRing,
+    seat: &mut HubSeat,
+    record: &[u8],
+) -> Option<Result<u64, Refused>>
+    requires { seat.old.ring ≡ ring.now }
+    ensures { seat.new.ring ≡ ring.now }
+{
+    match entry(alloc, record) {
+        Some(entry) => match ring.append(seat, entry) {
+            Ok(ticket) => Some(Ok(ticket)),
+            Err((_, refused)) => Some(Err(refused)),
+        },
+        None => None,
+    }
+}
+
+// Both sessions open, which is a turn of its own.
+fn open_both(alloc: Global, setup: &mut Setup) -> bool
+    requires ring { (setup.old.first.ring ≡ setup.old.ring) × (setup.old.second.ring ≡ setup.old.ring) × (setup.old.flusher.seat.ring ≡ setup.old.ring) }
+    requires settled { setup.old.flusher.settled ≡ setup.old.flusher.stored }
+    ensures ring { IsTrue result → (setup.new.first.ring ≡ setup.new.ring) × (setup.new.second.ring ≡ setup.new.ring) × (setup.new.flusher.seat.ring ≡ setup.new.ring) }
+    ensures settled { IsTrue result → setup.new.flusher.settled ≡ setup.new.flusher.stored }
+{
+    let first = append(alloc, &setup.ring, &mut setup.first, OPEN);
+    let second = append(alloc, &setup.ring, &mut setup.second, OPEN);
+    if first != Some(Ok(0)) || second != Some(Ok(1)) {
+        return false;
+    }
+    let Ok(2) = setup.flusher.turn(alloc, &setup.ring) else {
+        return false;
+    };
+    setup.flusher.take_left().len() == 2
+}
+
+// They send in turn.
+fn send_three(alloc: Global, setup: &mut Setup) -> bool
+    requires { (setup.old.first.ring ≡ setup.old.ring) × (setup.old.second.ring ≡ setup.old.ring) }
+    ensures seats { (setup.new.first.ring ≡ setup.new.ring) × (setup.new.second.ring ≡ setup.new.ring) }
+    ensures same { (setup.new.ring ≡ setup.old.ring) × (setup.new.flusher ≡ setup.old.flusher) }
+{
+    let x = append(alloc, &setup.ring, &mut setup.first, FIRST_SEND);
+    let y = append(alloc, &setup.ring, &mut setup.second, SECOND_SEND);
+    let z = append(alloc, &setup.ring, &mut setup.first, LAST_SEND);
+    x == Some(Ok(2)) && y == Some(Ok(3)) && z == Some(Ok(4))
+}
+
+// Two sessions that are open and have sent.
+fn opened(alloc: Global) -> Option<Setup>
+    ensures ring { IfSome result (λ s. (s.first.ring ≡ s.ring) × (s.second.ring ≡ s.ring) × (s.flusher.seat.ring ≡ s.ring)) }
+    ensures settled { IfSome result (λ s. s.flusher.settled ≡ s.flusher.stored) }
+{
+    match set_up(alloc) {
+        Some(mut setup) => {
+            if open_both(alloc, &mut setup) && send_three(alloc, &mut setup) {
+                Some(setup)
+            } else {
+                drop(setup);
+                None
+            }
+        }
+        None => None,
+    }
+}
+
+// Makes so many steps: the four of a turn, and the first two of another. Answers how many commands `gather` took last.
+fn make_steps(
+    alloc: Global,
+    ring: &HubRing,
+    flusher: &mut HubFlusher,
+    steps: u32,
+) -> Result<u64, FlushFault>
+    requires ring { flusher.old.seat.ring ≡ ring.now }
+    requires settled { flusher.old.settled ≡ flusher.old.stored }
+{
+    if steps == 0 {
+        return Ok(0);
+    }
+    let taken = flusher.gather(ring)?;
+    if steps == 1 {
+        return Ok(taken);
+    }
+    flusher.store(alloc, ring)?;
+    if steps == 2 {
+        return Ok(taken);
+    }
+    flusher.settle(alloc, ring)?;
+    if steps == 3 {
+        return Ok(taken);
+    }
+    flusher.publish(ring);
+    if steps == 4 {
+        return Ok(taken);
+    }
+    let more = flusher.gather(ring)?;
+    if steps > 5 {
+        flusher.store(alloc, ring)?;
+    }
+    Ok(more)
+}
+
+// The number of an output of that command, if it may leave.
+fn leave(
+    alloc: Global,
+    ring: &HubRing,
+    seat: &mut HubSeat,
+    number: u64,
+) -> Option<Result<u64, NotYet>>
+    requires { seat.old.ring ≡ ring.now }
+    ensures { seat.new.ring ≡ ring.now }
+{
+    match connected_reply(alloc, 0) {
+        Ok(frame) => match ring.release(seat, Out::new(number, 0, frame)) {
+            Ok(released) => Some(Ok(released.number())),
+            Err((_, not_yet)) => Some(Err(not_yet)),
+        },
+        Err(_) => None,
+    }
+}
+
+// Whether outputs of the commands 4 and 5 leave.
+type Leaving = [Option<Result<u64, NotYet>>; 2];
+
+// What is seen after some steps: how many commands `gather` took last, how many the broker has executed, how many outputs are
+// handed out, and the mark that a session looks at; and which outputs leave then.
+#[derive(Clone, Copy, Debug, PartialEq, Eq)]
+struct Sight([u64; 4], Leaving);
+
+// That after so many steps.
+fn see(alloc: Global, setup: &mut Setup, steps: u32) -> Option<Sight>
+    requires ring { (setup.old.first.ring ≡ setup.old.ring) × (setup.old.second.ring ≡ setup.old.ring) × (setup.old.flusher.seat.ring ≡ setup.old.ring) }
+    requires settled { setup.old.flusher.settled ≡ setup.old.flusher.stored }
+{
+    let taken = make_steps(alloc, &setup.ring, &mut setup.flusher, steps).ok()?;
+    let executed = setup.flusher.broker().count();
+    let left = setup.flusher.take_left().len() as u64;
+    let mark = setup.ring.look(&mut setup.first);
+    let fourth = leave(alloc, &setup.ring, &mut setup.first, 4);
+    let fifth = leave(alloc, &setup.ring, &mut setup.second, 5);
+    Some(Sight([taken, executed, left, mark], [fourth, fifth]))
+}
+
+// The same, and the disk then.
+fn stop_after(alloc: Global, steps: u32) -> Option<(Sight, MemDisk)> {
+    match opened(alloc) {
+        Some(mut setup) => match see(alloc, &mut setup, steps) {
+            Some(sight) => {
+                let Setup { flusher, .. } = setup;
+                Some((sight, flusher.into_disk()))
+            }
+            None => {
+                drop(setup);
+                None
+            }
+        },
+        None => None,
+    }
+}
+
+// The block of the three stands behind that of both Opens, in the second area: length, records and the next gate; a sync; its
+// own gate; a sync.
+const BLOCK: [Call; 4] = [
+    Call::Write {
+        at: 4_200,
+        len: 101,
+    },
+    Call::Sync,
+    Call::Write { at: 4_199, len: 1 },
+    Call::Sync,
+];
+
+const NOT_YET: Leaving = [Some(Err(NotYet(2))), Some(Err(NotYet(2)))];
+
+const LEFT: Leaving = [Some(Ok(4)), Some(Err(NotYet(5)))];
+
+// How many steps are made; how many calls of the disk they take; and what is seen then.
+const STAGES: [(u32, usize, Sight); 7] = [
+    (0, 0, Sight([0, 2, 0, 2], NOT_YET)),
+    (1, 0, Sight([3, 2, 0, 2], NOT_YET)),
+    (2, 4, Sight([3, 2, 0, 2], NOT_YET)),
+    (3, 4, Sight([3, 5, 0, 2], NOT_YET)),
+    (4, 4, Sight([3, 5, 1, 5], LEFT)),
+    (5, 4, Sight([0, 5, 1, 5], LEFT)),
+    (6, 4, Sight([0, 5, 1, 5], LEFT)),
+];
+
+#[test]
+fn each_step_of_a_turn_does_its_part_alone(rt: HostRuntime) -> Result<(), Fail> {
+    let Some((_, disk)) = stop_after(rt.alloc(), 0) else {
+        panic!(rt; "no flusher was made")
+    };
+    let before = disk.calls().len();
+    drop(disk);
+    for (steps, calls, wanted) in STAGES {
+        let Some((seen, disk)) = stop_after(rt.alloc(), steps) else {
+            panic!(rt; "{steps} steps were not made")
+        };
+        assert_eq!(rt; seen, wanted);
+        assert!(rt; before <= disk.calls().len() && calls <= 4);
+        assert!(rt; &disk.calls()[before..] == &BLOCK[..calls], "{steps} steps");
+        drop(disk);
+    }
+    Ok(())
+}
+
+// Stores what the three have sent, in a step of its own or in a turn, and answers whether the disk failed.
+fn fails<D: Disk>(
+    alloc: Global,
+    ring: &HubRing,
+    flusher: &mut Flusher<D, Silent>,
+    in_a_turn: bool,
+) -> bool
+    requires ring { flusher.old.seat.ring ≡ ring.now }
+    requires settled { flusher.old.settled ≡ flusher.old.stored }
+    ensures { IsTrue result → (flusher.new.seat.ring ≡ ring.now) × (flusher.new.broken ≡ true) }
+{
+    if in_a_turn {
+        return matches!(flusher.turn(alloc, ring), Err(FlushFault::Device));
+    }
+    let Ok(3) = flusher.gather(ring) else {
+        return false;
+    };
+    matches!(flusher.store(alloc, ring), Err(FlushFault::Device))
+}
+
+// Whether each step is refused.
+fn is_refused<D: Disk>(alloc: Global, ring: &HubRing, flusher: &mut Flusher<D, Silent>) -> bool
+    requires ring { flusher.old.seat.ring ≡ ring.now }
+    requires broken { flusher.old.broken ≡ true }
+    ensures { IsTrue result → (flusher.new.seat.ring ≡ ring.now) × (flusher.new.broken ≡ true) }
+{
+    let Err(FlushFault::Broken) = flusher.gather(ring) else {
+        return false;
+    };
+    let Err(FlushFault::Broken) = flusher.store(alloc, ring) else {
+        return false;
+    };
+    let Err(FlushFault::Broken) = flusher.settle(alloc, ring) else {
+        return false;
+    };
+    matches!(flusher.turn(alloc, ring), Err(FlushFault::Broken))
+}
+
+// A flusher whose disk passes so many calls of the block fails and is broken, and its ring is stopped; what an append answers
+// then, the mark, and how many commands the broker has executed.
+fn break_off(
+    alloc: Global,
+    passed: u64,
+    in_a_turn: bool,
+) -> Option<(Option<Result<u64, Refused>>, u64, u64)> {
+    let Setup {
+        ring,
+        mut first,
+        mut second,
+        flusher,
+    } = opened(alloc)?;
+    let mut flusher: Flusher<FuseDisk<MemDisk>, Silent> = flusher.fuse(passed);
+    if !fails(alloc, &ring, &mut flusher, in_a_turn) || !is_refused(alloc, &ring, &mut flusher) {
+        return None;
+    }
+    if !flusher.is_broken() || flusher.mark() != ring.look(&mut second) {
+        return None;
+    }
+    let answer = append(alloc, &ring, &mut first, FIRST_SEND);
+    Some((answer, flusher.mark(), flusher.broker().count()))
+}
+
+// Of the four calls of a block each may be the one that fails, in both ways.
+#[test]
+fn a_flusher_whose_disk_fails_stays_broken(rt: HostRuntime) -> Result<(), Fail> {
+    for turn in 0..8_u64 {
+        let (passed, in_a_turn) = (turn / 2, turn % 2 == 1);
+        let answers = break_off(rt.alloc(), passed, in_a_turn);
+        let wanted = Some((Some(Err(Refused::Stopped)), 2, 2));
+        assert!(rt; answers == wanted, "{passed} calls");
+    }
+    Ok(())
+}
+
+#[test]
+fn each_fault_has_its_text(rt: HostRuntime) -> Result<(), Fail> {
+    let faults = format!(in rt.alloc();
+        "{}; {}; {}; {}",
+        FlushFault::Device,
+        FlushFault::Full,
+        FlushFault::Broken,
+        FlushFault::Memory(AllocError),
+    )?;
+    assert_eq!(rt;
+        faults.as_str(),
+        "J3 device failed; J4 journal full; J6 store broken; no memory"
+    );
+    Ok(())
+}

@@ -1,0 +1,307 @@
+use area_core::{Area, AreaFault, FormatFault, ReadFault, closed, format, header_of};
+use byteorder::{BigEndian, ByteOrder};
+use disk_core::{Call, Disk, FuseDisk, MemDisk};
+use std::alloc::{AllocError, Global};
+use std::process::Abort;
+use std::test::Fail;
+
+// The size of a disk with two areas of 4,096 bytes.
+const SIZE: u64 = 8_224;
+
+#[test]
+fn each_refusal_has_its_text(rt: HostRuntime) -> Result<(), Fail> {
+    let formats = format!(in rt.alloc();
+        "{}; {}; {}",
+        FormatFault::TooSmall,
+        FormatFault::Device,
+        FormatFault::Memory(AllocError),
+    )?;
+    assert_eq!(rt;
+        formats.as_str(),
+        "J8 disk too small; J3 device failed; no memory"
+    );
+    let reads = format!(in rt.alloc();
+        "{}; {}; {}; {}; {}; {}",
+        ReadFault::NotAJournal,
+        ReadFault::Damaged(4_294_967_296),
+        ReadFault::Device,
+        ReadFault::UnknownVersion,
+        ReadFault::TooSmall,
+        ReadFault::Memory(AllocError),
+    )?;
+    assert_eq!(rt;
+        reads.as_str(),
+        "J1 not a journal; J2 damaged at 4294967296; J3 device failed; J7 unknown version; J8 disk too small; no memory"
+    );
+    let areas = format!(in rt.alloc();
+        "{}; {}; {}; {}",
+        AreaFault::Device,
+        AreaFault::Full,
+        AreaFault::Broken,
+        AreaFault::Memory(AllocError),
+    )?;
+    assert_eq!(rt;
+        areas.as_str(),
+        "J3 device failed; J4 journal full; J6 store broken; no memory"
+    );
+    Ok(())
+}
+
+// What formatting asks of the disk: the front of the first area, the header, a sync.
+const FORMAT_CALLS: [Call; 3] = [
+    Call::Write { at: 32, len: 41 },
+    Call::Write { at: 0, len: 32 },
+    Call::Sync,
+];
+
+// How large a disk is, how large its areas are to be, and whether they fit.
+const FORMATS: [(u64, u64, bool); 9] = [
+    (8_224, 4_096, true),
+    (8_225, 4_096, true),
+    (8_223, 4_096, false),
+    (8_224, 4_097, false),
+    (8_224, 4_095, false),
+    (0, 4_096, false),
+    (31, 0, false),
+    // Twice this is more than 64 bits hold.
+    (8_224, 1 << 63, false),
+    (8_224, u64::MAX, false),
+];
+
+// A disk that is too small is not touched.
+#[test]
+fn a_disk_is_formatted_where_both_areas_fit(rt: HostRuntime) -> Result<(), Fail> {
+    for (size, area_bytes, fits) in FORMATS {
+        let mut disk = MemDisk::new(rt.alloc(), size)?;
+        let is_small = match format(rt.alloc(), &mut disk, area_bytes) {
+            Ok(()) => false,
+            Err(FormatFault::TooSmall) => true,
+            Err(fault) => return Err(Fail::from(fault)),
+        };
+        assert!(rt; is_small != fits, "areas of {area_bytes} bytes on {size}");
+        let calls: &[Call] = if fits { &FORMAT_CALLS } else { &[] };
+        assert!(rt;
+            disk.calls() == calls,
+            "areas of {area_bytes} bytes on {size}"
+        );
+    }
+    Ok(())
+}
+
+// Of its three calls each may be the one that fails.
+#[test]
+fn formatting_fails_where_its_disk_fails(rt: HostRuntime) -> Result<(), Fail> {
+    for passed in 0..4_u64 {
+        let disk = MemDisk::new(rt.alloc(), SIZE)?;
+        let mut fuse = FuseDisk::new(disk, passed);
+        let failed = match format(rt.alloc(), &mut fuse, 4_096) {
+            Ok(()) => false,
+            Err(FormatFault::Device) => true,
+            Err(fault) => return Err(Fail::from(fault)),
+        };
+        assert!(rt; failed == (passed < 3), "{passed} calls");
+    }
+    Ok(())
+}
+
+// The header of an empty journal: its name, how long an area is, and the selector.
+fn made_header() -> [u8; 32] {
+    let mut bytes = [0; 32];
+    bytes[..8].copy_from_slice(b"STOMPJ01");
+    BigEndian::write_u64(&mut bytes[8..16], 4_096);
+    bytes
+}
+
+// The front of its first area: how long the snapshot is, which is empty, and a closed gate.
+fn made_front() -> [u8; 41] {
+    let mut bytes = [0; 41];
+    BigEndian::write_u64(&mut bytes[..8], 32);
+    bytes
+}
+
+fn formatted(alloc: Global) -> Result<MemDisk, Fail> {
+    let mut disk = MemDisk::new(alloc, SIZE)?;
+    format(alloc, &mut disk, 4_096)?;
+    Ok(disk)
+}
+
+fn written_over(rt: &impl Abort, alloc: Global) -> Result<MemDisk, Fail> {
+    let mut disk = MemDisk::new(alloc, SIZE)?;
+    assert!(rt; disk.size() == SIZE);
+    disk.write_at(0, &[0xee; 100])?;
+    Ok(disk)
+}
+
+// Formatting gives up what the disk held.
+#[test]
+fn an_empty_journal_has_the_bytes_of_its_format(rt: HostRuntime) -> Result<(), Fail> {
+    assert!(rt; header_of(rt.alloc(), 4_096)?.as_slice() == made_header().as_slice());
+    assert!(rt; closed(rt.alloc(), &[0; 32])?.as_slice() == made_front().as_slice());
+    let mut disk = written_over(&rt, rt.alloc())?;
+    format(rt.alloc(), &mut disk, 4_096)?;
+    let mut header = [0xee; 32];
+    let mut front = [0xee; 41];
+    assert!(rt; disk.size() == SIZE);
+    disk.read_at(0, &mut header)?;
+    disk.read_at(32, &mut front)?;
+    assert!(rt; header == made_header() && front == made_front());
+    Ok(())
+}
+
+// A selector, where the area lies that it does not name, the selector that names that one, and how long a snapshot is. The
+// longest fills its area.
+const MOVES: [(u8, u64, u8, usize); 4] = [
+    (0, 4_128, 1, 4_087),
+    (1, 32, 2, 32),
+    (0x7a, 4_128, 0x7b, 1),
+    (255, 32, 0, 0),
+];
+
+// An empty journal with that selector. Where that is odd, the second area has an empty snapshot of no bytes.
+fn selecting(rt: &impl Abort, alloc: Global, selector: u8) -> Result<MemDisk, Fail> {
+    let mut disk = formatted(alloc)?;
+    assert!(rt; disk.size() == SIZE);
+    disk.write_at(16, &[selector])?;
+    disk.sync()?;
+    disk.crash(None);
+    Ok(disk)
+}
+
+// The area takes a snapshot into the other one, which is then the live one.
+fn move_over<D: Disk>(
+    rt: &impl Abort,
+    alloc: Global,
+    disk: &mut D,
+    area: &mut Area,
+    snapshot: &[u8],
+) -> Result<(), AreaFault> {
+    assert!(rt; area.size() == 4_096 && disk.size() == SIZE);
+    area.write_snapshot(alloc, disk, snapshot)?;
+    assert!(rt; area.size() == 4_096 && disk.size() == SIZE);
+    area.switch(disk)
+}
+
+// The live area, within a disk of that size.
+fn front(rt: &impl Abort, alloc: Global, disk: &mut MemDisk) -> Result<(Area, Vec<u8>), Fail> {
+    let (area, snapshot) = Area::front(alloc, disk)?;
+    assert!(rt; area.size() == 4_096 && disk.size() == SIZE);
+    Ok((area, snapshot))
+}
+
+// That is what it asks of the disk: the snapshot between its length and a closed gate, a sync, the selector, a sync.
+fn expect_move(
+    rt: &impl Abort,
+    alloc: Global,
+    disk: &mut MemDisk,
+    snapshot: &[u8],
+    at: u64,
+) -> Result<(), Fail> {
+    let (mut area, old) = front(rt, alloc, disk)?;
+    drop(old);
+    let before = disk.calls().len();
+    let moved = move_over(rt, alloc, disk, &mut area, snapshot);
+    drop(area);
+    moved?;
+    let len = snapshot.len() as u64;
+    assert!(rt; len <= 4_087 && before <= disk.calls().len());
+    let calls = [
+        Call::Write { at, len: len + 9 },
+        Call::Sync,
+        Call::Write { at: 16, len: 1 },
+        Call::Sync,
+    ];
+    assert!(rt; &disk.calls()[before..] == calls.as_slice());
+    Ok(())
+}
+
+// The live area is the one that this selector names, with that snapshot and no block.
+fn expect_live(
+    rt: &impl Abort,
+    alloc: Global,
+    disk: &mut MemDisk,
+    wanted: &[u8],
+    selector: u8,
+) -> Result<(), Fail> {
+    let mut byte = [0xee];
+    assert!(rt; disk.size() == SIZE);
+    disk.read_at(16, &mut byte)?;
+    assert_eq!(rt; byte, [selector]);
+    let (mut area, snapshot) = front(rt, alloc, disk)?;
+    let is_same = snapshot.as_slice() == wanted;
+    drop(snapshot);
+    assert!(rt; area.size() == 4_096 && disk.size() == SIZE);
+    let block = area.next_block(alloc, disk);
+    let shown = (area.number(), area.used());
+    drop(area);
+    assert!(rt; is_same && matches!(block, Ok(None)));
+    assert_eq!(rt; shown, (selector % 2, wanted.len() as u64 + 9));
+    Ok(())
+}
+
+#[test]
+fn a_snapshot_goes_into_the_other_area_which_is_then_live(rt: HostRuntime) -> Result<(), Fail> {
+    for (selector, at, next, len) in MOVES {
+        let snapshot = vec![in rt.alloc(); 0x5a; len]?;
+        let mut disk = selecting(&rt, rt.alloc(), selector)?;
+        expect_move(&rt, rt.alloc(), &mut disk, snapshot.as_slice(), at)?;
+        expect_live(&rt, rt.alloc(), &mut disk, snapshot.as_slice(), next)?;
+    }
+    Ok(())
+}
+
+// Both steps are refused, and the disk is not touched.
+fn expect_broken<D: Disk>(rt: &impl Abort, alloc: Global, disk: &mut D, area: &mut Area) {
+    assert!(rt; area.size() == 4_096 && disk.size() == SIZE);
+    let written = area.write_snapshot(alloc, disk, &[]);
+    assert!(rt; matches!(written, Err(AreaFault::Broken)) && area.is_broken());
+    assert!(rt; area.size() == 4_096 && disk.size() == SIZE);
+    let switched = area.switch(disk);
+    assert!(rt; matches!(switched, Err(AreaFault::Broken)));
+}
+
+fn overfill(rt: &impl Abort, alloc: Global, disk: &mut MemDisk) -> Result<(), Fail> {
+    let (mut area, old) = front(rt, alloc, disk)?;
+    drop(old);
+    let before = disk.calls().len();
+    assert!(rt; area.size() == 4_096 && disk.size() == SIZE);
+    let written = area.write_snapshot(alloc, disk, &[0x5a; 4_088]);
+    assert!(rt; matches!(written, Err(AreaFault::Full)));
+    expect_broken(rt, alloc, disk, &mut area);
+    drop(area);
+    assert_eq!(rt; disk.calls().len(), before);
+    Ok(())
+}
+
+#[test]
+fn a_snapshot_that_is_too_long_breaks_the_area(rt: HostRuntime) -> Result<(), Fail> {
+    let mut disk = formatted(rt.alloc())?;
+    overfill(&rt, rt.alloc(), &mut disk)
+}
+
+// A new journal's area takes a snapshot into the other one over a disk that passes so many calls. Answers whether it failed,
+// after which nothing is done any more.
+fn fails_to_move(rt: &impl Abort, alloc: Global, passed: u64) -> Result<bool, Fail> {
+    let mut disk = formatted(alloc)?;
+    let (mut area, old) = front(rt, alloc, &mut disk)?;
+    drop(old);
+    let mut fuse = FuseDisk::new(disk, passed);
+    assert!(rt; area.size() == 4_096 && fuse.size() == SIZE);
+    match move_over(rt, alloc, &mut fuse, &mut area, &[0; 32]) {
+        Ok(()) => Ok(false),
+        Err(AreaFault::Device) => {
+            expect_broken(rt, alloc, &mut fuse, &mut area);
+            Ok(true)
+        }
+        Err(fault) => Err(Fail::from(fault)),
+    }
+}
+
+// Of its four calls each may be the one that fails.
+#[test]
+fn a_snapshot_fails_where_its_disk_fails(rt: HostRuntime) -> Result<(), Fail> {
+    for passed in 0..5_u64 {
+        let failed = fails_to_move(&rt, rt.alloc(), passed)?;
+        assert!(rt; failed == (passed < 4), "{passed} calls");
+    }
+    Ok(())
+}

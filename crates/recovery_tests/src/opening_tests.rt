@@ -1,0 +1,159 @@
+use crate::journals::{OPEN, SEND, append, batch_of, formatted, journal_of, tells};
+use area_core::{ReadFault, an_image_has_one_reading};
+use disk_core::{Call, MemDisk};
+use recover_core::{
+    AreaFault, OpenFault, Store, an_image_stands_for_one_state, open, restarts_fit_large_areas,
+};
+use std::alloc::{AllocError, Global};
+use std::process::Abort;
+use std::test::Fail;
+
+#[test]
+fn the_laws_ask_for_nothing() {
+    an_image_has_one_reading();
+    an_image_stands_for_one_state();
+    restarts_fit_large_areas();
+}
+
+#[test]
+fn each_refusal_to_open_has_its_text(rt: HostRuntime) -> Result<(), Fail> {
+    let reads = format!(in rt.alloc();
+        "{}; {}; {}; {}; {}; {}",
+        OpenFault::Read(ReadFault::NotAJournal),
+        OpenFault::Read(ReadFault::Damaged(4_136)),
+        OpenFault::Read(ReadFault::Device),
+        OpenFault::Read(ReadFault::UnknownVersion),
+        OpenFault::Read(ReadFault::TooSmall),
+        OpenFault::Read(ReadFault::Memory(AllocError)),
+    )?;
+    assert_eq!(rt;
+        reads.as_str(),
+        "J1 not a journal; J2 damaged at 4136; J3 device failed; J7 unknown version; J8 disk too small; no memory"
+    );
+    let others = format!(in rt.alloc();
+        "{}; {}; {}; {}; {}",
+        OpenFault::CountTooLarge,
+        OpenFault::Area(AreaFault::Device),
+        OpenFault::Area(AreaFault::Full),
+        OpenFault::Area(AreaFault::Broken),
+        OpenFault::Area(AreaFault::Memory(AllocError)),
+    )?;
+    assert_eq!(rt;
+        others.as_str(),
+        "J5 count too large; J3 device failed; J4 journal full; J6 store broken; no memory"
+    );
+    Ok(())
+}
+
+// Whether it is a read that leaves the bytes from 17 to 31 alone, which have no meaning.
+fn is_read_beside(call: &Call) -> bool {
+    match *call {
+        Call::Read { at, len } => at >= 32 || at <= 17 && len <= 17 - at,
+        _ => false,
+    }
+}
+
+// A sync, reads, and then the snapshot of what is left, which goes into the other area and makes that one live.
+fn are_of_opening(calls: &[Call], at: u64, len: u64) -> bool {
+    let wanted = [
+        Call::Write { at, len },
+        Call::Sync,
+        Call::Write { at: 16, len: 1 },
+        Call::Sync,
+    ];
+    match calls.split_first() {
+        Some((Call::Sync, rest)) if rest.len() > 4 => {
+            let (reads, writes) = rest.split_at(rest.len() - 4);
+            reads.iter().all(is_read_beside) && writes == wanted.as_slice()
+        }
+        _ => false,
+    }
+}
+
+// Opens the journal, which writes so many bytes at that place: a snapshot with its length and a gate.
+fn expect_opening(
+    rt: &impl Abort,
+    alloc: Global,
+    mut journal: MemDisk,
+    at: u64,
+    len: u64,
+) -> Result<(), Fail> {
+    journal.crash(None);
+    match open(alloc, journal) {
+        Ok(store) => {
+            let disk = store.into_disk();
+            assert!(rt; are_of_opening(disk.calls(), at, len));
+            Ok(())
+        }
+        Err((_, fault)) => Err(Fail::from(fault)),
+    }
+}
+
+// An empty journal has a snapshot of 32 bytes. Four commands that leave three messages in a queue have one of 141: 32, 16 for
+// the queue's name and how many messages it has, and 31 for each of them.
+#[test]
+fn opening_syncs_reads_writes_and_switches(rt: HostRuntime) -> Result<(), Fail> {
+    let empty = formatted(rt.alloc())?;
+    expect_opening(&rt, rt.alloc(), empty, 4_128, 41)?;
+    let journal = journal_of(rt.alloc(), &[&[OPEN, SEND], &[SEND], &[SEND]])?;
+    expect_opening(&rt, rt.alloc(), journal, 32, 150)
+}
+
+// A SEND to `/queue/q` with so long a body.
+fn sending(alloc: Global, body: u32) -> Result<Vec<u8>, Fail> {
+    let mut record = Vec::from_slice(alloc, b"\0\0\0\0\0\0\0\0\0\x02\0\0\0\x08/queue/q\0\0")?;
+    record.extend_from_slice(&body.to_be_bytes())?;
+    for _ in 0..body {
+        record.push(b'x')?;
+    }
+    Ok(record)
+}
+
+// Whether the store takes the record. Then it has no room for it once more; if not, it is broken.
+fn takes(
+    rt: &impl Abort,
+    alloc: Global,
+    store: &mut Store<MemDisk>,
+    record: &[u8],
+) -> Result<bool, Fail> {
+    let batch = batch_of(alloc, &[record])?;
+    let first = append(alloc, store, batch.as_slice());
+    let second = append(alloc, store, batch.as_slice());
+    drop(batch);
+    match first {
+        Ok(()) => {
+            assert!(rt; matches!(second, Err(AreaFault::Full)));
+            Ok(true)
+        }
+        Err(AreaFault::Full) => {
+            assert!(rt; matches!(second, Err(AreaFault::Broken)));
+            Ok(false)
+        }
+        Err(fault) => Err(Fail::from(fault)),
+    }
+}
+
+// Whether a new journal takes a batch with so long a body, and what opening it again tells.
+fn offer(rt: &impl Abort, alloc: Global, body: u32) -> Result<(bool, MemDisk), Fail> {
+    let record = sending(alloc, body)?;
+    let journal = formatted(alloc)?;
+    match open(alloc, journal) {
+        Ok(mut store) => match takes(rt, alloc, &mut store, record.as_slice()) {
+            Ok(is_taken) => Ok((is_taken, store.into_disk())),
+            Err(fail) => Err(fail),
+        },
+        Err((_, fault)) => Err(Fail::from(fault)),
+    }
+}
+
+// A block of 4,046 bytes of records fills a new area. The SEND counts, and does no more since its session is not open.
+#[test]
+fn a_batch_that_does_not_fit_leaves_the_state_before(rt: HostRuntime) -> Result<(), Fail> {
+    for (body, fits, wanted) in [(4_018, true, "1 0"), (4_019, false, "0 0")] {
+        let (is_taken, disk) = offer(&rt, rt.alloc(), body)?;
+        assert!(rt; is_taken == fits, "{body} bytes");
+        let is_told = tells(rt.alloc(), disk, wanted)?;
+        assert!(rt; is_told, "{body} bytes");
+    }
+    Ok(())
+}

@@ -1,0 +1,348 @@
+ghost use Rattle.std.specs.Prelude.{◌<◌};
+
+use crate::journals::{FILLS, append, push_record};
+use crate::stop_tests::{is_in, stopped};
+use area_core::format;
+use broker_core::Broker;
+use command_core::{Command, Entry, Op, decode};
+use disk_core::MemDisk;
+use record_core::put_text;
+use recover_core::{Store, open};
+use snapshot_core::encode_state;
+use std::alloc::Global;
+use std::process::Abort;
+use std::test::Fail;
+
+// A script by chance: the sessions that it opened since the last stop, the broker in memory that carries it out, and how many
+// commands of each kind were not refused.
+#[derive(Drop)]
+struct Script {
+    seed: u64,
+    opened: Vec<u64>,
+    memory: Broker,
+    done: [u32; 9],
+}
+
+// The next of some numbers that look like chance, by the generator `xorshift`.
+fn chance(seed: &mut u64) -> u64 {
+    *seed ^= *seed << 13;
+    *seed ^= *seed >> 7;
+    *seed ^= *seed << 17;
+    *seed
+}
+
+// A session opens, mostly with a name of its client.
+const OPENS: [&[u8]; 4] = [
+    b"\0\0\0\0\0\0\0\0\0\x01\0",
+    b"\0\0\0\0\0\0\0\0\0\x01\x01\0\0\0\x02c1",
+    b"\0\0\0\0\0\0\0\0\0\x01\x01\0\0\0\x02c1",
+    b"\0\0\0\0\0\0\0\0\0\x01\x01\0\0\0\x02c2",
+];
+
+// What a session may ask for, behind its number.
+const ASKED: [&[u8]; 23] = [
+    // To send: to two queues and a topic, once with a header, once for a receipt.
+    b"\0\x02\0\0\0\x08/queue/q\0\0\0\0\0\x01x",
+    b"\0\x02\0\0\0\x08/queue/q\0\x01\0\0\0\x01k\0\0\0\x01v\0\0\0\x01x",
+    b"\x01\0\0\0\x01r\x02\0\0\0\x08/queue/r\0\0\0\0\0\x02yz",
+    b"\0\x02\0\0\0\x08/queue/r\0\0\0\0\0\0",
+    b"\0\x02\0\0\0\x08/topic/t\0\0\0\0\0\x01t",
+    b"\0\x02\0\0\0\x08/topic/t\0\0\0\0\0\x01u",
+    // To send as a transaction, and to end one with no member.
+    b"\0\x07\0\x02\x02\0\0\0\x08/queue/q\0\0\0\0\0\x01m\x02\0\0\0\x08/topic/t\0\0\0\0\0\x01n",
+    b"\x01\0\0\0\x01r\x07\0\0",
+    // To listen to queues and a topic: at once, acknowledging all before, acknowledging one by one.
+    b"\x01\0\0\0\x01r\x03\0\0\0\x01a\0\0\0\x08/queue/q\0\0",
+    b"\0\x03\0\0\0\x01b\0\0\0\x08/queue/q\x01\0",
+    b"\0\x03\0\0\0\x01c\0\0\0\x08/queue/r\x02\0",
+    b"\0\x03\0\0\0\x01d\0\0\0\x08/topic/t\0\0",
+    b"\0\x03\0\0\0\x01e\0\0\0\x08/topic/t\x01\0",
+    // To listen under two durable names.
+    b"\0\x03\0\0\0\x01f\0\0\0\x08/topic/t\x01\x01\0\0\0\x01n",
+    b"\0\x03\0\0\0\x01g\0\0\0\x08/topic/t\x02\x01\0\0\0\x01o",
+    // To give up the durable names, and to listen no more to what it may not listen to.
+    b"\0\x04\0\x01\0\0\0\x01n",
+    b"\0\x04\0\x01\0\0\0\x01o",
+    b"\0\x04\x01\0\0\0\x01b\0",
+    // Nothing, without a receipt and for one.
+    b"\0\x08",
+    b"\x01\0\0\0\x01r\x08",
+    // To end: by itself, with its connection, by a fault.
+    b"\x01\0\0\0\x01r\x09\0",
+    b"\0\x09\x01",
+    b"\0\x09\x02\x03",
+];
+
+// What it may say of a delivery, before its number: to acknowledge it, with a receipt too, to refuse it, and each in a
+// transaction.
+const SETTLED: [&[u8]; 5] = [
+    b"\0\x05",
+    b"\x01\0\0\0\x01r\x05",
+    b"\0\x06",
+    b"\0\x07\0\x02\x02\0\0\0\x08/queue/r\0\0\0\0\0\x01m\x05",
+    b"\0\x07\0\x02\x02\0\0\0\x08/queue/q\0\0\0\0\0\x01m\x06",
+];
+
+// A session opens, whose number is that of this command.
+fn opening(
+    alloc: Global,
+    opened: &mut Vec<u64>,
+    number: u64,
+    chosen: u64,
+) -> Result<Vec<u8>, Fail> {
+    opened.push(number)?;
+    Ok(Vec::from_slice(alloc, OPENS[(chosen % 4) as usize])?)
+}
+
+// One of the sessions asks for something.
+fn asking(alloc: Global, opened: &[u64], chosen: u64) -> Result<Vec<u8>, Fail> {
+    let session = match opened.len() {
+        0 => 0,
+        count => opened[(chosen / 32) as usize % count],
+    };
+    let mut record = Vec::from_slice(alloc, &session.to_be_bytes())?;
+    record.extend_from_slice(ASKED[(chosen % 23) as usize])?;
+    Ok(record)
+}
+
+// A session and one of its deliveries that wait to be acknowledged, of the first subscription in waiting order that has one.
+fn some_delivery(memory: &Broker, chosen: u64) -> Option<(u64, u64)> {
+    for at in 0..memory.subscription_count() {
+        let subscription = memory.subscription(at);
+        let waiting = subscription.unacknowledged.as_slice();
+        if !waiting.is_empty() {
+            let (delivery, _) = &waiting[chosen as usize % waiting.len()];
+            return Some((subscription.session, *delivery));
+        }
+    }
+    None
+}
+
+// A session settles a delivery.
+fn settling(alloc: Global, memory: &Broker, chosen: u64) -> Result<Vec<u8>, Fail> {
+    let (session, delivery) = some_delivery(memory, chosen / 32).unwrap_or((0, 0));
+    let mut record = Vec::from_slice(alloc, &session.to_be_bytes())?;
+    record.extend_from_slice(SETTLED[(chosen % 5) as usize])?;
+    record.extend_from_slice(&delivery.to_be_bytes())?;
+    Ok(record)
+}
+
+// A session listens no more to one of its subscriptions, or gives up a durable one too. Where there is none it is a note of a
+// session that is not open.
+fn leaving(alloc: Global, memory: &Broker, chosen: u64) -> Result<Vec<u8>, Fail> {
+    let count = memory.subscription_count() as u64;
+    if count == 0 {
+        return Ok(Vec::from_slice(alloc, b"\0\0\0\0\0\0\0\0\0\x08")?);
+    }
+    let subscription = memory.subscription((chosen / 32 % count) as usize);
+    let mut record = Vec::from_slice(alloc, &subscription.session.to_be_bytes())?;
+    record.extend_from_slice(b"\0\x04\x01")?;
+    put_text(&mut record, &subscription.id)?;
+    match &subscription.durable {
+        Some(name) if chosen % 2 == 0 => {
+            record.push(1)?;
+            put_text(&mut record, name.name().as_text())?;
+        }
+        _ => record.push(0)?,
+    }
+    Ok(record)
+}
+
+// A record by chance.
+fn some_record(alloc: Global, script: &mut Script) -> Result<Vec<u8>, Fail> {
+    let kind = chance(&mut script.seed);
+    let chosen = chance(&mut script.seed);
+    match kind % 16 {
+        0 | 1 => opening(alloc, &mut script.opened, script.memory.count(), chosen),
+        2..=4 => settling(alloc, &script.memory, chosen),
+        5 => leaving(alloc, &script.memory, chosen),
+        _ => asking(alloc, script.opened.as_slice(), chosen),
+    }
+}
+
+// The place of an operation among the nine kinds.
+fn kind_of(op: &Op) -> usize
+    ensures { result < 9 }
+{
+    match op {
+        Op::Open { client_id: _ } => 0,
+        Op::Send(_) => 1,
+        Op::Subscribe { .. } => 2,
+        Op::Unsubscribe { .. } => 3,
+        Op::Ack(_) => 4,
+        Op::Nack(_) => 5,
+        Op::Commit(_) => 6,
+        Op::Note => 7,
+        Op::End(_) => 8,
+    }
+}
+
+// The broker carries out a command. Answers whether it was carried out for an open session and not refused, which would have
+// ended it.
+fn carry_out(alloc: Global, memory: &mut Broker, command: Command) -> Result<bool, Fail> {
+    let session = command.session();
+    let (opens, ends) = match command.op() {
+        Op::Open { client_id: _ } => (true, false),
+        Op::End(_) => (false, true),
+        _ => (false, false),
+    };
+    let was_open = memory.sessions().contains_key(&session);
+    if memory.count() >= 1 << 60 {
+        return Err(Fail::from("too many commands"));
+    }
+    match memory.step(alloc, command) {
+        Ok(outs) => drop(outs),
+        Err(fault) => return Err(Fail::from(fault)),
+    }
+    let is_open = memory.sessions().contains_key(&session);
+    Ok(opens || was_open && (ends || is_open))
+}
+
+// The broker in memory carries out the command of a record.
+fn step(alloc: Global, script: &mut Script, record: &[u8]) -> Result<(), Fail> {
+    let (command, _) = decode(alloc, record)?;
+    let kind = kind_of(command.op());
+    let session = command.session();
+    if carry_out(alloc, &mut script.memory, command)? {
+        script.done[kind] = script.done[kind].saturating_add(1);
+    }
+    if !script.memory.sessions().contains_key(&session) {
+        script.opened.retain(|opened| *opened != session);
+    }
+    Ok(())
+}
+
+// Adds a command by chance to a batch. The broker in memory carries it out, unless the batch will be lost.
+fn push_some(
+    alloc: Global,
+    batch: &mut Vec<Entry<()>>,
+    script: &mut Script,
+    is_in: bool,
+) -> Result<(), Fail> {
+    let record = some_record(alloc, script)?;
+    push_record(alloc, batch, record.as_slice())?;
+    if is_in {
+        step(alloc, script, record.as_slice())?;
+    }
+    Ok(())
+}
+
+// Eight commands by chance, which the broker in memory carries out, unless they will be lost.
+fn some_batch(alloc: Global, script: &mut Script, is_in: bool) -> Result<Vec<Entry<()>>, Fail> {
+    let mut batch = Vec::new(alloc);
+    for _ in 0..8_u8 {
+        push_some(alloc, &mut batch, script, is_in)?;
+    }
+    Ok(batch)
+}
+
+// The snapshot of a broker.
+fn snapshot(alloc: Global, broker: &Broker) -> Result<Vec<u8>, Fail> {
+    if broker.is_broken()
+        || broker.sessions().len() > 1_000
+        || broker.subscription_count() > 1_000
+    {
+        return Err(Fail::from("not what the test made"));
+    }
+    Ok(encode_state(alloc, broker)?)
+}
+
+// The snapshot of the broker that was opened.
+fn opened_snapshot(alloc: Global, store: &mut Store<MemDisk>) -> Result<Vec<u8>, Fail> {
+    match store.broker() {
+        Some(broker) => snapshot(alloc, &broker),
+        None => Err(Fail::from("no broker")),
+    }
+}
+
+// Whether the store was opened with the broker in memory.
+fn is_opened_as(alloc: Global, store: &mut Store<MemDisk>, memory: &Broker) -> Result<bool, Fail> {
+    let opened = opened_snapshot(alloc, store)?;
+    let is_same = match snapshot(alloc, memory) {
+        Ok(other) => Ok(opened.as_slice() == other.as_slice()),
+        Err(fail) => Err(fail),
+    };
+    drop(opened);
+    is_same
+}
+
+// What is opened is the broker in memory; then both take four batches.
+fn live(
+    rt: &impl Abort,
+    alloc: Global,
+    store: &mut Store<MemDisk>,
+    script: &mut Script,
+) -> Result<(), Fail> {
+    let is_same = is_opened_as(alloc, store, &script.memory)?;
+    assert!(rt; is_same);
+    for _ in 0..4_u8 {
+        let batch = some_batch(alloc, script, true)?;
+        let done = append(alloc, store, batch.as_slice());
+        drop(batch);
+        done?;
+    }
+    Ok(())
+}
+
+// The store stops within one more batch, which the broker in memory carries out where it is in.
+fn stop(
+    alloc: Global,
+    store: Store<MemDisk>,
+    script: &mut Script,
+    passed: u64,
+    fill: Option<u8>,
+) -> Result<MemDisk, Fail> {
+    match some_batch(alloc, script, is_in(passed, fill)) {
+        Ok(batch) => Ok(stopped(alloc, store, batch.as_slice(), passed, fill)),
+        Err(fail) => Err(fail),
+    }
+}
+
+// One life of a journal: it is opened, takes four batches, and stops within a fifth.
+fn life(
+    rt: &impl Abort,
+    alloc: Global,
+    disk: MemDisk,
+    script: &mut Script,
+    passed: u64,
+    fill: Option<u8>,
+) -> Result<MemDisk, Fail> {
+    match open(alloc, disk) {
+        Ok(mut store) => match live(rt, alloc, &mut store, script) {
+            Ok(()) => stop(alloc, store, script, passed, fill),
+            Err(fail) => Err(fail),
+        },
+        Err((_, fault)) => Err(Fail::from(fault)),
+    }
+}
+
+// Forty lives of a journal, with a stop at each call of a batch and each fill.
+fn lives(rt: &impl Abort, alloc: Global, script: &mut Script) -> Result<(), Fail> {
+    let mut disk = MemDisk::new(alloc, 2_097_184)?;
+    format(alloc, &mut disk, 1_048_576)?;
+    for number in 0..40_u64 {
+        let (passed, fill) = (number % 5, FILLS[(number / 5 % 4) as usize]);
+        disk = life(rt, alloc, disk, script, passed, fill)?;
+        script.memory.restart(alloc)?;
+        script.opened.clear();
+    }
+    Ok(())
+}
+
+// A thousand commands and more, of each kind some that are not refused: what is opened is the broker in memory after the same
+// commands and restarts.
+#[test]
+fn what_is_opened_is_the_broker_that_did_the_same(rt: HostRuntime) -> Result<(), Fail> {
+    let mut script = Script {
+        seed: 88_172_645_463_325_252,
+        opened: Vec::new(rt.alloc()),
+        memory: Broker::new(rt.alloc()),
+        done: [0; 9],
+    };
+    lives(&rt, rt.alloc(), &mut script)?;
+    assert!(rt; script.memory.count() >= 1_000);
+    for (kind, done) in script.done.iter().enumerate() {
+        assert!(rt; *done >= 5, "{done} of kind {kind}");
+    }
+    Ok(())
+}

@@ -1,0 +1,117 @@
+use crate::words_tests::expect_of;
+use std::alloc::{Alloc, Global};
+use std::fs;
+use std::fs::File;
+use std::process::Abort;
+use std::rt::Files;
+use std::test::Fail;
+
+const JOURNAL: &str = "stompd_journal_file";
+
+fn expect_format(
+    rt: &(impl Abort + Files<File = File>),
+    alloc: Global,
+    bytes: &str,
+    status: u8,
+    told: &str,
+) -> Result<(), Fail> {
+    expect_of(
+        rt,
+        alloc,
+        &["stompd", "format", JOURNAL, bytes],
+        b"",
+        (status, "", told),
+    )
+}
+
+fn expect_show(
+    rt: &(impl Abort + Files<File = File>),
+    alloc: Global,
+    status: u8,
+    printed: &str,
+    told: &str,
+) -> Result<(), Fail> {
+    expect_of(
+        rt,
+        alloc,
+        &["stompd", "show", JOURNAL],
+        b"",
+        (status, printed, told),
+    )
+}
+
+#[test]
+fn a_journal_file_is_made_and_shown(rt: HostRuntime) -> Result<(), Fail> {
+    let alloc = rt.alloc();
+    let _ = fs::remove_file(&rt, JOURNAL);
+    let shown = "version 1\narea 0\nused 41\ncount 0\nheld 0\n";
+    expect_show(&rt, alloc, 1, "", "stompd: cannot open\n")?;
+    expect_format(&rt, alloc, "8223", 1, "stompd: J8 disk too small\n")?;
+    expect_format(&rt, alloc, "31", 1, "stompd: J8 disk too small\n")?;
+    for bytes in ["", "+8224", "8224 ", "18446744073709551616"] {
+        expect_format(&rt, alloc, bytes, 2, "")?;
+    }
+    expect_format(&rt, alloc, "08224", 0, "")?;
+    expect_show(&rt, alloc, 0, shown, "")?;
+    expect_format(&rt, alloc, "8224", 1, "stompd: cannot open\n")?;
+    expect_show(&rt, alloc, 0, shown, "")?;
+    // Behind `--` no word is an option.
+    for words in [
+        ["stompd", "show", "--", JOURNAL],
+        ["stompd", "show", JOURNAL, "--"],
+    ] {
+        expect_of(&rt, alloc, &words, b"", (0, shown, ""))?;
+    }
+    let option = ["stompd", "show", "--", "--no-such-file"];
+    expect_of(&rt, alloc, &option, b"", (1, "", "stompd: cannot open\n"))?;
+    fs::write(&rt, JOURNAL, [0; 64].as_slice())?;
+    expect_show(&rt, alloc, 1, "", "stompd: J1 not a journal\n")?;
+    fs::remove_file(&rt, JOURNAL)?;
+    Ok(())
+}
+
+const MADE: &str = "stompd_made_file";
+
+// The front of a journal file whose areas have so many bytes: the header, and the first area's empty snapshot and closed gate.
+fn front_of(alloc: Global, area_length: u64) -> Result<Vec<u8>, Fail> {
+    let mut front = Vec::from_slice(alloc, b"STOMPJ01")?;
+    front.extend_from_slice(&area_length.to_be_bytes())?;
+    front.extend_from_slice(&[0; 16])?;
+    front.extend_from_slice(&[0, 0, 0, 0, 0, 0, 0, 32])?;
+    front.extend_from_slice(&[0; 33])?;
+    Ok(front)
+}
+
+fn expect_made(
+    rt: &(impl Abort + Files<File = File> + Alloc<A = Global>),
+    alloc: Global,
+    bytes: &str,
+    length: usize,
+    area_length: u64,
+) -> Result<(), Fail> {
+    let words = ["stompd", "format", MADE, bytes];
+    expect_of(rt, alloc, &words, b"", (0, "", ""))?;
+    let made = fs::read(rt, MADE)?;
+    let front = front_of(alloc, area_length)?;
+    let is_front = made.as_slice().starts_with(front.as_slice());
+    let made_length = made.len();
+    drop(front);
+    drop(made);
+    fs::remove_file(rt, MADE)?;
+    assert!(rt; is_front);
+    assert_eq!(rt; made_length, length);
+    Ok(())
+}
+
+#[test]
+fn a_made_file_has_two_areas_of_half_its_bytes(rt: HostRuntime) -> Result<(), Fail> {
+    let _ = fs::remove_file(&rt, MADE);
+    for (bytes, length, area_length) in [
+        ("8224", 8_224, 4_096),
+        ("100000", 100_000, 49_984),
+        ("100001", 100_001, 49_984),
+    ] {
+        expect_made(&rt, rt.alloc(), bytes, length, area_length)?;
+    }
+    Ok(())
+}
