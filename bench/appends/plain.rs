@@ -7,7 +7,7 @@
 
 use std::collections::VecDeque;
 use std::hint::black_box;
-use std::sync::{Arc, Barrier, Mutex};
+use std::sync::{Arc, Mutex};
 use std::thread;
 use std::time::Instant;
 
@@ -126,20 +126,19 @@ fn take_all(queue: &impl Queue, count: usize) {
 
 fn threads<Q: Queue>(count: usize) {
     let queue = Arc::new(Q::new());
-    let begin = Arc::new(Barrier::new(count + 1));
     let each = APPENDS / count;
-    let appending: Vec<_> = (0..count)
-        .map(|_| {
-            let (queue, begin) = (queue.clone(), begin.clone());
-            let entries: Vec<Entry> = (0..each).map(Entry::new).collect();
-            thread::spawn(move || {
-                begin.wait();
-                append_all(&*queue, entries);
-            })
+    let lists: Vec<Vec<Entry>> = (0..count)
+        .map(|_| (0..each).map(Entry::new).collect())
+        .collect();
+    // As for the claim buffer, the clock starts before the threads do.
+    let start = Instant::now();
+    let appending: Vec<_> = lists
+        .into_iter()
+        .map(|entries| {
+            let queue = queue.clone();
+            thread::spawn(move || append_all(&*queue, entries))
         })
         .collect();
-    begin.wait();
-    let start = Instant::now();
     take_all(&*queue, each * count);
     let nanoseconds = start.elapsed().as_nanos();
     for thread in appending {
@@ -157,7 +156,7 @@ fn bursts<Q: Queue>() {
         for time in &mut times {
             let start = Instant::now();
             for _ in 0..GROUP {
-                let _ = queue.append(spare.pop().unwrap());
+                assert!(queue.append(spare.pop().unwrap()).is_ok(), "there is room");
             }
             *time += start.elapsed().as_nanos();
         }
