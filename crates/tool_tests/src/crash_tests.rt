@@ -356,10 +356,7 @@ fn expect_last(
     rt: &(impl Abort + Files<File = File>),
     alloc: Global,
     body: usize,
-    end: &str,
-    status: u8,
-    opened: &str,
-    told: &str,
+    fits: bool,
 ) -> Result<(), Fail> {
     let longest = text_of_parts(alloc, &[(SEND_TO_Q, 1), ("x", 65_536), ("%00\nflush\n", 1)])?;
     let script = [
@@ -368,29 +365,53 @@ fn expect_last(
         (longest.as_str(), 15),
         (SEND_TO_Q, 1),
         ("x", body),
-        ("%00\n", 1),
-        (end, 1),
+        ("%00\nflush\nopen\n", 1),
     ];
-    let printed = [(CONNECTED, 1), ("\n", 1), (opened, 1)];
-    let same = expect_parts(rt, alloc, &script, status, &printed, told);
+    let same = if fits {
+        let printed = [(CONNECTED, 1), ("\n", 1), ("open 17 16\n", 1)];
+        expect_parts(rt, alloc, &script, 0, &printed, "")
+    } else {
+        let printed = [(CONNECTED, 1), ("\n", 1)];
+        expect_parts(rt, alloc, &script, 1, &printed, FULL)
+    };
     drop(longest);
     same
 }
 
+const FULL: &str = "stompd: J4 journal full\n";
+
+#[test]
+fn the_last_byte_of_the_disk_is_written(rt: HostRuntime) -> Result<(), Fail> {
+    expect_last(&rt, rt.alloc(), 64_883, true)?;
+    expect_last(&rt, rt.alloc(), 64_884, false)
+}
+
 #[test]
 fn a_journal_that_is_full_ends_the_script(rt: HostRuntime) -> Result<(), Fail> {
-    let told = "stompd: J4 journal full\n";
-    expect_last(
-        &rt,
-        rt.alloc(),
-        64_883,
-        "flush\nopen\n",
-        0,
-        "open 17 16\n",
-        "",
-    )?;
+    // 15 messages of 65,000 bytes fit in the area's 1,048,576 bytes, and the next batch of five does not.
     for end in ["flush\n", "crash 0\n"] {
-        expect_last(&rt, rt.alloc(), 64_884, end, 1, "", told)?;
+        expect_full(&rt, rt.alloc(), end, FULL)?;
     }
     Ok(())
+}
+
+// A CONNECT, 23 messages and an end.
+fn expect_full(
+    rt: &(impl Abort + Files<File = File>),
+    alloc: Global,
+    end: &str,
+    told: &str,
+) -> Result<(), Fail> {
+    let message = text_of_parts(
+        alloc,
+        &[
+            ("0 SEND%0Adestination:/queue/q%0A%0A", 1),
+            ("x", 65_000),
+            ("%00\n", 1),
+        ],
+    )?;
+    let script = [(CON_0, 1), ("\n", 1), (message.as_str(), 23), (end, 1)];
+    let same = expect_parts(rt, alloc, &script, 1, &[(CONNECTED, 1), ("\n", 1)], told);
+    drop(message);
+    same
 }
