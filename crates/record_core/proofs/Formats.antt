@@ -1,5 +1,4 @@
--- A format: what is read from the front of bytes is spelled there and has the form, and what has it is read from its
--- spelling, whatever follows.
+-- That readers and spellings go together: steps of a reader, numbers and lists.
 use Rattle.std.proofs.Common.{◌≡◌, ℕ, zero, suc, ◌<◌, ◌≤◌, ◌^◌, Bool, true, false, cond, ltb, List, [], ◌∷◌, ◌++◌, length, get_or, take, drop, flat_map, Option, Some, None, refl, sym, ap, subst, ◌∙◌, append_assoc, arith}
 use Rattle.std.specs.List.{AllByRecursion}
 use Rattle.std.specs.Int.{Width, w16, w32, w64, byte_len, from_be_bytes, to_be_bytes}
@@ -9,16 +8,8 @@ use Rattle.std.proofs.lemmas.List.Concat.{flat_map-cons}
 use Rattle.std.proofs.lemmas.List.Elements.{All-from_recursion, All-take, All-drop, recursion_from_All}
 use Rattle.std.proofs.lemmas.Nat.{be_bytes_2, be_bytes_4, be_bytes_8, from_be_bytes-to_be_bytes_2, from_be_bytes-to_be_bytes_4, from_be_bytes-to_be_bytes_8}
 use Rattle.record_core.specs.Spellings.{AreBytes}
+pub use Rattle.record_core.specs.Formats.{Takes, Format, HasBytes, FewEach, spell_few, Listed, spell_list}
 use Rattle.record_core.specs.Reading.{◌>>=◌, Reader, byte_at, number_at, many_at, few_at, listed_at}
-
--- what a reader took from the front
-pub record Takes (bytes text rest : List ℕ) : Type 0 where
-  pub parts : bytes ≡ text ++ rest
-  pub fits : AreBytes rest
-
-pub record Format {A : Type 0} (spell : A → List ℕ) (Form : A → Type 0) (read : Reader A) : Type 0 where
-  pub takes : (bytes : List ℕ) (x : A) (rest : List ℕ) → AreBytes bytes → read bytes ≡ Some (x, rest) → Takes bytes (spell x) rest × Form x
-  pub again : (x : A) (rest : List ℕ) → Form x → read (spell x ++ rest) ≡ Some (x, rest)
 
 pub Takes-then : (a x b y c : List ℕ) → Takes a x b → Takes b y c → Takes a (x ++ y) c
 Takes-then a x b y c p q = record { parts = p.parts ∙ ap (λ (t : List ℕ). x ++ t) q.parts ∙ sym (append_assoc x y c); fits = q.fits }
@@ -169,10 +160,6 @@ many_again {A} spell Form read format (x ∷ xs) rest forms =
     (ap (λ (y : List ℕ). y ++ rest) (flat_map-cons spell x xs) ∙ append_assoc (spell x) (flat_map spell xs) rest) forms.0
     (ap (λ o. o >>= λ others. Some (x ∷ others.0, others.1)) (many_again spell Form read format xs rest forms.1))
 
--- what is spelled with a byte or more
-abbrev pub HasBytes : {A : Type 0} → (A → List ℕ) → Type 0
-HasBytes {A} spell = (x : A) → 0 < length (spell x)
-
 -- so there are no more of them than bytes
 no_more : {A : Type 0} (spell : A → List ℕ) → HasBytes spell → (xs : List A) (rest : List ℕ) → length xs ≤ length (flat_map spell xs ++ rest)
 no_more spell bytes [] rest = omega arith
@@ -189,13 +176,6 @@ bounded read n = cond (ltb (length n.1) n.0) None (many_at read n.0 n.1)
 bounded_again : {A : Type 0} (spell : A → List ℕ) (Form : A → Type 0) (read : Reader A) → Format spell Form read → HasBytes spell → (xs : List A) (rest : List ℕ) → AllByRecursion Form xs → bounded read (length xs, flat_map spell xs ++ rest) ≡ Some (xs, rest)
 bounded_again spell Form read format bytes xs rest forms =
     ap (λ b. cond b None (many_at read (length xs) (flat_map spell xs ++ rest))) (le-ltb (length (flat_map spell xs ++ rest)) (length xs) (no_more spell bytes xs rest)) ∙ many_again spell Form read format xs rest forms
-
--- at most 64, behind their count in two bytes
-abbrev pub spell_few : {A : Type 0} → (A → List ℕ) → List A → List ℕ
-spell_few spell xs = to_be_bytes w16 (length xs) ++ flat_map spell xs
-
-abbrev pub FewEach : {A : Type 0} → (A → Type 0) → List A → Type 0
-FewEach Form xs = (length xs ≤ 64) × AllByRecursion Form xs
 
 few_takes : {A : Type 0} (spell : A → List ℕ) (Form : A → Type 0) (read : Reader A) → Format spell Form read → (bytes : List ℕ) (xs : List A) (rest : List ℕ) → AreBytes bytes → few_at read bytes ≡ Some (xs, rest)
     → Takes bytes (spell_few spell xs) rest × FewEach Form xs
@@ -219,13 +199,6 @@ few_again {A} spell Form read format bytes xs rest forms =
 
 pub few : {A : Type 0} (spell : A → List ℕ) (Form : A → Type 0) (read : Reader A) → Format spell Form read → HasBytes spell → Format (spell_few spell) (FewEach Form) (few_at read)
 few spell Form read format bytes = record { takes = few_takes spell Form read format; again = few_again spell Form read format bytes }
-
--- any, behind their count in four bytes
-abbrev pub spell_list : {A : Type 0} → (A → List ℕ) → List A → List ℕ
-spell_list spell xs = to_be_bytes w32 (length xs) ++ flat_map spell xs
-
-abbrev pub Listed : {A : Type 0} → (A → Type 0) → List A → Type 0
-Listed Form xs = (length xs < 2 ^ 32) × AllByRecursion Form xs
 
 listed_takes : {A : Type 0} (spell : A → List ℕ) (Form : A → Type 0) (read : Reader A) → Format spell Form read → (bytes : List ℕ) (xs : List A) (rest : List ℕ) → AreBytes bytes → listed_at read bytes ≡ Some (xs, rest)
     → Takes bytes (spell_list spell xs) rest × Listed Form xs

@@ -5,6 +5,7 @@ use Rattle.record_core.specs.declared.ack_mode.AckMode.{AckMode}
 use Rattle.record_core.specs.declared.ack_mode.AckMode.TheVariants.{Auto, Client, ClientIndividual}
 use Rattle.record_core.specs.Spellings.{AreBytes, mode_byte}
 use Rattle.record_core.specs.Reading.{byte_at, mode_at}
+pub use Rattle.record_core.specs.Formats.{Always, mode_bytes}
 use Rattle.record_core.proofs.Formats.{Takes, Format, first_takes, last_takes, byte}
 
 chosen_by : {A : Type 0} (b k : ℕ) (t : Bool) (x y : Option A) (z : A) (P : Type 0) → eqb b k ≡ t → (b ≡ k → x ≡ Some z → P) → (y ≡ Some z → P) → cond t x y ≡ Some z → P
@@ -18,12 +19,6 @@ chosen b k x y z P when otherwise e = chosen_by b k (eqb b k) x y z P refl when 
 -- a kind that is read as that one
 pub kind_is : (bytes rest : List ℕ) (b k : ℕ) → Takes bytes (b ∷ []) rest → b ≡ k → Takes bytes (k ∷ []) rest
 kind_is bytes rest b k taken is = subst (λ (n : ℕ). Takes bytes (n ∷ []) rest) is taken
-
-abbrev pub Always : {A : Type 0} → A → Type 0
-Always x = Unit {0}
-
-abbrev pub mode_bytes : AckMode → List ℕ
-mode_bytes mode = mode_byte mode ∷ []
 
 mode_takes : (bytes : List ℕ) (m : AckMode) (rest : List ℕ) → AreBytes bytes → mode_at bytes ≡ Some (m, rest) → Takes bytes (mode_bytes m) rest × Always m
 unfolding mode_at

@@ -12,14 +12,12 @@ use Rattle.frame_core.specs.Writable.{HasNoNul}
 use Rattle.record_core.specs.Spellings.{AreBytes, IsText, counted, optional}
 use Rattle.record_core.specs.Destinations.{IsDestination, is_destination, is_destination_byte, is_name, is_topic, is_queue}
 use Rattle.record_core.specs.Texts.{IsGiven}
+pub use Rattle.record_core.specs.Formats.{Counted, IsName}
 use Rattle.record_core.specs.Reading.{made, counted_at, is_text, text_at, optional_at, is_given, name_at, destination_at}
 use Rattle.record_core.proofs.DestinationBytes.{dest_no_nul, each_byte}
 use Rattle.record_core.proofs.Formats.{Takes, Takes-then, Format, AreBytes-take, first_takes, first_again, last_takes, guard_not, tested, number, wide32, front_takes}
 
 -- ---- bytes behind their count
-
-abbrev pub Counted : ℕ → List ℕ → Type 0
-Counted limit text = (length text ≤ limit) × AreBytes text
 
 abbrev counted_rest : ℕ → ℕ × List ℕ → Option (List ℕ × List ℕ)
 counted_rest limit n = cond (ltb limit n.0) None (cond (ltb (length n.1) n.0) None (Some (take n.0 n.1, drop n.0 n.1)))
@@ -122,9 +120,6 @@ pub optional_format : Format optional (λ o. IfSome o IsText) optional_at
 optional_format = record { takes = optional_takes; again = optional_again }
 
 -- ---- names that are given
-
-abbrev pub IsName : Option (List ℕ) → Type 0
-IsName name = IfSome name IsText × IsGiven name
 
 given_from : (name : Option (List ℕ)) → is_given name ≡ true → IsGiven name
 given_from None e = tt

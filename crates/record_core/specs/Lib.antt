@@ -4,3 +4,4 @@ pub mod Sendings
 pub mod Sizes
 pub mod Spellings
 pub mod Reading
+pub mod Formats

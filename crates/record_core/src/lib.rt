@@ -7,6 +7,7 @@ mod ack_mode;
 mod decode_fault;
 mod destination;
 mod header_text;
+mod laws;
 mod list_reading;
 mod reading;
 mod sending;
@@ -17,6 +18,7 @@ pub use ack_mode::AckMode;
 pub use decode_fault::DecodeFault;
 pub use destination::{Dest, DestFault};
 pub use header_text::{HeaderText, is_header_text};
+pub use laws::{lists_are_read_as_they_are_spelled, parts_are_read_as_they_are_spelled};
 pub use list_reading::{read_few, read_list};
 pub use reading::{
     read_byte, read_destination, read_mode, read_name, read_optional, read_sending, read_text,

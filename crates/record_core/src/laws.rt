@@ -1,0 +1,34 @@
+//! What follows from the definitions of reading and of spelling. Nothing is run.
+
+ghost use Rattle.std.specs.Prelude.{◌≡◌, ◌<◌, ◌^◌, ◌∷◌, [], Bool, true, ℕ, List, IfSome};
+ghost use Rattle.std.specs.Int.{w32, w64, to_be_bytes};
+ghost use Rattle.record_core.specs.Destinations.{IsDestination};
+ghost use Rattle.record_core.specs.Formats.{Always, FewEach, Format, HasBytes, IsName, Listed, mode_bytes, spell_few, spell_list};
+ghost use Rattle.record_core.specs.Reading.{Reader, byte_at, destination_at, few_at, listed_at, mode_at, name_at, number_at, optional_at, sending_at, text_at};
+ghost use Rattle.record_core.specs.Spellings.{IsSent, IsText, counted, optional, sending};
+
+/// What is read of a part at the front of bytes is spelled there, the rest is what stands behind it, and what was read has
+/// the part's form. A value of that form is read from its spelling, whatever follows. So each part has one spelling, and no
+/// spelling of it begins another.
+pub fn parts_are_read_as_they_are_spelled()
+    ensures byte { Format (λ (b : ℕ). b ∷ []) (λ b. b < 256) byte_at }
+    ensures number_of_four { Format (to_be_bytes w32) (λ n. n < 2 ^ 32) (number_at w32) }
+    ensures number_of_eight { Format (to_be_bytes w64) (λ n. n < 2 ^ 64) (number_at w64) }
+    ensures text { Format counted IsText text_at }
+    ensures optional { Format optional (λ text. IfSome text IsText) optional_at }
+    ensures name { Format optional IsName name_at }
+    ensures destination { Format counted IsDestination destination_at }
+    ensures mode { Format mode_bytes Always mode_at }
+    ensures sending { Format sending IsSent sending_at }
+{}
+
+/// The same of lists, where their items are read as they are spelled, each with a byte or more. Which items have the form is
+/// told by a test.
+pub fn lists_are_read_as_they_are_spelled<X>()
+    ensures few { (spell : X → List ℕ) (is_formed : X → Bool) (one : Reader X)
+        → Format spell (λ x. is_formed x ≡ true) one → HasBytes spell
+        → Format (spell_few spell) (FewEach (λ x. is_formed x ≡ true)) (few_at one) }
+    ensures list { (spell : X → List ℕ) (is_formed : X → Bool) (one : Reader X)
+        → Format spell (λ x. is_formed x ≡ true) one → HasBytes spell
+        → Format (spell_list spell) (Listed (λ x. is_formed x ≡ true)) (listed_at one) }
+{}
