@@ -1,6 +1,3 @@
-pub mod Connections
-pub mod Counts
-pub mod Encodings
 pub mod Performing
 pub mod Receiving
 pub mod Counting

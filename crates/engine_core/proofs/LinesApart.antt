@@ -4,9 +4,9 @@ use Rattle.std.specs.Fmt.{decimal}
 use Rattle.std.specs.List.{AllByRecursion}
 use Rattle.std.proofs.lemmas.Bool.{cases_lt}
 use Rattle.std.proofs.lemmas.Fmt.{decimal_injective}
-use Rattle.engine_core.specs.ScriptLines.{IsLoss, IsCrash}
+use Rattle.script_text.specs.ScriptLines.{IsLoss, IsCrash}
 use Rattle.engine_core.specs.Scripts.{HasNoLf, IsLine, text_of_lines}
-use Rattle.engine_core.proofs.Connections.{one_digit, two_digits}
+use Rattle.script_text.proofs.ConnectionNumbers.{one_digit, two_digits}
 
 -- the first byte of a line, and 0 of an empty one
 abbrev pub first_of : List ℕ → ℕ

@@ -6,10 +6,10 @@ use Rattle.broker_core.specs.Operations.{restarted}
 use Rattle.broker_core.specs.States.{State}
 use Rattle.engine_core.specs.declared.script.Script.{Script}
 use Rattle.engine_core.specs.declared.script.Script.TheVariants.{Running}
-use Rattle.engine_core.specs.PercentTexts.{decoded}
+use Rattle.script_text.specs.PercentTexts.{decoded}
 use Rattle.engine_core.specs.Queues.{QueueValue, flush_text, flushed}
 use Rattle.engine_core.specs.Running.{ScriptValue, beginning, Loses, Receives}
-use Rattle.engine_core.specs.ScriptLines.{IsLoss, IsNoCrash}
+use Rattle.script_text.specs.ScriptLines.{IsLoss, IsNoCrash}
 use Rattle.engine_core.specs.Scripts.{GoesOn, IsScript, Prints, PrintsAll, open_text}
 use Rattle.engine_core.proofs.Alike.{PrintAlike, all_bare, lose_alike, receive_alike}
 use Rattle.engine_core.proofs.LinesApart.{blank_first, flush_first, loss_first, one_loss, one_receiver, open_first, same_lines, text_first}

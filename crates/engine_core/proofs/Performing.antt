@@ -1,16 +1,19 @@
 -- What a line does that was read.
-use Rattle.std.proofs.Common.{◌≡◌, ◌≢◌, ◌<◌, List, [], ◌∷◌, ◌++◌, ℕ, Option, Some, None, MatchOption, codes, refl, sym, ◌∙◌, arith, inl, inr, subst}
+use Rattle.std.proofs.Common.{◌≡◌, ◌≢◌, ◌<◌, List, [], ◌∷◌, ◌++◌, ℕ, Option, Some, None, MatchOption, codes, refl, sym, ap, ◌∙◌, arith, inl, inr, subst}
 use Rattle.std.specs.Fmt.{decimal}
 use Rattle.std.proofs.lemmas.Bool.{cases_lt}
-use Rattle.engine_core.specs.ScriptLines.{IsOfNoForm, IsLoss, IsCrash}
+use Rattle.script_text.specs.ScriptLines.{IsOfNoForm, IsLoss, IsCrash}
+use Rattle.broker_core.specs.Operations.{restarted}
 use Rattle.broker_core.specs.States.{State}
 use Rattle.disk_core.specs.Memory.{Memory}
+use Rattle.recover_core.specs.Opens.{IsRestartOf}
 use Rattle.recover_core.specs.Standing.{Stands}
+use Rattle.recover_core.proofs.Single.{stands_one}
 use Rattle.engine_core.specs.Running.{ScriptValue, beginning}
 use Rattle.engine_core.specs.Scripts.{BeginsWith, HasDisk, Opens, open_text, Crashes, GoesBy, GoesOn, IsNotUnderstood, IsStopped, OnRunning, Prints, RunsOn}
 use Rattle.engine_core.specs.declared.script.Script.{Script}
 use Rattle.engine_core.specs.declared.script.Script.TheVariants.{Running, Stopped, Over}
-use Rattle.engine_core.proofs.Connections.{one_digit, two_digits}
+use Rattle.script_text.proofs.ConnectionNumbers.{one_digit, two_digits}
 
 -- the line is neither empty nor `open`
 abbrev pub IsOther : List ℕ → Type 0
@@ -64,14 +67,18 @@ pub crashed : {A : Type 0} (text : A → List ℕ) (s t : Script) (line : List �
 crashed text s t line k fill None is given = stopped s line (of_crash line k fill is) given
 crashed text s t line k fill (Some x) is given = inr (inr (crashes s t line (text x) k fill is given))
 
+-- what stands for a state has one restart
+pub restart_is : (content : List ℕ) (s start : State) → Stands content s → IsRestartOf content start → start ≡ restarted s
+restart_is content s start stands begins = begins.is ∙ ap (λ (t : State). restarted t) (stands_one content begins.before s begins.stood stands)
+
 -- what was opened
 pub opened : (s : Script) (content text : List ℕ) (state : State) → HasDisk s content → BeginsWith content state → text ≡ open_text state → Opens s text (Running (beginning state))
-opened (Running r) content text state stands begins same = record { state = state; reopens = begins r.queue.state stands; same_text = same; after = refl }
-opened (Stopped disk) content text state is begins same = record { state = state; reopens = λ s stands. begins s (subst (λ c. Stands c s) (sym is) stands); same_text = same; after = refl }
+opened (Running r) content text state stands begins same = record { state = state; reopens = restart_is content r.queue.state state stands begins; same_text = same; after = refl }
+opened (Stopped disk) content text state is begins same = record { state = state; reopens = subst (λ c. IsRestartOf c state) is begins; same_text = same; after = refl }
 opened Over content text state is begins same = absurd is
 
 -- what the disk was opened as that a script has
 pub opened_as : (s t : Script) (disk : Memory) (text : List ℕ) → HasDisk s disk.content → Opens (Stopped disk) text t → Opens s text t
-opened_as (Running r) t disk text stands o = record { state = o.state; reopens = o.reopens r.queue.state stands; same_text = o.same_text; after = o.after }
-opened_as (Stopped d) t disk text is o = record { state = o.state; reopens = λ s stands. o.reopens s (subst (λ c. Stands c s) (sym is) stands); same_text = o.same_text; after = o.after }
+opened_as (Running r) t disk text stands o = record { state = o.state; reopens = restart_is disk.content r.queue.state o.state stands o.reopens; same_text = o.same_text; after = o.after }
+opened_as (Stopped d) t disk text is o = record { state = o.state; reopens = subst (λ c. IsRestartOf c o.state) is o.reopens; same_text = o.same_text; after = o.after }
 opened_as Over t disk text is o = absurd is

@@ -4,10 +4,10 @@ use Rattle.std.specs.Fmt.{decimal}
 use Rattle.session_core.proofs.Hearings.{heard_in_one_way}
 use Rattle.engine_core.specs.declared.script.Script.{Script}
 use Rattle.engine_core.specs.declared.script.Script.TheVariants.{Running, Stopped, Over}
-use Rattle.engine_core.specs.PercentTexts.{decoded}
+use Rattle.script_text.specs.PercentTexts.{decoded}
 use Rattle.engine_core.specs.Queues.{ComeTo, IsTooFar}
 use Rattle.engine_core.specs.Running.{ScriptValue, connection_at, LosesSuch, Receives, ReceivesSuch}
-use Rattle.engine_core.specs.ScriptLines.{IsLoss}
+use Rattle.script_text.specs.ScriptLines.{IsLoss}
 use Rattle.engine_core.specs.Scripts.{Prints, RunsTooFar}
 use Rattle.engine_core.proofs.LinesApart.{blank_first, crash_first, flush_first, loss_first, one_loss, one_receiver, open_first, text_first}
 

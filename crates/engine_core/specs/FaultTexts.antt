@@ -39,6 +39,11 @@ abbrev pub IsNotDamaged : ReadFault → Type 0
 IsNotDamaged (reads.Damaged place) = ⊥
 IsNotDamaged _ = Unit {0}
 
+-- no place is told of a journal that was not opened
+abbrev pub TellsNoPlace : OpenFault → Type 0
+TellsNoPlace (opens.Read fault) = IsNotDamaged fault
+TellsNoPlace _ = Unit {0}
+
 -- what is told of a journal that was not opened
 abbrev pub open_fault_text : OpenFault → List ℕ
 open_fault_text (opens.Read fault) = read_text fault

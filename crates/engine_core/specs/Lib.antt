@@ -1,5 +1,3 @@
-pub mod ScriptLines
-pub mod PercentTexts
 pub mod Queues
 pub mod Running
 pub mod Scripts

@@ -12,7 +12,7 @@ use Rattle.command_core.specs.Commands.{CommandValue}
 use Rattle.command_core.specs.Outs.{OutValue}
 use Rattle.broker_core.specs.States.{State}
 use Rattle.broker_core.specs.Steps.{state_after, outs_of}
-use Rattle.engine_core.specs.PercentTexts.{encoded}
+use Rattle.script_text.specs.PercentTexts.{encoded}
 use Rattle.script_journal.specs.declared.waiting.Waiting.{Waiting}
 use Rattle.script_journal.specs.Journals.{IsFull}
 use Rattle.script_journal.specs.Placed.{commands_of}

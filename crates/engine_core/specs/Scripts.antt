@@ -6,6 +6,7 @@ use Rattle.std.specs.Io.KnownBytes.{Appends}
 use Rattle.disk_core.specs.Memory.{Memory}
 use Rattle.broker_core.specs.Operations.{restarted}
 use Rattle.broker_core.specs.States.{State, held_messages}
+use Rattle.recover_core.specs.Opens.{IsRestartOf}
 use Rattle.recover_core.specs.Standing.{Stands}
 use Rattle.recover_core.specs.Told.{IsOpenTold}
 use Rattle.recover_core.specs.declared.faults.OpenFault.{OpenFault}
@@ -13,17 +14,17 @@ use Rattle.flush_core.specs.declared.faults.FlushFault.{FlushFault}
 use Rattle.flush_core.specs.declared.faults.FlushFault.TheVariants.{Full}
 use Rattle.script_journal.specs.Journals.{StandsAfterFront}
 use Rattle.script_journal.specs.Placed.{commands_of}
-use Rattle.engine_core.specs.PercentTexts.{decoded}
-use Rattle.engine_core.specs.ScriptLines.{IsOfNoForm, IsLoss, IsCrash}
+use Rattle.script_text.specs.PercentTexts.{decoded}
+use Rattle.script_text.specs.ScriptLines.{IsOfNoForm, IsLoss, IsCrash}
 use Rattle.session_core.specs.declared.act.Act.{Act}
 use Rattle.engine_core.specs.Queues.{QueueValue, IsFilling, IsTooFar, LacksRoom, flush_text, flushed}
 use Rattle.engine_core.specs.Running.{ScriptValue, beginning, Loses, LosesSuch, Receives, ReceivesSuch}
 use Rattle.engine_core.specs.declared.script.Script.{Script}
 use Rattle.engine_core.specs.declared.script.Script.TheVariants.{Running, Stopped, Over}
 
--- the state that a script begins with on a disk: the restart of the one that the disk stands for
+-- the state that a script begins with on a disk: the disk stands for a state, and this is its restart
 abbrev pub BeginsWith : List ℕ → State → Type 0
-BeginsWith content start = (s : State) → Stands content s → start ≡ restarted s
+BeginsWith content start = IsRestartOf content start
 
 -- the image stands for the state after the first so many of the waiting commands
 abbrev pub StandsWithin : QueueValue → List ℕ → Type 0
@@ -82,7 +83,7 @@ open_text s = codes "open " ++ decimal s.count ++ 32 ∷ (decimal (held_messages
 -- the state that opening gives: the restart of the one as it was last flushed, or of the one that a stopped disk stands for
 abbrev pub Reopens : Script → State → Type 0
 Reopens (Running s) state = state ≡ restarted s.queue.state
-Reopens (Stopped disk) state = (s : State) → Stands disk.content s → state ≡ restarted s
+Reopens (Stopped disk) state = IsRestartOf disk.content state
 Reopens Over state = ⊥
 
 -- The disk is opened: what it counts and holds is printed, and the script goes on from there, with no connection and no

@@ -12,7 +12,7 @@ use crate::printing::print_outs;
 use command_core::{Command, HeaderText, Op};
 use disk_core::MemDisk;
 use flush_core::FlushFault;
-use script_journal::{Journal, Waiting};
+use script_journal::{Journal, SEATS, WINDOW, Waiting};
 use std::alloc::Global;
 use std::collections::BTreeMap;
 use std::marker::Model;
@@ -38,8 +38,11 @@ impl Model for CommandQueue {
     ghost invariant = { λ a. a.journal.durable ≡ true → a.journal.state.count + length a.waiting.items ≤ 2 ^ 62 };
 }
 
-/// How many commands of a connection may wait.
-const MOST_WAITING: usize = 8;
+/// How many commands of a connection may wait: as many as its seat at the ring may have that are not under the mark.
+const MOST_WAITING: usize = WINDOW;
+
+// Each connection that a line can name, from 0 to 31, has a seat.
+const _: () = prove!(SEATS == 32);
 
 /// From this count on no command is taken.
 const LAST_COUNT: u64 = 1 << 60;

@@ -1,7 +1,7 @@
 //! Why a script does not run to its end.
 
 ghost use Rattle.std.specs.Prelude.{◌≡◌};
-ghost use Rattle.engine_core.specs.FaultTexts.{IsNotDamaged, area_text, storing_text, read_text};
+ghost use Rattle.engine_core.specs.FaultTexts.{IsNotDamaged, TellsNoPlace, area_text, open_fault_text, storing_text, read_text};
 
 use area_core::{AreaFault, ReadFault};
 use broker_core::BrokerFault;
@@ -108,14 +108,11 @@ impl fmt::Display for ScriptFault {
         match self {
             ScriptFault::Memory(_) => f.write_str("no memory"),
             ScriptFault::NotUnderstood { line } => write!(f, "line {line} not understood"),
-            ScriptFault::CountTooLarge | ScriptFault::Opening(OpenFault::CountTooLarge) => {
-                f.write_str("J5 count too large")
-            }
+            ScriptFault::CountTooLarge => f.write_str("J5 count too large"),
             ScriptFault::Opening(OpenFault::Read(ReadFault::Damaged(place))) => {
                 write!(f, "J2 damaged at {place}")
             }
-            ScriptFault::Opening(OpenFault::Read(fault)) => f.write_str(read_text(fault)),
-            ScriptFault::Opening(OpenFault::Area(fault)) => f.write_str(area_text(fault)),
+            ScriptFault::Opening(fault) => f.write_str(opening_text(fault)),
             ScriptFault::Storing(fault) => f.write_str(storing_text(fault)),
             ScriptFault::Input | ScriptFault::Output => f.write_str("input or output failed"),
         }
@@ -139,8 +136,20 @@ fn read_text(fault: &ReadFault) -> &'static str
     }
 }
 
-// What is told of commands that were not stored.
-fn storing_text(fault: &FlushFault) -> &'static str
+/// What is told of a journal that was not opened, but for a damaged one, of which the place is told too.
+pub fn opening_text(fault: &OpenFault) -> &'static str
+    requires { TellsNoPlace fault.now }
+    ensures { result.now ≡ open_fault_text fault.now }
+{
+    match fault {
+        OpenFault::Read(fault) => read_text(fault),
+        OpenFault::CountTooLarge => "J5 count too large",
+        OpenFault::Area(fault) => area_text(fault),
+    }
+}
+
+/// What is told of commands that were not stored.
+pub fn storing_text(fault: &FlushFault) -> &'static str
     ensures { result.now ≡ storing_text fault.now }
 {
     match fault {

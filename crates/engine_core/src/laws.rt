@@ -6,7 +6,7 @@ ghost use Rattle.broker_core.specs.States.{State};
 ghost use Rattle.engine_core.specs.declared.script.Script.{Script};
 ghost use Rattle.engine_core.specs.declared.script.Script.TheVariants.{Running};
 ghost use Rattle.engine_core.specs.Running.{beginning};
-ghost use Rattle.engine_core.specs.ScriptLines.{IsNoCrash};
+ghost use Rattle.script_text.specs.ScriptLines.{IsNoCrash};
 ghost use Rattle.engine_core.specs.Scripts.{IsScript, Prints, PrintsAll, RunsTooFar};
 
 /// A script without `crash` lines prints one text: from the same state the same lines print the same bytes, whatever runs

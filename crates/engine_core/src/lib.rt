@@ -5,15 +5,13 @@
 mod command_queue;
 mod fault;
 mod laws;
-mod percent;
 mod printing;
 mod run;
 mod running_script;
 mod script;
-mod script_line;
 mod worked;
 
-pub use fault::ScriptFault;
+pub use fault::{ScriptFault, opening_text, storing_text};
 pub use laws::{a_line_too_far_prints_nothing, a_script_has_one_text};
 pub use run::run_script;
 pub use worked::flushes_print_what_is_answered;

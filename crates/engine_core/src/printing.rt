@@ -4,15 +4,15 @@ ghost use Rattle.std.specs.Prelude.{◌≡◌, ◌++◌, ◌∷◌, [], IfErr, O
 ghost use Rattle.std.specs.Fmt.{decimal};
 ghost use Rattle.std.specs.List.{flat_map};
 ghost use Rattle.frame_core.specs.Writable.{Writable};
-ghost use Rattle.engine_core.specs.PercentTexts.{encoded};
+ghost use Rattle.script_text.specs.PercentTexts.{encoded};
 ghost use Rattle.engine_core.specs.Queues.{line_for, line_of_out};
 ghost use Rattle.engine_core.specs.StepFaults.{IsPrintTold};
 
 use crate::fault::QueueFault;
-use crate::percent::encode_text;
 use command_core::Out;
 use frame_core::{Frame, write_frame};
 use script_journal::Journal;
+use script_text::encode_text;
 use std::alloc::{AllocError, Global};
 use std::collections::BTreeMap;
 

@@ -12,11 +12,11 @@ ghost use Rattle.engine_core.specs.StepFaults.{IsStepTold};
 
 use crate::command_queue::CommandQueue;
 use crate::fault::QueueFault;
-use crate::percent::decode_text;
 use crate::printing::print_frame;
 use disk_core::MemDisk;
 use flush_core::FlushFault;
 use script_journal::Journal;
+use script_text::decode_text;
 use session_core::{Act, Session};
 use std::alloc::Global;
 use std::collections::BTreeMap;

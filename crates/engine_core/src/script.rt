@@ -5,12 +5,11 @@ ghost use Rattle.engine_core.specs.Scripts.{BeginsWith, HasDisk, open_text};
 ghost use Rattle.engine_core.specs.StepFaults.{IsOpeningTold, IsPrintTold};
 
 use crate::fault::QueueFault;
-use crate::percent::decode_text;
 use crate::running_script::RunningScript;
-use crate::script_line::{ScriptLine, read_line};
 use disk_core::MemDisk;
 use flush_core::FlushFault;
 use script_journal::Journal;
+use script_text::{ScriptLine, decode_text, read_line};
 use std::alloc::Global;
 use std::mem;
 
@@ -27,7 +26,7 @@ pub enum Script {
 
 impl Script {
     ghost use Rattle.recover_core.specs.Standing.{Stands};
-    ghost use Rattle.engine_core.specs.PercentTexts.{decoded};
+    ghost use Rattle.script_text.specs.PercentTexts.{decoded};
     ghost use Rattle.engine_core.specs.Queues.{IsFilling, IsTooFar, LacksRoom, flush_text, flushed};
     ghost use Rattle.engine_core.specs.Running.{Loses, LosesSuch, Receives, ReceivesSuch};
     ghost use Rattle.engine_core.specs.StepFaults.{IsCrashTold, IsLineTold, IsOpeningTold, IsRunTold};
@@ -168,7 +167,7 @@ fn into_disk(script: Script) -> Option<MemDisk>
 
 // Opens the journal of a disk, and adds the line that tells of it to the text.
 fn open_journal(alloc: Global, disk: MemDisk, text: &mut String) -> Result<Journal, QueueFault>
-    ensures state { IfOk result (λ journal. BeginsWith disk.content journal.state) }
+    ensures stood { IfOk result (λ journal. BeginsWith disk.content journal.state) }
     ensures durable { IfOk result (λ journal. journal.durable ≡ true) }
     ensures text { IfOk result (λ journal. string_bytes text.new ≡ string_bytes text.old ++ open_text journal.state) }
     ensures small { IfOk result (λ journal. journal.state.count ≤ 2 ^ 61) }

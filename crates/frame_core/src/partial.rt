@@ -215,6 +215,9 @@ impl Partial {
         requires room { length self.old.head.items < 8192 }
         ensures ok { OnOk result (Frames (bytes_of self.old ++ 10 ∷ []) [] (bytes_of self.new) × IsKept self.new) }
         ensures fault { IfErr result (λ stop. IfFault stop (λ fault. Faulty fault (bytes_of self.old ++ 10 ∷ []))) }
+        // A header behind the 64th is refused before memory is taken for it.
+        ensures full { length self.old.headers.items ≡ 64 →
+            self.old.line ≢ length self.old.head.items - (if self.old.with_cr then 1 else 0) → IfErr result (λ stop. stop ≢ Memory) }
     {
         let end = self.text_end();
         if end == self.line {
@@ -222,7 +225,7 @@ impl Partial {
             return self.next_line(Stage::Body(verb, plan));
         }
         if self.headers.len() == MAX_HEADERS {
-            // One header too many is refused, in this way or for what is wrong with it, before memory is taken for it.
+            // One header too many is refused in this way, or for what is wrong with it.
             let refusal = refusal_of(verb, &self.head[self.line..end]);
             return Err(Stop::Fault(refusal.unwrap_or(FrameFault::TooLarge)));
         }

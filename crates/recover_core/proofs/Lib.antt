@@ -1,4 +1,5 @@
 pub mod Folded
+pub mod Formatted
 pub mod Opens
 pub mod Single
 pub mod Sizes

@@ -14,7 +14,7 @@ mod storing;
 
 pub use area_core::AreaFault;
 pub use faults::OpenFault;
-pub use law::an_image_stands_for_one_state;
+pub use law::{a_formatted_journal_stands_for_the_empty_state, an_image_stands_for_one_state};
 pub use opening::open;
 pub use seen::{Seen, VERSION, read};
 pub use size_law::restarts_fit_large_areas;

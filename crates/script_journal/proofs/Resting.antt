@@ -11,6 +11,7 @@ use Rattle.broker_core.specs.Operations.{restarted}
 use Rattle.broker_core.specs.States.{State, BrokerValue}
 use Rattle.broker_core.specs.Steps.{state_after}
 use Rattle.claim_core.specs.Seats.{FlushSeatValue, SessionSeatValue, new_flushing, new_session, next_ticket}
+use Rattle.recover_core.specs.Opens.{IsRestartOf}
 use Rattle.recover_core.specs.Standing.{Stands}
 use Rattle.recover_core.specs.declared.faults.OpenFault.{OpenFault}
 use Rattle.recover_core.proofs.Stores.{after-append}
@@ -95,11 +96,11 @@ full_somewhere s t cs image same full = (image, subst (λ (x : State). IsFull x 
 abbrev pub IsMade : Option BrokerValue → List ℕ → ℕ → Result JournalValue OpenFault → Type 0
 IsMade opened holds failures result = IfOk result (λ journal. IfSome opened (λ broker. journal ≡ record { state = broker.state; durable = true; content = holds; failures = failures }))
 
-pub opened_state : (opened : Option BrokerValue) (result : Result JournalValue OpenFault) (content holds : List ℕ) (failures : ℕ) → IsSome opened → IfSome opened (λ broker. (s : State) → Stands content s → broker.state ≡ restarted s)
-    → IsMade opened holds failures result → IfOk result (λ journal. (s : State) → Stands content s → journal.state ≡ restarted s)
-opened_state None result content holds failures there states made = absurd (false≢true there)
-opened_state (Some broker) (Ok journal) content holds failures there states made = λ s stands. ap (λ (j : JournalValue). j.state) made ∙ states s stands
-opened_state (Some broker) (Err fault) content holds failures there states made = tt
+pub opened_state : (opened : Option BrokerValue) (result : Result JournalValue OpenFault) (content holds : List ℕ) (failures : ℕ) → IsSome opened → IfSome opened (λ broker. IsRestartOf content broker.state)
+    → IsMade opened holds failures result → IfOk result (λ journal. IsRestartOf content journal.state)
+opened_state None result content holds failures there stood made = absurd (false≢true there)
+opened_state (Some broker) (Ok journal) content holds failures there stood made = record { before = stood.before; stood = stood.stood; is = ap (λ (j : JournalValue). j.state) made ∙ stood.is }
+opened_state (Some broker) (Err fault) content holds failures there stood made = tt
 
 pub opened_calm : (opened : Option BrokerValue) (result : Result JournalValue OpenFault) (holds : List ℕ) (now before : ℕ) → IsSome opened → now ≡ before → IsMade opened holds now result → IfOk result (λ journal. journal.failures ≡ before)
 opened_calm None result holds now before there same made = absurd (false≢true there)

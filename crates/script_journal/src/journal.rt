@@ -1,11 +1,11 @@
 //! The journal that the commands of a script are kept in.
 
 ghost use Rattle.std.specs.Prelude.{◌≡◌, ◌≤◌, ◌^◌, List, ℕ, IfErr, IfOk, IfSome, IsErrOf, IsSome, OnErr, OnOk, false, true};
-ghost use Rattle.broker_core.specs.Operations.{restarted};
-ghost use Rattle.broker_core.specs.States.{State, held_messages};
+ghost use Rattle.broker_core.specs.States.{held_messages};
 ghost use Rattle.broker_core.specs.Steps.{state_after, outs_of};
 ghost use Rattle.flush_core.specs.Flushed.{AfterSome};
 ghost use Rattle.disk_core.specs.Images.{IsImage};
+ghost use Rattle.recover_core.specs.Opens.{IsRestartOf};
 ghost use Rattle.recover_core.specs.Standing.{StandFor, Stands};
 ghost use Rattle.recover_core.specs.Stores.{disk_of, is_broken, opened_by};
 ghost use Rattle.recover_core.specs.Told.{IsOpenTold};
@@ -51,9 +51,9 @@ impl Model for Journal {
 }
 
 impl Journal {
-    /// Opens the journal of a disk.
+    /// Opens the journal of a disk, whose state is the restart of the one that the disk stood for.
     pub fn open(alloc: Global, disk: MemDisk) -> Result<Journal, OpenFault>
-        ensures state { IfOk result (λ journal. (s : State) → Stands disk.content s → journal.state ≡ restarted s) }
+        ensures stood { IfOk result (λ journal. IsRestartOf disk.content journal.state) }
         ensures durable { IfOk result (λ journal. journal.durable ≡ true) }
         ensures small { IfOk result (λ journal. journal.state.count ≤ 2 ^ 61) }
         ensures calm { IfOk result (λ journal. journal.failures ≡ disk.failures) }

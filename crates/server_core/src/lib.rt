@@ -9,4 +9,4 @@ mod serving;
 mod socket_stream;
 
 pub use fault::ServeFault;
-pub use serving::{Server, Worker};
+pub use serving::{Server, WORKERS, Worker};

@@ -33,6 +33,9 @@ type ServerRing = BrokerRing<OutSender<BellRope>>;
 
 type ServerSeat = BrokerSeat<OutSender<BellRope>>;
 
+/// How many workers a server has: one for each seat at its ring.
+pub const WORKERS: usize = SEATS;
+
 /// For how many milliseconds a worker rests where a connection was not accepted.
 const REST: u64 = 20;
 

@@ -3,7 +3,7 @@
 #![tactic(auto)]
 
 use engine_core::ScriptFault;
-use server_core::{ServeFault, Server};
+use server_core::{ServeFault, Server, WORKERS};
 use std::alloc::{AllocError, Global};
 use std::io::{ErrorKind, Lock, Write};
 use std::process::ExitCode;
@@ -11,9 +11,6 @@ use std::sync::Wait;
 use std::time::Clock;
 use std::{env, io, thread};
 use tool_core::{BAD_COMMAND_LINE, Failure, Subcommand, subcommand_of, tool};
-
-/// How many workers a server has.
-const WORKERS: u32 = 32;
 
 /// Runs the program on its arguments, standard input, standard output and standard error. The threads of a server are
 /// started here.

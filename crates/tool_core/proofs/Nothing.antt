@@ -1,17 +1,14 @@
 -- A failure before a script is read, and one over an empty journal.
-use Rattle.std.proofs.Common.{◌≡◌, ◌∙◌, List, [], ℕ, Option, refl, subst, inl, inr, arith}
+use Rattle.std.proofs.Common.{◌≡◌, ◌∙◌, List, [], ℕ, Option, refl, subst, inl, inr}
 use Rattle.clap.specs.declared.error.Error.{Error}
 use Rattle.broker_core.specs.Operations.{restarted}
 use Rattle.std.specs.Io.KnownBytes.{Appends, Consumes, IsAtEnd}
 use Rattle.broker_core.specs.States.{State, empty_state}
 use Rattle.engine_core.specs.Scripts.{BeginsWith, IsScript}
-use Rattle.area_core.specs.Areas.{first_snapshot}
-use Rattle.area_core.specs.Journals.{Reads}
 use Rattle.recover_core.specs.Standing.{Stands}
-use Rattle.broker_laws.proofs.SoundSteps.{sound_first}
-use Rattle.snapshot_core.specs.Snapshots.{Spells}
 use Rattle.engine_core.specs.declared.fault.ScriptFault.{ScriptFault}
 use Rattle.engine_core.specs.declared.fault.ScriptFault.TheVariants.{Memory, NotUnderstood, CountTooLarge, Opening, Storing, Input, Output}
+use Rattle.engine_core.proofs.Performing.{restart_is}
 use Rattle.engine_core.specs.Runs.{IsToldAtOnce, Stops, StopsOver}
 use Rattle.tool_core.specs.Failures.{RunsToEnd, IsAtOnce, IsBeforehand, StopsBy, Tells}
 use Rattle.tool_core.specs.declared.program.Failure.{Failure}
@@ -62,7 +59,7 @@ pub stops_over : (content : List ℕ) (fault : ScriptFault) (unread left before 
     → StopsOver content fault unread left before after → StopsBy (Script fault) unread left before after
 stops_over content fault unread left before after stands (inl once) = inl (at_once fault content once.told, (once.same_unread, once.same_written))
 stops_over content fault unread left before after stands (inr (start, begins, stops)) =
-    inr (subst (λ s. Stops s fault unread left before after) (begins empty_state stands ∙ restarted_empty) stops)
+    inr (subst (λ s. Stops s fault unread left before after) (restart_is content empty_state start stands begins ∙ restarted_empty) stops)
 
 -- over an empty journal a script runs from the empty state on
 pub runs_to_end : (content : List ℕ) (unread left before after : Option (List ℕ)) → Stands content empty_state
@@ -73,17 +70,6 @@ runs_to_end content unread left before after stands w = record {
   printed = w.1;
   reads = w.4;
   ends = w.5;
-  is_script = subst (λ s. IsScript s w.0 w.1) (w.3 empty_state stands ∙ restarted_empty) w.6;
+  is_script = subst (λ s. IsScript s w.0 w.1) (restart_is content empty_state w.2 stands w.3 ∙ restarted_empty) w.6;
   writes = w.7;
 }
-
-pub spells_empty : Spells first_snapshot empty_state
-spells_empty = record {
-  sound = sound_first;
-  form = record { count = omega arith; sessions = tt; few_sessions = omega arith; durables = tt; names = tt; queues = tt; subscriptions = tt; few_subscriptions = omega arith };
-  spelled = refl;
-}
-
--- a formatted disk stands for the empty state
-pub stands_formatted : (size : ℕ) (content : List ℕ) → Spells first_snapshot empty_state → Reads size 0 first_snapshot [] content → Stands content empty_state
-stands_formatted size content spells reads = ∣ record { size = size; selector = 0; snapshot = first_snapshot; blocks = []; reads = reads; leads = record { first = empty_state; spells = spells; is = refl } } ∣₁

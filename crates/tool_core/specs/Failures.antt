@@ -4,13 +4,18 @@ use Rattle.clap.specs.Values.{kind_of}
 use Rattle.clap.specs.declared.error.Error.{Error}
 use Rattle.clap.specs.declared.error.kind.ErrorKind.TheVariants.{OutOfMemory}
 use Rattle.engine_core.specs.Scripts.{IsScript}
-use Rattle.engine_core.specs.FaultTexts.{fault_text}
+use Rattle.area_core.specs.declared.faults.FormatFault.{FormatFault}
+use Rattle.area_core.specs.declared.faults.FormatFault.TheVariants as formats
+use Rattle.server_core.specs.declared.fault.ServeFault.{ServeFault}
+use Rattle.server_core.specs.declared.fault.ServeFault.TheVariants as servers
+use Rattle.engine_core.specs.FaultTexts.{fault_text, open_fault_text, storing_text}
 use Rattle.broker_core.specs.States.{empty_state}
 use Rattle.engine_core.specs.Runs.{Stops}
 use Rattle.engine_core.specs.declared.fault.ScriptFault.{ScriptFault}
 use Rattle.engine_core.specs.declared.fault.ScriptFault.TheVariants.{Memory, Opening}
 use Rattle.journal_files.specs.JournalFiles.{Shows}
-use Rattle.journal_files.specs.declared.journal_files.FileFault.TheVariants.{Output}
+use Rattle.journal_files.specs.declared.journal_files.FileFault.{FileFault}
+use Rattle.journal_files.specs.declared.journal_files.FileFault.TheVariants as files
 use Rattle.tool_core.specs.declared.program.Failure.{Failure}
 use Rattle.tool_core.specs.declared.program.Failure.TheVariants.{CommandLine, Number, Script, Format, File, Server}
 
@@ -72,18 +77,44 @@ abbrev pub StopsBy : Failure → Option (List ℕ) → Option (List ℕ) → Opt
 StopsBy (CommandLine error) unread left before after = Untouched unread left before after
 StopsBy (Script fault) unread left before after = (IsAtOnce fault × Untouched unread left before after) ⊎ Stops empty_state fault unread left before after
 StopsBy (Format fault) unread left before after = Untouched unread left before after
-StopsBy (File fault) unread left before after = (left ≡ unread) × (fault ≢ Output → after ≡ before)
+StopsBy (File fault) unread left before after = (left ≡ unread) × (fault ≢ files.Output → after ≡ before)
 StopsBy (Server fault) unread left before after = Untouched unread left before after
 StopsBy Number unread left before after = Untouched unread left before after
 
--- a script's fault is told in one line
+-- what is told of a journal that was not made
+abbrev pub format_text : FormatFault → List ℕ
+format_text formats.TooSmall = codes "J8 disk too small"
+format_text formats.Device = codes "J3 device failed"
+format_text (formats.Memory refused) = codes "no memory"
+
+-- what is told of a journal file that was not made, or not shown
+abbrev pub file_text : FileFault → List ℕ
+file_text files.CannotOpen = codes "cannot open"
+file_text (files.Format fault) = format_text fault
+file_text (files.Read fault) = open_fault_text fault
+file_text files.Output = codes "input or output failed"
+
+-- what is told of a server that was not started, or has ended
+abbrev pub server_text : ServeFault → List ℕ
+server_text servers.CannotOpen = codes "cannot open"
+server_text (servers.Opening fault) = open_fault_text fault
+server_text servers.Memory = codes "no memory"
+server_text servers.Threads = codes "cannot start a thread"
+server_text servers.Output = codes "input or output failed"
+server_text (servers.Flushing fault) = storing_text fault
+
+-- the one line of a fault
+abbrev pub line_of : List ℕ → List ℕ
+line_of text = codes "stompd: " ++ text ++ 10 ∷ []
+
+-- a fault is told in one line; of a number that is none there is no text, and that of a command line is clap's
 abbrev pub IsTold : Failure → Option (List ℕ) → Option (List ℕ) → Type 0
 IsTold (CommandLine error) before after = Unit {0}
-IsTold (Format fault) before after = Unit {0}
-IsTold (File fault) before after = Unit {0}
-IsTold (Server fault) before after = Unit {0}
 IsTold Number before after = after ≡ before
-IsTold (Script fault) before after = Appends before after (codes "stompd: " ++ fault_text fault ++ 10 ∷ [])
+IsTold (Script fault) before after = Appends before after (line_of (fault_text fault))
+IsTold (Format fault) before after = Appends before after (line_of (format_text fault))
+IsTold (File fault) before after = Appends before after (line_of (file_text fault))
+IsTold (Server fault) before after = Appends before after (line_of (server_text fault))
 
 -- the failure tells of a refused command line, or of want of memory there
 abbrev pub Tells : Error → Failure → Type 0

@@ -4,6 +4,7 @@
 
 mod command_line;
 mod program;
+mod telling;
 
 pub use command_line::{Refused, Subcommand, subcommand_of};
 pub use program::{BAD_COMMAND_LINE, DONE, Ended, FAILED, Failure, run, tool};

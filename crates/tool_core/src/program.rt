@@ -7,6 +7,7 @@ ghost use Rattle.tool_core.specs.CommandLines.{AsksForScript};
 ghost use Rattle.tool_core.specs.Failures.{IsDone, RunsToEnd, StopsBy, IsBeforehand, IsOfScript, IsTold, Tells, status_of};
 
 use crate::command_line::{Refused, Subcommand, subcommand_of};
+use crate::telling::{format_text, tell_file, tell_server};
 use area_core::{FormatFault, format};
 use clap::error::ErrorKind;
 use disk_core::MemDisk;
@@ -72,9 +73,9 @@ impl Failure {
             Failure::CommandLine(error) => write!(errors, "{error}"),
             Failure::Number => Ok(()),
             Failure::Script(fault) => writeln!(errors, "stompd: {fault}"),
-            Failure::Format(fault) => writeln!(errors, "stompd: {fault}"),
-            Failure::File(fault) => writeln!(errors, "stompd: {fault}"),
-            Failure::Server(fault) => writeln!(errors, "stompd: {fault}"),
+            Failure::Format(fault) => writeln!(errors, "stompd: {}", format_text(fault)),
+            Failure::File(fault) => tell_file(fault, errors),
+            Failure::Server(fault) => tell_server(fault, errors),
         }
     }
 }

@@ -3,13 +3,6 @@ use Rattle.std.proofs.Common.{◌≡◌, ◌≤◌, ◌<◌, ◌+◌, ◌*◌, �
 use Rattle.std.proofs.lemmas.List.{length-replicate}
 use Rattle.std.proofs.lemmas.List.Elements.{All-nil, All-replicate}
 use Rattle.broker_core.specs.States.{empty_state}
-use Rattle.broker_laws.proofs.BoundNames.{empty_names}
-use Rattle.broker_laws.proofs.HeldLimits.{empty_held}
-use Rattle.broker_laws.proofs.Ordered.{empty_in_order}
-use Rattle.broker_laws.proofs.StateLines.{empty_lines}
-use Rattle.broker_laws.proofs.StateNumbers.{empty_numbers}
-use Rattle.broker_laws.proofs.SubscriptionLimits.{empty_limits}
-use Rattle.snapshot_core.specs.Snapshots.{Spells}
 use Rattle.disk_core.specs.Images.{IsImage, patched}
 use Rattle.disk_core.specs.Memory.{none_held}
 use Rattle.disk_core.proofs.Patched.{length-patched}
@@ -18,7 +11,7 @@ use Rattle.disk_core.proofs.Torn.{torn_patched}
 use Rattle.area_core.specs.Areas.{IsArea, closed, first_snapshot, front}
 use Rattle.area_core.specs.Journals.{Reads, header}
 use Rattle.area_core.proofs.Formatted.{formatted as formatted_reads}
-use Rattle.recover_core.specs.Standing.{Leads}
+use Rattle.recover_core.proofs.Formatted.{leads_empty, spells_empty}
 use Rattle.recover_core.proofs.Stores.{stands}
 use Rattle.world_core.specs.declared.event.Event.{Event}
 use Rattle.world_core.specs.declared.event.Event.TheVariants.{Look, Claim, Ready, Take, Device, Raise, Release, Stop, Crash, Open}
@@ -76,16 +69,6 @@ kept_holds w k = record { each = λ c image. ∣ image_kept w k c image ∣₁; 
 
 -- the first world
 
-spells_first : Spells first_snapshot empty_state
-spells_first = record {
-  sound = record { order = empty_in_order; subscriptions = empty_limits; names = empty_names; numbers = empty_numbers; lines = empty_lines; limits = empty_held };
-  form = record { count = omega arith; sessions = tt; few_sessions = omega arith; durables = tt; names = tt; queues = tt; subscriptions = tt; few_subscriptions = omega arith };
-  spelled = refl;
-}
-
-first_leads : Leads first_snapshot [] empty_state
-first_leads = record { first = empty_state; spells = spells_first; is = refl }
-
 abbrev pub nothing_read : Reading
 nothing_read = record { gate = length (front first_snapshot []); state = empty_state }
 
@@ -115,7 +98,7 @@ module _ (size : ℕ) (least : 4096 ≤ size) (most : size ≤ 1048576) where
   formatted_is = formatted_reads size zeros head ends refl refl least (omega (arith, length-zeros)) (omega arith)
 
   abbrev formatted_read : IsRead size (formatted size) nothing_read
-  formatted_read = is_read size 0 first_snapshot [] (formatted size) empty_state formatted_is first_leads
+  formatted_read = is_read size 0 first_snapshot [] (formatted size) empty_state formatted_is leads_empty
 
   abbrev second : List ℕ
   second = patched (32 + size) ends (formatted size)
@@ -128,13 +111,13 @@ module _ (size : ℕ) (least : 4096 ≤ size) (most : size ≤ 1048576) where
       (torn_patched (32 + size) (length ends) ends (formatted size) refl (omega (arith, length-formatted)))
 
   abbrev second_read : IsRead size second nothing_read
-  second_read = is_read size 0 first_snapshot [] second empty_state second_is first_leads
+  second_read = is_read size 0 first_snapshot [] second empty_state second_is leads_empty
 
   second_idle : IsArea size first_snapshot [] (drop (32 + size) second)
   second_idle = idle_written size (formatted size) nothing_read formatted_read first_snapshot (omega arith)
 
   pub first_read : IsRead size (opened_once size) nothing_read
-  first_read = selector_written size second nothing_read second_read first_snapshot empty_state spells_first second_idle
+  first_read = selector_written size second nothing_read second_read first_snapshot empty_state spells_empty second_idle
 
   pub length-opened : length (opened_once size) ≡ 32 + 2 * size
   length-opened = length-patched 16 (1 ∷ []) second (omega (arith, length-second)) ∙ length-second

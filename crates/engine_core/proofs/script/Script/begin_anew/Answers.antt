@@ -9,4 +9,4 @@ returns-in-Ok-clause-ok c =
     let made = c.in-Ok.ensures in
     let state = c.in-Ok.journal.state in
     subst (λ s. Opens (Stopped c.args.disk) (string_bytes c.open_journal.new.text) s) (sym (c.replace.ensures.after ∙ ap Running c.over.ensures))
-    (opened (Stopped c.args.disk) c.args.disk.content (string_bytes c.open_journal.new.text) state refl made.state (made.text ∙ ap (λ old. old ++ open_text state) c.new-text.ensures.bytes))
+    (opened (Stopped c.args.disk) c.args.disk.content (string_bytes c.open_journal.new.text) state refl made.stood (made.text ∙ ap (λ old. old ++ open_text state) c.new-text.ensures.bytes))

@@ -1,8 +1,8 @@
 use Rattle.std.proofs.Common.{◌≡◌, ◌<◌, ◌++◌, ◌∷◌, inr, string_bytes, subst}
 use Rattle.std.specs.Fmt.{decimal}
 use Rattle.std.proofs.lemmas.Result.{IfOk-weaker}
-use Rattle.engine_core.specs.ScriptLines.{Says}
-use Rattle.engine_core.specs.PercentTexts.{decoded}
+use Rattle.script_text.specs.ScriptLines.{Says}
+use Rattle.script_text.specs.PercentTexts.{decoded}
 use Rattle.engine_core.specs.Running.{Receives}
 use Rattle.engine_core.proofs.Performing.{of_text, performed}
 use Rattle.engine_core.proofs.script.Script.perform.Goals as goal

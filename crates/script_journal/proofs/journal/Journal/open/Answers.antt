@@ -2,8 +2,8 @@ use Rattle.recover_core.specs.Stores.{opened_by}
 use Rattle.script_journal.proofs.Resting.{opened_calm, opened_state}
 use Rattle.script_journal.proofs.journal.Journal.open.Goals as goal
 
-pub returns-in-Ok-clause-state : goal.returns-in-Ok-clause-state
-returns-in-Ok-clause-state c = opened_state (opened_by c.in-Ok.store) c.with_broker.result c.args.disk.content _ _ c.in-Ok.ensures.opened (c.in-Ok.ensures.state tt) c.with_broker.ensures.made
+pub returns-in-Ok-clause-stood : goal.returns-in-Ok-clause-stood
+returns-in-Ok-clause-stood c = opened_state (opened_by c.in-Ok.store) c.with_broker.result c.args.disk.content _ _ c.in-Ok.ensures.opened (c.in-Ok.ensures.stood tt) c.with_broker.ensures.made
 
 pub returns-in-Ok-clause-calm : goal.returns-in-Ok-clause-calm
 returns-in-Ok-clause-calm c = opened_calm (opened_by c.in-Ok.store) c.with_broker.result _ _ c.args.disk.failures c.in-Ok.ensures.opened c.in-Ok.ensures.cause c.with_broker.ensures.made

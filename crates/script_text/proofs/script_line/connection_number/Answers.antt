@@ -1,6 +1,6 @@
 use Rattle.std.proofs.Common.{arith}
-use Rattle.engine_core.proofs.Connections.{of_one, of_two, of_others}
-use Rattle.engine_core.proofs.script_line.connection_number.Goals as goal
+use Rattle.script_text.proofs.ConnectionNumbers.{of_one, of_two, of_others}
+use Rattle.script_text.proofs.script_line.connection_number.Goals as goal
 
 pub returns-in-1 : goal.returns-in-1
 returns-in-1 c = of_one c.args.text.now c.digit.result c.in-1.is c.digit.ensures

@@ -1,8 +1,8 @@
 use Rattle.std.proofs.Common.{◌∙◌, ◌∷◌, [], get_or, refl, sym, subst}
 use Rattle.std.specs.Fmt.{decimal}
-use Rattle.engine_core.specs.ScriptLines.{AreHexDigits}
-use Rattle.engine_core.proofs.Counts.{tail_of}
-use Rattle.engine_core.proofs.script_line.count_and_fill.Goals as goal
+use Rattle.script_text.specs.ScriptLines.{AreHexDigits}
+use Rattle.script_text.proofs.CrashCounts.{tail_of}
+use Rattle.script_text.proofs.script_line.count_and_fill.Goals as goal
 
 pub returns-in-None : goal.returns-in-None
 returns-in-None c = λ k b is.

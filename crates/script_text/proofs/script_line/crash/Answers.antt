@@ -1,6 +1,6 @@
 use Rattle.std.proofs.Common.{◌≡◌, ◌++◌, subst}
-use Rattle.engine_core.proofs.Counts.{of_no_crash, prefix_of}
-use Rattle.engine_core.proofs.script_line.crash.Goals as goal
+use Rattle.script_text.proofs.CrashCounts.{of_no_crash, prefix_of}
+use Rattle.script_text.proofs.script_line.crash.Goals as goal
 
 pub returns-in-None-count : goal.returns-in-None-count
 returns-in-None-count c =

@@ -6,8 +6,8 @@ use Rattle.std.proofs.Math.Bool.{or-true}
 use Rattle.std.proofs.lemmas.Bool.Decides.{nat_tests}
 use Rattle.percent_encoding.specs.Percent.{percent_encode, encode_byte}
 use Rattle.percent_encoding.specs.AsciiSet.{should_percent_encode}
-use Rattle.engine_core.specs.declared.percent.TheConstants.{ESCAPED}
-use Rattle.engine_core.specs.PercentTexts.{is_encoded, encoded}
+use Rattle.script_text.specs.declared.percent.TheConstants.{ESCAPED}
+use Rattle.script_text.specs.PercentTexts.{is_encoded, encoded}
 
 all_agree : agree_below (should_percent_encode ESCAPED) is_encoded 128 ≡ true
 unfolding should_percent_encode

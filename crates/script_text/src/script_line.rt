@@ -3,7 +3,7 @@
 ghost use Rattle.std.specs.Prelude.{◌≡◌, ◌≢◌, ◌+◌, ◌<◌, ◌≤◌, ◌↔◌, ℕ, true, IsTrue, MatchOption};
 ghost use Rattle.std.specs.Char.{digit_value, is_digit};
 ghost use Rattle.std.specs.Fmt.{decimal};
-ghost use Rattle.engine_core.specs.ScriptLines.{AreHexDigits, IsCount, IsCountAndFill, IsCrash, IsNoCount, IsNoCountAndFill, IsNoCrash, Says, IsOfNoForm, IsLoss, IsNoLoss, IsNumber, IsNoNumber, HasNoDigit, HasDigit, HasNoDigits, HasDigits, IsDigit, AreDigits, AreNoDigits};
+ghost use Rattle.script_text.specs.ScriptLines.{AreHexDigits, IsCount, IsCountAndFill, IsCrash, IsNoCount, IsNoCountAndFill, IsNoCrash, Says, IsOfNoForm, IsLoss, IsNoLoss, IsNumber, IsNoNumber, HasNoDigit, HasDigit, HasNoDigits, HasDigits, IsDigit, AreDigits, AreNoDigits};
 
 use itoa::Buffer;
 

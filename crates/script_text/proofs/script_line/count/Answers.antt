@@ -1,6 +1,6 @@
 use Rattle.std.proofs.Common.{◌≡◌, false, true}
-use Rattle.engine_core.proofs.Counts.{of_no_text, of_no_number, of_other_number}
-use Rattle.engine_core.proofs.script_line.count.Goals as goal
+use Rattle.script_text.proofs.CrashCounts.{of_no_text, of_no_number, of_other_number}
+use Rattle.script_text.proofs.script_line.count.Goals as goal
 
 pub returns-in_default : goal.returns-in_default
 returns-in_default c = of_no_text c.args.text.now c.in_default.ensures.cases.0

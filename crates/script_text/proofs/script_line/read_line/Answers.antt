@@ -1,5 +1,5 @@
-use Rattle.engine_core.proofs.Connections.{received_digit, received_digits, of_no_form, not_empty, not_flush, not_open}
-use Rattle.engine_core.proofs.script_line.read_line.Goals as goal
+use Rattle.script_text.proofs.ConnectionNumbers.{received_digit, received_digits, of_no_form, not_empty, not_flush, not_open}
+use Rattle.script_text.proofs.script_line.read_line.Goals as goal
 
 pub returns-in-Some-one_digit : goal.returns-in-Some-one_digit
 returns-in-Some-one_digit c = received_digit _ _ c.in-Some-one_digit.ensures

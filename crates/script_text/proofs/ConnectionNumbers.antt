@@ -3,7 +3,7 @@ use Rattle.std.proofs.Common.{◌≡◌, ◌≢◌, ℕ, ◌+◌, ◌-◌, ◌/�
 use Rattle.std.specs.Fmt.{decimal}
 use Rattle.std.proofs.lemmas.Fmt.{decimal_digit, decimal_step}
 use Rattle.std.proofs.lemmas.Bool.{cases_lt}
-use Rattle.engine_core.specs.ScriptLines.{IsOfNoForm, IsNoCrash, IsNoLoss, IsNumber, IsNoNumber, IsDigit, AreDigits, AreNoDigits, HasDigit, HasNoDigit, HasDigits, HasNoDigits}
+use Rattle.script_text.specs.ScriptLines.{IsOfNoForm, IsNoCrash, IsNoLoss, IsNumber, IsNoNumber, IsDigit, AreDigits, AreNoDigits, HasDigit, HasNoDigit, HasDigits, HasNoDigits}
 use Rattle.std.specs.Prelude.{codes, Option, Some, None, MatchOption, slice_index}
 use Rattle.std.proofs.Common.{take_all, length-drop, false, ◌==◌}
 use Rattle.std.specs.Str.{bytes_eq}

@@ -8,7 +8,7 @@ use Rattle.std.specs.Str.{IsUtf8, bytes_eq}
 use Rattle.std.specs.Str.Parse.{ParsesUnsigned}
 use Rattle.std.proofs.lemmas.Fmt.{IsAscii-decimal, parse-decimal}
 use Rattle.std.proofs.lemmas.Str.{IsUtf8-from_ascii}
-use Rattle.engine_core.specs.ScriptLines.{IsCountAndFill, IsNoCount, IsNoCountAndFill, IsNoCrash}
+use Rattle.script_text.specs.ScriptLines.{IsCountAndFill, IsNoCount, IsNoCountAndFill, IsNoCrash}
 
 pub of_no_text : (text : List ℕ) → (IsUtf8 text → ⊥) → IsNoCount text
 of_no_text text bad k small e = bad (subst IsUtf8 (sym e) (IsUtf8-from_ascii (decimal k) (IsAscii-decimal k small)))

@@ -1,8 +1,8 @@
 use Rattle.std.specs.Prelude.{◌≡◌, ◌≢◌, ◌+◌, ◌*◌, ◌/◌, ◌%◌, ◌^◌, ◌<◌, ◌≤◌, List, [], ◌∷◌, ◌++◌, ℕ, Option, Some, None, true, codes, drop, length}
 use Rattle.std.specs.Char.{digit_value, is_digit}
 use Rattle.std.specs.Fmt.{decimal}
-use Rattle.engine_core.specs.declared.script_line.ScriptLine.{ScriptLine}
-use Rattle.engine_core.specs.declared.script_line.ScriptLine.TheVariants.{Blank, Flush, Open, Crash, Lose, Receive}
+use Rattle.script_text.specs.declared.script_line.ScriptLine.{ScriptLine}
+use Rattle.script_text.specs.declared.script_line.ScriptLine.TheVariants.{Blank, Flush, Open, Crash, Lose, Receive}
 
 -- the number of a connection in decimal
 abbrev pub IsNumber : List ℕ → ℕ → Type 0

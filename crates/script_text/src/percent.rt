@@ -1,7 +1,7 @@
 //! Bytes as the text of a script, and back.
 
 ghost use Rattle.std.specs.Prelude.{◌≡◌, ◌++◌, IfOk, OnOk, OnErr, string_bytes};
-ghost use Rattle.engine_core.specs.PercentTexts.{encoded, decoded};
+ghost use Rattle.script_text.specs.PercentTexts.{encoded, decoded};
 
 use percent_encoding::{AsciiSet, CONTROLS, ascii_set, percent_decode, percent_encode};
 use std::alloc::{AllocError, Global};

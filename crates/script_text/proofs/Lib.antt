@@ -1,0 +1,3 @@
+pub mod ConnectionNumbers
+pub mod CrashCounts
+pub mod Encodings
