@@ -48,7 +48,7 @@ class Checks:
         done = subprocess.run([self.program, *words], input=given, stdout=sink, stderr=subprocess.PIPE, timeout=60)
         wrote, said = (text.decode(errors="replace") if text else "" for text in (done.stdout, done.stderr))
         fits = all(bool(seen) if wanted is SOME else seen == wanted for seen, wanted in ((wrote, output), (said, errors)))
-        self.expect(f"{words}", fits and done.returncode == status, (done.returncode, wrote, said))
+        self.expect(f"{words} at {given[-40:]}", fits and done.returncode == status, (done.returncode, wrote, said))
 
 
 def scripts(checks):
@@ -64,6 +64,95 @@ def scripts(checks):
     checks.run(["script"], 1, connected, told("J4 journal full"), connect + b"flush\n" + 18 * send + b"flush\n")
     with open("/dev/full", "wb") as full:
         checks.run(["script"], 1, NOTHING, told("input or output failed"), connect + b"flush\n", full)
+
+
+def text_of(lines):
+    """Lines, in which `~` stands for the end of a frame with no body."""
+    return "".join(f"{line}\n" for line in lines).replace("~", "%0A%0A%00")
+
+
+# Two messages are sent in a transaction after a flush, and wait.
+TRANSACTION = (
+    "0 CONNECT%0Aaccept-version:1.2~",
+    "flush",
+    "0 BEGIN%0Atransaction:t~",
+    "0 SEND%0Adestination:/queue/q%0Atransaction:t%0A%0Ax%00",
+    "0 SEND%0Adestination:/queue/q%0Atransaction:t%0A%0Ay%00",
+    "0 COMMIT%0Atransaction:t~",
+)
+CONNECTED = "0 CONNECTED%0Aversion:1.2%0Asession:0%0Aheart-beat:0,0~"
+# The disk stops after so many calls, and its unsynced bytes hold what they held before, or the byte: what is opened then.
+STOPS = (
+    ("crash 0", "open 1 0"),
+    ("crash 0 00", "open 1 0"),
+    ("crash 0 01", "open 1 0"),
+    ("crash 0 37", "open 1 0"),
+    ("crash 1", "open 1 0"),
+    ("crash 1 00", "open 1 0"),
+    ("crash 1 01", "open 1 0"),
+    ("crash 1 37", "open 1 0"),
+    ("crash 2", "open 1 0"),
+    ("crash 2 00", "open 1 0"),
+    ("crash 2 01", "open 2 2"),
+    ("crash 2 37", "open 1 0"),
+    ("crash 3", "open 1 0"),
+    ("crash 3 00", "open 1 0"),
+    ("crash 3 01", "open 2 2"),
+    ("crash 3 37", "open 1 0"),
+    ("crash 4", "open 2 2"),
+    ("crash 4 00", "open 2 2"),
+    ("crash 4 01", "open 2 2"),
+    ("crash 4 37", "open 2 2"),
+)
+
+DURABLE_SUBSCRIBER = (
+    "0 CONNECT%0Aaccept-version:1.2%0Aclient-id:c1~",
+    "0 SUBSCRIBE%0Aid:d%0Adestination:/topic/t%0Aack:client%0Aactivemq.subscriptionName:n~",
+    "flush",
+)
+# What a durable subscriber finds after an opening and after a crash: lines of one script, and what they print.
+DURABLE = (
+    (DURABLE_SUBSCRIBER, (CONNECTED,)),
+    (
+        (
+            "lost 0",
+            "1 CONNECT%0Aaccept-version:1.2~",
+            "1 SEND%0Adestination:/topic/t%0A%0Ax%00",
+            "1 SEND%0Adestination:/topic/t%0A%0Ay%00",
+            "1 SEND%0Adestination:/topic/t%0A%0Az%00",
+            "flush",
+        ),
+        ("1 CONNECTED%0Aversion:1.2%0Asession:3%0Aheart-beat:0,0~",),
+    ),
+    (("open",), ("open 7 3",)),
+    (
+        DURABLE_SUBSCRIBER,
+        (
+            "0 CONNECTED%0Aversion:1.2%0Asession:7%0Aheart-beat:0,0~",
+            "0 MESSAGE%0Asubscription:d%0Amessage-id:4.0%0Adestination:/topic/t%0Aack:0%0Acontent-length:1%0A%0Ax%00",
+            "0 MESSAGE%0Asubscription:d%0Amessage-id:5.0%0Adestination:/topic/t%0Aack:1%0Acontent-length:1%0A%0Ay%00",
+            "0 MESSAGE%0Asubscription:d%0Amessage-id:6.0%0Adestination:/topic/t%0Aack:2%0Acontent-length:1%0A%0Az%00",
+        ),
+    ),
+    (("0 ACK%0Aid:0~", "flush"), ()),
+    (("crash 0", "open"), ("open 10 2",)),
+    (
+        DURABLE_SUBSCRIBER,
+        (
+            "0 CONNECTED%0Aversion:1.2%0Asession:10%0Aheart-beat:0,0~",
+            "0 MESSAGE%0Asubscription:d%0Amessage-id:5.0%0Adestination:/topic/t%0Aack:3%0Acontent-length:1%0A%0Ay%00",
+            "0 MESSAGE%0Asubscription:d%0Amessage-id:6.0%0Adestination:/topic/t%0Aack:4%0Acontent-length:1%0A%0Az%00",
+        ),
+    ),
+)
+
+
+def crashes(checks):
+    for crash, opened in STOPS:
+        given = text_of((*TRANSACTION, crash, "open"))
+        checks.run(["script"], 0, text_of((CONNECTED, opened)), NOTHING, given.encode())
+    given, printed = ("".join(map(text_of, column)) for column in zip(*DURABLE))
+    checks.run(["script"], 0, printed, NOTHING, given.encode())
 
 
 def formats(checks, folder):
@@ -169,6 +258,7 @@ def main():
     with tempfile.TemporaryDirectory() as name:
         folder = pathlib.Path(name)
         scripts(checks)
+        crashes(checks)
         formats(checks, folder)
         shows(checks, folder)
         serves(checks, folder)

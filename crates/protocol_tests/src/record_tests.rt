@@ -3,6 +3,7 @@
 use crate::command_tests::{greeting, r1};
 use crate::frame_tests::filled;
 use command_core::{Command, DecodeFault, Op, decode, encode};
+use record_core::{lists_are_read_as_they_are_spelled, parts_are_read_as_they_are_spelled};
 use std::alloc::{AllocError, Global};
 use std::test::Fail;
 
@@ -294,4 +295,10 @@ fn a_command_is_written_as_its_record(rt: HostRuntime) -> Result<(), Fail> {
     drop(command);
     assert!(rt; is_right?);
     Ok(())
+}
+
+#[test]
+fn the_laws_of_spelling_ask_for_nothing() {
+    parts_are_read_as_they_are_spelled();
+    lists_are_read_as_they_are_spelled::<u8>();
 }

@@ -5,6 +5,7 @@ use broker_core::Broker;
 use command_core::{Entry, decode};
 use disk_core::{Disk, MemDisk};
 use recover_core::{AreaFault, Store, open};
+use snapshot_core::encode_state;
 use std::alloc::Global;
 use std::test::Fail;
 
@@ -80,6 +81,15 @@ fn add_all(alloc: Global, store: &mut Store<MemDisk>, batches: &[&[&[u8]]]) -> R
 // A journal that was opened, and has these batches.
 pub(crate) fn journal_of(alloc: Global, batches: &[&[&[u8]]]) -> Result<MemDisk, Fail> {
     let disk = formatted(alloc)?;
+    with_batches(alloc, disk, batches)
+}
+
+// The journal after it was opened and took these batches.
+pub(crate) fn with_batches(
+    alloc: Global,
+    disk: MemDisk,
+    batches: &[&[&[u8]]],
+) -> Result<MemDisk, Fail> {
     match open(alloc, disk) {
         Ok(mut store) => {
             let added = add_all(alloc, &mut store, batches);
@@ -96,6 +106,25 @@ pub(crate) fn journal_of(alloc: Global, batches: &[&[&[u8]]]) -> Result<MemDisk,
     }
 }
 
+// The snapshot of a broker.
+pub(crate) fn snapshot(alloc: Global, broker: &Broker) -> Result<Vec<u8>, Fail> {
+    if broker.is_broken()
+        || broker.sessions().len() > 1_000
+        || broker.subscription_count() > 1_000
+    {
+        return Err(Fail::from("not what the test made"));
+    }
+    Ok(encode_state(alloc, broker)?)
+}
+
+// The snapshot of the broker that was opened.
+pub(crate) fn opened_snapshot(alloc: Global, store: &mut Store<MemDisk>) -> Result<Vec<u8>, Fail> {
+    match store.broker() {
+        Some(broker) => snapshot(alloc, &broker),
+        None => Err(Fail::from("no broker")),
+    }
+}
+
 // How many commands the broker counts, and how many messages it holds.
 fn line_of(alloc: Global, broker: &Broker) -> Result<String, Fail> {
     let held = broker.held().messages;
@@ -107,6 +136,18 @@ fn opened_line(alloc: Global, store: &mut Store<MemDisk>) -> Result<String, Fail
     match store.broker() {
         Some(broker) => line_of(alloc, &broker),
         None => Ok(String::new(alloc)),
+    }
+}
+
+// Whether the broker that opening the disk gives has the state with this snapshot.
+pub(crate) fn opens_as(alloc: Global, disk: MemDisk, wanted: &[u8]) -> Result<bool, Fail> {
+    match open(alloc, disk) {
+        Ok(mut store) => {
+            let snapshot = opened_snapshot(alloc, &mut store);
+            drop(store);
+            Ok(snapshot?.as_slice() == wanted)
+        }
+        Err((_, fault)) => Err(Fail::from(fault)),
     }
 }
 

@@ -1,14 +1,13 @@
 ghost use Rattle.std.specs.Prelude.{◌<◌};
 
-use crate::journals::{FILLS, append, push_record};
-use crate::stop_tests::{is_in, stopped};
+use crate::journals::{FILLS, append, opened_snapshot, push_record, snapshot};
+use crate::stop_tests::{is_in, stopped, stopped_opening};
 use area_core::format;
 use broker_core::Broker;
 use command_core::{Command, Entry, Op, decode};
 use disk_core::MemDisk;
 use record_core::put_text;
 use recover_core::{Store, open};
-use snapshot_core::encode_state;
 use std::alloc::Global;
 use std::process::Abort;
 use std::test::Fail;
@@ -84,7 +83,7 @@ const SETTLED: [&[u8]; 5] = [
 ];
 
 // A session opens, whose number is that of this command.
-fn opening(
+fn open_record(
     alloc: Global,
     opened: &mut Vec<u64>,
     number: u64,
@@ -95,7 +94,7 @@ fn opening(
 }
 
 // One of the sessions asks for something.
-fn asking(alloc: Global, opened: &[u64], chosen: u64) -> Result<Vec<u8>, Fail> {
+fn request_record(alloc: Global, opened: &[u64], chosen: u64) -> Result<Vec<u8>, Fail> {
     let session = match opened.len() {
         0 => 0,
         count => opened[(chosen / 32) as usize % count],
@@ -119,7 +118,7 @@ fn some_delivery(memory: &Broker, chosen: u64) -> Option<(u64, u64)> {
 }
 
 // A session settles a delivery.
-fn settling(alloc: Global, memory: &Broker, chosen: u64) -> Result<Vec<u8>, Fail> {
+fn acknowledgement_record(alloc: Global, memory: &Broker, chosen: u64) -> Result<Vec<u8>, Fail> {
     let (session, delivery) = some_delivery(memory, chosen / 32).unwrap_or((0, 0));
     let mut record = Vec::from_slice(alloc, &session.to_be_bytes())?;
     record.extend_from_slice(SETTLED[(chosen % 5) as usize])?;
@@ -129,7 +128,7 @@ fn settling(alloc: Global, memory: &Broker, chosen: u64) -> Result<Vec<u8>, Fail
 
 // A session listens no more to one of its subscriptions, or gives up a durable one too. Where there is none it is a note of a
 // session that is not open.
-fn leaving(alloc: Global, memory: &Broker, chosen: u64) -> Result<Vec<u8>, Fail> {
+fn unsubscribe_record(alloc: Global, memory: &Broker, chosen: u64) -> Result<Vec<u8>, Fail> {
     let count = memory.subscription_count() as u64;
     if count == 0 {
         return Ok(Vec::from_slice(alloc, b"\0\0\0\0\0\0\0\0\0\x08")?);
@@ -153,10 +152,10 @@ fn some_record(alloc: Global, script: &mut Script) -> Result<Vec<u8>, Fail> {
     let kind = chance(&mut script.seed);
     let chosen = chance(&mut script.seed);
     match kind % 16 {
-        0 | 1 => opening(alloc, &mut script.opened, script.memory.count(), chosen),
-        2..=4 => settling(alloc, &script.memory, chosen),
-        5 => leaving(alloc, &script.memory, chosen),
-        _ => asking(alloc, script.opened.as_slice(), chosen),
+        0 | 1 => open_record(alloc, &mut script.opened, script.memory.count(), chosen),
+        2..=4 => acknowledgement_record(alloc, &script.memory, chosen),
+        5 => unsubscribe_record(alloc, &script.memory, chosen),
+        _ => request_record(alloc, script.opened.as_slice(), chosen),
     }
 }
 
@@ -177,9 +176,8 @@ fn kind_of(op: &Op) -> usize
     }
 }
 
-// The broker carries out a command. Answers whether it was carried out for an open session and not refused, which would have
-// ended it.
-fn carry_out(alloc: Global, memory: &mut Broker, command: Command) -> Result<bool, Fail> {
+// Executes a command on the broker. Answers whether it was one of an open session and not refused, which would have ended it.
+fn execute(alloc: Global, memory: &mut Broker, command: Command) -> Result<bool, Fail> {
     let session = command.session();
     let (opens, ends) = match command.op() {
         Op::Open { client_id: _ } => (true, false),
@@ -198,12 +196,12 @@ fn carry_out(alloc: Global, memory: &mut Broker, command: Command) -> Result<boo
     Ok(opens || was_open && (ends || is_open))
 }
 
-// The broker in memory carries out the command of a record.
+// Executes the command of a record on the broker in memory.
 fn step(alloc: Global, script: &mut Script, record: &[u8]) -> Result<(), Fail> {
     let (command, _) = decode(alloc, record)?;
     let kind = kind_of(command.op());
     let session = command.session();
-    if carry_out(alloc, &mut script.memory, command)? {
+    if execute(alloc, &mut script.memory, command)? {
         script.done[kind] = script.done[kind].saturating_add(1);
     }
     if !script.memory.sessions().contains_key(&session) {
@@ -227,32 +225,13 @@ fn push_some(
     Ok(())
 }
 
-// Eight commands by chance, which the broker in memory carries out, unless they will be lost.
+// Twelve commands by chance, which the broker in memory carries out, unless they will be lost.
 fn some_batch(alloc: Global, script: &mut Script, is_in: bool) -> Result<Vec<Entry<()>>, Fail> {
     let mut batch = Vec::new(alloc);
-    for _ in 0..8_u8 {
+    for _ in 0..12_u8 {
         push_some(alloc, &mut batch, script, is_in)?;
     }
     Ok(batch)
-}
-
-// The snapshot of a broker.
-fn snapshot(alloc: Global, broker: &Broker) -> Result<Vec<u8>, Fail> {
-    if broker.is_broken()
-        || broker.sessions().len() > 1_000
-        || broker.subscription_count() > 1_000
-    {
-        return Err(Fail::from("not what the test made"));
-    }
-    Ok(encode_state(alloc, broker)?)
-}
-
-// The snapshot of the broker that was opened.
-fn opened_snapshot(alloc: Global, store: &mut Store<MemDisk>) -> Result<Vec<u8>, Fail> {
-    match store.broker() {
-        Some(broker) => snapshot(alloc, &broker),
-        None => Err(Fail::from("no broker")),
-    }
 }
 
 // Whether the store was opened with the broker in memory.
@@ -266,16 +245,17 @@ fn is_opened_as(alloc: Global, store: &mut Store<MemDisk>, memory: &Broker) -> R
     is_same
 }
 
-// What is opened is the broker in memory; then both take four batches.
+// What is opened is the broker in memory; then both take so many batches.
 fn live(
     rt: &impl Abort,
     alloc: Global,
     store: &mut Store<MemDisk>,
     script: &mut Script,
+    batches: u64,
 ) -> Result<(), Fail> {
     let is_same = is_opened_as(alloc, store, &script.memory)?;
     assert!(rt; is_same);
-    for _ in 0..4_u8 {
+    for _ in 0..batches {
         let batch = some_batch(alloc, script, true)?;
         let done = append(alloc, store, batch.as_slice());
         drop(batch);
@@ -298,17 +278,38 @@ fn stop(
     }
 }
 
-// One life of a journal: it is opened, takes four batches, and stops within a fifth.
+// The disk after opening it was stopped at every fourth of the calls, from one of the first four on, until all of them passed.
+fn stopped_openings(
+    alloc: Global,
+    mut disk: MemDisk,
+    first: u64,
+    fill: Option<u8>,
+) -> Result<MemDisk, Fail> {
+    for turn in 0..16_u64 {
+        let (left, is_opened) = stopped_opening(alloc, disk, first % 4 + 4 * turn, fill)?;
+        disk = left;
+        if is_opened {
+            return Ok(disk);
+        }
+    }
+    drop(disk);
+    Err(Fail::from("64 calls are not enough to open a journal"))
+}
+
+// One life of a journal: to open it is stopped again and again, then it is opened, takes up to four batches, and stops within
+// the next. Its number says after how many batches, at which of its calls, and with what fill.
 fn life(
     rt: &impl Abort,
     alloc: Global,
     disk: MemDisk,
     script: &mut Script,
-    passed: u64,
-    fill: Option<u8>,
+    number: u64,
 ) -> Result<MemDisk, Fail> {
+    let (passed, round) = (number % 5, number / 5);
+    let fill = FILLS[(round % 4) as usize];
+    let disk = stopped_openings(alloc, disk, number, fill)?;
     match open(alloc, disk) {
-        Ok(mut store) => match live(rt, alloc, &mut store, script) {
+        Ok(mut store) => match live(rt, alloc, &mut store, script, (passed + round % 5) % 5) {
             Ok(()) => stop(alloc, store, script, passed, fill),
             Err(fail) => Err(fail),
         },
@@ -316,13 +317,13 @@ fn life(
     }
 }
 
-// Forty lives of a journal, with a stop at each call of a batch and each fill.
+// Forty lives of a journal. In each five of them all stop with one fill, each at another call and in another batch; no two of
+// the forty are alike.
 fn lives(rt: &impl Abort, alloc: Global, script: &mut Script) -> Result<(), Fail> {
     let mut disk = MemDisk::new(alloc, 2_097_184)?;
     format(alloc, &mut disk, 1_048_576)?;
     for number in 0..40_u64 {
-        let (passed, fill) = (number % 5, FILLS[(number / 5 % 4) as usize]);
-        disk = life(rt, alloc, disk, script, passed, fill)?;
+        disk = life(rt, alloc, disk, script, number)?;
         script.memory.restart(alloc)?;
         script.opened.clear();
     }

@@ -1,41 +1,85 @@
 use crate::journals::{
-    FILLS, OPEN, SEND, SIZE, SUBSCRIBE, append, batch_of, formatted, journal_of, tells,
+    FILLS, OPEN, SEND, SIZE, SUBSCRIBE, append, batch_of, formatted, journal_of, opens_as, tells,
+    with_batches,
 };
-use area_core::format;
+use area_core::{ReadFault, format};
 use command_core::Entry;
 use disk_core::{FileDisk, FuseDisk, MemDisk};
-use recover_core::{AreaFault, Store, open, read};
+use recover_core::{AreaFault, OpenFault, Store, open, read};
 use std::alloc::Global;
 use std::fs;
 use std::process::Abort;
 use std::test::Fail;
 
-// The disk after opening it with so many calls that pass, and whether it was opened.
-fn stopped_opening(alloc: Global, disk: MemDisk, passed: u64, fill: Option<u8>) -> (MemDisk, bool) {
-    let (fuse, done) = match open(alloc, FuseDisk::new(disk, passed)) {
+// The disk after opening it with so many calls that pass, and whether it was opened. Where it was not, the device failed.
+pub(crate) fn stopped_opening(
+    alloc: Global,
+    disk: MemDisk,
+    passed: u64,
+    fill: Option<u8>,
+) -> Result<(MemDisk, bool), Fail> {
+    let (fuse, is_opened) = match open(alloc, FuseDisk::new(disk, passed)) {
         Ok(store) => (store.into_disk(), true),
-        Err((fuse, _)) => (fuse, false),
+        Err((fuse, OpenFault::Read(ReadFault::Device) | OpenFault::Area(AreaFault::Device))) => (
+            fuse, false,
+        ),
+        Err((_, fault)) => return Err(Fail::from(fault)),
     };
     let mut disk = fuse.into_inner();
     disk.crash(fill);
-    (disk, done)
+    Ok((disk, is_opened))
 }
 
-// Whether a journal is told as it was after such a stop, and whether it was opened.
-fn stop_opening(alloc: Global, passed: u64, fill: Option<u8>) -> Result<(bool, bool), Fail> {
-    let journal = journal_of(alloc, &[&[OPEN, SEND, SUBSCRIBE]])?;
-    let (disk, done) = stopped_opening(alloc, journal, passed, fill);
-    Ok((tells(alloc, disk, "3 1")?, done))
+// A journal with one block behind the snapshot of the empty state, in the area of that number. Each opening writes into the
+// other area, the first into area 1.
+fn journal_in(alloc: Global, area: u8) -> Result<MemDisk, Fail> {
+    let disk = match area {
+        0 => journal_of(alloc, &[])?,
+        _ => formatted(alloc)?,
+    };
+    with_batches(alloc, disk, &[&[OPEN, SEND, SUBSCRIBE]])
 }
 
-// A stop at each call of opening leaves the same state, whatever the unsynced bytes are.
+// The restart of the state after that block: three commands, one delivery, and in `/queue/q` the message of command 1, which
+// was not acknowledged.
+const RESTARTED: &[u8] = b"\0\0\0\0\0\0\0\x03\0\0\0\0\0\0\0\x01\
+\0\0\0\0\0\0\0\0\
+\0\0\0\x01\0\0\0\x08/queue/q\
+\0\0\0\x01\0\0\0\0\0\0\0\x01\0\0\0\0\0\0\0\x08/queue/q\0\0\0\0\0\x01x\
+\0\0\0\0";
+
+// The area that is live in the journal.
+fn live_area(alloc: Global, journal: &mut MemDisk) -> Option<u8> {
+    match read(alloc, journal) {
+        Ok(seen) => Some(seen.area),
+        Err(_) => None,
+    }
+}
+
+// Opening that journal with so many calls that pass leaves the state. Answers whether it was opened.
+fn stop_opening(
+    rt: &impl Abort,
+    alloc: Global,
+    area: u8,
+    passed: u64,
+    fill: Option<u8>,
+) -> Result<bool, Fail> {
+    let mut journal = journal_in(alloc, area)?;
+    let live = live_area(alloc, &mut journal);
+    let (disk, is_opened) = stopped_opening(alloc, journal, passed, fill)?;
+    let is_left = opens_as(alloc, disk, RESTARTED)?;
+    assert!(rt; is_left, "{passed} calls, area {area}");
+    assert!(rt; live == Some(area));
+    Ok(is_opened)
+}
+
+// A stop at each call of opening leaves the same state, whichever area is live and whatever the unsynced bytes are.
 #[test]
 fn a_stop_at_each_call_of_opening_leaves_the_state(rt: HostRuntime) -> Result<(), Fail> {
-    for turn in 0..96_u64 {
-        let passed = turn / 4;
-        let (is_told, done) = stop_opening(rt.alloc(), passed, FILLS[(turn % 4) as usize])?;
-        assert!(rt; is_told, "{passed} calls");
-        assert!(rt; done || passed < 20, "{passed} calls are not enough");
+    for turn in 0..192_u64 {
+        let (area, passed, fill) = (turn % 2, turn / 8, FILLS[(turn / 2 % 4) as usize]);
+        let is_opened = stop_opening(&rt, rt.alloc(), area as u8, passed, fill)?;
+        assert!(rt; is_opened || passed < 20, "{passed} calls are not enough");
     }
     Ok(())
 }

@@ -1,7 +1,9 @@
-//! Scripts over a disk that holds commands already.
+//! Scripts over a disk that holds commands already, or no journal.
 
+use area_core::ReadFault;
 use disk_core::{Disk, MemDisk};
-use engine_core::run_script;
+use engine_core::{ScriptFault, run_script};
+use recover_core::OpenFault;
 use std::alloc::Global;
 use std::process::Abort;
 use std::test::Fail;
@@ -48,5 +50,29 @@ fn a_script_goes_on_from_what_its_disk_holds(rt: HostRuntime) -> Result<(), Fail
     let written = printed_over(rt.alloc(), disk)?;
     assert_eq!(rt; str::from_utf8(written.as_slice())?, PRINTED);
     drop(written);
+    Ok(())
+}
+
+// Whether the fault is that the disk has no journal.
+fn is_no_journal(ended: &Result<(), ScriptFault>) -> bool {
+    matches!(
+        ended,
+        Err(ScriptFault::Opening(OpenFault::Read(ReadFault::NotAJournal)))
+    )
+}
+
+#[test]
+fn over_a_disk_of_zeros_nothing_is_read_and_nothing_written(rt: HostRuntime) -> Result<(), Fail> {
+    let disk = MemDisk::new(rt.alloc(), 64)?;
+    let mut reader = SCRIPT;
+    let mut written = Vec::new(rt.alloc());
+    let ended = run_script(rt.alloc(), &mut reader, &mut written, disk);
+    let is_told = is_no_journal(&ended);
+    let is_silent = written.is_empty();
+    drop(ended);
+    drop(written);
+    assert!(rt; is_told);
+    assert!(rt; is_silent);
+    assert_eq!(rt; reader.len(), SCRIPT.len());
     Ok(())
 }
