@@ -376,3 +376,31 @@ fn messages_wait_where_sixteen_are_not_acknowledged(rt: HostRuntime) -> Result<(
     assert!(rt; is_none);
     Ok(())
 }
+
+// A message to `/queue/q`, with no headers and no body.
+const QUEUED: &[u8] = b"\0\0\0\0\0\0\0\0\0\x02\0\0\0\x08/queue/q\0\0\0\0\0\0";
+
+// Session 0, and in `/queue/q` the messages of the 4,096 commands from 1 on.
+fn with_full_queue(alloc: Global) -> Result<Vec<u8>, AllocError> {
+    let mut bytes = Vec::from_slice(alloc, b"\0\0\0\0\0\0\x10\x01\0\0\0\0\0\0\0\0")?;
+    bytes.extend_from_slice(b"\0\0\0\x01\0\0\0\0\0\0\0\0\0\0\0\0\0")?;
+    bytes.extend_from_slice(b"\0\0\0\x01\0\0\0\x08/queue/q\0\0\x10\0")?;
+    for command in 1..4097_u64 {
+        bytes.extend_from_slice(&command.to_be_bytes())?;
+        bytes.extend_from_slice(b"\0\0\0\0\0\0\0\x08/queue/q\0\0\0\0\0\0")?;
+    }
+    bytes.extend_from_slice(b"\0\0\0\0")?;
+    Ok(bytes)
+}
+
+#[test]
+fn a_queue_of_4096_messages_goes_both_ways(rt: HostRuntime) -> Result<(), Fail> {
+    let alloc = rt.alloc();
+    let bytes = with_full_queue(alloc)?;
+    let is_after = snapshot_is(alloc, &LISTENING[..1], 4096, QUEUED, bytes.as_slice());
+    let is_read = goes_both_ways(alloc, bytes.as_slice());
+    drop(bytes);
+    assert!(rt; is_after?);
+    assert!(rt; is_read?);
+    Ok(())
+}

@@ -10,7 +10,7 @@ use std::alloc::{AllocError, Global};
 use std::test::Fail;
 
 // Streams, the frames that are read of them, and the fault behind these.
-const STREAMS: [(&[u8], &str); 38] = [
+const STREAMS: [(&[u8], &str); 39] = [
     (b"", ""),
     // A counted body may have a NUL, and another length ends without one.
     (
@@ -28,6 +28,8 @@ const STREAMS: [(&[u8], &str); 38] = [
         "CONNECT client-id=a\\cb '' ",
     ),
     (b"SEND\n k : v:w \n\n\0", "SEND  k = v:w  '' "),
+    // Names may have escapes, and texts all of UTF-8.
+    (b"SEND\na\\cb:\xc3\xa9\n\n\0", "SEND a:b=\u{e9} '' "),
     // Ends of lines, of either form, and between frames.
     (
         b"\r\nSEND\ndestination:/queue/a\n\nhi\0\n\r\nSEND\r\n\r\n\0\n",
@@ -132,9 +134,10 @@ fn streams_are_read_however_they_are_cut(rt: HostRuntime) -> Result<(), Fail> {
 }
 
 // So many pieces between a front and a back, and whether a frame comes of them; else they are too large.
-const LIMITS: [(&[u8], &[u8], usize, &[u8], bool); 6] = [
+const LIMITS: [(&[u8], &[u8], usize, &[u8], bool); 7] = [
     (b"SEND\n\n", b"x", 65_536, b"\0", true),
     (b"SEND\n\n", b"x", 65_537, b"", false),
+    (b"SEND\ncontent-length:65536\n\n", b"x", 65_536, b"\0", true),
     (b"SEND\na:", b"x", 8183, b"\n\n\0", true),
     (b"SEND\na:", b"x", 8184, b"\n\n", false),
     (b"SEND\n", b"k:v\n", 64, b"\n\0", true),

@@ -12,7 +12,7 @@ const GREETING: &[u8] = b"\0\0\0\0\0\0\0\0\x01\0\0\0\x02r1\x02\0\0\0\x08/queue/a
 
 // A record of each kind of operation, and of each of its forms. Beside each byte stands what comes of it where it is one
 // greater: `.` another record (which may be shorter), and `x` none.
-const RECORDS: [(&[u8], &str); 22] = [
+const RECORDS: [(&[u8], &str); 23] = [
     // Open, of nobody and of `me`.
     (b"\0\0\0\0\0\0\0\0\0\x01\0", "xxxxxxxxxxx"),
     (
@@ -77,6 +77,10 @@ const RECORDS: [(&[u8], &str); 22] = [
     // Note, without and with a receipt.
     (b"\0\0\0\0\0\0\0\x05\0\x08", "........xx"),
     (b"\0\0\0\0\0\0\0\x05\x01\0\0\0\0\x08", "........xxxxxx"),
+    (
+        b"\0\0\0\0\0\0\0\x05\x01\0\0\0\x02\xc3\xa9\x08",
+        "........xxxxx..x",
+    ),
     // End: Bye, Lost, and Bad with the first and the last fault.
     (b"\0\0\0\0\0\0\0\x05\0\x09\0", "........xx."),
     (b"\0\0\0\0\0\0\0\x05\0\x09\x01", "........xxx"),

@@ -8,7 +8,7 @@ use std::test::Fail;
 const CONNECT: &str = "CONNECT\naccept-version:1.2\n\n\0";
 
 // Streams of a new session, and what is done for them.
-const NEW: [(&str, &str); 9] = [
+const NEW: [(&str, &str); 10] = [
     (
         "STOMP\naccept-version:1.1, 1.2 \nclient-id:c\nreceipt:r\n\n\0",
         "open client c ",
@@ -34,6 +34,11 @@ const NEW: [(&str, &str); 9] = [
         "CONNECT\rx",
         "ERROR message=E1 malformed frame '' close 1002 ",
     ),
+    // Behind the end of a session nothing is heard, and no fault of the stream.
+    (
+        "SEND\n\n\0\0",
+        "ERROR message=E7 frame not expected here '' close 1002 ",
+    ),
     ("\n\r\n", ""),
     (
         "CONNECT\naccept-version:1.2\n\n\0\nBEGIN\ntransaction:t\n\n\0SEND\ndestination:/queue/a\ntransaction:t\nreceipt:r\n\nhi\0\nCOMMIT\ntransaction:t\n\n\0DISCONNECT\n\n\0SEND\n\n\0",
@@ -42,7 +47,7 @@ const NEW: [(&str, &str); 9] = [
 ];
 
 // Streams of an open session, and what is done for them.
-const OPEN: [(&str, &str); 50] = [
+const OPEN: [(&str, &str); 51] = [
     // What goes to the broker.
     (
         "SEND\ndestination:/queue/a\nk:v\nreceipt:r\n\nhi\0SEND\ndestination:/topic/t\n\n\0",
@@ -50,6 +55,10 @@ const OPEN: [(&str, &str); 50] = [
     ),
     (
         "DISCONNECT\nreceipt:r\n\n\0SEND\n\n\0",
+        "end bye receipt r close 1000 ",
+    ),
+    (
+        "DISCONNECT\nreceipt:r\n\n\0\0",
         "end bye receipt r close 1000 ",
     ),
     (

@@ -3,9 +3,12 @@
 use command_core::{DecodeFault, Fault, fault_text};
 use escape_core::{EscapeFault, escape, is_defined, unescape};
 use frame_core::{FeedFault, FrameFault};
+use line_core::SettleFault;
+use record_core::DestFault;
 use session_core::SessionFault;
 use std::alloc::Global;
 use std::test::Fail;
+use tx_core::TxFault;
 
 // Texts and how they are written in a header (STOMP 1.2, "Value Encoding").
 const ESCAPED: [(&[u8], &[u8]); 4] = [
@@ -101,17 +104,24 @@ fn faults_of_the_stream_have_the_same_texts(rt: HostRuntime) -> Result<(), Fail>
 #[test]
 fn other_refusals_have_their_texts(rt: HostRuntime) -> Result<(), Fail> {
     let shown = format!(in rt.alloc();
-        "{}, {}, {}, {}, {}, {}, {}",
+        "{}, {}, {}, {}, {}, {}, {}, {}, {}, {}, {}, {}, {}",
         EscapeFault::Undefined,
         EscapeFault::Memory,
         FeedFault::Failed,
         FeedFault::Memory,
         SessionFault::Failed,
         SessionFault::Memory,
-        DecodeFault::NoSpelling
+        DecodeFault::NoSpelling,
+        DestFault::Bad,
+        SettleFault::Unknown,
+        TxFault::Begun,
+        TxFault::NotBegun,
+        TxFault::TooLarge,
+        TxFault::TooMany
     )?;
-    let texts =
-        "undefined escape, no memory, failed before, no memory, session failed, no memory, bytes that spell nothing";
+    let texts = "undefined escape, no memory, failed before, no memory, session failed, no memory, \
+         bytes that spell nothing, bad destination, unknown delivery, transaction already begun, \
+         transaction not begun, transaction too large, too many transactions";
     assert!(rt; shown.as_str() == texts);
     Ok(())
 }

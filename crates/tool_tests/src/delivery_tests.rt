@@ -1,4 +1,4 @@
-use crate::words_tests::{CONNECT, CONNECTED, expect, expect_frames, expect_lines};
+use crate::words_tests::{CONNECT, CONNECTED, expect, expect_frames, expect_lines, expect_parts};
 use std::process::Abort;
 use std::test::Fail;
 
@@ -218,78 +218,61 @@ fn transactions_begin_and_end(rt: HostRuntime) -> Result<(), Fail> {
     )
 }
 
-const MEMBERS: [&str; 66] = [
-    "BEGIN%0Atransaction:t~",
-    "SEND%0Adestination:/queue/q%0Atransaction:t%0A%0Ax%00",
-    "SEND%0Adestination:/queue/q%0Atransaction:t%0A%0Ax%00",
-    "SEND%0Adestination:/queue/q%0Atransaction:t%0A%0Ax%00",
-    "SEND%0Adestination:/queue/q%0Atransaction:t%0A%0Ax%00",
-    "SEND%0Adestination:/queue/q%0Atransaction:t%0A%0Ax%00",
-    "SEND%0Adestination:/queue/q%0Atransaction:t%0A%0Ax%00",
-    "SEND%0Adestination:/queue/q%0Atransaction:t%0A%0Ax%00",
-    "SEND%0Adestination:/queue/q%0Atransaction:t%0A%0Ax%00",
-    "SEND%0Adestination:/queue/q%0Atransaction:t%0A%0Ax%00",
-    "SEND%0Adestination:/queue/q%0Atransaction:t%0A%0Ax%00",
-    "SEND%0Adestination:/queue/q%0Atransaction:t%0A%0Ax%00",
-    "SEND%0Adestination:/queue/q%0Atransaction:t%0A%0Ax%00",
-    "SEND%0Adestination:/queue/q%0Atransaction:t%0A%0Ax%00",
-    "SEND%0Adestination:/queue/q%0Atransaction:t%0A%0Ax%00",
-    "SEND%0Adestination:/queue/q%0Atransaction:t%0A%0Ax%00",
-    "SEND%0Adestination:/queue/q%0Atransaction:t%0A%0Ax%00",
-    "SEND%0Adestination:/queue/q%0Atransaction:t%0A%0Ax%00",
-    "SEND%0Adestination:/queue/q%0Atransaction:t%0A%0Ax%00",
-    "SEND%0Adestination:/queue/q%0Atransaction:t%0A%0Ax%00",
-    "SEND%0Adestination:/queue/q%0Atransaction:t%0A%0Ax%00",
-    "SEND%0Adestination:/queue/q%0Atransaction:t%0A%0Ax%00",
-    "SEND%0Adestination:/queue/q%0Atransaction:t%0A%0Ax%00",
-    "SEND%0Adestination:/queue/q%0Atransaction:t%0A%0Ax%00",
-    "SEND%0Adestination:/queue/q%0Atransaction:t%0A%0Ax%00",
-    "SEND%0Adestination:/queue/q%0Atransaction:t%0A%0Ax%00",
-    "SEND%0Adestination:/queue/q%0Atransaction:t%0A%0Ax%00",
-    "SEND%0Adestination:/queue/q%0Atransaction:t%0A%0Ax%00",
-    "SEND%0Adestination:/queue/q%0Atransaction:t%0A%0Ax%00",
-    "SEND%0Adestination:/queue/q%0Atransaction:t%0A%0Ax%00",
-    "SEND%0Adestination:/queue/q%0Atransaction:t%0A%0Ax%00",
-    "SEND%0Adestination:/queue/q%0Atransaction:t%0A%0Ax%00",
-    "SEND%0Adestination:/queue/q%0Atransaction:t%0A%0Ax%00",
-    "SEND%0Adestination:/queue/q%0Atransaction:t%0A%0Ax%00",
-    "SEND%0Adestination:/queue/q%0Atransaction:t%0A%0Ax%00",
-    "SEND%0Adestination:/queue/q%0Atransaction:t%0A%0Ax%00",
-    "SEND%0Adestination:/queue/q%0Atransaction:t%0A%0Ax%00",
-    "SEND%0Adestination:/queue/q%0Atransaction:t%0A%0Ax%00",
-    "SEND%0Adestination:/queue/q%0Atransaction:t%0A%0Ax%00",
-    "SEND%0Adestination:/queue/q%0Atransaction:t%0A%0Ax%00",
-    "SEND%0Adestination:/queue/q%0Atransaction:t%0A%0Ax%00",
-    "SEND%0Adestination:/queue/q%0Atransaction:t%0A%0Ax%00",
-    "SEND%0Adestination:/queue/q%0Atransaction:t%0A%0Ax%00",
-    "SEND%0Adestination:/queue/q%0Atransaction:t%0A%0Ax%00",
-    "SEND%0Adestination:/queue/q%0Atransaction:t%0A%0Ax%00",
-    "SEND%0Adestination:/queue/q%0Atransaction:t%0A%0Ax%00",
-    "SEND%0Adestination:/queue/q%0Atransaction:t%0A%0Ax%00",
-    "SEND%0Adestination:/queue/q%0Atransaction:t%0A%0Ax%00",
-    "SEND%0Adestination:/queue/q%0Atransaction:t%0A%0Ax%00",
-    "SEND%0Adestination:/queue/q%0Atransaction:t%0A%0Ax%00",
-    "SEND%0Adestination:/queue/q%0Atransaction:t%0A%0Ax%00",
-    "SEND%0Adestination:/queue/q%0Atransaction:t%0A%0Ax%00",
-    "SEND%0Adestination:/queue/q%0Atransaction:t%0A%0Ax%00",
-    "SEND%0Adestination:/queue/q%0Atransaction:t%0A%0Ax%00",
-    "SEND%0Adestination:/queue/q%0Atransaction:t%0A%0Ax%00",
-    "SEND%0Adestination:/queue/q%0Atransaction:t%0A%0Ax%00",
-    "SEND%0Adestination:/queue/q%0Atransaction:t%0A%0Ax%00",
-    "SEND%0Adestination:/queue/q%0Atransaction:t%0A%0Ax%00",
-    "SEND%0Adestination:/queue/q%0Atransaction:t%0A%0Ax%00",
-    "SEND%0Adestination:/queue/q%0Atransaction:t%0A%0Ax%00",
-    "SEND%0Adestination:/queue/q%0Atransaction:t%0A%0Ax%00",
-    "SEND%0Adestination:/queue/q%0Atransaction:t%0A%0Ax%00",
-    "SEND%0Adestination:/queue/q%0Atransaction:t%0A%0Ax%00",
-    "SEND%0Adestination:/queue/q%0Atransaction:t%0A%0Ax%00",
-    "SEND%0Adestination:/queue/q%0Atransaction:t%0A%0Ax%00",
-    "SEND%0Adestination:/queue/q%0Atransaction:t%0A%0Ax%00",
-];
+// A SEND within the transaction `t`.
+const MEMBER: &str = "0 SEND%0Adestination:/queue/q%0Atransaction:t%0A%0Ax%00\n";
 
 #[test]
 fn a_transaction_has_at_most_64_members(rt: HostRuntime) -> Result<(), Fail> {
-    expect_frames(&rt, rt.alloc(), &MEMBERS[..65], &[])?;
-    let fault = "ERROR%0Amessage:E17 transaction too large~";
-    expect_frames(&rt, rt.alloc(), &MEMBERS, &[fault])
+    let begun = "\n0 BEGIN%0Atransaction:t~\n";
+    let commit = "0 COMMIT%0Atransaction:t%0Areceipt:c~\nflush\n";
+    expect_parts(
+        &rt,
+        rt.alloc(),
+        &[(CONNECT, 1), (begun, 1), (MEMBER, 64), (commit, 1)],
+        0,
+        &[(CONNECTED, 1), ("\n0 RECEIPT%0Areceipt-id:c~\n", 1)],
+        "",
+    )?;
+    let fault = "\n0 ERROR%0Amessage:E17 transaction too large~\n";
+    expect_parts(
+        &rt,
+        rt.alloc(),
+        &[(CONNECT, 1), (begun, 1), (MEMBER, 65), ("flush\n", 1)],
+        0,
+        &[(CONNECTED, 1), (fault, 1)],
+        "",
+    )
+}
+
+// A subscription, and the front of a SEND to it.
+const SENT: &str = "\n0 SUBSCRIBE%0Aid:s%0Adestination:/topic/t~\n0 SEND%0Adestination:/topic/t";
+
+// The front of the MESSAGE that comes of it.
+const DELIVERED: &str =
+    "\n0 MESSAGE%0Asubscription:s%0Amessage-id:2.0%0Adestination:/topic/t%0Acontent-length:65000";
+
+#[test]
+fn a_long_message_of_many_headers_is_delivered_whole(rt: HostRuntime) -> Result<(), Fail> {
+    expect_parts(
+        &rt,
+        rt.alloc(),
+        &[
+            (CONNECT, 1),
+            (SENT, 1),
+            ("%0Ak:v", 60),
+            ("%0A%0A", 1),
+            ("x", 65_000),
+            ("%00\nflush\n", 1),
+        ],
+        0,
+        &[
+            (CONNECTED, 1),
+            (DELIVERED, 1),
+            ("%0Ak:v", 60),
+            ("%0A%0A", 1),
+            ("x", 65_000),
+            ("%00\n", 1),
+        ],
+        "",
+    )
 }
