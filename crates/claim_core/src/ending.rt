@@ -1,11 +1,14 @@
-//! What a ring was at its end.
+//! How a ring has ended.
 
-/// Tickets, all of them numbers of commands: the ring's first, the one after the last that was claimed, the one after
-/// the last that the flusher took, and the mark.
+/// What a ring was at its end. Each field is a ticket, which is the number of a command.
 #[derive(Clone, Copy, PartialEq, Eq)]
 pub struct RingEnd {
+    /// The first of the ring.
     pub base: u64,
+    /// The one after the last that was claimed.
     pub claimed: u64,
+    /// The one after the last that the flusher took.
     pub taken: u64,
+    /// The mark: every number under it is published.
     pub mark: u64,
 }

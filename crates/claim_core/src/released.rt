@@ -36,6 +36,7 @@ impl Released {
         }
     }
 
+    /// The frame that may leave. It can be written.
     pub fn frame(&self) -> &Frame
         ensures value { result.now ≡ self.now.frame }
         ensures form { Writable self.now.frame }

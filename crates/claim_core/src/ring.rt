@@ -18,7 +18,7 @@ use std::marker::Model;
 const FAR: u64 = 1 << 60;
 
 /// A claim buffer of `PLACES` places, for `SEATS` sessions' seats and one flusher. Each session may have `WINDOW`
-/// commands that are not under the mark. No call waits for another, and all but `new` and `close` take no memory.
+/// commands that are not under the mark. No call waits for another, and none but `new` takes memory.
 ///
 /// A command has its ticket, which is its number in the order of all commands, from the moment of its claim. Contracts
 /// see which ring it is.

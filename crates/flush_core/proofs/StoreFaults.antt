@@ -1,10 +1,10 @@
 -- The flusher's faults by the store's.
 use Rattle.std.proofs.Common.{◌≡◌, ℕ, Result, Ok, Err, refl, ap}
 use Rattle.std.specs.Prelude.{IsErrOf}
-use Rattle.area_core.specs.Steps.{IsCaused}
+use Rattle.area_core.specs.Steps.{IfMemory as IfAreaMemory, IsCaused}
 use Rattle.area_core.specs.declared.faults.AreaFault.{AreaFault}
 use Rattle.area_core.specs.declared.faults.AreaFault.TheVariants as area
-use Rattle.flush_core.specs.Faults.{IsFlushCaused, IsMemory, NeedsNoDisk, of_area}
+use Rattle.flush_core.specs.Faults.{IfMemory, IsFlushCaused, IsMemory, NeedsNoDisk, of_area}
 use Rattle.flush_core.specs.Flushed.{Flushed}
 use Rattle.flush_core.specs.Outcomes.{Falls, IsOutcome}
 use Rattle.flush_core.specs.declared.faults.FlushFault.{FlushFault}
@@ -28,6 +28,12 @@ caused_so area.Device before now is = is
 caused_so area.Full before now is = is
 caused_so area.Broken before now is = is
 caused_so (area.Memory refused) before now is = is
+
+pub untouched_so : (fault : AreaFault) (P : Type 0) → IfAreaMemory {T = Unit {0}} (Err fault) P → IfMemory {T = Unit {0}} (Err (of_area fault)) P
+untouched_so area.Device P is = tt
+untouched_so area.Full P is = tt
+untouched_so area.Broken P is = tt
+untouched_so (area.Memory refused) P is = is
 
 pub fell_so : {D : Type 0} (fault : AreaFault) (old new : Flushed D) → (fault ≡ area.Broken → ⊥) → Falls old new → IsOutcome {X = Unit {0}} old new (Err (of_area fault))
 fell_so area.Device old new whole fell = fell

@@ -28,6 +28,11 @@ IsFlushCaused before now (Err Full) = now ≡ before
 IsFlushCaused before now (Err Broken) = now ≡ before
 IsFlushCaused before now (Err (Memory _)) = now ≡ before
 
+-- where memory was refused, this holds
+abbrev pub IfMemory : {T : Type 0} → Result T FlushFault → Type 0 → Type 0
+IfMemory (Err (Memory _)) P = P
+IfMemory _ P = Unit {0}
+
 -- a step that reaches no disk fails for want of memory, or as it failed before
 abbrev pub NeedsNoDisk : {T : Type 0} → Result T FlushFault → Type 0
 NeedsNoDisk (Ok _) = Unit {0}

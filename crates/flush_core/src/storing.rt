@@ -5,7 +5,7 @@ ghost use Rattle.disk_core.specs.Moments.{LeavesOnly};
 ghost use Rattle.area_core.specs.Areas.{records};
 ghost use Rattle.recover_core.specs.Standing.{StandFor, StandsForEither};
 ghost use Rattle.flush_core.specs.Batches.{state_at, state_taken};
-ghost use Rattle.flush_core.specs.Faults.{IsFlushCaused};
+ghost use Rattle.flush_core.specs.Faults.{IfMemory, IsFlushCaused};
 ghost use Rattle.flush_core.specs.Flushed.{gathered};
 ghost use Rattle.flush_core.specs.Outcomes.{IsOutcome, storing};
 ghost use Rattle.flush_core.specs.Room.{HasNoRoom};
@@ -22,7 +22,8 @@ impl<D: Disk, B: Bell> Flusher<D, B> {
     /// Makes the gathered batch durable in one block. Where nothing is gathered it calls no disk and changes nothing.
     ///
     /// At each moment of the call an image of the disk stands for the state after what was stored before, or after all that
-    /// was taken, and for none between; after it, for the latter alone. `Full` where the block doesn't fit.
+    /// was taken, and for none between; after it, for the latter alone. `Full` where the block doesn't fit; `Full` and `Memory`
+    /// leave the disk as it was.
     pub fn store(
         &mut self,
         alloc: Global,
@@ -41,6 +42,7 @@ impl<D: Disk, B: Bell> Flusher<D, B> {
             (self.old.size < self.old.used + 9 + length (records (gathered self.old))) × (self.new.disk ≡ self.old.disk) }
         ensures no_room { D.honest self.old.disk → IsErrOf result FlushFault.Full →
             HasNoRoom (D.content self.old.disk) (state_at self.old.opening self.old.seat self.old.stored) (gathered self.old) }
+        ensures memory { IfMemory result (self.new.disk ≡ self.old.disk) }
         ensures outcome { IsOutcome self.old self.new result }
         ensures stops { OnErr result ((self.new.broken ≡ true) × (self.new.seat.stopped ≡ true)) }
         ensures cause { IsFlushCaused (D.failures self.old.disk) (D.failures self.new.disk) result }

@@ -3,6 +3,7 @@
 /// Rung when something was put into a box, and when the sending end went: cut, finished or dropped. So a taker that waits
 /// elsewhere can be told to look. What ringing does is its maker's, and no clause speaks of it.
 pub trait Bell: Drop {
+    /// Tells the taker to look. It is called on the thread that gives, which goes on once it returns.
     fn ring(&self);
 }
 

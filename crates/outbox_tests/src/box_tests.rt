@@ -118,8 +118,16 @@ impl Bell for Counted {
     }
 }
 
+// Ends a box that rings this bell.
+fn finish_one(alloc: Global, bell: Counted) -> Result<bool, AllocError> {
+    let (sender, _taker) = outbox(alloc, bell)?;
+    Ok(sender.finish().is_some())
+}
+
 #[test]
-fn a_box_rings_when_it_is_given_something_cut_or_dropped(rt: HostRuntime) -> Result<(), Fail> {
+fn a_box_rings_when_it_is_given_something_cut_dropped_or_finished(
+    rt: HostRuntime,
+) -> Result<(), Fail> {
     let alloc = rt.alloc();
     let rings = Arc::new(alloc, AtomicU64::new(0))?;
     let theirs = Arc::try_clone(&rings)?;
@@ -132,5 +140,8 @@ fn a_box_rings_when_it_is_given_something_cut_or_dropped(rt: HostRuntime) -> Res
     assert_eq!(rt; rings.load(Ordering::SeqCst), 513);
     drop(sender);
     assert_eq!(rt; rings.load(Ordering::SeqCst), 514);
+    let theirs = Arc::try_clone(&rings)?;
+    assert!(rt; finish_one(alloc, Counted { rings: theirs })?);
+    assert_eq!(rt; rings.load(Ordering::SeqCst), 515);
     Ok(())
 }

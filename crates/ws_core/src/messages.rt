@@ -17,7 +17,7 @@ use std::io::{ErrorKind, Read, Write};
 use tungstenite::{Bytes, CloseCode, CloseFrame, Error, Message, NoMask, Utf8Bytes, WebSocket};
 use websocket::error::ProtocolError;
 
-// How many messages, and waits, are heard before the peer's close is waited for no longer.
+// How many messages are heard, and how many reads may find nothing, before the peer's close is waited for no longer.
 const CLOSING_READS: u32 = 64;
 
 const CLOSING_WAITS: u32 = 3;
@@ -113,17 +113,17 @@ pub fn say_close<S: Read + Write + Drop>(
 }
 
 // Reads on to the peer's close, so that the stream isn't cut while it still sends. A peer that says nothing is given up
-// after a few waits: each may last as long as the stream lets a read wait.
+// after three waits: each may last as long as the stream lets a read wait.
 pub fn hear_close<S: Read + Write + Drop>(socket: &mut WebSocket<S, NoMask>) {
-    let mut waits = 0u32;
+    let mut waits_left = CLOSING_WAITS;
     for _ in 0..CLOSING_READS {
         match socket.read() {
             Ok(_) => {}
             Err(error) => {
-                if !is_wait(&error) || waits >= CLOSING_WAITS {
+                if !is_wait(&error) || waits_left <= 1 {
                     return;
                 }
-                waits += 1;
+                waits_left -= 1;
             }
         }
     }

@@ -18,6 +18,8 @@ pub enum Do {
     Hear,
     /// An ERROR with no headers and this body is sent.
     Send(&'static [u8]),
+    /// The same with a body of so many bytes.
+    SendLong(usize),
     End(CloseReason),
     /// So many bytes behind the request are open.
     Open(usize),
@@ -67,6 +69,15 @@ fn send(
     Ok(link.send_direct(alloc, &frame))
 }
 
+fn send_long(
+    alloc: Global,
+    link: &mut WsLink<&Wire>,
+    length: usize,
+) -> Result<Result<(), LinkFault>, Fail> {
+    let body = vec![in alloc; b'a'; length]?;
+    send(alloc, link, body.as_slice())
+}
+
 fn act(
     alloc: Global,
     wire: &Wire,
@@ -77,6 +88,7 @@ fn act(
     match one {
         Do::Hear => put_received(shown, &link.receive(alloc))?,
         Do::Send(body) => put_done(shown, &send(alloc, link, body)?)?,
+        Do::SendLong(length) => put_done(shown, &send_long(alloc, link, length)?)?,
         Do::End(reason) => put_done(shown, &link.end(reason))?,
         Do::Open(count) => wire.open_to(REQUEST.len().saturating_add(count)),
         Do::Cut => wire.cut(),

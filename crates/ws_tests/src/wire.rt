@@ -12,12 +12,15 @@ pub struct Wire {
     // So many bytes come with one read, and behind them at most `step` with each.
     head: usize,
     step: usize,
-    // How far the input is open. Behind that it would block; behind all of it the stream has ended.
+    // How far the input is open. Behind that a read is refused; behind all of it the stream has ended.
     open: Cell<usize>,
     at: Cell<usize>,
     output: RefCell<Vec<u8>>,
     // Writes fail from now on.
     cut: Cell<bool>,
+    // What a read that finds nothing open is refused with, and how many were.
+    refusal: ErrorKind,
+    refused: Cell<u64>,
 }
 
 impl Wire {
@@ -33,7 +36,19 @@ impl Wire {
             at: Cell::new(0),
             output: RefCell::new(Vec::new(alloc)),
             cut: Cell::new(false),
+            refusal: ErrorKind::WouldBlock,
+            refused: Cell::new(0),
         })
+    }
+
+    /// From now on a read that finds nothing open is refused with this error.
+    pub fn refuse_with(&mut self, refusal: ErrorKind) {
+        self.refusal = refusal;
+    }
+
+    /// How many reads were refused.
+    pub fn refused_so_far(&self) -> u64 {
+        self.refused.get()
     }
 
     /// Opens the input so far and no further.
@@ -66,7 +81,8 @@ impl Read for &Wire {
         let end = self.open.get().min(self.input.len());
         let rest = self.input.get(at..end).unwrap_or(&[]);
         if rest.is_empty() && end < self.input.len() {
-            return Err(io::Error::from(ErrorKind::WouldBlock));
+            self.refused.set(self.refused.get().saturating_add(1));
+            return Err(io::Error::from(self.refusal));
         }
         let most = if at < self.head {
             self.head - at

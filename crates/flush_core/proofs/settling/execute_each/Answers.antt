@@ -1,7 +1,7 @@
-use Rattle.std.proofs.Common.{rules, arith, false, ap, sym, ◌∙◌, ◌+◌, ◌++◌, ◌∷◌, ◌≡◌, ℕ, List, [], length}
+use Rattle.std.proofs.Common.{rules, arith, false, ap, refl, sym, ◌∙◌, ◌+◌, ◌++◌, ◌∷◌, ◌≡◌, ℕ, List, [], length}
 use mathlib.Core.List.{map-id}
 use Rattle.std.proofs.lemmas.Iterator.Consumers.{YieldsList-end, YieldsList-turn}
-use Rattle.std.proofs.lemmas.List.{append_assoc}
+use Rattle.std.proofs.lemmas.List.{append-nil, append_assoc}
 use Rattle.std.proofs.lemmas.Iterator.Adapters.{YieldsList-from_vec}
 use Rattle.area_core.specs.Areas.{commands}
 use Rattle.broker_core.specs.States.{BrokerValue, State}
@@ -22,6 +22,14 @@ execute_one-requires-clause-count g c =
     let counted = count_after (commands c.loop-entry.yielded) c.args.broker.now.state in
     let is : c.loop-entry.broker.state.count ≡ (state_after c.args.broker.now.state (commands c.loop-entry.yielded)).count = ap (λ (b : BrokerValue). b.state.count) c.loop-entry.invariant.broker in
     omega (arith, is, counted, length_commands c.loop-entry.yielded, t.0, c.requires.count)
+
+pub loop-entry-init : goal.loop-entry-init
+loop-entry-init g c = record {
+  broker = λ i. record { state = c.args.broker.now.state; broken = c.requires.whole i };
+  outs = sym (append-nil c.args.waiting.now.items);
+  boxes = refl;
+  ended = sym (append-nil c.args.ended.now.items);
+}
 
 pub loop-entry-preserved : goal.loop-entry-preserved
 loop-entry-preserved g c =

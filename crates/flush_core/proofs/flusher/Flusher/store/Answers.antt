@@ -2,14 +2,14 @@ use Rattle.std.proofs.Common.{eqb-true, rules, Result, Err, true, ◌+◌, arith
 use Rattle.std.proofs.lemmas.Bool.{false≢true}
 use Rattle.disk_core.specs.Moments.{LeavesOnly}
 use Rattle.area_core.specs.Areas.{commands, records}
-use Rattle.area_core.specs.Steps.{IsCaused}
+use Rattle.area_core.specs.Steps.{IfMemory as IfAreaMemory, IsCaused}
 use Rattle.area_core.specs.declared.faults.AreaFault.{AreaFault}
 use Rattle.area_core.specs.declared.faults.AreaFault.TheVariants as area
 use Rattle.claim_core.specs.Seats.{FlushSeatValue, when_stopped}
 use Rattle.flush_core.specs.declared.faults.FlushFault.{FlushFault}
 use Rattle.flush_core.specs.declared.faults.FlushFault.TheVariants.{Full}
-use Rattle.flush_core.specs.Faults.{IsFlushCaused}
-use Rattle.flush_core.proofs.StoreFaults.{caused_so, fell_so, only_full, same_fault}
+use Rattle.flush_core.specs.Faults.{IfMemory, IsFlushCaused}
+use Rattle.flush_core.proofs.StoreFaults.{caused_so, fell_so, only_full, same_fault, untouched_so}
 use Rattle.broker_core.specs.States.{State}
 use Rattle.broker_core.specs.Steps.{state_after}
 use Rattle.command_core.specs.Commands.{CommandValue}
@@ -190,6 +190,23 @@ returns-in-Err-clause-outcome g c =
       opening = ap (λ (f : Flushed g.row.D.Denot). f.opening) c.self.view_is;
       left = ap (λ (f : Flushed g.row.D.Denot). f.left) c.self.view_is;
     }))
+
+pub returns-in-Err-clause-memory : goal.returns-in-Err-clause-memory
+returns-in-Err-clause-memory g c =
+    let it = c.self.inside in
+    let next = c.append.new.self.disk in
+    subst (λ (f : Flushed g.row.D.Denot). IfMemory {T = Unit {0}} (Err c.from.result) (next ≡ f.disk)) c.self.view_is
+    (subst (λ (fault : FlushFault). IfMemory {T = Unit {0}} (Err fault) (next ≡ it.journal.disk)) (sym c.from.ensures)
+    (untouched_so c.in-Err.fault _ (subst (λ (r : Result (Unit {0}) AreaFault). IfAreaMemory {T = Unit {0}} r (next ≡ it.journal.disk)) c.in-Err.is c.append.ensures.memory)))
+
+pub returns-then-self-clause-memory : goal.returns-then-self-clause-memory
+returns-then-self-clause-memory g c = tt
+
+pub returns-then-is_empty-clause-memory : goal.returns-then-is_empty-clause-memory
+returns-then-is_empty-clause-memory g c = tt
+
+pub returns-in-Ok-clause-memory : goal.returns-in-Ok-clause-memory
+returns-in-Ok-clause-memory g c = tt
 
 pub returns-in-Err-clause-cause : goal.returns-in-Err-clause-cause
 returns-in-Err-clause-cause g c =
