@@ -12,6 +12,10 @@ from stomp_client import Client
 
 SEATS = 32
 
+# For how many seconds nothing happens, and how much processor time the broker may take meanwhile.
+IDLE = 3
+IDLE_WORK = 0.3
+
 
 def served(waiting):
     """The client that waited, once it is served."""
@@ -29,6 +33,19 @@ def a_full_house(broker, checks):
     heard = [[client.receive().body for _ in range(SEATS)] for client in crowd]
     checks.same("each hears all 32", sorted(heard[0], key=int), [f"{number}" for number in range(SEATS)])
     checks.check("all in the same order", all(one == heard[0] for one in heard), heard)
+    for client in crowd:
+        client.disconnect()
+
+
+def nothing_to_do(broker, checks):
+    """while 32 clients say nothing and hear nothing the broker sleeps"""
+    crowd = [Client(broker.port).connect() for _ in range(SEATS)]
+    for client in crowd:
+        client.publish("/topic/none", "x")
+    before = broker.processor_seconds()
+    time.sleep(IDLE)
+    taken = broker.processor_seconds() - before
+    checks.check(f"it takes less than {IDLE_WORK} s of processor time in {IDLE} s", taken < IDLE_WORK, taken)
     for client in crowd:
         client.disconnect()
 
@@ -78,4 +95,4 @@ def one_that_gave_up(broker, checks):
 
 
 if __name__ == "__main__":
-    sys.exit(scenario.run(__doc__, [a_full_house, one_too_many, one_gone_without_a_word, one_that_gave_up]))
+    sys.exit(scenario.run(__doc__, [a_full_house, nothing_to_do, one_too_many, one_gone_without_a_word, one_that_gave_up]))

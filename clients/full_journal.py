@@ -14,6 +14,10 @@ from stomp_client import Client, Closed
 JOURNAL_BYTES = 131_104
 BODY = "x" * 1_000
 
+# More than an area has room for, and many more than a worker's window of 8 lets in at a time.
+UNASKED = 64
+LONG_BODY = "x" * 4_000
+
 
 def send_until_closed(client):
     """The bodies whose receipts came, and the code with which the connection was closed."""
@@ -29,9 +33,7 @@ def send_until_closed(client):
         receipted.append(body)
 
 
-def main():
-    program = scenario.words_of(__doc__).parse_args().program
-    checks = scenario.Checks()
+def one_at_a_time(program, checks):
     with scenario.serving(program, JOURNAL_BYTES) as broker:
         sender, idle = Client(broker.port).connect(), Client(broker.port).connect()
         receipted, code = send_until_closed(sender)
@@ -47,6 +49,26 @@ def main():
         checks.check("started again, it has each of them once, in order", found[: len(receipted)] == receipted, len(found))
         checks.check("and at most the one without a receipt behind them", len(found) <= len(receipted) + 1, len(found))
         reader.close()
+
+
+def all_at_once(program, checks):
+    with scenario.serving(program, JOURNAL_BYTES) as broker:
+        eager = Client(broker.port).connect()
+        for number in range(UNASKED):
+            eager.send("SEND", [("destination", "/queue/full"), ("receipt", f"{number}")], LONG_BODY)
+        heard, code = eager.to_the_end()
+        receipted = [frame.headers["receipt-id"] for frame in heard]
+        checks.same("who sends without waiting for receipts hears 1001", code, 1001)
+        checks.same("behind the receipts of its first messages", receipted, [f"{number}" for number in range(len(receipted))])
+        checks.check("and not of all", len(receipted) < UNASKED, len(receipted))
+        checks.same("the broker ends with status 1", broker.process.wait(timeout=10), 1)
+
+
+def main():
+    program = scenario.words_of(__doc__).parse_args().program
+    checks = scenario.Checks()
+    one_at_a_time(program, checks)
+    all_at_once(program, checks)
     return 1 if checks.failed else 0
 
 

@@ -59,6 +59,14 @@ def a_room_of_two(broker, checks):
     other.close()
 
 
+def a_short_farewell(broker, checks):
+    """a DISCONNECT that asks for no receipt"""
+    client = Client(broker.port).connect()
+    client.send("DISCONNECT")
+    checks.same("is told 1000, and nothing before it", client.to_the_end(), ([], 1000))
+    client.close()
+
+
 def receipts(broker, checks):
     """each kind of frame that asks for a receipt has it, in its turn, spelled as it was asked for"""
     client = Client(broker.port).connect()
@@ -227,6 +235,7 @@ def what_a_receipt_takes(broker, checks):
 
 SCENARIOS = [
     a_room_of_two,
+    a_short_farewell,
     receipts,
     acknowledged_in_auto,
     acknowledged_in_client,

@@ -52,6 +52,13 @@ class Broker:
     def is_running(self):
         return self.process.poll() is None
 
+    def processor_seconds(self):
+        """The processor time that it has taken, in its own code and in the system's."""
+        with open(f"/proc/{self.process.pid}/stat") as stat:
+            # Behind the name, which is in brackets, the fields begin with the third.
+            fields = stat.read().rsplit(") ", 1)[1].split()
+        return (int(fields[11]) + int(fields[12])) / os.sysconf("SC_CLK_TCK")
+
 
 @contextlib.contextmanager
 def serving(program=PROGRAM, journal_bytes=JOURNAL_BYTES):

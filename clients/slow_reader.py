@@ -77,8 +77,11 @@ def reads_again(broker, checks):
 
 
 def reads_never(broker, checks):
-    """one that doesn't read again is given up, with no close, and its seat is free"""
+    """one that doesn't read again is given up, with no close; its seat is free, and so is the message that it held"""
     slow = Client(broker.port, receive_bytes=65_536).connect()
+    slow.subscribe("h", "/queue/held", "client-individual")
+    held = [frame.body for frame in slow.publish("/queue/held", "held")]
+    checks.same("it holds a message of a queue", held, ["held"])
     slow.subscribe("s", "/topic/stuck")
     flood = Flood(broker.port, "/topic/stuck")
     others = [Client(broker.port).connect() for _ in range(SEATS - 3)]
@@ -96,6 +99,8 @@ def reads_never(broker, checks):
     waiting.hear_answer()
     waiting.connect().publish("/topic/none", "x")
     checks.check("which is served", True)
+    freed = [frame.body for frame in waiting.subscribe("h", "/queue/held", "client-individual")]
+    checks.same("and is handed the message", freed, ["held"])
     frames, code = slow.to_the_end()
     numbers = numbers_of(frames)
     checks.same("where it reads at last, the stream ends with no close", code, 0)

@@ -22,6 +22,7 @@ none f = record {
   broken = λ e. e;
   settled = λ e. e;
   caught_up = λ e b. e;
+  left = λ e b. e;
 }
 
 pub more : {D : Type 0} (f g h : Flushed D) → Flushes f g → Flushes g h → Flushes f h
@@ -35,6 +36,7 @@ more f g h a b = record {
   broken = λ e. b.broken (a.broken e);
   settled = λ e. b.settled (a.settled e);
   caught_up = λ e whole. b.caught_up (a.caught_up e (was_whole g.broken h.broken b.broken whole)) whole;
+  left = λ e whole. b.left (a.left e (was_whole g.broken h.broken b.broken whole)) whole;
 }
   where
     was_whole : (x y : Bool) → (x ≡ true → y ≡ true) → y ≡ false → x ≡ false
@@ -57,6 +59,7 @@ turned honest images old mid cs kept whole t =
       broken = λ e. cc;
       settled = λ e b. t.settled ∙ sym t.stored;
       caught_up = λ e b. subst At (sym t.seat) refl;
+      left = λ e b. refl;
     }
 
 falls : {D : Type 0} (old new : Flushed D) → TurnFalls old new → Flushes old new
@@ -70,6 +73,7 @@ falls old new t = record {
   broken = λ e. t.now;
   settled = λ e b. let n = t.now in cc;
   caught_up = λ e b. let n = t.now in cc;
+  left = λ e b. let n = t.now in cc;
 }
 
 -- a turn that failed

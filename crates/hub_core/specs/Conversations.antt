@@ -1,5 +1,5 @@
 -- What one connection asks of the broker.
-use Rattle.std.specs.Prelude.{◌≡◌, ◌≢◌, ◌⊎◌, ℕ, List, [], ◌∷◌, ◌++◌}
+use Rattle.std.specs.Prelude.{◌≡◌, ◌≢◌, ◌⊎◌, ℕ, List, [], ◌∷◌, ◌++◌, Option}
 use Rattle.std.specs.List.{AllByRecursion}
 use Rattle.command_core.specs.Commands.{CommandValue}
 use Rattle.command_core.specs.declared.command.Op.{Op}
@@ -78,6 +78,10 @@ abbrev pub session_of : Progress → Role → ℕ
 session_of progress Opens = 0
 session_of (Open number) role = number
 session_of progress role = 0
+
+-- the command of an operation and the receipt that it asks for, of the session that is open
+abbrev pub asked : Progress → Op → Option (List ℕ) → CommandValue
+asked progress op receipt = record { session = session_of progress (role_of op); op = op; receipt = receipt }
 
 -- how far it has come with a command of that role and ticket
 abbrev pub after : Progress → Role → ℕ → Progress

@@ -1,12 +1,12 @@
 -- What turns of the flusher leave.
-use Rattle.std.specs.Prelude.{◌≡◌, ◌≤◌, ◌++◌, List, true, false}
+use Rattle.std.specs.Prelude.{◌≡◌, ◌≤◌, [], ◌++◌, List, true, false}
 use Rattle.command_core.specs.Commands.{CommandValue}
 use Rattle.claim_core.specs.Seats.{next_ticket}
 use Rattle.flush_core.specs.Flushed.{Flushed}
 
 -- Turns were made, or none: the seat is of the same ring, with the same first ticket and as many sessions' seats, the
--- commands taken are those from before and more, and the mark has not fallen. Where all that was taken was published, it is
--- again, unless a step failed, and no output is left.
+-- commands taken are those from before and more, and the mark has not fallen. Unless a step failed, all that was taken is
+-- published where it was before, and no output is left where none was.
 pub record Flushes {D : Type 0} (old new : Flushed D) : Type 0 where
   pub ring : new.seat.ring ≡ old.seat.ring
   pub base : new.seat.base ≡ old.seat.base
@@ -17,3 +17,4 @@ pub record Flushes {D : Type 0} (old new : Flushed D) : Type 0 where
   pub broken : old.broken ≡ true → new.broken ≡ true
   pub settled : (old.broken ≡ false → old.settled ≡ old.stored) → (new.broken ≡ false → new.settled ≡ new.stored)
   pub caught_up : next_ticket old.seat ≡ old.seat.published → new.broken ≡ false → next_ticket new.seat ≡ new.seat.published
+  pub left : old.left ≡ [] → new.broken ≡ false → new.left ≡ []

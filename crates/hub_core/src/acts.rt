@@ -70,6 +70,7 @@ impl Acts {
 
     pub(crate) fn next(&mut self) -> Option<Act>
         ensures next { all_of self.old ≡ option_to_list result ++ all_of self.new }
+        ensures none { result ≡ None → all_of self.old ≡ [] }
         ensures first { self.new.again ≡ None }
         ensures form { IfSome result HasForm }
     {

@@ -11,5 +11,6 @@ pub struct Closed<D> {
     pub taken: u64,
     /// The mark: every number under it is published.
     pub mark: u64,
+    /// The disk of the journal, as the flusher left it.
     pub disk: D,
 }

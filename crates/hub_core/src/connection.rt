@@ -1,8 +1,9 @@
 //! One connection, as its worker keeps it from turn to turn.
 
-ghost use Rattle.std.specs.Prelude.{◌≡◌, ◌≢◌, ◌⊎◌, [], None, true, false, IfSome, IfErr};
+ghost use Rattle.std.specs.Prelude.{◌≡◌, ◌≢◌, ◌⊎◌, ◌++◌, [], None, true, false, option_to_list, IfSome, IfOk, IfErr};
 ghost use Rattle.session_core.specs.Sessions.{HasForm};
 ghost use Rattle.session_core.specs.declared.act.Act.TheVariants as acts;
+ghost use Rattle.hub_core.specs.Conversations.{asked};
 ghost use Rattle.hub_core.specs.Tasks.{all_of};
 ghost use Rattle.hub_core.specs.declared.connection.Stage.TheVariants.{Running, Leaving};
 ghost use Rattle.hub_core.specs.declared.progress.Progress.TheVariants.{New};
@@ -101,11 +102,12 @@ impl<B: Bell> Connection<B> {
         }
     }
 
-    // The next act. Once the link is over the loss of the connection is the last.
+    // The next act: those that wait come first. Once the link is over the loss of the connection is the last.
     pub fn next_act(&mut self) -> Option<Act>
         ensures same { self.new.progress ≡ self.old.progress }
         ensures form { IfSome result HasForm }
         ensures first { self.new.acts.again ≡ None }
+        ensures waiting { all_of self.old.acts ≢ [] → all_of self.old.acts ≡ option_to_list result ++ all_of self.new.acts }
     {
         match self.acts.next() {
             Some(act) => Some(act),
@@ -114,7 +116,7 @@ impl<B: Bell> Connection<B> {
         }
     }
 
-    // The entry of an operation, or the act again where memory was refused. An Open gets its outbox here.
+    // The entry of an operation for this session, or the act again where memory was refused. An Open gets its outbox here.
     pub fn entry_of<M: Ringers<B>>(
         &mut self,
         alloc: Global,
@@ -125,14 +127,15 @@ impl<B: Bell> Connection<B> {
         requires { HasForm (acts.Do op receipt) }
         ensures same { (self.new.progress ≡ self.old.progress) × (self.new.acts ≡ self.old.acts) }
         ensures form { IfErr result HasForm }
+        ensures entry { IfOk result (λ entry. entry.command ≡ asked self.old.progress op receipt) }
+        ensures back { IfErr result (λ act. act ≡ acts.Do op receipt) }
     {
         let role = Role::of(&op);
         let (sender, taker) = match box_for(alloc, ringers, role) {
             Ok(ends) => ends,
             Err(_) => return Err(Act::Do(op, receipt)),
         };
-        let session = self.progress.session(role);
-        match Entry::new(alloc, Command::new(session, op, receipt), sender) {
+        match Entry::new(alloc, command_of(self.progress, op, receipt), sender) {
             Ok(entry) => {
                 if taker.is_some() {
                     drop(mem::replace(&mut self.outbox, taker));
@@ -145,6 +148,15 @@ impl<B: Bell> Connection<B> {
             }
         }
     }
+}
+
+// The command of an operation, as the conversation stands.
+fn command_of(progress: Progress, op: Op, receipt: Option<HeaderText>) -> Command
+    requires { HasForm (acts.Do op receipt) }
+    ensures { result ≡ asked progress op receipt }
+{
+    let session = progress.session(Role::of(&op));
+    Command::new(session, op, receipt)
 }
 
 // The ends of a new outbox, for an Open alone.

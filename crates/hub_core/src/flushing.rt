@@ -1,6 +1,6 @@
 //! What the flusher's thread does.
 
-ghost use Rattle.std.specs.Prelude.{◌≡◌, IfOk, OnErr, true, false};
+ghost use Rattle.std.specs.Prelude.{◌≡◌, [], IfOk, OnErr, true, false};
 ghost use Rattle.flush_core.specs.Faults.{IsFlushCaused};
 ghost use Rattle.hub_core.specs.Flushes.{Flushes};
 
@@ -15,7 +15,8 @@ use std::alloc::Global;
 const FLUSHER: u32 = u32::MAX;
 
 /// Makes so many turns of the flusher, those that its gate held up counted, and answers the mark then. Outputs of sessions
-/// that have no outbox are dropped. A fault ends it at once: `Device` just where a call of the disk failed.
+/// that have no outbox are dropped. A fault ends it at once: `Device` just where a call of the disk failed. Its gate hears
+/// that it has stopped.
 pub fn flush_loop<D: Disk, B: Bell, G: Gate>(
     alloc: Global,
     ring: &BrokerRing<OutSender<B>>,
@@ -52,11 +53,29 @@ fn flush<D: Disk, B: Bell, G: Gate>(
     ensures stops { OnErr result ((flusher.new.broken ≡ true) × (flusher.new.seat.stopped ≡ true)) }
 {
     let before = flusher.mark();
-    flusher.turn(alloc, ring)?;
+    match flusher.turn(alloc, ring) {
+        Ok(_) => {
+            drop_left(flusher);
+            tell_mark(gate, before, flusher.mark());
+            Ok(())
+        }
+        Err(fault) => {
+            gate.stopped();
+            Err(fault)
+        }
+    }
+}
+
+// Drops the outputs of sessions that have no outbox.
+fn drop_left<D: Disk, B: Bell>(flusher: &mut Flusher<D, B>)
+    ensures { flusher.new ≡ record flusher.old { left = [] } }
+{
     drop(flusher.take_left());
-    let mark = flusher.mark();
+}
+
+// Tells the gate where the mark has risen.
+fn tell_mark<G: Gate>(gate: &G, before: u64, mark: u64) {
     if before < mark {
         gate.published(mark);
     }
-    Ok(())
 }

@@ -1,6 +1,6 @@
 //! Who is asked before each turn.
 
-/// What is asked before each turn of a worker and of the flusher, and hears of what they did. The last three calls need
+/// What is asked before each turn of a worker and of the flusher, and hears of what they did. The last four calls need
 /// not be written; they are for a gate by which threads wait for each other.
 pub trait Gate {
     /// Whether a turn is taken; one whose gate answers false does nothing. A worker goes by the number of its seat, the
@@ -16,4 +16,8 @@ pub trait Gate {
 
     /// The flusher has published every number under this mark.
     fn published(&self, _mark: u64) {}
+
+    /// A step of the flusher has failed: no mark over the last one will be published, and the ring takes nothing more. A
+    /// worker that is kept in `is_full` is to be let go: its next append is refused, and it closes its connection.
+    fn stopped(&self) {}
 }

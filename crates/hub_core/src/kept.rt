@@ -7,6 +7,7 @@ use frame_core::Verb;
 /// The output that was taken out of an outbox and is not sent yet.
 #[derive(Drop)]
 pub enum Kept {
+    /// None was taken, or the last one taken was sent.
     Nothing,
     /// Its number was not under the mark when that was last read.
     Waits(Out),

@@ -1,7 +1,7 @@
 ghost use Rattle.std.specs.Prelude.{◌≡◌, ◌≤◌, IsTrue, OnSome};
 ghost use Rattle.hub_tests.specs.Parties.{AreTogether};
 
-use crate::gates::Free;
+use crate::gates::{Free, Shut};
 use crate::hubs::{HubFlusher, HubRing, HubSeat, Party, close, new_party, party_over};
 use command_core::{Command, Dest, Entry, Op, Sending};
 use disk_core::MemDisk;
@@ -85,7 +85,8 @@ fn close_and_open(alloc: Global, party: Party) -> Option<([u64; 4], u64)>
     }
 }
 
-// Two commands are published, a third is taken, and a fourth waits, whose ticket is the answer.
+// Two commands are published, though not while the gate is shut; a third is taken, and a fourth waits, whose ticket is the
+// answer.
 fn stop_within_a_turn(
     alloc: Global,
     ring: &HubRing,
@@ -99,6 +100,9 @@ fn stop_within_a_turn(
 {
     append(alloc, ring, seat, 1)?;
     append(alloc, ring, seat, 1)?;
+    let Ok(0) = flush_loop(alloc, ring, flusher, &Shut, 3) else {
+        return None;
+    };
     flush_loop(alloc, ring, flusher, &Free, 1).ok()?;
     append(alloc, ring, seat, 1)?;
     flusher.gather(ring).ok()?;

@@ -1,7 +1,7 @@
 //! Gates that let threads wait for one another.
 
 use hub_core::Gate;
-use std::sync::atomic::{AtomicBool, Ordering};
+use std::sync::atomic::{AtomicBool, AtomicU64, Ordering};
 use std::thread;
 use std::time::{Clock, Duration};
 
@@ -12,6 +12,16 @@ pub struct Free;
 impl Gate for Free {
     fn pass(&self, _worker: u32, _turn: u64) -> bool {
         true
+    }
+}
+
+/// Lets no turn pass.
+#[derive(Drop)]
+pub struct Shut;
+
+impl Gate for Shut {
+    fn pass(&self, _worker: u32, _turn: u64) -> bool {
+        false
     }
 }
 
@@ -43,5 +53,90 @@ impl<R: Clock> Gate for Turnstile<R> {
         }
         thread::sleep(&self.rt, Duration::from_millis(1));
         worker != 0 || self.opened.load(Ordering::SeqCst)
+    }
+}
+
+/// The gate of worker 0 and of a flusher, which notes what it hears. Each turn sleeps a millisecond. The flusher is held up
+/// until it is let go, or the worker has found its window full, or has ended; then that one turns no more.
+#[derive(Drop)]
+pub struct Noting<R> {
+    rt: R,
+    shut: AtomicBool,
+    flushes: AtomicBool,
+    ended: AtomicBool,
+    appended: AtomicBool,
+    full: AtomicBool,
+    stopped: AtomicBool,
+    mark: AtomicU64,
+}
+
+impl<R> Noting<R> {
+    pub fn new(rt: R) -> Noting<R> {
+        Noting {
+            rt,
+            shut: AtomicBool::new(false),
+            flushes: AtomicBool::new(false),
+            ended: AtomicBool::new(false),
+            appended: AtomicBool::new(false),
+            full: AtomicBool::new(false),
+            stopped: AtomicBool::new(false),
+            mark: AtomicU64::new(0),
+        }
+    }
+
+    /// Begins anew: whether the worker is held up, and whether the flusher is let go from the beginning.
+    pub fn begin(&self, shut: bool, flushes: bool) {
+        self.shut.store(shut, Ordering::SeqCst);
+        self.flushes.store(flushes, Ordering::SeqCst);
+        self.ended.store(false, Ordering::SeqCst);
+        self.appended.store(false, Ordering::SeqCst);
+        self.full.store(false, Ordering::SeqCst);
+        self.stopped.store(false, Ordering::SeqCst);
+        self.mark.store(0, Ordering::SeqCst);
+    }
+
+    /// The worker has ended.
+    pub fn end(&self) {
+        self.ended.store(true, Ordering::SeqCst);
+    }
+
+    /// Whether it heard that commands were appended, that the window was full, and that the flusher has stopped; and the mark
+    /// that it heard of last.
+    pub fn heard(&self) -> ([bool; 3], u64) {
+        let appended = self.appended.load(Ordering::SeqCst);
+        let full = self.full.load(Ordering::SeqCst);
+        let stopped = self.stopped.load(Ordering::SeqCst);
+        ([appended, full, stopped], self.mark.load(Ordering::SeqCst))
+    }
+}
+
+impl<R: Clock> Gate for Noting<R> {
+    fn pass(&self, worker: u32, _turn: u64) -> bool {
+        if self.ended.load(Ordering::SeqCst) {
+            return worker == u32::MAX;
+        }
+        thread::sleep(&self.rt, Duration::from_millis(1));
+        match worker {
+            0 => !self.shut.load(Ordering::SeqCst),
+            u32::MAX => self.flushes.load(Ordering::SeqCst),
+            _ => false,
+        }
+    }
+
+    fn appended(&self, _worker: u32) {
+        self.appended.store(true, Ordering::SeqCst);
+    }
+
+    fn is_full(&self, _worker: u32, _mark: u64) {
+        self.full.store(true, Ordering::SeqCst);
+        self.flushes.store(true, Ordering::SeqCst);
+    }
+
+    fn published(&self, mark: u64) {
+        self.mark.store(mark, Ordering::SeqCst);
+    }
+
+    fn stopped(&self) {
+        self.stopped.store(true, Ordering::SeqCst);
     }
 }

@@ -12,6 +12,8 @@ mod gates;
 #[cfg(test)]
 mod hubs;
 #[cfg(test)]
+mod links;
+#[cfg(test)]
 mod many_commands_tests;
 #[cfg(test)]
 mod script_tests;

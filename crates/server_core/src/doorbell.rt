@@ -55,6 +55,7 @@ impl Doorbell {
 pub struct BellRope(Arc<Doorbell>);
 
 impl BellRope {
+    /// One that rings that doorbell. No memory is taken.
     pub fn new(bell: Arc<Doorbell>) -> BellRope {
         BellRope(bell)
     }

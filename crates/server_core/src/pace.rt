@@ -7,10 +7,11 @@ use std::thread::Parker;
 use std::time::Duration;
 
 /// For how many seconds a thread sleeps at most before it looks again. Nothing waits for this to end: whoever sleeps is
-/// woken when there is something to do.
+/// woken when there is something to do, and when the flusher has failed.
 const LONGEST_SLEEP: u64 = 10;
 
-/// Has the flusher sleep until a command was put into the ring, and a worker with a full window until the mark has risen.
+/// Has the flusher sleep until a command was put into the ring, and a worker with a full window until the mark has risen or
+/// will rise no more.
 ///
 /// No wake is lost, and only a wake of a thread that sleeps costs a call of the system.
 #[derive(Drop)]
@@ -20,7 +21,8 @@ pub struct Pace<T> {
     flusher: Parker,
     // Whether the flusher's last turn took something: more may be ready then, so that it doesn't sleep.
     took: AtomicBool,
-    // The mark that was published last, and how many workers wait for a greater one.
+    // The mark that was published last, or a number over every mark once none will be; and how many workers wait for a
+    // greater one.
     mark: AtomicU64,
     waiting: AtomicU64,
 }
@@ -50,7 +52,7 @@ impl<T: Wait> Pace<T> {
         self.flusher.unpark();
     }
 
-    /// Returns once a mark over this one is published.
+    /// Returns once a mark over this one is published, or once none will be; or else when the time is up.
     fn await_mark(&self, mark: u64) {
         self.waiting.fetch_add(1, Ordering::SeqCst);
         let seen = self.mark.load(Ordering::SeqCst);
@@ -67,6 +69,19 @@ impl<T: Wait> Pace<T> {
     fn raise(&self, mark: u64) {
         self.took.store(true, Ordering::SeqCst);
         self.mark.store(mark, Ordering::SeqCst);
+        self.wake_workers();
+    }
+
+    /// Says that no greater mark will be published.
+    fn stop(&self) {
+        // Of the two greatest numbers the one that is odd where the mark is even: so the word changes, whatever it was.
+        let last = self.mark.load(Ordering::SeqCst);
+        self.mark.store(u64::MAX - last % 2, Ordering::SeqCst);
+        self.wake_workers();
+    }
+
+    // Wakes the workers that wait for a greater mark.
+    fn wake_workers(&self) {
         if self.waiting.load(Ordering::SeqCst) > 0 {
             self.mark.wake_all();
         }
@@ -91,5 +106,9 @@ impl<T: Wait> Gate for Pace<T> {
 
     fn published(&self, mark: u64) {
         self.raise(mark);
+    }
+
+    fn stopped(&self) {
+        self.stop();
     }
 }
