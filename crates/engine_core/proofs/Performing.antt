@@ -1,7 +1,7 @@
 -- What a line does that was read.
-use Rattle.std.proofs.Common.{◌≡◌, ◌≢◌, ◌<◌, List, [], ◌∷◌, ◌++◌, ℕ, Option, Some, None, MatchOption, codes, refl, sym, ap, ◌∙◌, arith, inl, inr, subst}
+use Rattle.std.proofs.Common.{◌≡◌, ◌≢◌, ◌<◌, List, [], ◌∷◌, ◌++◌, ℕ, Bool, true, false, Option, Some, None, IfSome, IsSome, MatchOption, codes, refl, sym, ap, ◌∙◌, arith, inl, inr, subst}
 use Rattle.std.specs.Fmt.{decimal}
-use Rattle.std.proofs.lemmas.Bool.{cases_lt}
+use Rattle.std.proofs.lemmas.Bool.{cases_lt, false≢true}
 use Rattle.script_text.specs.ScriptLines.{IsOfNoForm, IsLoss, IsCrash}
 use Rattle.broker_core.specs.Operations.{restarted}
 use Rattle.broker_core.specs.States.{State}
@@ -82,3 +82,9 @@ pub opened_as : (s t : Script) (disk : Memory) (text : List ℕ) → HasDisk s d
 opened_as (Running r) t disk text stands o = record { state = o.state; reopens = restart_is disk.content r.queue.state o.state stands o.reopens; same_text = o.same_text; after = o.after }
 opened_as (Stopped d) t disk text is o = record { state = o.state; reopens = subst (λ c. IsRestartOf c o.state) is o.reopens; same_text = o.same_text; after = o.after }
 opened_as Over t disk text is o = absurd is
+
+-- a disk is handed out unless its journal failed
+pub no_disk : {A : Type 0} (durable : Bool) (result : Option A) (P : A → Type 0) → (durable ≡ true → IsSome result) → IfSome result P → MatchOption result (durable ≡ false) P
+no_disk durable (Some disk) P some is = is
+no_disk true None P some is = absurd (false≢true (some refl))
+no_disk false None P some is = refl

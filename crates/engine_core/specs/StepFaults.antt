@@ -6,7 +6,7 @@ use Rattle.engine_core.specs.Scripts.{IsNotOpened}
 use Rattle.engine_core.specs.declared.fault.QueueFault.{QueueFault}
 use Rattle.engine_core.specs.declared.fault.QueueFault.TheVariants.{Memory, Opening, Storing}
 use Rattle.engine_core.specs.declared.script.Script.{Script}
-use Rattle.engine_core.specs.declared.script.Script.TheVariants.{Running}
+use Rattle.engine_core.specs.declared.script.Script.TheVariants.{Running, Stopped, Over}
 
 -- Of a step while the disk runs: it opens no disk. Where the disk failed or had no room, the journal is not durable from then on.
 abbrev pub IsStepTold : Bool → QueueFault → Type 0
@@ -31,11 +31,17 @@ abbrev pub IsRunTold : Script → QueueFault → Type 0
 IsRunTold (Running s) fault = IsStepTold s.queue.durable fault
 IsRunTold _ fault = ⊥
 
+-- there is no disk that could be opened: its journal failed, or it is gone
+abbrev pub HasNoDisk : Script → Type 0
+HasNoDisk (Running s) = s.queue.durable ≡ false
+HasNoDisk (Stopped disk) = ⊥
+HasNoDisk Over = Unit {0}
+
 -- of a disk that is to be opened: of its content, or that there is none
 abbrev pub IsOpeningTold : Script → QueueFault → Type 0
 IsOpeningTold s (Memory refused) = Unit {0}
 IsOpeningTold s (Opening fault) = IsNotOpened s fault
-IsOpeningTold s (Storing flush.Broken) = Unit {0}
+IsOpeningTold s (Storing flush.Broken) = HasNoDisk s
 IsOpeningTold s _ = ⊥
 
 -- no disk runs whose journal is durable

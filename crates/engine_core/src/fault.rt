@@ -89,7 +89,8 @@ pub enum ScriptFault {
     CountTooLarge,
     /// The disk was not opened, at the start or by a line.
     Opening(OpenFault),
-    /// Commands were not stored: they do not fit, the disk failed, or memory was refused.
+    /// Commands were not stored, or what they give was not printed: they do not fit, the disk failed, memory was refused, or
+    /// the journal failed before.
     Storing(FlushFault),
     /// The script can't be read, or was read 4,294,967,296 times.
     Input,

@@ -24,6 +24,9 @@ const PIECE: usize = 65_536;
 /// How many reads are made at most.
 const MOST_READS: u64 = 4_294_967_296;
 
+// What docs/PROTOCOL.md tells of reads.
+const _: () = prove!(MOST_READS == 4_294_967_296);
+
 /// How many times a line's text is offered to the writer at most.
 const MOST_WRITES: u64 = 4_294_967_296;
 

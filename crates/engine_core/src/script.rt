@@ -1,8 +1,9 @@
 //! A script as far as it has run, line by line.
 
-ghost use Rattle.std.specs.Prelude.{◌≡◌, ◌≢◌, ◌≤◌, ◌^◌, ◌++◌, IfErr, IfOk, IfSome, MatchOption, OnOk, true, string_bytes};
+ghost use Rattle.std.specs.Prelude.{◌≡◌, ◌≢◌, ◌≤◌, ◌^◌, ◌++◌, IfErr, IfOk, MatchOption, OnOk, true, string_bytes};
+ghost use Rattle.engine_core.specs.OfQueue.{IsMemory};
 ghost use Rattle.engine_core.specs.Scripts.{BeginsWith, HasDisk, open_text};
-ghost use Rattle.engine_core.specs.StepFaults.{IsOpeningTold, IsPrintTold};
+ghost use Rattle.engine_core.specs.StepFaults.{HasNoDisk, IsOpeningTold};
 
 use crate::fault::QueueFault;
 use crate::running_script::RunningScript;
@@ -156,7 +157,7 @@ impl Script {
 
 // The disk, where there is one.
 fn into_disk(script: Script) -> Option<MemDisk>
-    ensures { IfSome result (λ disk. HasDisk script disk.content) }
+    ensures { MatchOption result (HasNoDisk script) (λ disk. HasDisk script disk.content) }
 {
     match script {
         Script::Running(script) => script.into_disk(),
@@ -187,12 +188,11 @@ fn open_journal(alloc: Global, disk: MemDisk, text: &mut String) -> Result<Journ
 
 // Adds the line that tells of a journal to the text: how many commands it counts, and how many messages it holds.
 fn tell(alloc: Global, journal: &Journal, text: &mut String) -> Result<(), QueueFault>
+    requires durable { journal.now.durable ≡ true }
     ensures ok { OnOk result (string_bytes text.new ≡ string_bytes text.old ++ open_text journal.now.state) }
-    ensures told { IfErr result IsPrintTold }
+    ensures memory { IfErr result IsMemory }
 {
-    let Some(held) = journal.held() else {
-        return Err(QueueFault::Storing(FlushFault::Broken));
-    };
+    let held = journal.held().unwrap();
     let count = journal.count();
     let line = format!(in alloc; "open {count} {held}\n")?;
     let told = text.push_str(line.as_str());

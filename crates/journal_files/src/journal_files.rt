@@ -2,10 +2,10 @@
 
 ghost use Rattle.std.specs.Prelude.{◌≡◌, ◌≢◌, ◌<◌, ◌≤◌, IfErr, OnOk, IsErrOf};
 ghost use Rattle.std.specs.Io.KnownBytes.{Appends};
-ghost use Rattle.journal_files.specs.JournalFiles.{IsTooShort, Shows, text_of};
+ghost use Rattle.journal_files.specs.JournalFiles.{IsShowTold, IsTooShort, Shows, ShowsOf, text_of};
 
 use area_core::{FormatFault, format};
-use disk_core::{FileDisk, OpenError};
+use disk_core::{Disk, FileDisk, OpenError};
 use recover_core::{OpenFault, Seen, read};
 use std::alloc::Global;
 use std::fs::{File, Files};
@@ -80,7 +80,22 @@ pub fn show_file<R: Files<File = File>, W: Write>(
     let Ok(mut disk) = FileDisk::open(rt, path) else {
         return Err(FileFault::CannotOpen);
     };
-    let seen = match read(alloc, &mut disk) {
+    show_disk(alloc, &mut disk, writer)
+}
+
+// Writes what the journal of a disk shows of itself. No contract knows what a file holds, so that it is what this disk shows,
+// and no other, is said here of a disk that is honest.
+fn show_disk<D: Disk, W: Write>(
+    alloc: Global,
+    disk: &mut D,
+    writer: &mut W,
+) -> Result<(), FileFault>
+    ensures shown { D.honest disk.old → OnOk result (ShowsOf (D.content disk.old) (W.contents writer.old) (W.contents writer.new)) }
+    ensures shows { OnOk result (Shows (W.contents writer.old) (W.contents writer.new)) }
+    ensures err { IfErr result (λ fault. fault ≢ FileFault.Output → writer.new ≡ writer.old) }
+    ensures refused { D.honest disk.old → IfErr result (λ fault. IsShowTold fault (D.content disk.old)) }
+{
+    let seen = match read(alloc, disk) {
         Ok(seen) => seen,
         Err(fault) => return Err(FileFault::Read(fault)),
     };

@@ -1,5 +1,5 @@
 -- What a journal keeps at rest, and what is left of it where its disk stops.
-use Rattle.std.proofs.Common.{◌≡◌, ◌+◌, ◌-◌, ◌≤◌, ◌++◌, ℕ, zero, suc, List, [], ◌∷◌, false, true, length, take, set, slice_index_or, All, Option, Some, None, IsSome, IfSome, IfOk, Result, Ok, Err, sym, ap, ◌∙◌, subst, arith, length-append}
+use Rattle.std.proofs.Common.{◌≡◌, ◌+◌, ◌-◌, ◌≤◌, ◌++◌, ℕ, zero, suc, List, [], ◌∷◌, false, true, length, take, set, slice_index_or, All, Option, Some, None, IsSome, IfSome, IfErr, IfOk, Result, Ok, Err, sym, ap, ◌∙◌, subst, arith, length-append}
 use mathlib.Core.Option.{some, some-injective, some-ne-none}
 use Rattle.std.proofs.Math.Logic.{∥∥₁_map}
 use lib.ListN.{get_elem?}
@@ -13,10 +13,14 @@ use Rattle.broker_core.specs.Steps.{state_after}
 use Rattle.claim_core.specs.Seats.{FlushSeatValue, SessionSeatValue, new_flushing, new_session, next_ticket}
 use Rattle.recover_core.specs.Opens.{IsRestartOf}
 use Rattle.recover_core.specs.Standing.{Stands}
+use Rattle.recover_core.specs.Told.{IsOpenTold}
+use Rattle.area_core.specs.declared.faults.AreaFault.TheVariants as areas
 use Rattle.recover_core.specs.declared.faults.OpenFault.{OpenFault}
+use Rattle.recover_core.specs.declared.faults.OpenFault.TheVariants as opens
 use Rattle.recover_core.proofs.Stores.{after-append}
 use Rattle.flush_core.specs.Flushed.{AfterSome, Flushed, IsSame}
 use Rattle.flush_core.specs.Batches.{state_at, state_taken}
+use Rattle.script_journal.specs.Faults.{IsWantOfMemory}
 use Rattle.script_journal.specs.Going.{HasGoneFront, IsIdle}
 use Rattle.script_journal.specs.Journals.{IsAtRest, IsFull, JournalValue, StandsAfterFront}
 use Rattle.script_journal.specs.Placed.{AreSeatsOf}
@@ -106,3 +110,13 @@ pub opened_calm : (opened : Option BrokerValue) (result : Result JournalValue Op
 opened_calm None result holds now before there same made = absurd (false≢true there)
 opened_calm (Some broker) (Ok journal) holds now before there same made = ap (λ (j : JournalValue). j.failures) made ∙ same
 opened_calm (Some broker) (Err fault) holds now before there same made = tt
+
+-- where memory was refused, nothing is told of the content
+pub memory_told : (content : List ℕ) (result : Result JournalValue OpenFault) → IfErr result IsWantOfMemory → IfErr result (λ fault. IsOpenTold fault content)
+memory_told content (Ok journal) want = tt
+memory_told content (Err (opens.Area (areas.Memory refused))) want = tt
+memory_told content (Err (opens.Area areas.Device)) want = absurd want
+memory_told content (Err (opens.Area areas.Full)) want = absurd want
+memory_told content (Err (opens.Area areas.Broken)) want = absurd want
+memory_told content (Err opens.CountTooLarge) want = absurd want
+memory_told content (Err (opens.Read fault)) want = absurd want

@@ -1,6 +1,9 @@
 -- Which faults come from where.
 use Rattle.std.specs.Prelude.{◌≡◌, ℕ}
 use Rattle.disk_core.specs.Faults.{IsOneMore}
+use Rattle.area_core.specs.declared.faults.AreaFault.TheVariants as areas
+use Rattle.recover_core.specs.declared.faults.OpenFault.{OpenFault}
+use Rattle.recover_core.specs.declared.faults.OpenFault.TheVariants as opens
 use Rattle.flush_core.specs.declared.faults.FlushFault.{FlushFault}
 use Rattle.flush_core.specs.declared.faults.FlushFault.TheVariants.{Device, Full, Broken, Memory}
 
@@ -31,3 +34,8 @@ IsCausedBy before now Device = IsOneMore before now
 IsCausedBy before now Full = now ≡ before
 IsCausedBy before now Broken = now ≡ before
 IsCausedBy before now (Memory refused) = now ≡ before
+
+-- a journal is not opened since memory was refused
+abbrev pub IsWantOfMemory : OpenFault → Type 0
+IsWantOfMemory (opens.Area (areas.Memory refused)) = Unit {0}
+IsWantOfMemory _ = ⊥

@@ -10,7 +10,7 @@ ghost use Rattle.recover_core.specs.Standing.{StandFor, Stands};
 ghost use Rattle.recover_core.specs.Stores.{disk_of, is_broken, opened_by};
 ghost use Rattle.recover_core.specs.Told.{IsOpenTold};
 ghost use Rattle.flush_core.specs.declared.faults.FlushFault.TheVariants.{Broken, Full};
-ghost use Rattle.script_journal.specs.Faults.{IsCausedBy, IsNotOfDisk};
+ghost use Rattle.script_journal.specs.Faults.{IsCausedBy, IsNotOfDisk, IsWantOfMemory};
 ghost use Rattle.script_journal.specs.Journals.{IsFull, StandsAfterFront};
 ghost use Rattle.script_journal.specs.Placed.{commands_of};
 
@@ -95,7 +95,7 @@ impl Journal {
     ///
     /// After a fault the journal is not durable, and takes nothing more: `Device` just where a call of the disk failed, `Full`
     /// where the block of some of the commands has no room behind those before, `Memory` where memory was refused, `Broken`
-    /// where a step failed before.
+    /// where a step failed before, or the ring does not take a command, as of a connection with no seat, or a ninth of one.
     pub fn record(&mut self, alloc: Global, waiting: Vec<Waiting>) -> Result<Vec<Out>, FlushFault>
         ensures state { OnOk result (self.new ≡ record self.old { state = state_after self.old.state (commands_of waiting.items); content = self.new.content }) }
         ensures outs { IfOk result (λ outs. outs.items ≡ outs_of self.old.state (commands_of waiting.items)) }
@@ -202,7 +202,7 @@ fn with_broker(alloc: Global, store: Store<MemDisk>) -> Result<Journal, OpenFaul
     requires stands { IfSome (opened_by store) (λ broker. StandFor (IsImage (disk_of store).content (disk_of store).held) broker.state × (broker.broken ≡ false) × (broker.state.count ≤ 2 ^ 61)) }
     requires whole { is_broken store ≡ false }
     ensures made { IfOk result (λ journal. IfSome (opened_by store) (λ broker. journal ≡ record { state = broker.state; durable = true; content = (disk_of store).content; failures = (disk_of store).failures })) }
-    ensures refused { IfErr result (λ fault. (content : List ℕ) → IsOpenTold fault content) }
+    ensures refused { IfErr result IsWantOfMemory }
 {
     let mut store = store;
     let broker = store.broker().unwrap();
@@ -215,7 +215,7 @@ fn with_ring(alloc: Global, store: Store<MemDisk>, broker: Broker) -> Result<Jou
     requires broker { (broker.broken ≡ false) × (broker.state.count ≤ 2 ^ 61) }
     requires whole { is_broken store ≡ false }
     ensures made { IfOk result (λ journal. journal ≡ record { state = broker.state; durable = true; content = (disk_of store).content; failures = (disk_of store).failures }) }
-    ensures refused { IfErr result (λ fault. (content : List ℕ) → IsOpenTold fault content) }
+    ensures refused { IfErr result IsWantOfMemory }
 {
     match ScriptRing::new(alloc, broker.count()) {
         Ok((ring, seats, seat)) => Ok(Journal {

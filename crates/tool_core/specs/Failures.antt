@@ -1,4 +1,4 @@
-use Rattle.std.specs.Prelude.{◌≡◌, ◌≢◌, ◌⊎◌, List, [], ◌∷◌, ◌++◌, ℕ, Option, codes}
+use Rattle.std.specs.Prelude.{◌≡◌, ◌≢◌, ◌≤◌, ◌⊎◌, List, [], ◌∷◌, ◌++◌, ℕ, Option, codes}
 use Rattle.std.specs.Io.KnownBytes.{Appends, Consumes, IsAtEnd}
 use Rattle.clap.specs.Values.{kind_of}
 use Rattle.clap.specs.declared.error.Error.{Error}
@@ -16,6 +16,9 @@ use Rattle.engine_core.specs.declared.fault.ScriptFault.TheVariants.{Memory, Ope
 use Rattle.journal_files.specs.JournalFiles.{Shows}
 use Rattle.journal_files.specs.declared.journal_files.FileFault.{FileFault}
 use Rattle.journal_files.specs.declared.journal_files.FileFault.TheVariants as files
+use Rattle.tool_core.specs.CommandLines.{AskFor}
+use Rattle.tool_core.specs.declared.command_line.Subcommand.{Subcommand}
+use Rattle.tool_core.specs.declared.command_line.Subcommand.TheVariants as asks
 use Rattle.tool_core.specs.declared.program.Failure.{Failure}
 use Rattle.tool_core.specs.declared.program.Failure.TheVariants.{CommandLine, Number, Script, Format, File, Server}
 
@@ -28,10 +31,21 @@ pub record RunsToEnd (unread left before after : Option (List ℕ)) : Type 0 whe
   pub is_script : IsScript empty_state input printed
   pub writes : Appends before after printed
 
--- What was asked for is done: a script was read to its end, and what it prints is written; or nothing was read, and
--- nothing written but what a journal shows of itself.
-abbrev pub IsDone : Option (List ℕ) → Option (List ℕ) → Option (List ℕ) → Option (List ℕ) → Type 0
-IsDone unread left before after = RunsToEnd unread left before after ⊎ ((left ≡ unread) × ((after ≡ before) ⊎ Shows before after))
+-- nothing was read or written
+abbrev pub Untouched : Option (List ℕ) → Option (List ℕ) → Option (List ℕ) → Option (List ℕ) → Type 0
+Untouched unread left before after = (left ≡ unread) × (after ≡ before)
+
+-- A subcommand is done: a script was read to its end, and what it prints is written; a file has bytes enough for a journal; what
+-- a journal shows is written. A server is never done.
+abbrev pub IsDoneAs : Subcommand → Option (List ℕ) → Option (List ℕ) → Option (List ℕ) → Option (List ℕ) → Type 0
+IsDoneAs asks.Script unread left before after = RunsToEnd unread left before after
+IsDoneAs (asks.Format file bytes) unread left before after = (8224 ≤ bytes) × Untouched unread left before after
+IsDoneAs (asks.Show file) unread left before after = (left ≡ unread) × Shows before after
+IsDoneAs (asks.Serve file port) unread left before after = ⊥
+
+-- what the words ask for is done
+abbrev pub IsDone : List (List ℕ) → Option (List ℕ) → Option (List ℕ) → Option (List ℕ) → Option (List ℕ) → Type 0
+IsDone words unread left before after = (asked : Subcommand) × AskFor words asked × IsDoneAs asked unread left before after
 
 -- the status to end with
 abbrev pub status_of : Failure → ℕ
@@ -47,10 +61,6 @@ abbrev pub IsAtOnce : ScriptFault → Type 0
 IsAtOnce (Memory refused) = Unit {0}
 IsAtOnce (Opening fault) = Unit {0}
 IsAtOnce _ = ⊥
-
--- nothing was read or written
-abbrev pub Untouched : Option (List ℕ) → Option (List ℕ) → Option (List ℕ) → Option (List ℕ) → Type 0
-Untouched unread left before after = (left ≡ unread) × (after ≡ before)
 
 -- the failure comes before a script is read: memory was refused, or its disk was not formatted
 abbrev pub IsBeforehand : Failure → Type 0

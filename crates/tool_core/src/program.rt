@@ -100,8 +100,8 @@ pub fn tool<T: Files<File = File>, S: AsStr, R: Read, W: Write, E: Write>(
     errors: &mut E,
 ) -> Ended
     ensures status { result.status ≤ 2 }
-    // It is done, and there is nothing to tell.
-    ensures done { result.status ≡ 0 → IsDone (R.remaining reader.old) (R.remaining reader.new) (W.contents writer.old) (W.contents writer.new)
+    // What the words ask for is done, and there is nothing to tell.
+    ensures done { result.status ≡ 0 → IsDone (map S.text words.now) (R.remaining reader.old) (R.remaining reader.new) (W.contents writer.old) (W.contents writer.new)
         × (errors.new ≡ errors.old) }
     // Where the words ask for the script, it was read to its end, and what it prints is written.
     ensures script { AsksForScript (map S.text words.now) → result.status ≡ 0
@@ -147,7 +147,7 @@ pub fn run<T: Files<File = File>, S: AsStr, R: Read, W: Write>(
     reader: &mut R,
     writer: &mut W,
 ) -> Result<(), Failure>
-    ensures ok { OnOk result (IsDone (R.remaining reader.old) (R.remaining reader.new) (W.contents writer.old) (W.contents writer.new)) }
+    ensures ok { OnOk result (IsDone (map S.text words.now) (R.remaining reader.old) (R.remaining reader.new) (W.contents writer.old) (W.contents writer.new)) }
     ensures script_ok { AsksForScript (map S.text words.now)
         → OnOk result (RunsToEnd (R.remaining reader.old) (R.remaining reader.new) (W.contents writer.old) (W.contents writer.new)) }
     ensures command_line { IfErr result (λ failure. status_of failure ≡ 2
