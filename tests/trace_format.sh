@@ -1,7 +1,8 @@
 #!/bin/sh
-# Traces the system calls of `stompd format` over a new file, and compares them with what docs/JOURNAL.md and the contract
-# of a file's making say: the file is made new, sized and synced, its name is synced with its folder, and then the front of
-# the first area and the header are written and synced. No contract can know this. Needs strace; the gate does not run it.
+# Traces the system calls of `stompd format` over a new file, here and in another folder, and compares them with what
+# docs/JOURNAL.md and the contract of a file's making say: the file is made new, sized and synced, its name is synced with its
+# folder, and then the front of the first area and the header are written and synced. A sync is `fsync`. No contract can know
+# this. Needs strace; the gate does not run it.
 #
 #     tests/trace_format.sh [PROGRAM]
 #
@@ -22,16 +23,7 @@ fi
 folder=$(mktemp -d)
 trap 'rm -rf "$folder"' EXIT
 cd "$folder"
-strace -f -o trace -e trace=openat,ftruncate,fsync,fdatasync,pwrite64 "$program" format journal 8224
-awk '
-    /openat\(.*"journal".*O_CREAT.*O_EXCL/ { print "the file is made new" }
-    /ftruncate\(3, 8224\) += 0/ { print "it is sized" }
-    /fsync\(3\) += 0/ || /fdatasync\(3\) += 0/ { print "it is synced" }
-    /openat\(.*"\.".* = 4/ { print "its folder is opened" }
-    /fsync\(4\) += 0/ { print "its folder is synced" }
-    /pwrite64\(3,.*, 41, 32\) += 41/ { print "the front is written" }
-    /pwrite64\(3,.*"STOMPJ01.*, 32, 0\) += 32/ { print "the header is written" }
-' trace | sed 's/ *$//' >seen
+mkdir sub
 cat >wanted <<'END'
 the file is made new
 it is sized
@@ -42,10 +34,27 @@ the front is written
 the header is written
 it is synced
 END
-if cmp -s seen wanted; then
-    echo 'trace_format: ok'
-else
-    echo 'trace_format: the calls are others than they should be' >&2
-    diff wanted seen >&2 || true
-    exit 1
-fi
+
+# Compares the calls for the file $1, whose folder is $2.
+compare() {
+    strace -f -o trace -e trace=openat,ftruncate,fsync,fdatasync,pwrite64 "$program" format "$1" 8224
+    awk -v file="\"$1\"" -v folder="\"$2\"" '
+        /openat\(.*O_CREAT.*O_EXCL/ && index($0, file) { print "the file is made new" }
+        /ftruncate\(3, 8224\) += 0/ { print "it is sized" }
+        /fsync\(3\) += 0/ { print "it is synced" }
+        /fdatasync\(/ { print "its data are synced alone" }
+        /openat\(.* = 4/ && index($0, folder) { print "its folder is opened" }
+        /fsync\(4\) += 0/ { print "its folder is synced" }
+        /pwrite64\(3,.*, 41, 32\) += 41/ { print "the front is written" }
+        /pwrite64\(3,.*"STOMPJ01.*, 32, 0\) += 32/ { print "the header is written" }
+    ' trace >seen
+    if ! cmp -s seen wanted; then
+        echo "trace_format: the calls for $1 are others than they should be" >&2
+        diff wanted seen >&2 || true
+        exit 1
+    fi
+}
+
+compare journal .
+compare sub/journal sub
+echo 'trace_format: ok'

@@ -1,0 +1,165 @@
+#!/usr/bin/env python3
+"""Has single calls of the system fail under the built program, and compares what it tells and leaves then with what
+docs/PROTOCOL.md and docs/JOURNAL.md say. No contract can know what the system answers of a real file. Needs strace and
+Python 3 alone; the gate does not run it.
+
+    python3 tests/failing_disk.py [PROGRAM]
+
+- Where a write or a sync of `stompd format` fails, it ends with status 1 and one line, and the file is gone again.
+- Where a read of `stompd show` fails, it is `J3 device failed`, and nothing is printed.
+- Where a write or a sync of `stompd serve` fails while it opens its journal, it ends with `J3 device failed` and does not
+  say that it listens.
+- Where one of a block's fails, the server ends so, and the block's command gets no receipt; the commands before it are in
+  the journal.
+
+PROGRAM is the built program; without it, the one that bin/stompd leaves in crates/stompd/out.
+"""
+
+import os
+import pathlib
+import shutil
+import socket
+import subprocess
+import sys
+import tempfile
+
+TOP = pathlib.Path(__file__).resolve().parent.parent
+PROGRAM = TOP / "crates" / "stompd" / "out" / "stompd"
+sys.path.insert(0, str(TOP / "clients"))
+sys.dont_write_bytecode = True
+
+from stomp_client import Client, Closed  # noqa: E402
+
+# Areas of 4,096 bytes.
+SMALLEST = "8224"
+DEVICE_FAILED = "stompd: J3 device failed\n"
+CANNOT_OPEN = "stompd: cannot open\n"
+
+
+class Checks:
+    def __init__(self, program, folder):
+        self.program, self.folder = program, folder
+        self.count = self.failed = 0
+
+    def same(self, what, seen, wanted):
+        self.count += 1
+        if seen != wanted:
+            self.failed += 1
+            print(f"failing_disk: {what}: {seen} and not {wanted}", file=sys.stderr)
+
+    def path(self, name):
+        return str(self.folder / name)
+
+    def words(self, call, number, *words):
+        """The words that run the program with its call of that number failing, counted from 1 over the calls of its name."""
+        fault = f"inject={call}:error=EIO:when={number}"
+        return ["strace", "-f", "-o", self.path("trace"), "-e", f"trace={call}", "-e", fault, self.program, *words]
+
+    def was_injected(self, what):
+        self.same(f"{what}: calls that failed", pathlib.Path(self.path("trace")).read_text().count("(INJECTED)"), 1)
+
+
+def run(words):
+    done = subprocess.run(words, stdin=subprocess.DEVNULL, capture_output=True, timeout=60)
+    return done.returncode, done.stdout.decode(), done.stderr.decode()
+
+
+def formatting(checks):
+    """A new file is sized, synced, and synced with its folder; then front and header are written, and synced."""
+    cases = [("ftruncate", 1, CANNOT_OPEN), ("fsync", 1, CANNOT_OPEN), ("fsync", 2, CANNOT_OPEN)]
+    cases += [("pwrite64", 1, DEVICE_FAILED), ("pwrite64", 2, DEVICE_FAILED), ("fsync", 3, DEVICE_FAILED)]
+    for call, number, text in cases:
+        what, path = f"format without {call} {number}", checks.path("made")
+        checks.same(what, run(checks.words(call, number, "format", path, SMALLEST)), (1, "", text))
+        checks.was_injected(what)
+        checks.same(f"{what}: the file is there", os.path.exists(path), False)
+
+
+def make(checks, name):
+    path = checks.path(name)
+    subprocess.run([checks.program, "format", path, SMALLEST], check=True)
+    return path
+
+
+def reads_of(checks, path):
+    """The numbers of the reads that `stompd show` makes of the file, among all: a loader may read other files before."""
+    trace = checks.path("trace")
+    words = ["strace", "-f", "-y", "-o", trace, "-e", "trace=pread64", checks.program, "show", path]
+    subprocess.run(words, check=True, stdout=subprocess.DEVNULL)
+    lines = pathlib.Path(trace).read_text().splitlines()
+    calls = [line for line in lines if "pread64(" in line]
+    return [number for number, line in enumerate(calls, 1) if f"<{path}>" in line]
+
+
+def showing(checks):
+    path = make(checks, "shown")
+    numbers = reads_of(checks, path)
+    checks.same("show reads the file", bool(numbers), True)
+    for number in numbers:
+        what = f"show without pread64 {number}"
+        checks.same(what, run(checks.words("pread64", number, "show", path)), (1, "", DEVICE_FAILED))
+        checks.was_injected(what)
+
+
+def free_port():
+    with socket.socket() as probe:
+        probe.bind(("127.0.0.1", 0))
+        return probe.getsockname()[1]
+
+
+def opening(checks):
+    """Recovery syncs, writes the snapshot and syncs, and writes the selector and syncs."""
+    for call, numbers in (("fsync", (1, 2, 3)), ("pwrite64", (1, 2))):
+        for number in numbers:
+            what, path = f"serve without {call} {number}", make(checks, f"opened-{call}-{number}")
+            words = checks.words(call, number, "serve", path, str(free_port()))
+            checks.same(what, run(words), (1, "", DEVICE_FAILED))
+            checks.was_injected(what)
+
+
+def frames_to_the_end(client):
+    """The commands of the frames up to the end of the connection."""
+    try:
+        return [frame.command for frame in client.to_the_end()[0]]
+    except (Closed, ConnectionError):
+        return []
+
+
+def storing(checks):
+    """The CONNECT is the first block, and what is sent the second: a write, a sync, the gate's write, and a sync. A gate that
+    is written stands in the file, be it synced or not."""
+    for call, number, count in (("pwrite64", 5, 1), ("fsync", 6, 1), ("pwrite64", 6, 1), ("fsync", 7, 2)):
+        what, path, port = f"a block without {call} {number}", make(checks, f"stored-{call}-{number}"), free_port()
+        words = checks.words(call, number, "serve", path, str(port))
+        server = subprocess.Popen(words, stdout=subprocess.PIPE, stderr=subprocess.PIPE)
+        checks.same(f"{what}: it listens", server.stdout.readline().decode(), f"listening {port}\n")
+        client = Client(port).connect()
+        client.send("SEND", [("destination", "/queue/kept"), ("receipt", "r")], "x")
+        checks.same(f"{what}: what the client hears", frames_to_the_end(client), [])
+        client.close()
+        output, errors = server.communicate(timeout=60)
+        checks.same(what, (server.returncode, output.decode(), errors.decode()), (1, "", DEVICE_FAILED))
+        checks.was_injected(what)
+        status, shown, _ = run([checks.program, "show", path])
+        checks.same(f"{what}: what is held", (status, shown.splitlines()[3:]), (0, [f"count {count}", f"held {count - 1}"]))
+
+
+def main():
+    program = pathlib.Path(sys.argv[1]).resolve() if len(sys.argv) > 1 else PROGRAM
+    if shutil.which("strace") is None:
+        print("failing_disk: strace is missing", file=sys.stderr)
+        sys.exit(2)
+    if not os.access(program, os.X_OK):
+        print(f"failing_disk: {program} is missing; bin/stompd builds it", file=sys.stderr)
+        sys.exit(2)
+    with tempfile.TemporaryDirectory() as name:
+        checks = Checks(str(program), pathlib.Path(name))
+        for part in (formatting, showing, opening, storing):
+            part(checks)
+    if checks.failed:
+        sys.exit(f"failing_disk: {checks.failed} of {checks.count} are wrong")
+    print(f"failing_disk: {checks.count} ok")
+
+
+if __name__ == "__main__":
+    main()
