@@ -1,5 +1,8 @@
 use crate::words_tests::{CONNECT, CONNECTED, expect, expect_frames, expect_lines, expect_parts};
+use std::alloc::Global;
+use std::fs::File;
 use std::process::Abort;
+use std::rt::Files;
 use std::test::Fail;
 
 const SQ: &str = "SEND%0Adestination:/queue/q%0A%0Ax%00";
@@ -275,4 +278,63 @@ fn a_long_message_of_many_headers_is_delivered_whole(rt: HostRuntime) -> Result<
         ],
         "",
     )
+}
+
+const CONNECTIONS: [&str; 32] = [
+    "0", "1", "2", "3", "4", "5", "6", "7", "8", "9", "10", "11", "12", "13", "14", "15", "16",
+    "17", "18", "19", "20", "21", "22", "23", "24", "25", "26", "27", "28", "29", "30", "31",
+];
+
+// Adds a line for each connection that a script may have, in which `#` stands for its number.
+fn push_each(alloc: Global, text: &mut String, line: &str) -> Result<(), Fail> {
+    for connection in &CONNECTIONS {
+        let line = line.replace(alloc, '#', connection)?;
+        let pushed = text.push_str(line.as_str());
+        drop(line);
+        pushed?;
+    }
+    Ok(())
+}
+
+// Adds a line for each connection, seven times another, and an end.
+fn push_all(
+    alloc: Global,
+    text: &mut String,
+    first: &str,
+    other: &str,
+    end: &str,
+) -> Result<(), Fail> {
+    push_each(alloc, text, first)?;
+    for _ in 0..7 {
+        push_each(alloc, text, other)?;
+    }
+    text.push_str(end)?;
+    Ok(())
+}
+
+// What each connection is answered, and what is opened then.
+fn expect_all(
+    rt: &(impl Abort + Files<File = File>),
+    alloc: Global,
+    script: &str,
+) -> Result<(), Fail> {
+    let connected = "# CONNECTED%0Aversion:1.2%0Asession:#%0Aheart-beat:0,0%0A%0A%00\n";
+    let receipt = "# RECEIPT%0Areceipt-id:r%0A%0A%00\n";
+    let mut printed = String::new(alloc);
+    push_all(alloc, &mut printed, connected, receipt, "open 256 224\n")?;
+    let same = expect(rt, alloc, script.as_bytes(), 0, printed.as_str(), "");
+    drop(printed);
+    same
+}
+
+// 256 commands wait, as many as may, before the first flush. Sessions have the numbers of their connections.
+#[test]
+fn each_of_32_connections_has_eight_commands_wait(rt: HostRuntime) -> Result<(), Fail> {
+    let connect = "# CONNECT%0Aaccept-version:1.2%0A%0A%00\n";
+    let send = "# SEND%0Adestination:/queue/q%0Areceipt:r%0A%0Ax%00\n";
+    let mut script = String::new(rt.alloc());
+    push_all(rt.alloc(), &mut script, connect, send, "flush\nopen\n")?;
+    let same = expect_all(&rt, rt.alloc(), script.as_str());
+    drop(script);
+    same
 }

@@ -1,3 +1,4 @@
+use crate::start_tests::HELD;
 use crate::words_tests::expect_of;
 use std::alloc::{Alloc, Global};
 use std::fs;
@@ -40,6 +41,45 @@ fn expect_show(
     )
 }
 
+// Words that ask for a file that is there already, in each form, and with the largest number.
+const FORMATS: [&[&str]; 4] = [
+    &["stompd", "format", "--", JOURNAL, "8224"],
+    &["stompd", "format", JOURNAL, "--", "8224"],
+    &["stompd", "format", JOURNAL, "8224", "--"],
+    &["stompd", "format", JOURNAL, "18446744073709551615"],
+];
+
+// Words that ask for a server. A port is a number in decimal digits, so zeros may lead it.
+const SERVERS: [&[&str]; 6] = [
+    &["stompd", "serve", JOURNAL, "1"],
+    &["stompd", "serve", JOURNAL, "080"],
+    &["stompd", "serve", JOURNAL, "65535"],
+    &["stompd", "serve", "--", JOURNAL, "1"],
+    &["stompd", "serve", JOURNAL, "--", "1"],
+    &["stompd", "serve", JOURNAL, "1", "--"],
+];
+
+// Each of these asks for what fails with this text.
+fn expect_failures(
+    rt: &(impl Abort + Files<File = File>),
+    alloc: Global,
+    all: &[&[&str]],
+    told: &str,
+) -> Result<(), Fail> {
+    for words in all {
+        expect_of(rt, alloc, words, b"", (1, "", told))?;
+    }
+    Ok(())
+}
+
+// Writes a file with the journal of a disk of 8,224 bytes that holds commands.
+fn write_held(rt: &impl Files<File = File>, alloc: Global) -> Result<(), Fail> {
+    let mut bytes = Vec::from_slice(alloc, HELD)?;
+    bytes.extend_from_slice(&[0; 8_033])?;
+    fs::write(rt, JOURNAL, bytes.as_slice())?;
+    Ok(())
+}
+
 #[test]
 fn a_journal_file_is_made_and_shown(rt: HostRuntime) -> Result<(), Fail> {
     let alloc = rt.alloc();
@@ -54,6 +94,9 @@ fn a_journal_file_is_made_and_shown(rt: HostRuntime) -> Result<(), Fail> {
     expect_format(&rt, alloc, "08224", 0, "")?;
     expect_show(&rt, alloc, 0, shown, "")?;
     expect_format(&rt, alloc, "8224", 1, "stompd: cannot open\n")?;
+    expect_failures(&rt, alloc, &FORMATS, "stompd: cannot open\n")?;
+    // The threads of a server are started by `main` alone.
+    expect_failures(&rt, alloc, &SERVERS, "stompd: cannot start a thread\n")?;
     expect_show(&rt, alloc, 0, shown, "")?;
     // Behind `--` no word is an option.
     for words in [
@@ -66,6 +109,10 @@ fn a_journal_file_is_made_and_shown(rt: HostRuntime) -> Result<(), Fail> {
     expect_of(&rt, alloc, &option, b"", (1, "", "stompd: cannot open\n"))?;
     fs::write(&rt, JOURNAL, [0; 64].as_slice())?;
     expect_show(&rt, alloc, 1, "", "stompd: J1 not a journal\n")?;
+    // Used are a snapshot of 32 bytes and a block of 109, each with its length before and its gate behind it: 41 + 118.
+    let held = "version 1\narea 0\nused 159\ncount 4\nheld 2\n";
+    write_held(&rt, alloc)?;
+    expect_show(&rt, alloc, 0, held, "")?;
     fs::remove_file(&rt, JOURNAL)?;
     Ok(())
 }

@@ -1,10 +1,14 @@
 //! Scripts over a disk that holds commands already, or no journal.
 
+ghost use Rattle.std.specs.Prelude.{◌≤◌, length};
+
+use crate::words_tests::{CONNECT, Parts, compare, text_of_parts};
 use area_core::ReadFault;
 use disk_core::{Disk, MemDisk};
 use engine_core::{ScriptFault, run_script};
 use recover_core::OpenFault;
 use std::alloc::Global;
+use std::io::Write;
 use std::process::Abort;
 use std::test::Fail;
 
@@ -12,7 +16,7 @@ const DISK_BYTES: u64 = 8_224;
 
 // The header names area 0 of two with 4,096 bytes each. The snapshot is the empty state; a block of 109 bytes stands behind it:
 // session 0 opens with a client-id, subscribes durably to a topic, and sends to that and to a queue.
-const HELD: &[u8] = b"STOMPJ01\0\0\0\0\0\0\x10\0\0\0\0\0\0\0\0\0\0\0\0\0\0\0\0\0\
+pub const HELD: &[u8] = b"STOMPJ01\0\0\0\0\0\0\x10\0\0\0\0\0\0\0\0\0\0\0\0\0\0\0\0\0\
 \0\0\0\0\0\0\0\x20\0\0\0\0\0\0\0\0\0\0\0\0\0\0\0\0\0\0\0\0\0\0\0\0\0\0\0\0\0\0\0\0\
 \x01\0\0\0\0\0\0\0\x6d\
 \0\0\0\0\0\0\0\0\0\x01\x01\0\0\0\x02c1\
@@ -51,6 +55,87 @@ fn a_script_goes_on_from_what_its_disk_holds(rt: HostRuntime) -> Result<(), Fail
     assert_eq!(rt; str::from_utf8(written.as_slice())?, PRINTED);
     drop(written);
     Ok(())
+}
+
+// A journal with no block, whose snapshot is the empty state: after no command, and after 2^60 - 1.
+const EMPTY: &[u8] = b"STOMPJ01\0\0\0\0\0\0\x10\0\0\0\0\0\0\0\0\0\0\0\0\0\0\0\0\0\
+\0\0\0\0\0\0\0\x20\0\0\0\0\0\0\0\0\0\0\0\0\0\0\0\0\0\0\0\0\0\0\0\0\0\0\0\0\0\0\0\0\
+\0";
+
+const COUNTED: &[u8] = b"STOMPJ01\0\0\0\0\0\0\x10\0\0\0\0\0\0\0\0\0\0\0\0\0\0\0\0\0\
+\0\0\0\0\0\0\0\x20\x0f\xff\xff\xff\xff\xff\xff\xff\0\0\0\0\0\0\0\0\0\0\0\0\0\0\0\0\0\0\0\0\0\0\0\0\
+\0";
+
+fn push_fault(fault: &ScriptFault, all: &mut Vec<u8>) -> Result<(), Fail> {
+    write!(all, "{fault}")?;
+    Ok(())
+}
+
+// Adds what a script prints over a disk that begins with these bytes, and the text of its fault where there is one.
+fn push_over(alloc: Global, front: &[u8], script: &[u8], all: &mut Vec<u8>) -> Result<(), Fail>
+    requires { length front.now ≤ 8224 }
+{
+    let mut disk = MemDisk::new(alloc, DISK_BYTES)?;
+    disk.write_at(0, front)?;
+    let mut reader = script;
+    match run_script(alloc, &mut reader, all, disk) {
+        Ok(()) => Ok(()),
+        Err(fault) => push_fault(&fault, all),
+    }
+}
+
+fn compare_over(
+    rt: &impl Abort,
+    alloc: Global,
+    front: &[u8],
+    script: &[u8],
+    wanted: &str,
+) -> Result<(), Fail>
+    requires { length front.now ≤ 8224 }
+{
+    let mut all = Vec::new(alloc);
+    push_over(alloc, front, script, &mut all)?;
+    let same = compare(rt, 0, all.as_slice(), b"", (0, wanted, ""));
+    drop(all);
+    same
+}
+
+fn expect_over(
+    rt: &impl Abort,
+    alloc: Global,
+    front: &[u8],
+    script: Parts<'_>,
+    wanted: &str,
+) -> Result<(), Fail>
+    requires { length front.now ≤ 8224 }
+{
+    let script = text_of_parts(alloc, script)?;
+    let same = compare_over(rt, alloc, front, script.as_bytes(), wanted);
+    drop(script);
+    same
+}
+
+const SEND: &str = "\n0 SEND%0Adestination:/queue/q%0A%0Ax%00";
+
+// At most 2^60 commands are carried out.
+#[test]
+fn one_more_than_2_60_commands_are_too_many(rt: HostRuntime) -> Result<(), Fail> {
+    let script = [(CONNECT, 1), ("\nflush", 1), (SEND, 1), ("\n", 1)];
+    let wanted =
+        "0 CONNECTED%0Aversion:1.2%0Asession:1152921504606846975%0Aheart-beat:0,0%0A%0A%00\nJ5 count too large";
+    expect_over(&rt, rt.alloc(), COUNTED, &script, wanted)
+}
+
+// An area has 4,096 bytes. With eight commands a block, 132 commands in 17 blocks take 41 and 17 times 9 bytes beside their
+// records of 11 and 131 times 29: 4,004. A snapshot takes 9 beside its 48, and 31 for each message: 4,087 for 130 messages.
+#[test]
+fn a_disk_whose_snapshot_has_no_room_is_not_opened(rt: HostRuntime) -> Result<(), Fail> {
+    let script = [(CONNECT, 1), (SEND, 130), ("\nflush\nopen\n", 1)];
+    let wanted = "0 CONNECTED%0Aversion:1.2%0Asession:0%0Aheart-beat:0,0%0A%0A%00\nopen 131 130\n";
+    expect_over(&rt, rt.alloc(), EMPTY, &script, wanted)?;
+    let script = [(CONNECT, 1), (SEND, 131), ("\nflush\nopen\n", 1)];
+    let wanted = "0 CONNECTED%0Aversion:1.2%0Asession:0%0Aheart-beat:0,0%0A%0A%00\nJ4 journal full";
+    expect_over(&rt, rt.alloc(), EMPTY, &script, wanted)
 }
 
 // Whether the fault is that the disk has no journal.

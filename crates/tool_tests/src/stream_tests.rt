@@ -1,4 +1,4 @@
-//! Streams that fail, that come in short reads, and that are interrupted.
+//! Streams that fail, that give or take a byte at a time, and that are interrupted.
 
 use crate::words_tests::{CONNECT, SEND_WITH_RECEIPT, compare, text_of_parts};
 use std::alloc::Global;
@@ -49,6 +49,30 @@ impl Read for Trickle<'_> {
         }
         buf[0] = self.script[at];
         Ok(1)
+    }
+}
+
+/// A stream that takes a byte a call, with an interruption before each.
+#[derive(Drop)]
+struct Drip {
+    taken: Vec<u8>,
+    calls: usize,
+}
+
+impl Write for Drip {
+    fn write(&mut self, buf: &[u8]) -> io::Result<usize> {
+        self.calls = self.calls.wrapping_add(1);
+        if self.calls % 2 == 1 {
+            return Err(io::Error::from(ErrorKind::Interrupted));
+        }
+        match buf {
+            [first, ..] => self.taken.write(&[*first]),
+            [] => Ok(0),
+        }
+    }
+
+    fn flush(&mut self) -> io::Result<()> {
+        Ok(())
     }
 }
 
@@ -117,7 +141,7 @@ fn a_stream_that_fails_is_told(rt: HostRuntime) -> Result<(), Fail> {
     Ok(())
 }
 
-// Runs a script that comes a byte at a time.
+// Runs a script that comes a byte at a time, and whose output is taken so.
 fn expect_trickled(
     rt: &(impl Abort + Files<File = File>),
     alloc: Global,
@@ -125,23 +149,26 @@ fn expect_trickled(
     printed: &str,
 ) -> Result<(), Fail> {
     let mut reader = Trickle { script, calls: 0 };
-    let mut written = Vec::new(alloc);
+    let mut writer = Drip {
+        taken: Vec::new(alloc),
+        calls: 0,
+    };
     let mut told = Vec::new(alloc);
-    let status = status_of(rt, alloc, &mut reader, &mut written, &mut told);
+    let status = status_of(rt, alloc, &mut reader, &mut writer, &mut told);
     let same = compare(
         rt,
         status,
-        written.as_slice(),
+        writer.taken.as_slice(),
         told.as_slice(),
         (0, printed, ""),
     );
     drop(told);
-    drop(written);
+    drop(writer);
     same
 }
 
 #[test]
-fn a_script_comes_in_short_reads_with_interruptions(rt: HostRuntime) -> Result<(), Fail> {
+fn a_script_comes_and_prints_by_bytes_with_interruptions(rt: HostRuntime) -> Result<(), Fail> {
     let alloc = rt.alloc();
     let parts = [
         (CONNECT, 1),
