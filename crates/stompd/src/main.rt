@@ -5,26 +5,42 @@
 use engine_core::ScriptFault;
 use server_core::{ServeFault, Server, WORKERS};
 use std::alloc::{AllocError, Global};
-use std::io::{ErrorKind, Lock};
+use std::io::{ErrorKind, Lock, Write};
 use std::process::ExitCode;
+use std::sync::Wait;
+use std::time::Clock;
 use std::{env, io, thread};
 use tool_core::{BAD_COMMAND_LINE, Failure, Subcommand, subcommand_of, tool};
 
-/// Runs the program on its arguments, standard input, standard output and standard error.
+/// Runs the program on its arguments, standard input, standard output and standard error. The threads of a server are
+/// started here.
 fn main(rt: HostRuntime) -> ExitCode {
-    let status = match words_of(&rt) {
-        Ok(words) => run(&rt, words.as_slice()),
-        Err(status) => status,
+    let alloc = rt.alloc();
+    let words = match words_of(&rt) {
+        Ok(words) => words,
+        Err(status) => return ExitCode::from(status),
     };
-    ExitCode::from(status)
-}
-
-/// Does what the words ask for, and answers the status.
-fn run(rt: &HostRuntime, words: &[String]) -> u8 {
-    match served(rt.alloc(), words) {
-        Some((file, port)) => told(rt, &Failure::Server(serve(rt, file, port))),
-        None => run_tool(rt, words),
+    let Some((file, port)) = served(alloc, words.as_slice()) else {
+        return ExitCode::from(run_tool(&rt, words.as_slice()));
+    };
+    let mut server = match Server::open(alloc, &rt, file, port) {
+        Ok(server) => server,
+        Err(fault) => return failed(&rt, fault),
+    };
+    for _worker in 0..WORKERS {
+        match server.next_worker() {
+            Ok(Some(worker)) => {
+                if thread::spawn(&rt, move || worker.run(alloc)).is_err() {
+                    return failed(&rt, ServeFault::Threads);
+                }
+            }
+            Ok(None) => break,
+            Err(fault) => return failed(&rt, fault),
+        }
     }
+    let mut writer = rt.stdout().lock();
+    let fault = ended(alloc, server, &mut writer);
+    failed(&rt, fault)
 }
 
 /// The arguments, of which the first is the program's name. Where they are not UTF-8 they are a bad command line, of which
@@ -60,43 +76,21 @@ fn run_tool(rt: &HostRuntime, words: &[String]) -> u8 {
     tool(rt, rt.alloc(), words, &mut reader, &mut writer, &mut errors).status
 }
 
-/// Serves the journal of a file at a port, and answers why that came to its end.
-fn serve(rt: &HostRuntime, file: &str, port: u16) -> ServeFault {
-    match Server::open(rt.alloc(), rt, file, port) {
-        Ok(server) => run_server(rt, server),
-        Err(fault) => fault,
-    }
-}
-
 /// Runs a server to its end, and answers why that came.
-fn run_server(rt: &HostRuntime, server: Server<HostRuntime>) -> ServeFault {
+fn ended<R: Wait + Clock + Drop, W: Write>(
+    alloc: Global,
+    server: Server<R>,
+    writer: &mut W,
+) -> ServeFault {
     let mut server = server;
-    match start_workers(rt, &mut server) {
-        Some(fault) => fault,
-        None => {
-            let mut writer = rt.stdout().lock();
-            let fault = server.run(rt.alloc(), &mut writer);
-            server.close();
-            fault
-        }
-    }
+    let fault = server.run(alloc, writer);
+    server.close();
+    fault
 }
 
-/// Starts each worker in a thread of its own; the fault is why one was not.
-fn start_workers(rt: &HostRuntime, server: &mut Server<HostRuntime>) -> Option<ServeFault> {
-    let alloc = rt.alloc();
-    for _worker in 0..WORKERS {
-        match server.next_worker() {
-            Ok(Some(worker)) => {
-                if thread::spawn(rt, move || worker.run(alloc)).is_err() {
-                    return Some(ServeFault::Threads);
-                }
-            }
-            Ok(None) => return None,
-            Err(fault) => return Some(fault),
-        }
-    }
-    None
+/// Tells why a server is not there, and answers the status.
+fn failed(rt: &HostRuntime, fault: ServeFault) -> ExitCode {
+    ExitCode::from(told(rt, &Failure::Server(fault)))
 }
 
 /// Tells a failure, and answers its status.
