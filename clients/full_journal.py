@@ -34,6 +34,7 @@ def send_until_closed(client):
 
 
 def one_at_a_time(program, checks):
+    """a client that waits for each receipt, and one that says nothing"""
     with scenario.serving(program, JOURNAL_BYTES) as broker:
         sender, idle = Client(broker.port).connect(), Client(broker.port).connect()
         receipted, code = send_until_closed(sender)
@@ -52,6 +53,7 @@ def one_at_a_time(program, checks):
 
 
 def all_at_once(program, checks):
+    """a client that waits for no receipt"""
     with scenario.serving(program, JOURNAL_BYTES) as broker:
         eager = Client(broker.port).connect()
         for number in range(UNASKED):
@@ -67,8 +69,8 @@ def all_at_once(program, checks):
 def main():
     program = scenario.words_of(__doc__).parse_args().program
     checks = scenario.Checks()
-    one_at_a_time(program, checks)
-    all_at_once(program, checks)
+    for part in (one_at_a_time, all_at_once):
+        scenario.try_one(part, program, checks)
     return 1 if checks.failed else 0
 
 

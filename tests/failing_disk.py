@@ -11,14 +11,17 @@ Python 3 alone; the gate does not run it.
   say that it listens.
 - Where one of a block's fails, the server ends so, and the block's command gets no receipt; the commands before it are in
   the journal.
+- Where a block's sync fails after half a second, in which a client has asked for more than its window lets in, that client
+  hears 1001: its worker, which sleeps until the mark rises, is woken.
 
 PROGRAM is the built program; without it, the one that bin/stompd leaves in crates/stompd/out.
 """
 
+import contextlib
 import os
 import pathlib
 import shutil
-import socket
+import signal
 import subprocess
 import sys
 import tempfile
@@ -28,7 +31,8 @@ PROGRAM = TOP / "crates" / "stompd" / "out" / "stompd"
 sys.path.insert(0, str(TOP / "clients"))
 sys.dont_write_bytecode = True
 
-from stomp_client import Client, Closed  # noqa: E402
+from scenario import free_port  # noqa: E402
+from stomp_client import Client  # noqa: E402
 
 # Areas of 4,096 bytes.
 SMALLEST = "8224"
@@ -50,9 +54,10 @@ class Checks:
     def path(self, name):
         return str(self.folder / name)
 
-    def words(self, call, number, *words):
-        """The words that run the program with its call of that number failing, counted from 1 over the calls of its name."""
-        fault = f"inject={call}:error=EIO:when={number}"
+    def words(self, call, number, *words, late=""):
+        """The words that run the program with its call of that number failing. Calls are counted from 1 for each name, and in
+        each thread by itself: the main one makes all those of the journal."""
+        fault = f"inject={call}:error=EIO{late}:when={number}"
         return ["strace", "-f", "-o", self.path("trace"), "-e", f"trace={call}", "-e", fault, self.program, *words]
 
     def was_injected(self, what):
@@ -101,12 +106,6 @@ def showing(checks):
         checks.was_injected(what)
 
 
-def free_port():
-    with socket.socket() as probe:
-        probe.bind(("127.0.0.1", 0))
-        return probe.getsockname()[1]
-
-
 def opening(checks):
     """Recovery syncs, writes the snapshot and syncs, and writes the selector and syncs."""
     for call, numbers in (("fsync", (1, 2, 3)), ("pwrite64", (1, 2))):
@@ -121,8 +120,40 @@ def frames_to_the_end(client):
     """The commands of the frames up to the end of the connection."""
     try:
         return [frame.command for frame in client.to_the_end()[0]]
-    except (Closed, ConnectionError):
+    except ConnectionError:
         return []
+
+
+@contextlib.contextmanager
+def serving(words, port):
+    """The server of these words, once it listens. Where it has not ended behind the block it is killed: it is the one child of
+    strace, which ends with it."""
+    server = subprocess.Popen(words, stdout=subprocess.PIPE, stderr=subprocess.PIPE)
+    try:
+        line = server.stdout.readline().decode()
+        if line != f"listening {port}\n":
+            raise RuntimeError(f"the server does not listen: {line}{server.stderr.read().decode()}")
+        yield server
+    finally:
+        if server.poll() is None:
+            children = pathlib.Path(f"/proc/{server.pid}/task/{server.pid}/children").read_text(encoding="ascii")
+            for child in children.split():
+                os.kill(int(child), signal.SIGKILL)
+            server.wait()
+
+
+def asleep(checks):
+    what, path, port = "a sync that fails late", make(checks, "late"), free_port()
+    words = checks.words("fsync", 6, "serve", path, str(port), late=":delay_enter=500000")
+    with serving(words, port) as server:
+        client = Client(port).connect()
+        for number in range(16):
+            client.send("SEND", [("destination", "/queue/kept"), ("receipt", f"{number}")], "x")
+        checks.same(f"{what}: what a client with a full window hears", client.to_the_end(), ([], 1001))
+        client.close()
+        output, errors = server.communicate(timeout=60)
+        checks.same(what, (server.returncode, output.decode(), errors.decode()), (1, "", DEVICE_FAILED))
+        checks.was_injected(what)
 
 
 def storing(checks):
@@ -131,15 +162,14 @@ def storing(checks):
     for call, number, count in (("pwrite64", 5, 1), ("fsync", 6, 1), ("pwrite64", 6, 1), ("fsync", 7, 2)):
         what, path, port = f"a block without {call} {number}", make(checks, f"stored-{call}-{number}"), free_port()
         words = checks.words(call, number, "serve", path, str(port))
-        server = subprocess.Popen(words, stdout=subprocess.PIPE, stderr=subprocess.PIPE)
-        checks.same(f"{what}: it listens", server.stdout.readline().decode(), f"listening {port}\n")
-        client = Client(port).connect()
-        client.send("SEND", [("destination", "/queue/kept"), ("receipt", "r")], "x")
-        checks.same(f"{what}: what the client hears", frames_to_the_end(client), [])
-        client.close()
-        output, errors = server.communicate(timeout=60)
-        checks.same(what, (server.returncode, output.decode(), errors.decode()), (1, "", DEVICE_FAILED))
-        checks.was_injected(what)
+        with serving(words, port) as server:
+            client = Client(port).connect()
+            client.send("SEND", [("destination", "/queue/kept"), ("receipt", "r")], "x")
+            checks.same(f"{what}: what the client hears", frames_to_the_end(client), [])
+            client.close()
+            output, errors = server.communicate(timeout=60)
+            checks.same(what, (server.returncode, output.decode(), errors.decode()), (1, "", DEVICE_FAILED))
+            checks.was_injected(what)
         status, shown, _ = run([checks.program, "show", path])
         checks.same(f"{what}: what is held", (status, shown.splitlines()[3:]), (0, [f"count {count}", f"held {count - 1}"]))
 
@@ -153,8 +183,8 @@ def main():
         print(f"failing_disk: {program} is missing; bin/stompd builds it", file=sys.stderr)
         sys.exit(2)
     with tempfile.TemporaryDirectory() as name:
-        checks = Checks(str(program), pathlib.Path(name))
-        for part in (formatting, showing, opening, storing):
+        checks = Checks(str(program), pathlib.Path(name).resolve())
+        for part in (formatting, showing, opening, storing, asleep):
             part(checks)
     if checks.failed:
         sys.exit(f"failing_disk: {checks.failed} of {checks.count} are wrong")

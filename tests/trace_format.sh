@@ -20,6 +20,7 @@ if [ ! -x "$program" ]; then
     exit 2
 fi
 
+program=$(CDPATH='' cd -- "$(dirname -- "$program")" && pwd)/$(basename -- "$program")
 folder=$(mktemp -d)
 trap 'rm -rf "$folder"' EXIT
 cd "$folder"

@@ -15,8 +15,8 @@ use std::alloc::Global;
 const FLUSHER: u32 = u32::MAX;
 
 /// Makes so many turns of the flusher, those that its gate held up counted, and answers the mark then. Outputs of sessions
-/// that have no outbox are dropped. A fault ends it at once: `Device` just where a call of the disk failed. Its gate hears
-/// that it has stopped.
+/// that have no outbox are dropped. A fault ends it at once, and the gate hears that the flusher has
+/// stopped: `Device` just where a call of the disk failed.
 pub fn flush_loop<D: Disk, B: Bell, G: Gate>(
     alloc: Global,
     ring: &BrokerRing<OutSender<B>>,

@@ -159,7 +159,7 @@ const ROWS: [Row; 10] = [
         heard: [true, true, false],
         ..SILENT
     },
-    // A DISCONNECT that asks for none: it is not waited for what is to be sent.
+    // A DISCONNECT that asks for none: what is still to be sent is not waited for.
     Row {
         texts: &[CONNECT, DISCONNECT],
         ended: Ended::Bye,

@@ -225,8 +225,8 @@ impl<R: Wait + Clock + Drop> Server<R> {
         ServeFault::Flushing(flush(alloc, &self.shared, &mut self.flusher))
     }
 
-    /// Ends the server: the outboxes go with the flusher, which wakes the workers that wait for their sockets, as the failed
-    /// step has those that waited for the mark. All have a second to tell their clients that the broker stops.
+    /// Ends the server: the outboxes go with the flusher, which wakes the workers that wait for their sockets; those that
+    /// waited for the mark were woken by the failed step. All have a second to tell their clients that the broker stops.
     pub fn close(self) {
         let Server {
             shared,

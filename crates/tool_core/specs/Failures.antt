@@ -36,7 +36,7 @@ abbrev pub Untouched : Option (List ℕ) → Option (List ℕ) → Option (List 
 Untouched unread left before after = (left ≡ unread) × (after ≡ before)
 
 -- A subcommand is done: a script was read to its end, and what it prints is written; a file has bytes enough for a journal; what
--- a journal shows is written. A server is never done.
+-- a journal shows is written. A server is never done. That a file is made, and which file is shown, no contract can see.
 abbrev pub IsDoneAs : Subcommand → Option (List ℕ) → Option (List ℕ) → Option (List ℕ) → Option (List ℕ) → Type 0
 IsDoneAs asks.Script unread left before after = RunsToEnd unread left before after
 IsDoneAs (asks.Format file bytes) unread left before after = (8224 ≤ bytes) × Untouched unread left before after

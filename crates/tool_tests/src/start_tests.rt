@@ -117,7 +117,7 @@ fn expect_over(
 
 const SEND: &str = "\n0 SEND%0Adestination:/queue/q%0A%0Ax%00";
 
-// At most 2^60 commands are carried out.
+// No command is taken once 2^60 were carried out.
 #[test]
 fn one_more_than_2_60_commands_are_too_many(rt: HostRuntime) -> Result<(), Fail> {
     let script = [(CONNECT, 1), ("\nflush", 1), (SEND, 1), ("\n", 1)];
