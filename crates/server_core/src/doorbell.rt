@@ -43,10 +43,11 @@ impl Doorbell {
         !self.rung.load(Ordering::SeqCst)
     }
 
-    /// Says that the worker is awake, and will look.
-    pub(crate) fn wakes_up(&self) {
+    /// Says that the worker is awake, and answers whether the bell was rung: it has to look then whether there is something
+    /// for it, whatever else it woke for.
+    pub(crate) fn wakes_up(&self) -> bool {
         self.asleep.store(false, Ordering::SeqCst);
-        self.rung.store(false, Ordering::SeqCst);
+        self.rung.swap(false, Ordering::SeqCst)
     }
 }
 

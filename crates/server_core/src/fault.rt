@@ -8,7 +8,7 @@ use thiserror::Error;
 /// Why a server was not started, or has ended. A journal that was opened holds all that was acknowledged.
 #[derive(Debug, Drop, Error)]
 pub enum ServeFault {
-    /// The file or the port could not be opened: the file is missing, or the port is taken.
+    /// The file or the port could not be opened: the file is missing or served by another server, or the port is taken.
     #[error("cannot open")]
     CannotOpen,
     /// The journal was not opened.

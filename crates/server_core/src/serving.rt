@@ -22,7 +22,7 @@ use std::marker::Model;
 use std::net::{Net, TcpListener, TcpStream};
 use std::sync::{Arc, Wait};
 use std::time::{Clock, Duration};
-use std::{io, thread};
+use std::{io, mem, thread};
 use ws_core::WsLink;
 
 type ServerHub = Hub<FileDisk, BellRope>;
@@ -58,6 +58,8 @@ pub struct Server<R: Drop> {
     port: u16,
     seats: Vec<ServerSeat>,
     flusher: ServerFlusher,
+    // While it is there no other server serves the same file.
+    lock: Option<File>,
 }
 
 impl<R: Drop> Model for Server<R> {
@@ -94,14 +96,39 @@ impl<R> Server<R>
 where
     R: Files<File = File> + Net<Listener = TcpListener, Stream = TcpStream> + Wait + Clone + Drop,
 {
-    /// Opens the journal in a file, and the port at 127.0.0.1. `CannotOpen` where the file or the port can't be opened,
-    /// `Opening` where the journal is refused.
+    /// Opens the journal in a file, and the port at 127.0.0.1. `CannotOpen` where the file or the port can't be opened, or where
+    /// another server has the file, of which nothing is read then; `Opening` where the journal is refused.
     pub fn open(alloc: Global, rt: &R, path: &str, port: u16) -> Result<Server<R>, ServeFault>
         ensures { IfOk result (IsOpened port) }
     {
+        match lock_of(rt, path) {
+            Some(lock) => Server::locked(alloc, rt, path, port, lock),
+            None => Err(ServeFault::CannotOpen),
+        }
+    }
+
+    // The same over a file that is locked; the server keeps the lock.
+    fn locked(
+        alloc: Global,
+        rt: &R,
+        path: &str,
+        port: u16,
+        lock: File,
+    ) -> Result<Server<R>, ServeFault>
+        ensures { IfOk result (IsOpened port) }
+    {
         match open_hub(alloc, rt, path) {
-            Ok(hub) => Server::over(alloc, rt, hub, port),
-            Err(fault) => Err(fault),
+            Ok(hub) => match Server::over(alloc, rt, hub, port) {
+                Ok(server) => Ok(server.keeping(lock)),
+                Err(fault) => {
+                    drop(lock);
+                    Err(fault)
+                }
+            },
+            Err(fault) => {
+                drop(lock);
+                Err(fault)
+            }
         }
     }
 
@@ -180,6 +207,7 @@ impl<R: Wait + Clone + Drop> Server<R> {
                 port,
                 seats,
                 flusher,
+                lock: None,
             }),
             Err(fault) => {
                 drop(seats);
@@ -191,6 +219,15 @@ impl<R: Wait + Clone + Drop> Server<R> {
 }
 
 impl<R: Drop> Server<R> {
+    // The server, which keeps that lock.
+    fn keeping(self, lock: File) -> Server<R>
+        ensures { result ≡ self }
+    {
+        let mut server = self;
+        drop(mem::replace(&mut server.lock, Some(lock)));
+        server
+    }
+
     /// The next worker, which is to be run in a thread of its own; `None` once all 32 are handed out. Where memory is
     /// refused, nothing has changed.
     pub fn next_worker(&mut self) -> Result<Option<Worker<R>>, ServeFault>
@@ -233,11 +270,13 @@ impl<R: Wait + Clock + Drop> Server<R> {
             port: _,
             seats,
             flusher,
+            lock,
         } = self;
         drop(flusher);
         thread::sleep(&shared.rt, Duration::from_millis(FAREWELL));
         drop(shared);
         drop(seats);
+        drop(lock);
     }
 }
 
@@ -250,6 +289,21 @@ impl<R: Net + Wait + Clock + Clone + Drop> Worker<R> {
                 Ok((socket, _)) => serve_one(alloc, &shared, &mut seat, socket),
                 Err(_) => thread::sleep(&shared.rt, Duration::from_millis(REST)),
             }
+        }
+    }
+}
+
+// The file, locked, for as long as it is kept. `None` where it can't be opened, or somebody else has it locked.
+fn lock_of<R: Files<File = File>>(rt: &R, path: &str) -> Option<File> {
+    let Ok(file) = File::open(rt, path) else {
+        return None;
+    };
+    match file.try_lock() {
+        Ok(()) => Some(file),
+        Err(refused) => {
+            drop(refused);
+            drop(file);
+            None
         }
     }
 }

@@ -120,19 +120,26 @@ impl<T: Net + Clock + Drop> Read for SocketStream<T> {
         if self.bell.falls_asleep() {
             self.wait_to_read()?;
         }
-        self.bell.wakes_up();
+        if self.bell.wakes_up() {
+            // Bytes that came too are read by the next call. Else a part of a message would have the worker wait for the
+            // rest, and not look.
+            return Err(io::Error::from(ErrorKind::WouldBlock));
+        }
         self.socket.read(buf)
     }
 }
 
 impl<T: Net + Clock + Drop> Write for SocketStream<T> {
     fn write(&mut self, buf: &[u8]) -> io::Result<usize> {
-        match self.socket.write(buf) {
-            Err(error) if error.kind() == ErrorKind::WouldBlock => {}
-            outcome => return outcome,
+        // That a socket takes bytes may be told and not be so, and then it is waited for again.
+        for _attempt in 0..u64::MAX {
+            match self.socket.write(buf) {
+                Err(error) if error.kind() == ErrorKind::WouldBlock => {}
+                outcome => return outcome,
+            }
+            self.wait_to_write()?;
         }
-        self.wait_to_write()?;
-        self.socket.write(buf)
+        Err(io::Error::from(ErrorKind::TimedOut))
     }
 
     fn flush(&mut self) -> io::Result<()> {

@@ -11,18 +11,53 @@ use std::test::Fail;
 
 const PORT: u16 = 47_617;
 
-// What is told of a server over that file.
-fn fault_of<R>(rt: &R, alloc: Global, path: &str) -> Option<ServeFault>
+// What is told of a server over that file at that port.
+fn fault_at<R>(rt: &R, alloc: Global, path: &str, port: u16) -> Option<ServeFault>
 where
     R: Files<File = File> + Net<Listener = TcpListener, Stream = TcpStream> + Wait + Clone + Drop,
 {
-    match Server::open(alloc, rt, path, PORT) {
+    match Server::open(alloc, rt, path, port) {
         Ok(server) => {
             drop(server);
             None
         }
         Err(fault) => Some(fault),
     }
+}
+
+fn fault_of<R>(rt: &R, alloc: Global, path: &str) -> Option<ServeFault>
+where
+    R: Files<File = File> + Net<Listener = TcpListener, Stream = TcpStream> + Wait + Clone + Drop,
+{
+    fault_at(rt, alloc, path, PORT)
+}
+
+// What is told of a second server over that file, at another port, while the first is there.
+fn second_fault<R>(rt: &R, alloc: Global, path: &str) -> Option<ServeFault>
+where
+    R: Files<File = File> + Net<Listener = TcpListener, Stream = TcpStream> + Wait + Clone + Drop,
+{
+    match Server::open(alloc, rt, path, PORT) {
+        Ok(first) => {
+            let fault = fault_at(rt, alloc, path, PORT + 4);
+            drop(first);
+            fault
+        }
+        Err(fault) => Some(fault),
+    }
+}
+
+#[test]
+fn a_journal_has_one_server_at_a_time(rt: HostRuntime) -> Result<(), Fail> {
+    let path = "server_of_another";
+    let _ = fs::remove_file(&rt, path);
+    assert!(rt; format_file(rt.alloc(), &rt, path, 8_224).is_ok());
+    let second = second_fault(&rt, rt.alloc(), path);
+    let later = fault_of(&rt, rt.alloc(), path);
+    let _ = fs::remove_file(&rt, path);
+    assert!(rt; matches!(second, Some(ServeFault::CannotOpen)));
+    assert!(rt; later.is_none());
+    Ok(())
 }
 
 #[test]
