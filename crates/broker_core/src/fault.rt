@@ -3,8 +3,10 @@
 use std::alloc::AllocError;
 use thiserror::Error;
 
+/// Why a broker carried out no command.
 #[derive(Debug, Drop, Error)]
 pub enum BrokerFault {
+    /// Memory was refused within this command: the broker is broken from now on.
     #[error(transparent)]
     Memory(#[from(alloc)] AllocError),
     /// Memory was refused before, within a command.

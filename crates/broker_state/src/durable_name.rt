@@ -25,19 +25,21 @@ impl Model for DurableName {
 }
 
 impl DurableName {
-    /// No memory is taken.
+    /// The name `name` of client `client`. No memory is taken.
     pub fn new(client: GivenName, name: GivenName) -> DurableName
         ensures { result ≡ (client, name) }
     {
         DurableName { client, name }
     }
 
+    /// The name of the client, which its CONNECT gave as `client-id`.
     pub fn client(&self) -> &GivenName
         ensures { result.now ≡ self.now.0 }
     {
         &self.client
     }
 
+    /// The name that the client gave the subscription.
     pub fn name(&self) -> &GivenName
         ensures { result.now ≡ self.now.1 }
     {

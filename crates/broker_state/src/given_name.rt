@@ -45,6 +45,7 @@ impl GivenName {
         }
     }
 
+    /// The name, as the text of a header.
     pub fn as_text(&self) -> &HeaderText
         ensures value { result.now ≡ self.now }
         ensures form { 0 < length self.now }

@@ -12,6 +12,7 @@ use std::collections::BTreeMap;
 pub struct Parts {
     /// How many commands were carried out.
     pub count: u64,
+    /// The number of the next delivery.
     pub next_delivery: u64,
     /// The open sessions, each with the name of its client where it has one.
     pub sessions: BTreeMap<u64, Option<GivenName>>,

@@ -12,7 +12,9 @@ pub struct Subscription {
     pub session: u64,
     /// The name that the session gave it.
     pub id: HeaderText,
+    /// The queue or topic whose messages it gets.
     pub destination: Dest,
+    /// How it acknowledges them (header `ack`).
     pub mode: AckMode,
     /// The durable name under which its messages are kept, where it has one; the destination is a topic then.
     pub durable: Option<DurableName>,

@@ -103,6 +103,7 @@ impl Command {
         }
     }
 
+    /// The number of the session that it is of; an Open, which makes the session, has 0.
     pub fn session(&self) -> u64
         ensures value { result ≡ self.now.session }
         ensures form { IsCommand self.now }
@@ -110,6 +111,7 @@ impl Command {
         self.session
     }
 
+    /// What is to be done.
     pub fn op(&self) -> &Op
         ensures value { result.now ≡ self.now.op }
         ensures form { IsCommand self.now }
@@ -117,6 +119,7 @@ impl Command {
         &self.op
     }
 
+    /// The text that a RECEIPT brings back, where one was asked for (header `receipt`).
     pub fn receipt(&self) -> &Option<HeaderText>
         ensures value { result.now ≡ self.now.receipt }
         ensures form { IsCommand self.now }

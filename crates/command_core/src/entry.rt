@@ -48,6 +48,7 @@ impl<B> Entry<B> {
         }
     }
 
+    /// The command.
     pub fn command(&self) -> &Command
         ensures { result.now ≡ self.now.command }
     {

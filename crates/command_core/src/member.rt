@@ -42,6 +42,7 @@ impl Members {
         Members { all }
     }
 
+    /// The members in their order, at most 64.
     pub fn as_slice(&self) -> &[Member]
         ensures value { result.now ≡ self.now }
         ensures form { length self.now ≤ 64 }

@@ -26,6 +26,7 @@ impl Bytes {
         Bytes { bytes }
     }
 
+    /// The bytes.
     pub fn as_slice(&self) -> &[u8]
         ensures { result.now ≡ self.now }
     {

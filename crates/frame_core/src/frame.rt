@@ -11,20 +11,35 @@ use crate::text::Text;
 /// from clients, the last four from servers.
 #[derive(Clone, Copy)]
 pub enum Verb {
+    /// CONNECT: opens a session.
     Connect,
+    /// STOMP: the same, by its newer name.
     Stomp,
+    /// SEND: a message to a destination.
     Send,
+    /// SUBSCRIBE: listens to a destination.
     Subscribe,
+    /// UNSUBSCRIBE: listens no more.
     Unsubscribe,
+    /// ACK: a delivery is done with.
     Ack,
+    /// NACK: a delivery is not wanted.
     Nack,
+    /// BEGIN: begins a transaction.
     Begin,
+    /// COMMIT: carries a transaction out.
     Commit,
+    /// ABORT: forgets a transaction.
     Abort,
+    /// DISCONNECT: ends the session.
     Disconnect,
+    /// CONNECTED: the session is open.
     Connected,
+    /// MESSAGE: a message of a subscription.
     Message,
+    /// RECEIPT: what asked for it is done.
     Receipt,
+    /// ERROR: a refusal, behind which the connection ends.
     Error,
 }
 
@@ -102,8 +117,11 @@ impl Verb {
 /// them, of which the first counts.
 #[derive(Drop)]
 pub struct Frame {
+    /// Its command.
     pub verb: Verb,
+    /// Its headers, in their order.
     pub headers: Headers,
+    /// Its body: any bytes.
     pub body: Bytes,
 }
 

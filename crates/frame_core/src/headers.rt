@@ -28,6 +28,7 @@ impl Headers {
         Headers { all }
     }
 
+    /// The names and values in their order.
     pub fn as_slice(&self) -> &[(Text, Text)]
         ensures { result.now ≡ self.now }
     {

@@ -27,7 +27,9 @@ pub enum FeedFault {
 /// What a piece gave: the frames that it ended, and the fault behind them, if it has the byte that decides one.
 #[derive(Drop)]
 pub struct Fed {
+    /// The frames that end in the piece, in their order.
     pub frames: Vec<Frame>,
+    /// The fault behind them, where the piece has the byte that decides one.
     pub fault: Option<FrameFault>,
 }
 

@@ -27,6 +27,7 @@ impl Text {
         Text { text }
     }
 
+    /// The text, as UTF-8.
     pub fn as_str(&self) -> &str
         ensures { result.now ≡ self.now }
     {

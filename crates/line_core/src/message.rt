@@ -12,14 +12,18 @@ use frame_core::Text;
 /// command, which is 0 for a plain SEND.
 #[derive(Clone, Copy, PartialEq, Eq, PartialOrd, Ord)]
 pub struct MessageNumber {
+    /// The number of the command, from 0.
     pub command: u64,
+    /// The place among its members, from 0.
     pub place: u32,
 }
 
 /// A message: its number, and what was sent where.
 #[derive(Clone, Drop)]
 pub struct Message {
+    /// Its number, by which messages stand in a line.
     pub number: MessageNumber,
+    /// Its destination, headers and body.
     pub sending: Sending,
 }
 

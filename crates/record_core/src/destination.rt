@@ -35,6 +35,7 @@ pub enum DestFault {
     /// It is none.
     #[error("bad destination")]
     Bad,
+    /// Memory for the destination was refused.
     #[error(transparent)]
     Memory(#[from(alloc)] AllocError),
 }
@@ -81,6 +82,7 @@ impl Dest {
         })
     }
 
+    /// The destination as it is written, with `/topic/` or `/queue/`.
     pub fn as_str(&self) -> &str
         ensures text { result.now ≡ self.now }
         ensures form { IsDestination self.now }

@@ -55,6 +55,7 @@ impl HeaderText {
         HeaderText { text }
     }
 
+    /// The text, as UTF-8.
     pub fn as_str(&self) -> &str
         ensures text { result.now ≡ self.now }
         ensures form { IsHeaderText self.now }

@@ -61,6 +61,7 @@ impl Sending {
         }
     }
 
+    /// Where it is sent.
     pub fn destination(&self) -> &Dest
         ensures value { result.now ≡ self.now.destination }
         ensures form { IsSending self.now }
@@ -68,6 +69,7 @@ impl Sending {
         &self.destination
     }
 
+    /// The headers that its MESSAGEs carry, in their order.
     pub fn headers(&self) -> &Headers
         ensures value { result.now ≡ self.now.headers }
         ensures form { IsSending self.now }
@@ -75,6 +77,7 @@ impl Sending {
         &self.headers
     }
 
+    /// The body.
     pub fn body(&self) -> &Bytes
         ensures value { result.now ≡ self.now.body }
         ensures form { IsSending self.now }

@@ -22,6 +22,7 @@ pub enum TxFault {
     /// Four transactions are open.
     #[error("too many transactions")]
     TooMany,
+    /// Memory was refused.
     #[error(transparent)]
     Memory(#[from(alloc)] AllocError),
 }

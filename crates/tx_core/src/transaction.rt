@@ -43,6 +43,7 @@ impl Transaction {
         }
     }
 
+    /// Whether it has that name.
     pub fn is_named(&self, name: &str) -> bool
         ensures { result ≡ bytes_eq name.now self.now.0 }
     {

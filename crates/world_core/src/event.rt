@@ -20,8 +20,11 @@ pub enum CallList {
 /// A device call.
 #[derive(Clone, Copy, Debug)]
 pub enum CallKind {
+    /// Bytes are read.
     Read,
+    /// Bytes are written, and not stable yet.
     Write,
+    /// All that was written becomes stable.
     Sync,
 }
 
@@ -29,8 +32,11 @@ pub enum CallKind {
 /// nothing stable.
 #[derive(Clone, Copy, Debug)]
 pub struct Call {
+    /// The list that it is of.
     pub list: CallList,
+    /// What kind of call it is.
     pub kind: CallKind,
+    /// Whether it succeeds.
     pub ok: bool,
 }
 

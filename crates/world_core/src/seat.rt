@@ -23,7 +23,9 @@ impl Model for Tickets {
 /// A session's seat: its own numbers in this life, and the mark that it saw last.
 #[derive(Drop)]
 pub struct Seat {
+    /// The numbers of its commands, in their order.
     pub own: Tickets,
+    /// The mark that it read last.
     pub seen: u64,
 }
 
