@@ -47,7 +47,7 @@ fn put_line<K: Ord + Drop>(
 /// From where the place of a message in its line is looked for.
 #[derive(Drop)]
 pub enum Side {
-    /// From the back: a new message goes last at once.
+    /// The last place first, and then from the front: a new message goes last at once.
     Back,
     /// From the front, where messages were taken out.
     Front,

@@ -134,8 +134,8 @@ impl SharedLines {
         Ok(message.unwrap())
     }
 
-    /// Puts a message into the line of the queue that it was sent to. Where memory is refused, that line is gone, and the
-    /// others stand.
+    /// Puts a message into the line of the queue that it was sent to. Where memory is refused, that line may be gone, and
+    /// the others stand.
     pub(crate) fn put_in_queue(&mut self, alloc: Global, message: Message) -> Result<(), AllocError>
         ensures shared { OnOk result (self.new
             ≡ record self.old { queues = with_message text_cmp message.sending.destination message self.old.queues }) }

@@ -16,7 +16,7 @@ fn read_many<'a, X: Drop, F: Fn(&'a [u8]) -> Result<(X, &'a [u8]), DecodeFault>>
     read: F,
 ) -> Result<(Vec<X>, &'a [u8]), DecodeFault>
     requires callable { F.IsAlwaysCallable read }
-    // Whatever room is taken by the count, it is no more than the bytes call for.
+    // Whatever room is taken by the count, it is for no more items than there are bytes left.
     requires bounded { count ≤ length bytes.now }
     ensures read { (one : Reader X) → Reads (F.post read) one
         → Gives (λ x. (x.0.items, x.1.now)) result (many_at one count bytes.now) }
