@@ -53,7 +53,7 @@ impl Out {
         self.session
     }
 
-    /// The frame, of a kind that a server sends.
+    /// The frame. It can be written.
     pub fn frame(&self) -> &Frame
         ensures value { result.now ≡ self.now.frame }
         ensures form { Writable self.now.frame }
