@@ -1,6 +1,8 @@
 #!/usr/bin/env python3
 """Asks a running server for a WebSocket late and in parts: docs/PROTOCOL.md gives a client time between two parts of its
-request, so each is to be accepted. Needs Python 3 alone; the gate does not run it.
+request, so each is to be accepted. Then clients that never open a session, each in its way, are to be let go once their
+minute is over, and one that has opened its session and says nothing more is to be kept; that takes a minute and a half. Needs
+Python 3 alone; the gate does not run it.
 
     python3 tests/handshakes.py [PROGRAM]
 
@@ -21,6 +23,8 @@ REQUEST = (
     b"Sec-WebSocket-Key: dGhlIHNhbXBsZSBub25jZQ==\r\nSec-WebSocket-Version: 13\r\n\r\n"
 )
 TRIES = 20
+# A minute to open a session, 20 seconds more for a read that waits then, and something for a busy machine.
+LONGEST = 60 + 20 + 10
 
 
 def is_accepted(port, pauses):
@@ -35,6 +39,57 @@ def is_accepted(port, pauses):
             return one.recv(4_096).startswith(b"HTTP/1.1 101")
         except OSError:
             return False
+
+
+def message(payload):
+    """A Text message from a client, masked with zeros."""
+    return bytes([0x81, 0x80 | len(payload)]) + bytes(4) + payload
+
+
+def is_over(one):
+    """Whether the server has ended that connection; what it sent before is read over."""
+    one.setblocking(False)
+    try:
+        while data := one.recv(4_096):
+            pass
+        return data == b""
+    except BlockingIOError:
+        return False
+    except OSError:
+        return True
+
+
+def let_go(port):
+    """After how many seconds the server ended each connection, by how its client goes on; None where it did not."""
+    dribble = REQUEST.replace(b"Host: localhost", b"Host: localhost\r\nX-Long: " + b"x" * 20_000)
+    ways = {
+        "says nothing": (b"", [b""]),
+        "sends its request slowly": (b"", [dribble[place : place + 400] for place in range(0, 8_000, 400)]),
+        "has its WebSocket and says no more": (REQUEST, [b""]),
+        "sends line ends now and then": (REQUEST, [message(b"\n")] * 50),
+        "has its session": (REQUEST + message(b"CONNECT\naccept-version:1.2\n\n\0"), [b""]),
+    }
+    ends = dict.fromkeys(ways)
+    open_ones = {way: socket.create_connection(("127.0.0.1", port)) for way in ways}
+    start = time.monotonic()
+    for way, one in open_ones.items():
+        one.sendall(ways[way][0])
+    for second in range(0, LONGEST, 3):
+        time.sleep(max(0, start + second - time.monotonic()))
+        for way, one in list(open_ones.items()):
+            if is_over(one):
+                ends[way] = time.monotonic() - start
+                open_ones.pop(way).close()
+                continue
+            more = ways[way][1]
+            one.setblocking(True)
+            try:
+                one.sendall(more[second // 3] if second // 3 < len(more) else b"")
+            except OSError:
+                pass
+    for one in open_ones.values():
+        one.close()
+    return ends
 
 
 def main():
@@ -55,6 +110,15 @@ def main():
                     accepted = sum(is_accepted(port, pauses) for _ in range(TRIES))
                     failed |= accepted < TRIES
                     print(f"handshakes: pauses of {pauses} s: {accepted} of {TRIES} accepted")
+                for way, end in let_go(port).items():
+                    kept = way == "has its session"
+                    # A pause of over 20 seconds within the handshake ends it before.
+                    failed |= (end is None) != kept
+                    failed |= way in ("has its WebSocket and says no more", "sends line ends now and then") and not (
+                        end is not None and 57 <= end
+                    )
+                    told = "kept" if end is None else f"let go after {end:.0f} s"
+                    print(f"handshakes: a client that {way}: {told}")
             finally:
                 server.kill()
     if failed:

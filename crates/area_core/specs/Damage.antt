@@ -106,18 +106,19 @@ IsOfDevice Device = Unit {0}
 IsOfDevice (Memory _) = Unit {0}
 IsOfDevice _ = ⊥
 
--- what is told of the header is so
+-- what is told of the header is so; no memory is taken for it
 abbrev pub IsHeaderTold : ReadFault → List ℕ → Type 0
 IsHeaderTold NotAJournal content = IsNoJournal content
 IsHeaderTold UnknownVersion content = IsOtherVersion content
 IsHeaderTold TooSmall content = IsTooSmall content
 IsHeaderTold (Damaged place) content = ⊥
 IsHeaderTold Device content = Unit {0}
-IsHeaderTold (Memory _) content = Unit {0}
+IsHeaderTold (Memory _) content = ⊥
 
--- what is told of the header and the snapshot's length is so
+-- what is told of the header, of the snapshot's length and of its bytes is so
 abbrev pub IsFrontTold : ReadFault → List ℕ → Type 0
 IsFrontTold (Damaged place) content = IsLongSnapshot content place
+IsFrontTold (Memory _) content = Unit {0}
 IsFrontTold fault content = IsHeaderTold fault content
 
 -- what is told where no record was read that begins at that place

@@ -66,7 +66,7 @@ impl Area {
 
     /// Makes the other area, which has the snapshot last written, the live one: the selector goes on by one, and 255 to 0.
     ///
-    /// A stop at any moment leaves both areas as they are, and one of them live.
+    /// A stop at any moment leaves both areas as they are, and one of them live. No memory is taken.
     pub fn switch<D: Disk>(&mut self, disk: &mut D) -> Result<(), AreaFault>
         requires room { 32 + 2 * self.old.size ≤ length (D.content disk.old) }
         ensures any_moment { D.honest disk.old →
@@ -80,6 +80,7 @@ impl Area {
         ensures place { self.new.size ≡ self.old.size }
         ensures selector { OnOk result (self.new.selector ≡ (self.old.selector + 1) % 256) }
         ensures room { IsErrOf result AreaFault.Full → self.old.broken ≡ true }
+        ensures memory { IfMemory result ⊥ }
         ensures only { D.honest disk.old →
             OnOk result (Only (D.content disk.new) (D.images disk.new)) }
         ensures broken { self.old.broken ≡ true →

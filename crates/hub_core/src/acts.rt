@@ -59,6 +59,11 @@ impl Acts {
         self.again.is_none() && self.rest.is_empty()
     }
 
+    // Whether one was tried and is to be tried again.
+    pub(crate) fn is_tried_again(&self) -> bool {
+        self.again.is_some()
+    }
+
     pub(crate) fn len(&self) -> usize
         ensures { result ≡ length (all_of self.now) }
     {

@@ -172,12 +172,14 @@ impl<B: Bell> Connection<B> {
         Step::Done
     }
 
-    // Nothing is left to be done. Where the link is over, so is the connection.
+    // Nothing is left to be done. A connection that is given up is closed now, and one whose link is over has ended.
     fn rest(&mut self) -> Step
         ensures { self.new.progress ≡ self.old.progress }
     {
-        if self.stage == Stage::Leaving {
-            self.stage = Stage::Over(Ended::Lost);
+        match self.stage {
+            Stage::GivingUp => self.stage = Stage::Closing(Ended::Lost),
+            Stage::Leaving => self.stage = Stage::Over(Ended::Lost),
+            _ => {}
         }
         Step::Rest
     }

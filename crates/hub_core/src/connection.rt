@@ -5,7 +5,7 @@ ghost use Rattle.session_core.specs.Sessions.{HasForm};
 ghost use Rattle.session_core.specs.declared.act.Act.TheVariants as acts;
 ghost use Rattle.hub_core.specs.Conversations.{asked};
 ghost use Rattle.hub_core.specs.Tasks.{all_of};
-ghost use Rattle.hub_core.specs.declared.connection.Stage.TheVariants.{Running, Leaving};
+ghost use Rattle.hub_core.specs.declared.connection.Stage.TheVariants.{Running, GivingUp, Leaving};
 ghost use Rattle.hub_core.specs.declared.progress.Progress.TheVariants.{New};
 
 use crate::acts::Acts;
@@ -25,6 +25,9 @@ use ws_core::{Link, Received};
 pub enum Stage {
     /// It reads, appends and sends.
     Running,
+    /// It is to be closed with 1001. What was asked for before is still appended, and then that the connection is lost: the
+    /// broker hears of it before the link is closed, for which the peer may take its time.
+    GivingUp,
     /// It closes the link, and ends so.
     Closing(Ended),
     /// The link is over. What was asked for before is still appended, and then that the connection is lost.
@@ -36,10 +39,18 @@ pub enum Stage {
 impl Stage {
     // Whether acts are still to be done.
     pub fn executes(self) -> bool
-        ensures yes { result ≡ true → (self ≡ Running) ⊎ (self ≡ Leaving) }
-        ensures no { result ≡ false → (self ≢ Running) × (self ≢ Leaving) }
+        ensures yes { result ≡ true → (self ≡ Running) ⊎ (self ≡ GivingUp) ⊎ (self ≡ Leaving) }
+        ensures no { result ≡ false → (self ≢ Running) × (self ≢ GivingUp) × (self ≢ Leaving) }
     {
-        matches!(self, Stage::Running | Stage::Leaving)
+        matches!(self, Stage::Running | Stage::GivingUp | Stage::Leaving)
+    }
+
+    // Whether the loss of the connection is the last act.
+    pub fn is_lost(self) -> bool
+        ensures yes { result ≡ true → (self ≡ GivingUp) ⊎ (self ≡ Leaving) }
+        ensures no { result ≡ false → (self ≢ GivingUp) × (self ≢ Leaving) }
+    {
+        matches!(self, Stage::GivingUp | Stage::Leaving)
     }
 }
 
@@ -98,11 +109,11 @@ impl<B: Bell> Connection<B> {
         };
         match self.session.feed(alloc, bytes.as_slice()) {
             Ok(acts) => drop(mem::replace(&mut self.acts, Acts::all(acts))),
-            Err(_) => self.stage = Stage::Closing(Ended::Lost),
+            Err(_) => self.stage = Stage::GivingUp,
         }
     }
 
-    // The next act: those that wait come first. Once the link is over the loss of the connection is the last.
+    // The next act: those that wait come first. Where the connection is given up, or its link is over, its loss is the last.
     pub fn next_act(&mut self) -> Option<Act>
         ensures same { self.new.progress ≡ self.old.progress }
         ensures form { IfSome result HasForm }
@@ -111,7 +122,7 @@ impl<B: Bell> Connection<B> {
     {
         match self.acts.next() {
             Some(act) => Some(act),
-            None if self.stage == Stage::Leaving => self.session.lost(),
+            None if self.stage.is_lost() => self.session.lost(),
             None => None,
         }
     }

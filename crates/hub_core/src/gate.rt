@@ -1,6 +1,6 @@
 //! Who is asked before each turn.
 
-/// What is asked before each turn of a worker and of the flusher, and hears of what they did. The last four calls need
+/// What is asked before each turn of a worker and of the flusher, and hears of what they did. All but the first call need
 /// not be written; they are for a gate by which threads wait for each other.
 pub trait Gate {
     /// Whether a turn is taken; one whose gate answers false does nothing. A worker goes by the number of its seat, the
@@ -13,6 +13,9 @@ pub trait Gate {
     /// The worker's window is full at this mark. It tries again once this returns, so it may be kept here until the mark is
     /// over it.
     fn is_full(&self, _worker: u32, _mark: u64) {}
+
+    /// Memory was refused to the worker. It tries again once this returns, so it may be kept here for a while.
+    fn is_short(&self, _worker: u32) {}
 
     /// The flusher has published every number under this mark.
     fn published(&self, _mark: u64) {}

@@ -15,6 +15,13 @@ pub enum Kept {
     Unsent(Released),
 }
 
+impl Kept {
+    // Whether it may leave, and the link refused it.
+    pub(crate) fn is_unsent(&self) -> bool {
+        matches!(self, Kept::Unsent(_))
+    }
+}
+
 /// What one call of `relay` did.
 #[derive(Clone, Copy)]
 pub enum Relayed {

@@ -66,7 +66,7 @@ impl<B: Bell> Connection<B> {
     {
         match relayed {
             Relayed::Waits | Relayed::Empty => return false,
-            Relayed::Cut => self.stage = Stage::Closing(Ended::Lost),
+            Relayed::Cut => self.stage = Stage::GivingUp,
             Relayed::Sent {
                 verb: Verb::Error,
                 ..

@@ -93,7 +93,7 @@ impl<B: Bell> Connection<B> {
     fn read<L: Link>(&mut self, alloc: Global, link: &mut L)
         ensures { self.new.progress ≡ self.old.progress }
     {
-        if self.stage == Stage::Running && !self.has_work() {
+        if self.stage == Stage::Running && !self.has_work() && !self.kept.is_unsent() {
             self.hear(alloc, link);
         }
     }
@@ -107,18 +107,30 @@ impl<B: Bell> Connection<B> {
         };
         self.stage = match (link.end(ended.reason()), ended) {
             (Err(LinkFault::Memory), _) => return,
-            (_, Ended::Lost) => Stage::Leaving,
             (Err(LinkFault::Gone), Ended::Bye | Ended::Bad) => Stage::Over(Ended::Lost),
             (_, ended) => Stage::Over(ended),
         };
     }
 
-    // Leaves it to the gate when to try again, where the window was found full.
+    // Leaves it to the gate when to try again, where the window was found full or memory was refused.
     fn wait<G: Gate>(&self, gate: &G, worker: u32, full: Option<u64>) {
         if let Some(mark) = full
             && self.stage.executes()
         {
             gate.is_full(worker, mark);
+        }
+        if self.is_short() {
+            gate.is_short(worker);
+        }
+    }
+
+    // Whether memory was refused in this turn: for an act, for an output that may leave, or for the close.
+    fn is_short(&self) -> bool {
+        match self.stage {
+            Stage::Running => self.acts.is_tried_again() || self.kept.is_unsent(),
+            Stage::GivingUp | Stage::Leaving => self.acts.is_tried_again(),
+            Stage::Closing(_) => true,
+            Stage::Over(_) => false,
         }
     }
 }

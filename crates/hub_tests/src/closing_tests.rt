@@ -2,7 +2,7 @@ ghost use Rattle.std.specs.Prelude.{◌≡◌, ◌≤◌, IsTrue, OnSome};
 ghost use Rattle.hub_tests.specs.Parties.{AreTogether};
 
 use crate::gates::{Free, Shut};
-use crate::hubs::{HubFlusher, HubRing, HubSeat, Party, close, new_party, party_over};
+use crate::hubs::{HubFlusher, HubRing, HubSeat, Party, SMALL_AREA, close, new_party, party_over};
 use command_core::{Command, Dest, Entry, Op, Sending};
 use disk_core::MemDisk;
 use frame_core::{Bytes, Headers};
@@ -10,9 +10,6 @@ use hub_core::{Closed, flush_loop};
 use outbox_core::{OutSender, Silent};
 use std::alloc::Global;
 use std::test::Fail;
-
-// The bytes of an area.
-const AREA: u64 = 4_096;
 
 // What sends a body of so many bytes.
 fn sending(alloc: Global, bytes: usize) -> Option<Sending>
@@ -146,7 +143,7 @@ fn play(alloc: Global, party: &mut Party, breaks: bool) -> bool
 
 // The numbers of a hub that is closed then, and the first one of the next.
 fn run(alloc: Global, breaks: bool) -> Option<([u64; 4], u64)> {
-    match new_party(alloc, AREA) {
+    match new_party(alloc, SMALL_AREA) {
         Some(mut party) => {
             if play(alloc, &mut party, breaks) {
                 close_and_open(alloc, party)

@@ -3,7 +3,7 @@ ghost use Rattle.disk_core.specs.Images.{IsImage};
 ghost use Rattle.recover_core.specs.Standing.{StandFor};
 ghost use Rattle.recover_core.specs.Stores.{disk_of, is_broken, opened_by};
 
-use crate::hubs::{HubFlusher, HubRing, HubSeat, formatted};
+use crate::hubs::{HubFlusher, HubRing, HubSeat, SMALL_AREA, formatted};
 use claim_core::{NotYet, Refused, Ring};
 use command_core::{Entry, Out, connected_reply, decode};
 use disk_core::{Call, Disk, FuseDisk, MemDisk};
@@ -12,9 +12,6 @@ use outbox_core::{OutSender, Silent};
 use recover_core::{Store, open};
 use std::alloc::{AllocError, Global};
 use std::test::Fail;
-
-// The bytes of an area.
-const AREA: u64 = 4_096;
 
 // A session opens.
 const OPEN: &[u8] = b"\0\0\0\0\0\0\0\0\0\x01\0";
@@ -67,7 +64,7 @@ fn set_up(alloc: Global) -> Option<Setup>
     ensures ring { IfSome result (λ s. (s.first.ring ≡ s.ring) × (s.second.ring ≡ s.ring) × (s.flusher.seat.ring ≡ s.ring)) }
     ensures settled { IfSome result (λ s. s.flusher.settled ≡ s.flusher.stored) }
 {
-    match formatted(alloc, AREA) {
+    match formatted(alloc, SMALL_AREA) {
         Some(disk) => match open(alloc, disk) {
             Ok(store) => begin(alloc, store),
             Err(_) => None,

@@ -57,11 +57,13 @@ impl<R: Clock> Gate for Turnstile<R> {
 }
 
 /// The gate of worker 0 and of a flusher, which notes what it hears. Each turn sleeps a millisecond. The flusher is held up
-/// until it is let go, or the worker has found its window full, or has ended; then that one turns no more.
+/// until it is let go, or the worker has found its window full, or has ended; then that one turns no more. A worker whose
+/// window is full is held up until the mark has risen, or will rise no more.
 #[derive(Drop)]
 pub struct Noting<R> {
     rt: R,
     shut: AtomicBool,
+    waits: AtomicBool,
     flushes: AtomicBool,
     ended: AtomicBool,
     appended: AtomicBool,
@@ -75,6 +77,7 @@ impl<R> Noting<R> {
         Noting {
             rt,
             shut: AtomicBool::new(false),
+            waits: AtomicBool::new(false),
             flushes: AtomicBool::new(false),
             ended: AtomicBool::new(false),
             appended: AtomicBool::new(false),
@@ -87,6 +90,7 @@ impl<R> Noting<R> {
     /// Begins anew: whether the worker is held up, and whether the flusher is let go from the beginning.
     pub fn begin(&self, shut: bool, flushes: bool) {
         self.shut.store(shut, Ordering::SeqCst);
+        self.waits.store(false, Ordering::SeqCst);
         self.flushes.store(flushes, Ordering::SeqCst);
         self.ended.store(false, Ordering::SeqCst);
         self.appended.store(false, Ordering::SeqCst);
@@ -117,7 +121,7 @@ impl<R: Clock> Gate for Noting<R> {
         }
         thread::sleep(&self.rt, Duration::from_millis(1));
         match worker {
-            0 => !self.shut.load(Ordering::SeqCst),
+            0 => !self.shut.load(Ordering::SeqCst) && !self.waits.load(Ordering::SeqCst),
             u32::MAX => self.flushes.load(Ordering::SeqCst),
             _ => false,
         }
@@ -127,16 +131,23 @@ impl<R: Clock> Gate for Noting<R> {
         self.appended.store(true, Ordering::SeqCst);
     }
 
-    fn is_full(&self, _worker: u32, _mark: u64) {
+    fn is_full(&self, _worker: u32, mark: u64) {
         self.full.store(true, Ordering::SeqCst);
+        self.waits.store(true, Ordering::SeqCst);
         self.flushes.store(true, Ordering::SeqCst);
+        // What it waits for may have been heard before.
+        if self.mark.load(Ordering::SeqCst) > mark || self.stopped.load(Ordering::SeqCst) {
+            self.waits.store(false, Ordering::SeqCst);
+        }
     }
 
     fn published(&self, mark: u64) {
         self.mark.store(mark, Ordering::SeqCst);
+        self.waits.store(false, Ordering::SeqCst);
     }
 
     fn stopped(&self) {
         self.stopped.store(true, Ordering::SeqCst);
+        self.waits.store(false, Ordering::SeqCst);
     }
 }

@@ -28,6 +28,9 @@ pub type HubFlusher = Flusher<MemDisk, Silent>;
 /// The bytes of a roomy area.
 pub const AREA: u64 = 262_144;
 
+/// The bytes of the smallest area.
+pub const SMALL_AREA: u64 = 4_096;
+
 /// A hub, the two seats that it has handed out, and its flusher. Tests own these here alone, and lend them.
 #[derive(Drop)]
 pub struct Party {

@@ -1,8 +1,10 @@
-ghost use Rattle.std.specs.Prelude.{◌≡◌};
+ghost use Rattle.std.specs.Prelude.{◌≡◌, IfSome};
 ghost use Rattle.hub_tests.specs.Parties.{AreTogether};
 
 use crate::gates::Noting;
-use crate::hubs::{HubFlusher, HubRing, HubSeat, Party, first_wrong, link_of, new_party};
+use crate::hubs::{
+    AREA, HubFlusher, HubRing, HubSeat, Party, SMALL_AREA, first_wrong, link_of, new_party,
+};
 use crate::links::ScriptedLink;
 use hub_core::{Ended, flush_loop, worker};
 use outbox_core::Silent;
@@ -11,9 +13,6 @@ use std::sync::Wait;
 use std::test::Fail;
 use std::thread::{self, Threads};
 use std::time::Clock;
-
-// The bytes of an area.
-const AREA: u64 = 4_096;
 
 // More turns than any of them needs.
 const TURNS: u64 = 5_000;
@@ -57,6 +56,46 @@ SEND\ndestination:/topic/a\n\n\0SEND\ndestination:/topic/a\n\n\0\
 SEND\ndestination:/topic/a\n\n\0SEND\ndestination:/topic/a\n\n\0\
 SEND\ndestination:/topic/a\n\n\0SEND\ndestination:/topic/a\n\n\0\
 SEND\ndestination:/topic/a\n\n\0SEND\ndestination:/topic/a\n\n\0";
+
+const FIVE_SUBSCRIBERS: &[u8] = b"SUBSCRIBE\nid:1\ndestination:/topic/a\n\n\0\
+SUBSCRIBE\nid:2\ndestination:/topic/a\n\n\0\
+SUBSCRIBE\nid:3\ndestination:/topic/a\n\n\0\
+SUBSCRIBE\nid:4\ndestination:/topic/a\n\n\0\
+SUBSCRIBE\nid:5\ndestination:/topic/a\n\n\0";
+
+const BEGIN: &[u8] = b"BEGIN\ntransaction:t\n\n\0";
+
+// A fourth of a transaction's members.
+const MEMBERS: &[u8] =
+    b"SEND\ndestination:/topic/a\ntransaction:t\n\n\0SEND\ndestination:/topic/a\ntransaction:t\n\n\0\
+SEND\ndestination:/topic/a\ntransaction:t\n\n\0SEND\ndestination:/topic/a\ntransaction:t\n\n\0\
+SEND\ndestination:/topic/a\ntransaction:t\n\n\0SEND\ndestination:/topic/a\ntransaction:t\n\n\0\
+SEND\ndestination:/topic/a\ntransaction:t\n\n\0SEND\ndestination:/topic/a\ntransaction:t\n\n\0\
+SEND\ndestination:/topic/a\ntransaction:t\n\n\0SEND\ndestination:/topic/a\ntransaction:t\n\n\0\
+SEND\ndestination:/topic/a\ntransaction:t\n\n\0SEND\ndestination:/topic/a\ntransaction:t\n\n\0\
+SEND\ndestination:/topic/a\ntransaction:t\n\n\0SEND\ndestination:/topic/a\ntransaction:t\n\n\0\
+SEND\ndestination:/topic/a\ntransaction:t\n\n\0SEND\ndestination:/topic/a\ntransaction:t\n\n\0";
+
+const COMMIT: &[u8] = b"COMMIT\ntransaction:t\n\n\0";
+
+// An Open, five subscriptions and two transactions are a window; their outputs are one CONNECTED and 640 messages.
+const TOO_MUCH: &[&[u8]] = &[
+    CONNECT,
+    FIVE_SUBSCRIBERS,
+    BEGIN,
+    MEMBERS,
+    MEMBERS,
+    MEMBERS,
+    MEMBERS,
+    COMMIT,
+    BEGIN,
+    MEMBERS,
+    MEMBERS,
+    MEMBERS,
+    MEMBERS,
+    COMMIT,
+    SEND_X,
+];
 
 // A frame in three messages, whose record no area has room for.
 const LONG_HEAD: &[u8] = b"SEND\ndestination:/topic/a\n\n";
@@ -105,8 +144,9 @@ const ALL_RECEIPTS: &[&[u8]] = &[
 
 // What a client sends, each text one message; whether its connection is closed behind them, or breaks at the first send; how
 // often its worker may turn, and whether that is held up; and whether the flusher turns from the beginning, or once the window is
-// full. Then what is to come of it: how the worker ends, with which code it closes, what it sends, how many commands were
-// appended where the journal has room for them, and what the gate hears (commands, a full window, a flusher that stopped).
+// full. Then what is to come of it: how the worker ends, with which code it closes, what it sends (or whether its outbox
+// overflows: then the journal is roomy, and the messages are counted), how many commands were appended where the journal has
+// room for them, and what the gate hears (commands, a full window, a flusher that stopped).
 #[derive(Clone, Copy)]
 struct Row {
     texts: &'static [&'static [u8]],
@@ -118,6 +158,7 @@ struct Row {
     ended: Ended,
     code: Option<u16>,
     sent: &'static [&'static [u8]],
+    overflows: bool,
     appended: Option<u64>,
     heard: [bool; 3],
 }
@@ -133,11 +174,12 @@ const SILENT: Row = Row {
     ended: Ended::Turns,
     code: None,
     sent: &[],
+    overflows: false,
     appended: Some(0),
     heard: [false, false, false],
 };
 
-const ROWS: [Row; 10] = [
+const ROWS: [Row; 11] = [
     // A subscriber that acknowledges a message twice.
     Row {
         texts: &[CONNECT, SUBSCRIBE, SEND_X, SEND_Y, SEND_Z, ACK, ACK_AGAIN],
@@ -205,6 +247,16 @@ const ROWS: [Row; 10] = [
         heard: [true, true, false],
         ..SILENT
     },
+    // The outbox is cut: what is in it is sent, that the connection is lost is appended, and the link is closed.
+    Row {
+        texts: TOO_MUCH,
+        ended: Ended::Lost,
+        code: Some(1001),
+        overflows: true,
+        appended: Some(10),
+        heard: [true, true, false],
+        ..SILENT
+    },
     // The turns are used up.
     Row {
         texts: &[CONNECT],
@@ -243,6 +295,14 @@ fn scripted(alloc: Global, row: &Row) -> Option<ScriptedLink> {
     }
 }
 
+// Whether the link got what it should: where the outbox overflows, the 512 outputs that it has room for.
+fn is_right(sent: &[Vec<u8>], row: &Row) -> bool {
+    if row.overflows {
+        return sent.len() == 512;
+    }
+    first_wrong(sent, row.sent).is_none()
+}
+
 // How the worker ended, and with which code it closed, where its link got what it should.
 fn serve<R: Clock>(
     alloc: Global,
@@ -256,7 +316,7 @@ fn serve<R: Clock>(
     match scripted(alloc, row) {
         Some(mut link) => {
             let ended = worker(alloc, ring, seat, &mut link, &Silent, gate, row.turns);
-            let right = first_wrong(link.link.sent(), row.sent).is_none();
+            let right = is_right(link.link.sent(), row);
             let code = link.code;
             drop(link);
             if right { Some((ended, code)) } else { None }
@@ -316,13 +376,24 @@ fn work_and_flush<R: Threads + Wait + Clock + Sync>(
     )
 }
 
+fn party_of(alloc: Global, row: &Row) -> Option<Party>
+    ensures together { IfSome result (λ party. AreTogether party.hub party.first party.second party.flusher) }
+    ensures settled { IfSome result (λ party. party.flusher.settled ≡ party.flusher.stored) }
+{
+    if row.overflows {
+        new_party(alloc, AREA)
+    } else {
+        new_party(alloc, SMALL_AREA)
+    }
+}
+
 fn run<R: Threads + Wait + Clock + Sync>(
     rt: &R,
     alloc: Global,
     row: &Row,
     gate: &Noting<R>,
 ) -> Option<(Option<(Ended, Option<u16>)>, Option<u64>)> {
-    match new_party(alloc, AREA) {
+    match party_of(alloc, row) {
         Some(mut party) => {
             let ran = work_and_flush(rt, alloc, &mut party, row, gate);
             drop(party);

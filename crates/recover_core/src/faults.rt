@@ -16,7 +16,8 @@ pub enum OpenFault {
     /// The disk stands for a state after more than 2^61 commands.
     #[error("J5 count too large")]
     CountTooLarge,
-    /// The snapshot of the state after the restart was not written: the disk failed, it does not fit, or memory was refused.
+    /// The snapshot of the state after the restart does not fit; or outside of reading the disk failed, by its first sync
+    /// too, or memory was refused, for folding the commands too.
     #[error("{0}")]
     Area(AreaFault),
 }

@@ -31,8 +31,9 @@ pub struct Seen {
 
 /// Reads what a journal shows of itself. Nothing is written, and no session ends.
 ///
-/// It is refused just as opening it is: `Read` where it is no journal or is damaged, the disk failed or memory was refused,
-/// and `CountTooLarge`.
+/// It is refused as opening it is before anything is written: `Read` where it is no journal or is damaged, where the disk
+/// failed or where memory was refused; `CountTooLarge`; and `Area` for want of memory alone, by which its commands were not
+/// folded.
 pub fn read<D: Disk>(alloc: Global, disk: &mut D) -> Result<Seen, OpenFault>
     ensures seen { D.honest disk.old → IfOk result (λ seen. IsSeen seen (D.content disk.old)) }
     ensures small { IfOk result (λ seen. seen.count ≤ 2 ^ 61) }

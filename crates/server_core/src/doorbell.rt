@@ -15,20 +15,23 @@ pub struct Doorbell {
     waker: Waker,
     asleep: AtomicBool,
     rung: AtomicBool,
+    // Whether an outbox was to have a rope to it, which it is once its client has opened a session.
+    wanted: AtomicBool,
 }
 
 impl Doorbell {
     /// The doorbell of the one who waits for what is registered there.
-    pub fn new(registry: &Registry, token: Token) -> io::Result<Doorbell> {
+    pub(crate) fn new(registry: &Registry, token: Token) -> io::Result<Doorbell> {
         Ok(Doorbell {
             waker: Waker::new(registry, token)?,
             asleep: AtomicBool::new(false),
             rung: AtomicBool::new(false),
+            wanted: AtomicBool::new(false),
         })
     }
 
     /// Wakes the worker, or keeps it awake. Where the system refuses the wake, the worker's own time limit ends its wait.
-    pub fn ring(&self) {
+    pub(crate) fn ring(&self) {
         self.rung.store(true, Ordering::SeqCst);
         if self.asleep.swap(false, Ordering::SeqCst) {
             let _woken = self.waker.wake();
@@ -49,6 +52,11 @@ impl Doorbell {
         self.asleep.store(false, Ordering::SeqCst);
         self.rung.swap(false, Ordering::SeqCst)
     }
+
+    /// Whether the worker's client has opened a session, or was about to.
+    pub(crate) fn has_session(&self) -> bool {
+        self.wanted.load(Ordering::SeqCst)
+    }
 }
 
 /// What rings a doorbell from afar: the outbox of a worker's session has one.
@@ -57,7 +65,7 @@ pub struct BellRope(Arc<Doorbell>);
 
 impl BellRope {
     /// One that rings that doorbell. No memory is taken.
-    pub fn new(bell: Arc<Doorbell>) -> BellRope {
+    pub(crate) fn new(bell: Arc<Doorbell>) -> BellRope {
         BellRope(bell)
     }
 }
@@ -70,6 +78,7 @@ impl Bell for BellRope {
 
 impl Ringers<BellRope> for BellRope {
     fn bell(&self) -> Result<BellRope, AllocError> {
+        self.0.wanted.store(true, Ordering::SeqCst);
         Ok(BellRope(self.0.clone()?))
     }
 }

@@ -3,12 +3,16 @@
 use hub_core::Gate;
 use std::sync::Wait;
 use std::sync::atomic::{AtomicBool, AtomicU64, Ordering};
+use std::thread;
 use std::thread::Parker;
-use std::time::Duration;
+use std::time::{Clock, Duration};
 
 /// For how many seconds a thread sleeps at most before it looks again. Nothing waits for this to end: whoever sleeps is
 /// woken when there is something to do, and when the flusher has failed.
 const LONGEST_SLEEP: u64 = 10;
+
+/// For how many milliseconds a worker rests that was refused memory, before it tries again.
+const SHORTAGE: u64 = 20;
 
 /// Has the flusher sleep until a command was put into the ring, and a worker with a full window until the mark has risen or
 /// will rise no more.
@@ -29,7 +33,7 @@ pub struct Pace<T> {
 
 impl<T: Wait> Pace<T> {
     /// The pace of a server whose mark is this.
-    pub fn new(rt: T, mark: u64) -> Pace<T> {
+    pub(crate) fn new(rt: T, mark: u64) -> Pace<T> {
         Pace {
             rt,
             flusher: Parker::new(),
@@ -88,7 +92,7 @@ impl<T: Wait> Pace<T> {
     }
 }
 
-impl<T: Wait> Gate for Pace<T> {
+impl<T: Wait + Clock> Gate for Pace<T> {
     fn pass(&self, worker: u32, _turn: u64) -> bool {
         if worker == u32::MAX {
             self.await_commands();
@@ -102,6 +106,10 @@ impl<T: Wait> Gate for Pace<T> {
 
     fn is_full(&self, _worker: u32, mark: u64) {
         self.await_mark(mark);
+    }
+
+    fn is_short(&self, _worker: u32) {
+        thread::sleep(&self.rt, Duration::from_millis(SHORTAGE));
     }
 
     fn published(&self, mark: u64) {

@@ -381,7 +381,7 @@ fn share<R: Wait + Clone + Drop>(
 }
 
 // Flushes until a step fails, and answers why it did.
-fn flush<R: Wait + Drop>(
+fn flush<R: Wait + Clock + Drop>(
     alloc: Global,
     shared: &Shared<R>,
     flusher: &mut ServerFlusher,

@@ -15,6 +15,10 @@ use std::{io, net};
 /// of its handshake. Nothing else waits for this to end: a doorbell ends the wait where there is something to send.
 pub const LONGEST_READ: u64 = 20;
 
+/// For how many seconds a client may be connected and have opened no session, its handshake counted, before a read gives
+/// its connection up. A read that waits then ends first.
+pub const LONGEST_GREETING: u64 = 60;
+
 /// For how many seconds a client may take nothing of what is written, before its connection is given up.
 pub const LONGEST_WRITE: u64 = 10;
 
@@ -44,6 +48,8 @@ fn waits(
 ///
 /// A read waits until the socket has bytes or has ended, the doorbell was rung, or the time is up; in the last two cases it
 /// fails with `WouldBlock`. A write waits until the socket takes bytes, for a bounded time; then it fails with `TimedOut`.
+/// Where no session was opened for too long, a read fails with `ConnectionAborted`: so a client that says nothing, or never
+/// comes to an end with it, holds its worker for a bounded time.
 #[derive(Drop)]
 pub struct SocketStream<T> {
     socket: TcpStream,
@@ -51,13 +57,15 @@ pub struct SocketStream<T> {
     events: Events<Global>,
     bell: Arc<Doorbell>,
     clock: T,
+    since: Instant,
 }
 
 impl<T: Net + Clock + Drop> SocketStream<T> {
     /// The stream of a socket that was just accepted. What is written leaves at once (no delay by Nagle's algorithm).
-    pub fn new(alloc: Global, rt: T, socket: net::TcpStream) -> io::Result<SocketStream<T>> {
+    pub(crate) fn new(alloc: Global, rt: T, socket: net::TcpStream) -> io::Result<SocketStream<T>> {
         socket.set_nodelay(true)?;
         socket.set_nonblocking(true)?;
+        let since = Instant::now(&rt)?;
         let poll = Poll::new(&rt)?;
         let mut socket = TcpStream::from_std(socket);
         match waits(alloc, &poll, &mut socket) {
@@ -67,14 +75,27 @@ impl<T: Net + Clock + Drop> SocketStream<T> {
                 events,
                 bell,
                 clock: rt,
+                since,
             }),
             Err(error) => Err(error),
         }
     }
 
     /// What ends a wait of its reads.
-    pub fn rope(&self) -> io::Result<BellRope> {
+    pub(crate) fn rope(&self) -> io::Result<BellRope> {
         Ok(BellRope::new(self.bell.clone()?))
+    }
+
+    // Fails where the client is connected for so long without a session that it is given up.
+    fn check_greeting(&self) -> io::Result<()> {
+        if self.bell.has_session() {
+            return Ok(());
+        }
+        let longest = Duration::from_secs(LONGEST_GREETING);
+        match self.since.elapsed(&self.clock)?.checked_sub(longest) {
+            Some(_) => Err(io::Error::from(ErrorKind::ConnectionAborted)),
+            None => Ok(()),
+        }
     }
 
     // Waits until the socket may have bytes or has ended, the doorbell was rung, or the time is up. That the socket takes
@@ -113,6 +134,7 @@ impl<T: Net + Clock + Drop> SocketStream<T> {
 
 impl<T: Net + Clock + Drop> Read for SocketStream<T> {
     fn read(&mut self, buf: &mut [u8]) -> io::Result<usize> {
+        self.check_greeting()?;
         match self.socket.read(buf) {
             Err(error) if error.kind() == ErrorKind::WouldBlock => {}
             outcome => return outcome,

@@ -114,7 +114,7 @@ pub fn say_close<S: Read + Write + Drop>(
 
 // Reads on to the peer's close, so that the stream isn't cut while it still sends. A peer that says nothing is given up
 // after three waits: each may last as long as the stream lets a read wait.
-pub fn hear_close<S: Read + Write + Drop>(socket: &mut WebSocket<S, NoMask>) {
+pub(crate) fn hear_close<S: Read + Write + Drop>(socket: &mut WebSocket<S, NoMask>) {
     let mut waits_left = CLOSING_WAITS;
     for _ in 0..CLOSING_READS {
         match socket.read() {
