@@ -13,7 +13,7 @@ from stomp_client import Client
 OUTBOX = 512
 SEATS = 32
 # Enough to fill the outbox and what the two sockets keep, which is some megabytes.
-MESSAGES = 1_500
+MESSAGES = 1_200
 BODY = "x" * 16_000
 
 # For how many seconds a client may take nothing of what is written before it is given up.
@@ -76,6 +76,30 @@ def reads_again(broker, checks):
     flood.leave()
 
 
+def answers_no_close(broker, checks):
+    """what one holds whose outbox is cut goes to others once it has read what was kept for it, though it answers no close"""
+    slow = Client(broker.port, receive_bytes=65_536).connect()
+    slow.subscribe("h", "/queue/kept", "client-individual")
+    kept = [frame.body for frame in slow.publish("/queue/kept", "kept")]
+    checks.same("it holds a message of a queue", kept, ["kept"])
+    slow.subscribe("s", "/topic/cut")
+    flood = Flood(broker.port, "/topic/cut")
+    for number in range(MESSAGES):
+        flood.send(number)
+    other = Client(broker.port).connect()
+    waiting = [frame.body for frame in other.subscribe("h", "/queue/kept", "client-individual")]
+    checks.same("another that subscribes is handed nothing yet", waiting, [])
+    frames, code = slow.to_the_end()
+    checks.same("it hears 1001", code, 1001)
+    start = time.perf_counter()
+    checks.same("the other is handed the message", other.receive().body, "kept")
+    waited = time.perf_counter() - start
+    checks.check("within 2 seconds", waited < 2, waited)
+    slow.close()
+    other.disconnect()
+    flood.leave()
+
+
 def reads_never(broker, checks):
     """one that doesn't read again is given up, with no close; its seat is free, and so is the message that it held"""
     slow = Client(broker.port, receive_bytes=65_536).connect()
@@ -111,4 +135,4 @@ def reads_never(broker, checks):
 
 
 if __name__ == "__main__":
-    sys.exit(scenario.run(__doc__, [reads_again, reads_never]))
+    sys.exit(scenario.run(__doc__, [reads_again, answers_no_close, reads_never]))

@@ -67,7 +67,7 @@ def let_go(port):
         "sends its request slowly": (b"", [dribble[place : place + 400] for place in range(0, 8_000, 400)]),
         "has its WebSocket and says no more": (REQUEST, [b""]),
         "sends line ends now and then": (REQUEST, [message(b"\n")] * 50),
-        "has its session": (REQUEST + message(b"CONNECT\naccept-version:1.2\n\n\0"), [b""]),
+        "has its session": (REQUEST, [message(b"CONNECT\naccept-version:1.2\n\n\0")]),
     }
     ends = dict.fromkeys(ways)
     open_ones = {way: socket.create_connection(("127.0.0.1", port)) for way in ways}
