@@ -16,8 +16,7 @@ pub enum OpenFault {
     /// The disk stands for a state after more than 2^61 commands.
     #[error("J5 count too large")]
     CountTooLarge,
-    /// The snapshot of the state after the restart does not fit; or outside of reading the disk failed, by its first sync
-    /// too, or memory was refused, for folding the commands too.
+    /// Outside of reading: the disk failed, memory was refused, or the snapshot of the state after the restart does not fit.
     #[error("{0}")]
     Area(AreaFault),
 }

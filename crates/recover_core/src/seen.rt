@@ -32,8 +32,8 @@ pub struct Seen {
 /// Reads what a journal shows of itself. Nothing is written, and no session ends.
 ///
 /// It is refused as opening it is before anything is written: `Read` where it is no journal or is damaged, where the disk
-/// failed or where memory was refused; `CountTooLarge`; and `Area` for want of memory alone, by which its commands were not
-/// folded.
+/// failed or where memory was refused; `CountTooLarge`; and `Area` only where memory was refused as its commands were carried
+/// out again.
 pub fn read<D: Disk>(alloc: Global, disk: &mut D) -> Result<Seen, OpenFault>
     ensures seen { D.honest disk.old → IfOk result (λ seen. IsSeen seen (D.content disk.old)) }
     ensures small { IfOk result (λ seen. seen.count ≤ 2 ^ 61) }
