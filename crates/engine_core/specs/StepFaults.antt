@@ -1,7 +1,6 @@
 -- What is told where a step of a script fails.
 use Rattle.std.specs.Prelude.{◌≡◌, List, ℕ, Bool, codes, false}
 use Rattle.flush_core.specs.declared.faults.FlushFault.TheVariants as flush
-use Rattle.script_journal.specs.Faults.{IsNotOfDisk}
 use Rattle.engine_core.specs.Scripts.{IsNotOpened}
 use Rattle.engine_core.specs.declared.fault.QueueFault.{QueueFault}
 use Rattle.engine_core.specs.declared.fault.QueueFault.TheVariants.{Memory, Opening, Storing}
@@ -23,7 +22,8 @@ IsPrintTold _ = ⊥
 
 -- of a flush in which the disk stops: it is not told that the disk failed
 abbrev pub IsCrashTold : QueueFault → Type 0
-IsCrashTold (Storing fault) = IsNotOfDisk fault
+IsCrashTold (Storing flush.Device) = ⊥
+IsCrashTold (Storing fault) = Unit {0}
 IsCrashTold _ = ⊥
 
 -- of a step of a script whose disk runs, with what the step leaves

@@ -5,7 +5,6 @@ ghost use Rattle.frame_core.specs.Writable.{Writable};
 ghost use Rattle.command_core.specs.Commands.{Fits};
 ghost use Rattle.command_core.specs.Operations.{IsOp};
 ghost use Rattle.recover_core.specs.Standing.{Stands};
-ghost use Rattle.engine_core.specs.Scripts.{StandsWithin};
 
 use crate::fault::QueueFault;
 use crate::printing::print_outs;
@@ -24,7 +23,7 @@ use std::mem;
 pub struct CommandQueue {
     waiting: Vec<Waiting>,
     openers: BTreeMap<u64, u8>,
-    journal: Journal,
+    journal: Journal<MemDisk>,
 }
 
 impl Model for CommandQueue {
@@ -49,12 +48,12 @@ const LAST_COUNT: u64 = 1 << 60;
 
 impl CommandQueue {
     ghost use Rattle.engine_core.specs.OfQueue.{IsMemory};
-    ghost use Rattle.engine_core.specs.StepFaults.{IsCrashTold, IsStepTold};
+    ghost use Rattle.engine_core.specs.StepFaults.{IsStepTold};
     ghost use Rattle.engine_core.specs.Queues.{QueueValue, flushed, flush_text, with_room, room_text, CountsTooFar, LacksRoom, number_for, as_command, is_full, with_command};
     ghost use Rattle.std.specs.Prelude.{[], List, Option, ℕ};
 
     /// A queue in which nothing waits, over a journal that was just opened. No memory is taken.
-    pub fn over(alloc: Global, journal: Journal) -> CommandQueue
+    pub fn over(alloc: Global, journal: Journal<MemDisk>) -> CommandQueue
         requires { journal.state.count ≤ 2 ^ 62 }
         ensures { result ≡ record { waiting = []; openers = []; state = journal.state; durable = journal.durable } }
     {
@@ -74,26 +73,24 @@ impl CommandQueue {
         ensures told { IfErr result (IsStepTold self.new.durable) }
     {
         let waiting = mem::replace(&mut self.waiting, Vec::new(alloc));
-        let outs = self.journal.record(alloc, waiting)?;
-        print_outs(alloc, &mut self.journal, &self.openers, outs, text)
+        match self.journal.record(alloc, waiting) {
+            Ok(Some(outs)) => print_outs(alloc, &mut self.journal, &self.openers, outs, text),
+            Ok(None) => Err(QueueFault::Storing(FlushFault::Device)),
+            Err(fault) => Err(QueueFault::Storing(fault)),
+        }
     }
 
-    /// Makes what waits durable while so many calls of the disk pass. The disk then stops, and has the fill in what was not
-    /// synced, or without one what was there before.
-    pub fn crash(self, alloc: Global, calls: u64, fill: Option<u8>) -> Result<MemDisk, QueueFault>
-        ensures stands { IfOk result (λ disk. ∥ StandsWithin self disk.content ∥₁) }
-        ensures full { IfErr result (λ fault. fault ≡ QueueFault.Storing FlushFault.Full → LacksRoom self) }
-        ensures told { IfErr result IsCrashTold }
+    /// What waits, and the journal.
+    pub fn into_parts(self) -> (Vec<Waiting>, Journal<MemDisk>)
+        ensures waiting { result.0.items ≡ self.waiting }
+        ensures journal { (result.1.state ≡ self.state) × (result.1.durable ≡ self.durable) }
     {
         let CommandQueue {
             waiting,
             journal,
             ..
         } = self;
-        match journal.crash(alloc, waiting, calls, fill) {
-            Ok(disk) => Ok(disk),
-            Err(fault) => Err(QueueFault::Storing(fault)),
-        }
+        (waiting, journal)
     }
 
     /// The disk, unless the journal failed. What waits is dropped.
@@ -101,7 +98,10 @@ impl CommandQueue {
         ensures stands { IfSome result (λ disk. Stands disk.content self.state) }
         ensures some { self.durable ≡ true → IsSome result }
     {
-        self.journal.into_disk()
+        let (_waiting, journal) = self.into_parts();
+        let is_durable = journal.is_durable();
+        let disk = journal.into_disk();
+        if is_durable { Some(disk) } else { None }
     }
 
     /// Whether as many commands of the connection wait as may.

@@ -1,6 +1,6 @@
 //! What a script prints for the frames that go to its connections.
 
-ghost use Rattle.std.specs.Prelude.{◌≡◌, ◌++◌, ◌∷◌, [], IfErr, OnOk, string_bytes};
+ghost use Rattle.std.specs.Prelude.{◌≡◌, ◌++◌, ◌∷◌, [], IfErr, OnOk, string_bytes, true};
 ghost use Rattle.std.specs.Fmt.{decimal};
 ghost use Rattle.std.specs.List.{flat_map};
 ghost use Rattle.frame_core.specs.Writable.{Writable};
@@ -10,6 +10,7 @@ ghost use Rattle.engine_core.specs.StepFaults.{IsPrintTold};
 
 use crate::fault::QueueFault;
 use command_core::Out;
+use disk_core::MemDisk;
 use frame_core::{Frame, write_frame};
 use script_journal::Journal;
 use script_text::encode_text;
@@ -50,15 +51,17 @@ fn print_bytes(
     Ok(())
 }
 
-/// Lets outputs leave, each by the seat of the connection that opened its session, and adds a line for each to the text.
+/// Lets outputs leave, and adds a line for each to the text, with the number of the connection that opened its session. Where
+/// one does not leave, the journal is not durable from then on.
 pub fn print_outs(
     alloc: Global,
-    journal: &mut Journal,
+    journal: &mut Journal<MemDisk>,
     openers: &BTreeMap<u64, u8>,
     outs: Vec<Out>,
     text: &mut String,
 ) -> Result<(), QueueFault>
-    ensures same { journal.new ≡ journal.old }
+    ensures same { OnOk result (journal.new ≡ journal.old) }
+    ensures still { journal.new.durable ≡ true → journal.new ≡ journal.old }
     ensures text { OnOk result (string_bytes text.new ≡ string_bytes text.old ++ flat_map (line_of_out openers.now.entries) outs.items) }
     ensures told { IfErr result IsPrintTold }
 {
@@ -71,12 +74,13 @@ pub fn print_outs(
 // Lets one output leave, and adds its line.
 fn print_out(
     alloc: Global,
-    journal: &mut Journal,
+    journal: &mut Journal<MemDisk>,
     openers: &BTreeMap<u64, u8>,
     out: Out,
     text: &mut String,
 ) -> Result<(), QueueFault>
-    ensures same { journal.new ≡ journal.old }
+    ensures same { OnOk result (journal.new ≡ journal.old) }
+    ensures still { journal.new.durable ≡ true → journal.new ≡ journal.old }
     ensures text { OnOk result (string_bytes text.new ≡ string_bytes text.old ++ line_of_out openers.now.entries out) }
     ensures told { IfErr result IsPrintTold }
 {
@@ -84,7 +88,7 @@ fn print_out(
         Some(connection) => *connection,
         None => 0,
     };
-    match journal.release(connection, out) {
+    match journal.release(out) {
         Ok(released) => {
             let printed = print_frame(alloc, text, connection, released.frame());
             drop(released);

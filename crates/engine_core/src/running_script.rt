@@ -49,11 +49,9 @@ impl RunningScript {
     ghost use Rattle.recover_core.specs.Standing.{Stands};
     ghost use Rattle.engine_core.specs.Queues.{IsFilling, IsTooFar, LacksRoom, flush_text, flushed};
     ghost use Rattle.engine_core.specs.Running.{beginning, Loses, LosesSuch, Receives, ReceivesSuch};
-    ghost use Rattle.engine_core.specs.Scripts.{StandsWithin};
-    ghost use Rattle.engine_core.specs.StepFaults.{IsCrashTold};
 
     /// A script with nobody connected, over a journal that was just opened. No memory is taken.
-    pub fn over(alloc: Global, journal: Journal) -> RunningScript
+    pub fn over(alloc: Global, journal: Journal<MemDisk>) -> RunningScript
         requires count { journal.state.count ≤ 2 ^ 62 }
         requires durable { journal.durable ≡ true }
         ensures { result ≡ beginning journal.state }
@@ -85,14 +83,12 @@ impl RunningScript {
         self.queue.into_disk()
     }
 
-    /// Flushes while so many calls of the disk pass; the disk then stops, and has the fill in what was not synced, or
-    /// without one what was there before.
-    pub fn crash(self, alloc: Global, calls: u64, fill: Option<u8>) -> Result<MemDisk, QueueFault>
-        ensures stands { IfOk result (λ disk. ∥ StandsWithin self.queue disk.content ∥₁) }
-        ensures full { IfErr result (λ fault. fault ≡ QueueFault.Storing FlushFault.Full → LacksRoom self.queue) }
-        ensures told { IfErr result IsCrashTold }
+    /// The queue. The connections are dropped.
+    pub fn into_queue(self) -> CommandQueue
+        ensures { result ≡ self.queue }
     {
-        self.queue.crash(alloc, calls, fill)
+        let RunningScript { queue, .. } = self;
+        queue
     }
 
     /// A connection receives bytes; answers what is printed.

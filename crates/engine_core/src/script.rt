@@ -1,15 +1,17 @@
 //! A script as far as it has run, line by line.
 
-ghost use Rattle.std.specs.Prelude.{◌≡◌, ◌≢◌, ◌≤◌, ◌^◌, ◌++◌, IfErr, IfOk, MatchOption, OnOk, true, string_bytes};
+ghost use Rattle.std.specs.Prelude.{◌≡◌, ◌≢◌, ◌≤◌, ◌^◌, ◌++◌, List, ℕ, IfErr, IfOk, MatchOption, OnOk, true, string_bytes};
+ghost use Rattle.script_journal.specs.Journals.{IsFull, StandsAfterFront};
+ghost use Rattle.script_journal.specs.Placed.{commands_of};
 ghost use Rattle.engine_core.specs.OfQueue.{IsMemory};
 ghost use Rattle.engine_core.specs.Scripts.{BeginsWith, HasDisk, open_text};
-ghost use Rattle.engine_core.specs.StepFaults.{HasNoDisk, IsOpeningTold};
+ghost use Rattle.engine_core.specs.StepFaults.{HasNoDisk, IsCrashTold, IsOpeningTold};
 
 use crate::fault::QueueFault;
 use crate::running_script::RunningScript;
 use disk_core::MemDisk;
 use flush_core::FlushFault;
-use script_journal::Journal;
+use script_journal::{Journal, Waiting};
 use script_text::{ScriptLine, decode_text, read_line};
 use std::alloc::Global;
 use std::mem;
@@ -95,13 +97,16 @@ impl Script {
         ensures told { IfErr result (λ fault. IsCrashTold fault × (self.new ≡ Script.Over)) }
     {
         match mem::replace(self, Script::Over) {
-            Script::Running(script) => match script.crash(alloc, calls, fill) {
-                Ok(disk) => {
-                    drop(mem::replace(self, Script::Stopped(disk)));
-                    Ok(Some(String::new(alloc)))
+            Script::Running(script) => {
+                let (waiting, journal) = script.into_queue().into_parts();
+                match stop_within(alloc, journal, waiting, calls, fill) {
+                    Ok(disk) => {
+                        drop(mem::replace(self, Script::Stopped(disk)));
+                        Ok(Some(String::new(alloc)))
+                    }
+                    Err(fault) => Err(fault),
                 }
-                Err(fault) => Err(fault),
-            },
+            }
             stopped => {
                 drop(mem::replace(self, stopped));
                 Ok(None)
@@ -166,8 +171,52 @@ fn into_disk(script: Script) -> Option<MemDisk>
     }
 }
 
+// Records what waits while so many calls of the disk pass. The disk then stops, and has the fill in what was not synced, or
+// without one what it held at the last sync.
+fn stop_within(
+    alloc: Global,
+    journal: Journal<MemDisk>,
+    waiting: Vec<Waiting>,
+    calls: u64,
+    fill: Option<u8>,
+) -> Result<MemDisk, QueueFault>
+    ensures stands { IfOk result (λ disk. ∥ StandsAfterFront journal.state (commands_of waiting.items) disk.content ∥₁) }
+    ensures full { IfErr result (λ fault. fault ≡ QueueFault.Storing FlushFault.Full → (image : List ℕ) × IsFull journal.state (commands_of waiting.items) image) }
+    ensures told { IfErr result IsCrashTold }
+{
+    let mut fused = journal.fuse(calls);
+    match fused.record(alloc, waiting) {
+        Ok(outs) => {
+            drop(outs);
+            let mut disk = fused.into_disk().into_inner();
+            disk.crash(fill);
+            Ok(disk)
+        }
+        Err(fault) => {
+            drop(fused);
+            Err(QueueFault::Storing(beside_stop(fault)))
+        }
+    }
+}
+
+// The fault where a disk was to stop: that it did is none.
+fn beside_stop(fault: FlushFault) -> FlushFault
+    ensures kind { IsCrashTold (QueueFault.Storing result) }
+    ensures full { result ≡ FlushFault.Full → fault ≡ FlushFault.Full }
+{
+    match fault {
+        FlushFault::Full => FlushFault::Full,
+        FlushFault::Memory(refused) => FlushFault::Memory(refused),
+        FlushFault::Device | FlushFault::Broken => FlushFault::Broken,
+    }
+}
+
 // Opens the journal of a disk, and adds the line that tells of it to the text.
-fn open_journal(alloc: Global, disk: MemDisk, text: &mut String) -> Result<Journal, QueueFault>
+fn open_journal(
+    alloc: Global,
+    disk: MemDisk,
+    text: &mut String,
+) -> Result<Journal<MemDisk>, QueueFault>
     ensures stood { IfOk result (λ journal. BeginsWith disk.content journal.state) }
     ensures durable { IfOk result (λ journal. journal.durable ≡ true) }
     ensures text { IfOk result (λ journal. string_bytes text.new ≡ string_bytes text.old ++ open_text journal.state) }
@@ -187,7 +236,7 @@ fn open_journal(alloc: Global, disk: MemDisk, text: &mut String) -> Result<Journ
 }
 
 // Adds the line that tells of a journal to the text: how many commands it counts, and how many messages it holds.
-fn tell(alloc: Global, journal: &Journal, text: &mut String) -> Result<(), QueueFault>
+fn tell(alloc: Global, journal: &Journal<MemDisk>, text: &mut String) -> Result<(), QueueFault>
     requires durable { journal.now.durable ≡ true }
     ensures ok { OnOk result (string_bytes text.new ≡ string_bytes text.old ++ open_text journal.now.state) }
     ensures memory { IfErr result IsMemory }

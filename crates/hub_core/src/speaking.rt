@@ -1,7 +1,8 @@
 //! How commands of a conversation get into the ring.
 
-ghost use Rattle.std.specs.Prelude.{◌≡◌, IfErr};
-ghost use Rattle.hub_core.specs.Conversations.{Continues};
+ghost use Rattle.std.specs.Prelude.{◌≡◌, IfErr, IfOk, IfSome, IsNone};
+ghost use Rattle.claim_core.specs.Appends.{Appends, Refuses};
+ghost use Rattle.hub_core.specs.Conversations.{Continues, IsNext, after, role_of};
 
 use crate::progress::{Progress, Role};
 use claim_core::{BrokerRing, BrokerSeat, Refused};
@@ -17,7 +18,9 @@ pub fn speak<B: Drop>(
 ) -> Result<Option<u64>, (Entry<B>, Refused)>
     requires { seat.old.ring ≡ ring.now }
     ensures continues { Continues progress.old seat.old progress.new seat.new }
-    ensures back { IfErr result (λ back. back.0 ≡ entry) }
+    ensures spoken { IfOk result (λ said. IfSome said (λ ticket. Appends 8 seat.old seat.new ticket entry.command × (progress.new ≡ after progress.old (role_of entry.command.op) ticket))) }
+    ensures dropped { IfOk result (λ said. IsNone said → (IsNext progress.old entry.command → ⊥) × (seat.new ≡ seat.old) × (progress.new ≡ progress.old)) }
+    ensures back { IfErr result (λ back. (back.0 ≡ entry) × Refuses 8 seat.old seat.new back.1 × (progress.new ≡ progress.old)) }
 {
     let role = Role::of(entry.command().op());
     if !progress.admits(entry.command()) {

@@ -4,4 +4,4 @@
 
 mod journal_files;
 
-pub use journal_files::{FileFault, format_file, show_file};
+pub use journal_files::{ShowFault, area_in, show};

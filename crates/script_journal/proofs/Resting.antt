@@ -1,9 +1,10 @@
 -- What a journal keeps at rest, and what is left of it where its disk stops.
-use Rattle.std.proofs.Common.{◌≡◌, ◌+◌, ◌-◌, ◌≤◌, ◌++◌, ℕ, zero, suc, List, [], ◌∷◌, false, true, length, take, set, slice_index_or, All, Option, Some, None, IsSome, IfSome, IfErr, IfOk, Result, Ok, Err, sym, ap, ◌∙◌, subst, arith, length-append}
+use Rattle.std.proofs.Common.{◌≡◌, ◌==◌, ◌+◌, ◌-◌, ◌<◌, ◌≤◌, ◌++◌, ℕ, zero, suc, List, [], ◌∷◌, false, true, length, take, set, slice_index_or, All, Option, Some, None, IsSome, IfSome, IfErr, IfOk, Result, Ok, Err, sym, ap, ◌∙◌, subst, arith, length-append}
 use mathlib.Core.Option.{some, some-injective, some-ne-none}
-use Rattle.std.proofs.Math.Logic.{∥∥₁_map}
+use Rattle.std.proofs.Math.Logic.{∥∥₁_map, ∥∥₁_prop, ∥∥₁_elim}
+use Rattle.disk_core.specs.Memory.{Memory}
 use lib.ListN.{get_elem?}
-use Rattle.std.proofs.lemmas.List.{length-take-le, take-take}
+use Rattle.std.proofs.lemmas.List.{length-take-le, take-take, take_all}
 use Rattle.std.proofs.lemmas.Bool.{false≢true}
 use Rattle.atomic_table.specs.Seated.{TableId}
 use Rattle.command_core.specs.Commands.{CommandValue}
@@ -12,17 +13,17 @@ use Rattle.broker_core.specs.States.{State, BrokerValue}
 use Rattle.broker_core.specs.Steps.{state_after}
 use Rattle.claim_core.specs.Seats.{FlushSeatValue, SessionSeatValue, new_flushing, new_session, next_ticket}
 use Rattle.recover_core.specs.Opens.{IsRestartOf}
-use Rattle.recover_core.specs.Standing.{Stands}
+use Rattle.recover_core.specs.Standing.{StandFor, Stands}
 use Rattle.recover_core.specs.Told.{IsOpenTold}
 use Rattle.area_core.specs.declared.faults.AreaFault.TheVariants as areas
 use Rattle.recover_core.specs.declared.faults.OpenFault.{OpenFault}
 use Rattle.recover_core.specs.declared.faults.OpenFault.TheVariants as opens
 use Rattle.recover_core.proofs.Stores.{after-append}
-use Rattle.flush_core.specs.Flushed.{AfterSome, Flushed, IsSame}
+use Rattle.flush_core.specs.Flushed.{AfterSome, Flushed, HoldBetween, IsSame}
 use Rattle.flush_core.specs.Batches.{state_at, state_taken}
 use Rattle.script_journal.specs.Faults.{IsWantOfMemory}
 use Rattle.script_journal.specs.Going.{HasGoneFront, IsIdle}
-use Rattle.script_journal.specs.Journals.{IsAtRest, IsFull, JournalValue, StandsAfterFront}
+use Rattle.script_journal.specs.Journals.{IsAtRest, JournalValue, KeepFront, StandsAfterFront}
 use Rattle.script_journal.specs.Placed.{AreSeatsOf}
 use Rattle.script_journal.proofs.Placing.{below, still_ring}
 
@@ -87,32 +88,43 @@ same_idle f u same idle = record {
   state = ap (λ (b : BrokerValue). b.state) same.broker ∙ (idle.state ∙ sym (λ i. state_taken (same.opening i) (same.seat i)));
 }
 
-pub crashed : {C D : Type 0} (f : Flushed C) (u g : Flushed D) (cs : List CommandValue) (image : List ℕ) (s : State) → IsIdle f → IsSame f u → HasGoneFront u g cs → f.broker.state ≡ s
-    → ∥ AfterSome g.opening g.seat image ∥₁ → ∥ StandsAfterFront s cs image ∥₁
-crashed f u g cs image s idle same front is after = ∥∥₁_map after (λ it.
-    subst (λ (t : State). StandsAfterFront t cs image) (ap (λ (b : BrokerValue). b.state) same.broker ∙ is) (stands_front u g cs image (same_idle f u same idle) front it))
+-- the journal at rest over another disk
+pub same_rest : {C D : Type 0} (ring : TableId) (seats : List SessionSeatValue) (f : Flushed C) (u : Flushed D) → IsSame f u → IsAtRest ring seats f → IsAtRest ring seats u
+same_rest ring seats f u same rest = record {
+  seats_are = rest.seats_are;
+  flush_is = ap (λ (s : FlushSeatValue). s.ring) same.seat ∙ rest.flush_is;
+  idle = same_idle f u same rest.idle;
+  none_left = same.left ∙ rest.none_left;
+}
 
--- a disk without room for some of the commands, named by its image
-pub full_somewhere : (s t : State) (cs : List CommandValue) (image : List ℕ) → s ≡ t → IsFull s cs image → (some : List ℕ) × IsFull t cs some
-full_somewhere s t cs image same full = (image, subst (λ (x : State). IsFull x cs image) same full)
+-- each image holds all under the mark of one that has gone a front, and perhaps more
+pub keep_front : {D : Type 0} (f g : Flushed D) (cs : List CommandValue) (images : List ℕ → Type 0) → IsIdle f → HasGoneFront f g cs → HoldBetween images g.opening g.seat → KeepFront images f.broker.state cs
+keep_front f g cs images idle front hold image is = ∥∥₁_map (hold image is) (stands_front f g cs image idle front)
 
--- a journal of the broker that a store was opened with, whose disk holds this and has failed so often
-abbrev pub IsMade : Option BrokerValue → List ℕ → ℕ → Result JournalValue OpenFault → Type 0
-IsMade opened holds failures result = IfOk result (λ journal. IfSome opened (λ broker. journal ≡ record { state = broker.state; durable = true; content = holds; failures = failures }))
+-- while nothing was done, each image stands for the state of the broker
+pub rest_stands : {D : Type 0} (f : Flushed D) (images : List ℕ → Type 0) → IsIdle f → HoldBetween images f.opening f.seat → StandFor images f.broker.state
+rest_stands f images idle hold image is = ∥∥₁_elim (hold image is) ∥∥₁_prop (λ (after : AfterSome f.opening f.seat image).
+    let all : after.number ≡ next_ticket f.seat = omega (arith, after.marked, after.taken, idle.marked) in
+    let whole : take (after.number - f.seat.base) f.seat.taken ≡ f.seat.taken = take_all (after.number - f.seat.base) f.seat.taken (omega (arith, all)) in
+    subst (Stands image) (ap (state_after f.opening) whole ∙ sym idle.state) after.stands)
 
-pub opened_state : (opened : Option BrokerValue) (result : Result JournalValue OpenFault) (content holds : List ℕ) (failures : ℕ) → IsSome opened → IfSome opened (λ broker. IsRestartOf content broker.state)
-    → IsMade opened holds failures result → IfOk result (λ journal. IsRestartOf content journal.state)
-opened_state None result content holds failures there stood made = absurd (false≢true there)
-opened_state (Some broker) (Ok journal) content holds failures there stood made = record { before = stood.before; stood = stood.stood; is = ap (λ (j : JournalValue). j.state) made ∙ stood.is }
-opened_state (Some broker) (Err fault) content holds failures there stood made = tt
+-- a journal of the broker that a store was opened with, over this disk
+abbrev pub IsMade : Option BrokerValue → Memory → Result (JournalValue Memory) OpenFault → Type 0
+IsMade opened disk result = IfOk result (λ journal. IfSome opened (λ broker. journal ≡ record { state = broker.state; durable = true; disk = disk }))
 
-pub opened_calm : (opened : Option BrokerValue) (result : Result JournalValue OpenFault) (holds : List ℕ) (now before : ℕ) → IsSome opened → now ≡ before → IsMade opened holds now result → IfOk result (λ journal. journal.failures ≡ before)
-opened_calm None result holds now before there same made = absurd (false≢true there)
-opened_calm (Some broker) (Ok journal) holds now before there same made = ap (λ (j : JournalValue). j.failures) made ∙ same
-opened_calm (Some broker) (Err fault) holds now before there same made = tt
+pub opened_state : (opened : Option BrokerValue) (result : Result (JournalValue Memory) OpenFault) (content : List ℕ) (disk : Memory) → IsSome opened → IfSome opened (λ broker. IsRestartOf content broker.state)
+    → IsMade opened disk result → IfOk result (λ journal. IsRestartOf content journal.state)
+opened_state None result content disk there stood made = absurd (false≢true there)
+opened_state (Some broker) (Ok journal) content disk there stood made = record { before = stood.before; stood = stood.stood; is = ap (λ (j : JournalValue Memory). j.state) made ∙ stood.is }
+opened_state (Some broker) (Err fault) content disk there stood made = tt
+
+pub opened_calm : (opened : Option BrokerValue) (result : Result (JournalValue Memory) OpenFault) (disk : Memory) (before : ℕ) → IsSome opened → disk.failures ≡ before → IsMade opened disk result → IfOk result (λ journal. journal.disk.failures ≡ before)
+opened_calm None result disk before there same made = absurd (false≢true there)
+opened_calm (Some broker) (Ok journal) disk before there same made = ap (λ (j : JournalValue Memory). j.disk.failures) made ∙ same
+opened_calm (Some broker) (Err fault) disk before there same made = tt
 
 -- where memory was refused, nothing is told of the content
-pub memory_told : (content : List ℕ) (result : Result JournalValue OpenFault) → IfErr result IsWantOfMemory → IfErr result (λ fault. IsOpenTold fault content)
+pub memory_told : (content : List ℕ) (result : Result (JournalValue Memory) OpenFault) → IfErr result IsWantOfMemory → IfErr result (λ fault. IsOpenTold fault content)
 memory_told content (Ok journal) want = tt
 memory_told content (Err (opens.Area (areas.Memory refused))) want = tt
 memory_told content (Err (opens.Area areas.Device)) want = absurd want
@@ -120,3 +132,7 @@ memory_told content (Err (opens.Area areas.Full)) want = absurd want
 memory_told content (Err (opens.Area areas.Broken)) want = absurd want
 memory_told content (Err opens.CountTooLarge) want = absurd want
 memory_told content (Err (opens.Read fault)) want = absurd want
+
+pub not_zero : (n : ℕ) → (n == 0) ≡ false → 0 < n
+not_zero zero none = absurd (false≢true (sym none))
+not_zero (suc n) none = omega arith

@@ -14,13 +14,6 @@ IsOfRing Full = ⊥
 IsOfRing Broken = Unit {0}
 IsOfRing (Memory refused) = Unit {0}
 
--- it is not the disk that failed
-abbrev pub IsNotOfDisk : FlushFault → Type 0
-IsNotOfDisk Device = ⊥
-IsNotOfDisk Full = Unit {0}
-IsNotOfDisk Broken = Unit {0}
-IsNotOfDisk (Memory refused) = Unit {0}
-
 -- the disk failed, or a call came where none may
 abbrev pub IsOutOfStep : FlushFault → Type 0
 IsOutOfStep Device = Unit {0}

@@ -12,13 +12,11 @@ use Rattle.recover_core.specs.Standing.{Stands}
 use Rattle.script_journal.specs.Going.{IsIdle}
 use Rattle.script_journal.specs.Placed.{AreSeatsOf}
 
--- A journal: the broker's state after its commands, whether they are durable, what a read of its disk gives, and how many
--- calls of the disk have failed.
-pub record JournalValue : Type 0 where
+-- A journal: the broker's state after its commands, whether they are durable, and its disk.
+pub record JournalValue (D : Type 0) : Type 0 where
   pub state : State
   pub durable : Bool
-  pub content : List ℕ
-  pub failures : ℕ
+  pub disk : D
 
 -- the seats and the flusher are at this ring, and the flusher is idle and has handed all outputs out
 pub record IsAtRest {D : Type 0} (ring : TableId) (seats : List SessionSeatValue) (flusher : Flushed D) : Type 0 where
@@ -32,6 +30,10 @@ pub record StandsAfterFront (s : State) (commands : List CommandValue) (image : 
   pub n : ℕ
   pub few : n ≤ length commands
   pub stands : Stands image (state_after s (take n commands))
+
+-- each of these images stands for the state after the first so many of these commands
+abbrev pub KeepFront : (List ℕ → Type 0) → State → List CommandValue → Type 0
+KeepFront images s commands = (c : List ℕ) → images c → ∥ StandsAfterFront s commands c ∥₁
 
 -- The image stands for the state after the first of these commands, and the block of the next ones, which are a batch and not
 -- none, has no room there.

@@ -6,7 +6,7 @@ ghost use Rattle.disk_core.specs.Faults.{IsOneMore};
 ghost use Rattle.flush_core.specs.declared.faults.FlushFault.TheVariants.{Full};
 ghost use Rattle.script_journal.specs.Faults.{IsCausedBy, IsOutOfStep};
 ghost use Rattle.script_journal.specs.Going.{HasFilled, HasGone, HasGoneFront, HasGoneSomeWay, IsIdle};
-ghost use Rattle.script_journal.specs.Journals.{IsFull};
+ghost use Rattle.script_journal.specs.Journals.{IsFull, KeepFront};
 ghost use Rattle.script_journal.specs.Placed.{AgreeAll, AreSeatsOf, commands_of};
 
 use crate::appending::append_all;
@@ -16,11 +16,11 @@ use flush_core::{FlushFault, Flusher};
 use outbox_core::Silent;
 use std::alloc::Global;
 
-/// Turns until so many commands are taken, which are then stored, carried out and published.
-///
-/// `Full` where the block of the last turn's commands has no room on the disk, `Broken` where a turn takes none of them, or
-/// more, or where a session has a box: none does whose commands are all in the ring, without boxes.
-pub fn take_all<D: Disk>(
+// Turns until so many commands are taken, which are then stored, carried out and published.
+//
+// `Full` where the block of the last turn's commands has no room on the disk, `Broken` where a turn takes none of them, or
+// more, or where a session has a box: none does whose commands are all in the ring, without boxes.
+fn take_all<D: Disk>(
     alloc: Global,
     ring: &ScriptRing,
     flusher: &mut Flusher<D, Silent>,
@@ -106,6 +106,7 @@ pub fn go<D: Disk>(
     ensures seats { AreSeatsOf ring.now seats.new.items }
     ensures all { IfOk result (λ all. all ≡ true → HasGone flusher.old flusher.new (commands_of waiting.items)) }
     ensures some { IfOk result (λ all. HasGoneFront flusher.old flusher.new (commands_of waiting.items)) }
+    ensures kept { OnOk result (D.honest flusher.new.disk → KeepFront (D.images flusher.new.disk) flusher.old.broker.state (commands_of waiting.items)) }
     ensures full { D.honest flusher.old.disk → IsErrOf result Full →
         IsFull flusher.old.broker.state (commands_of waiting.items) (D.content flusher.new.disk) }
     ensures calm { IfOk result (λ all. all ≡ true → D.failures flusher.new.disk ≡ D.failures flusher.old.disk) }

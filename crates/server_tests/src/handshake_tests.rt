@@ -1,5 +1,5 @@
+use crate::journals::make_journal;
 use crate::workers::start_worker;
-use journal_files::format_file;
 use server_core::{ServeFault, Server};
 use std::alloc::Global;
 use std::fs::{File, Files};
@@ -119,8 +119,7 @@ where
 fn a_handshake_may_come_in_parts(rt: HostRuntime) -> Result<(), Fail> {
     let alloc = rt.alloc();
     let path = "server_handshake";
-    let _ = fs::remove_file(&rt, path);
-    assert!(rt; format_file(alloc, &rt, path, 8_224).is_ok());
+    assert!(rt; make_journal(&rt, alloc, path));
     let served = serve(&rt, &rt, alloc, path);
     assert_eq!(rt; served, Some((true, true)));
     fs::remove_file(&rt, path)?;

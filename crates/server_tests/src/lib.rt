@@ -8,6 +8,8 @@ mod client;
 #[cfg(test)]
 mod handshake_tests;
 #[cfg(test)]
+mod journals;
+#[cfg(test)]
 mod loopback_tests;
 #[cfg(test)]
 mod opening_tests;

@@ -1,7 +1,7 @@
 use crate::client::Client;
+use crate::journals::make_journal;
 use crate::workers::start_worker;
 use flush_core::FlushFault;
-use journal_files::format_file;
 use server_core::{ServeFault, Server};
 use std::alloc::Global;
 use std::fs::{File, Files};
@@ -11,7 +11,7 @@ use std::sync::atomic::{AtomicU32, Ordering};
 use std::test::Fail;
 use std::thread::Threads;
 use std::time::{Clock, Duration};
-use std::{fs, thread};
+use std::thread;
 
 const PORT: u16 = 47_613;
 
@@ -78,8 +78,7 @@ where
     R: Files<File = File> + Net<Listener = TcpListener, Stream = TcpStream> + Wait + Clone + Drop,
 {
     let path = "server_over_loopback";
-    let _ = fs::remove_file(rt, path);
-    if format_file(alloc, rt, path, 8_224).is_err() {
+    if !make_journal(rt, alloc, path) {
         return None;
     }
     Server::open(alloc, rt, path, PORT).ok()

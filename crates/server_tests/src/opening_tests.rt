@@ -1,4 +1,4 @@
-use journal_files::format_file;
+use crate::journals::make_journal;
 use recover_core::OpenFault;
 use server_core::{ServeFault, Server};
 use std::alloc::Global;
@@ -50,8 +50,7 @@ where
 #[test]
 fn a_journal_has_one_server_at_a_time(rt: HostRuntime) -> Result<(), Fail> {
     let path = "server_of_another";
-    let _ = fs::remove_file(&rt, path);
-    assert!(rt; format_file(rt.alloc(), &rt, path, 8_224).is_ok());
+    assert!(rt; make_journal(&rt, rt.alloc(), path));
     let second = second_fault(&rt, rt.alloc(), path);
     let later = fault_of(&rt, rt.alloc(), path);
     let _ = fs::remove_file(&rt, path);
@@ -82,8 +81,7 @@ fn a_server_wants_a_journal(rt: HostRuntime) -> Result<(), Fail> {
 #[test]
 fn a_server_wants_a_port_at_which_nobody_listens(rt: HostRuntime) -> Result<(), Fail> {
     let path = "server_without_a_port";
-    let _ = fs::remove_file(&rt, path);
-    assert!(rt; format_file(rt.alloc(), &rt, path, 8_224).is_ok());
+    assert!(rt; make_journal(&rt, rt.alloc(), path));
     let other = TcpListener::bind(&rt, ("127.0.0.1", PORT))?;
     let fault = fault_of(&rt, rt.alloc(), path);
     drop(other);

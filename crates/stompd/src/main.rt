@@ -10,7 +10,7 @@ use std::process::ExitCode;
 use std::sync::Wait;
 use std::time::Clock;
 use std::{env, io, thread};
-use tool_core::{BAD_COMMAND_LINE, Failure, Subcommand, subcommand_of, tool};
+use tool_core::{BAD_COMMAND_LINE, Failure, Subcommand, end_by, subcommand_of, tool};
 
 /// Runs the program on its arguments, standard input, standard output and standard error. The threads of a server are
 /// started here.
@@ -96,6 +96,5 @@ fn failed(rt: &HostRuntime, fault: ServeFault) -> ExitCode {
 /// Tells a failure, and answers its status.
 fn told(rt: &HostRuntime, failure: &Failure) -> u8 {
     let mut errors = rt.stderr().lock();
-    let _told = failure.tell(&mut errors);
-    failure.status()
+    end_by(failure, &mut errors).status
 }

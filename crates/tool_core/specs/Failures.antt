@@ -14,11 +14,12 @@ use Rattle.engine_core.specs.Runs.{Stops}
 use Rattle.engine_core.specs.declared.fault.ScriptFault.{ScriptFault}
 use Rattle.engine_core.specs.declared.fault.ScriptFault.TheVariants.{Memory, Opening}
 use Rattle.journal_files.specs.JournalFiles.{Shows}
-use Rattle.journal_files.specs.declared.journal_files.FileFault.{FileFault}
-use Rattle.journal_files.specs.declared.journal_files.FileFault.TheVariants as files
+use Rattle.journal_files.specs.declared.journal_files.ShowFault.TheVariants as shows
 use Rattle.tool_core.specs.CommandLines.{AskFor}
 use Rattle.tool_core.specs.declared.command_line.Subcommand.{Subcommand}
 use Rattle.tool_core.specs.declared.command_line.Subcommand.TheVariants as asks
+use Rattle.tool_core.specs.declared.program.FileFault.{FileFault}
+use Rattle.tool_core.specs.declared.program.FileFault.TheVariants as files
 use Rattle.tool_core.specs.declared.program.Failure.{Failure}
 use Rattle.tool_core.specs.declared.program.Failure.TheVariants.{CommandLine, Number, Script, Format, File, Server}
 
@@ -87,7 +88,7 @@ abbrev pub StopsBy : Failure → Option (List ℕ) → Option (List ℕ) → Opt
 StopsBy (CommandLine error) unread left before after = Untouched unread left before after
 StopsBy (Script fault) unread left before after = (IsAtOnce fault × Untouched unread left before after) ⊎ Stops empty_state fault unread left before after
 StopsBy (Format fault) unread left before after = Untouched unread left before after
-StopsBy (File fault) unread left before after = (left ≡ unread) × (fault ≢ files.Output → after ≡ before)
+StopsBy (File fault) unread left before after = (left ≡ unread) × (fault ≢ files.Show shows.Output → after ≡ before)
 StopsBy (Server fault) unread left before after = Untouched unread left before after
 StopsBy Number unread left before after = Untouched unread left before after
 
@@ -101,8 +102,8 @@ format_text (formats.Memory refused) = codes "no memory"
 abbrev pub file_text : FileFault → List ℕ
 file_text files.CannotOpen = codes "cannot open"
 file_text (files.Format fault) = format_text fault
-file_text (files.Read fault) = open_fault_text fault
-file_text files.Output = codes "input or output failed"
+file_text (files.Show (shows.Read fault)) = open_fault_text fault
+file_text (files.Show shows.Output) = codes "input or output failed"
 
 -- what is told of a server that was not started, or has ended
 abbrev pub server_text : ServeFault → List ℕ

@@ -7,4 +7,5 @@ mod program;
 mod telling;
 
 pub use command_line::{Refused, Subcommand, subcommand_of};
-pub use program::{BAD_COMMAND_LINE, DONE, Ended, FAILED, Failure, run, tool};
+pub use program::{BAD_COMMAND_LINE, DONE, Ended, FAILED, Failure, FileFault, run, tool};
+pub use telling::end_by;

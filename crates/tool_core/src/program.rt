@@ -1,18 +1,19 @@
 //! The program as a function of its words and streams.
 
-ghost use Rattle.std.specs.Prelude.{◌≡◌, ◌≤◌, IfErr, IfOk, OnOk, map};
+ghost use Rattle.std.specs.Prelude.{◌≡◌, ◌≢◌, ◌≤◌, IfErr, IfOk, OnOk, map};
 ghost use Rattle.broker_core.specs.States.{empty_state};
 ghost use Rattle.recover_core.specs.Standing.{Stands};
+ghost use Rattle.journal_files.specs.JournalFiles.{Shows};
 ghost use Rattle.tool_core.specs.CommandLines.{AsksForScript};
 ghost use Rattle.tool_core.specs.Failures.{IsDone, RunsToEnd, StopsBy, IsBeforehand, IsOfScript, IsTold, Tells, status_of};
 
 use crate::command_line::{Refused, Subcommand, subcommand_of};
-use crate::telling::{format_text, tell_file, tell_server};
+use crate::telling::end_by;
 use area_core::{FormatFault, format};
 use clap::error::ErrorKind;
-use disk_core::MemDisk;
+use disk_core::{FileDisk, MemDisk};
 use engine_core::{ScriptFault, run_script};
-use journal_files::{FileFault, format_file, show_file};
+use journal_files::{ShowFault, area_in, show};
 use server_core::ServeFault;
 use std::alloc::{AllocError, Global};
 use std::convert::AsStr;
@@ -35,6 +36,17 @@ const SCRIPT_DISK: u64 = 2_097_184;
 
 /// How many bytes stand before the two areas of a journal.
 const HEADER: u64 = 32;
+
+/// Why a journal file was not made, or not shown.
+#[derive(Drop)]
+pub enum FileFault {
+    /// The file could not be made or opened, or it is there already and was to be made.
+    CannotOpen,
+    /// It would be too small for a journal, or no journal was written into it.
+    Format(FormatFault),
+    /// It was not shown.
+    Show(ShowFault),
+}
 
 /// Why the program did not do what it was asked for.
 #[derive(Drop)]
@@ -62,20 +74,6 @@ impl Failure {
             Failure::CommandLine(_) | Failure::Number => BAD_COMMAND_LINE,
             Failure::Script(_) | Failure::Format(_) | Failure::File(_) | Failure::Server(_) =>
                 FAILED,
-        }
-    }
-
-    /// Tells the user: the text about the command line, or one line with the fault. The error is the writer's.
-    pub fn tell<E: Write>(&self, errors: &mut E) -> io::Result<()>
-        ensures { OnOk result (IsTold self.now (E.contents errors.old) (E.contents errors.new)) }
-    {
-        match self {
-            Failure::CommandLine(error) => write!(errors, "{error}"),
-            Failure::Number => Ok(()),
-            Failure::Script(fault) => writeln!(errors, "stompd: {fault}"),
-            Failure::Format(fault) => writeln!(errors, "stompd: {}", format_text(fault)),
-            Failure::File(fault) => tell_file(fault, errors),
-            Failure::Server(fault) => tell_server(fault, errors),
         }
     }
 }
@@ -124,18 +122,6 @@ pub fn tool<T: Files<File = File>, S: AsStr, R: Read, W: Write, E: Write>(
     }
 }
 
-/// Tells a failure, and how the program ends by it.
-fn end_by<E: Write>(failure: &Failure, errors: &mut E) -> Ended
-    ensures status { result.status ≡ status_of failure.now }
-    ensures told { OnOk result.told (IsTold failure.now (E.contents errors.old) (E.contents errors.new)) }
-{
-    let told = failure.tell(errors);
-    Ended {
-        status: failure.status(),
-        told,
-    }
-}
-
 /// Does what the words ask for, of which the first is the program's name.
 ///
 /// On a bad command line nothing is read or written. Where the script stops, what was written is what the lines before
@@ -169,6 +155,50 @@ pub fn run<T: Files<File = File>, S: AsStr, R: Read, W: Write>(
         Ok(Subcommand::Serve { .. }) => Err(Failure::Server(ServeFault::Threads)),
         Err(Refused::Words(error)) => Err(refusal(error)),
         Err(Refused::Number) => Err(Failure::Number),
+    }
+}
+
+// Makes a file of so many bytes with an empty journal, whose areas share what the header leaves. A file that would be too small
+// is not made, and one that is there stays as it is. Where the journal is not written, the file is removed again.
+fn format_file<R: Files<File = File>>(
+    alloc: Global,
+    rt: &R,
+    path: &str,
+    bytes: u64,
+) -> Result<(), FileFault>
+    ensures ok { OnOk result (8224 ≤ bytes) }
+{
+    let Some(area) = area_in(bytes) else {
+        return Err(FileFault::Format(FormatFault::TooSmall));
+    };
+    let Ok(mut disk) = FileDisk::create(rt, path, bytes) else {
+        return Err(FileFault::CannotOpen);
+    };
+    match format(alloc, &mut disk, area) {
+        Ok(()) => Ok(()),
+        Err(fault) => {
+            let _removed = std::fs::remove_file(rt, path);
+            Err(FileFault::Format(fault))
+        }
+    }
+}
+
+// Writes what the journal in a file shows of itself. The file stays as it is.
+fn show_file<R: Files<File = File>, W: Write>(
+    alloc: Global,
+    rt: &R,
+    path: &str,
+    writer: &mut W,
+) -> Result<(), FileFault>
+    ensures ok { OnOk result (Shows (W.contents writer.old) (W.contents writer.new)) }
+    ensures err { IfErr result (λ fault. fault ≢ FileFault.Show ShowFault.Output → writer.new ≡ writer.old) }
+{
+    let Ok(mut disk) = FileDisk::open(rt, path) else {
+        return Err(FileFault::CannotOpen);
+    };
+    match show(alloc, &mut disk, writer) {
+        Ok(()) => Ok(()),
+        Err(fault) => Err(FileFault::Show(fault)),
     }
 }
 

@@ -1,20 +1,48 @@
-//! Telling the user, in one line, why a journal file or a server is not there.
+//! Telling the user why the program did not do what it was asked for, and how it ends by that.
 
 ghost use Rattle.std.specs.Prelude.{◌≡◌, OnOk};
 ghost use Rattle.std.specs.Io.KnownBytes.{Appends};
 ghost use Rattle.engine_core.specs.FaultTexts.{open_fault_text};
-ghost use Rattle.tool_core.specs.Failures.{file_text, format_text, line_of, server_text};
+ghost use Rattle.tool_core.specs.Failures.{IsTold, file_text, format_text, line_of, server_text, status_of};
 
+use crate::program::{Ended, Failure, FileFault};
 use area_core::{FormatFault, ReadFault};
 use engine_core::{opening_text, storing_text};
-use journal_files::FileFault;
+use journal_files::ShowFault;
 use recover_core::OpenFault;
 use server_core::ServeFault;
 use std::io;
 use std::io::Write;
 
+/// Tells a failure, and how the program ends by it: the text about the command line, or one line with the fault, is written to
+/// `errors`.
+pub fn end_by<E: Write>(failure: &Failure, errors: &mut E) -> Ended
+    ensures status { result.status ≡ status_of failure.now }
+    ensures told { OnOk result.told (IsTold failure.now (E.contents errors.old) (E.contents errors.new)) }
+{
+    let told = tell(failure, errors);
+    Ended {
+        status: failure.status(),
+        told,
+    }
+}
+
+// Tells the user. The error is the writer's.
+fn tell<E: Write>(failure: &Failure, errors: &mut E) -> io::Result<()>
+    ensures { OnOk result (IsTold failure.now (E.contents errors.old) (E.contents errors.new)) }
+{
+    match failure {
+        Failure::CommandLine(error) => write!(errors, "{error}"),
+        Failure::Number => Ok(()),
+        Failure::Script(fault) => writeln!(errors, "stompd: {fault}"),
+        Failure::Format(fault) => writeln!(errors, "stompd: {}", format_text(fault)),
+        Failure::File(fault) => tell_file(fault, errors),
+        Failure::Server(fault) => tell_server(fault, errors),
+    }
+}
+
 // What is told of a journal that was not made.
-pub fn format_text(fault: &FormatFault) -> &'static str
+fn format_text(fault: &FormatFault) -> &'static str
     ensures { result.now ≡ format_text fault.now }
 {
     match fault {
@@ -37,19 +65,19 @@ fn tell_opening<E: Write>(fault: &OpenFault, errors: &mut E) -> io::Result<()>
 }
 
 // Tells of a journal file that was not made, or not shown.
-pub fn tell_file<E: Write>(fault: &FileFault, errors: &mut E) -> io::Result<()>
+fn tell_file<E: Write>(fault: &FileFault, errors: &mut E) -> io::Result<()>
     ensures { OnOk result (Appends (E.contents errors.old) (E.contents errors.new) (line_of (file_text fault.now))) }
 {
     match fault {
         FileFault::CannotOpen => writeln!(errors, "stompd: cannot open"),
         FileFault::Format(fault) => writeln!(errors, "stompd: {}", format_text(fault)),
-        FileFault::Read(fault) => tell_opening(fault, errors),
-        FileFault::Output => writeln!(errors, "stompd: input or output failed"),
+        FileFault::Show(ShowFault::Read(fault)) => tell_opening(fault, errors),
+        FileFault::Show(ShowFault::Output) => writeln!(errors, "stompd: input or output failed"),
     }
 }
 
 // Tells of a server that was not started, or has ended.
-pub fn tell_server<E: Write>(fault: &ServeFault, errors: &mut E) -> io::Result<()>
+fn tell_server<E: Write>(fault: &ServeFault, errors: &mut E) -> io::Result<()>
     ensures { OnOk result (Appends (E.contents errors.old) (E.contents errors.new) (line_of (server_text fault.now))) }
 {
     match fault {

@@ -19,5 +19,10 @@ returns-in-Ok-clause-continues g c =
     (spoken was c.in-Ok.ticket command c.args.seat.now c.append.new.seat next
     (ap (λ (s : SessionSeatValue). s.ring) added) (ap (λ (s : SessionSeatValue). s.number) added) (ap (λ (s : SessionSeatValue). s.own) added))
 
+pub returns-in-Ok-clause-spoken : goal.returns-in-Ok-clause-spoken
+returns-in-Ok-clause-spoken g c =
+    let role : c.of-role.result ≡ role_of c.args.entry.command.op = c.of-role.ensures ∙ ap role_of (c.op.ensures.value ∙ ap (λ (x : CommandValue). x.op) c.command.ensures) in
+    (c.in-Ok.ensures.ok, c.after.ensures ∙ ap (λ (r : Role). after c.args.progress.now r c.in-Ok.ticket) role)
+
 pub returns-in-Err-clause-continues : goal.returns-in-Err-clause-continues
 returns-in-Err-clause-continues g c = unsaid c.args.progress.now _ c.in-Err.back.1 c.args.seat.now c.append.new.seat c.in-Err.ensures.refused.1

@@ -1,4 +1,4 @@
-use Rattle.std.proofs.Common.{◌≡◌, ◌≤◌, ◌∙◌, Result, Ok, Err, IfErr, IfOk, arith, false, length, sym, subst, true}
+use Rattle.std.proofs.Common.{◌≡◌, ◌≤◌, ◌∙◌, Result, Ok, Err, IfErr, IfOk, OnOk, arith, false, length, sym, subst, true}
 use Rattle.std.proofs.lemmas.Result.{IfOk-weaker, err_from_is_err_and}
 use Rattle.disk_core.specs.Faults.{IsOneMore}
 use Rattle.flush_core.specs.declared.faults.FlushFault.TheVariants.{Full}
@@ -6,15 +6,20 @@ use Rattle.flush_core.specs.Flushed.{Flushed}
 use Rattle.flush_core.proofs.StoreFaults.{same_fault}
 use Rattle.script_journal.specs.Faults.{IsCausedBy, IsOfRing, IsOutOfStep}
 use Rattle.script_journal.specs.Going.{HasGone, HasGoneFront}
-use Rattle.script_journal.specs.Journals.{IsFull}
+use Rattle.script_journal.specs.Journals.{IsFull, KeepFront}
 use Rattle.script_journal.specs.Placed.{commands_of}
 use Rattle.script_journal.proofs.Going.{filled_full, gone_all, gone_front}
 use Rattle.script_journal.proofs.Placing.{commands_length}
+use Rattle.script_journal.proofs.Resting.{keep_front}
 use Rattle.script_journal.proofs.turning.go.Goals as goal
 
 if_ok_any : {X Y : Type 0} (r : Result X Y) (P : X → Type 0) → ((x : X) → P x) → IfOk r P
 if_ok_any (Ok x) P p = p x
 if_ok_any (Err y) P p = tt
+
+on_ok_any : {X Y : Type 0} (r : Result X Y) (P : Type 0) → P → OnOk r P
+on_ok_any (Ok x) P p = p
+on_ok_any (Err y) P p = tt
 
 pub compare_all-requires-clause-ring : goal.compare_all-requires-clause-ring
 compare_all-requires-clause-ring g c = c.take_until_stop-went.ensures.way.ring ∙ c.requires.ring
@@ -38,6 +43,18 @@ returns-clause-some g c =
     gone_front c.args.flusher.now c.take_until_stop-went.new.flusher c.next-first.result c.next.result c.len-count.result c.append_all.new.seats.items cs c.next-first.ensures.next c.next.ensures.next
     (subst (λ n. n ≤ c.len-count.result) c.saturating_sub.ensures c.if-saturating_sub-count.false) many
     c.next-first.ensures.kept.opened c.next.ensures.kept.opened c.take_until_stop-went.ensures.way c.in_ok-append_all.ensures.placed c.compare_all.ensures.agree))
+
+pub returns-clause-kept : goal.returns-clause-kept
+returns-clause-kept g c =
+    let cs = commands_of c.args.waiting.items in
+    let many : c.len-count.result ≡ length cs = omega (arith, c.len-count.ensures, commands_length c.args.waiting.items) in
+    subst (λ (f : Flushed g.row.D.Denot). OnOk c.take_until_stop-went.result (g.D.Disk.honest f.disk → KeepFront (g.D.Disk.images f.disk) c.args.flusher.now.broker.state cs)) (sym c.compare_all.ensures.flusher)
+    (on_ok_any c.take_until_stop-went.result (g.D.Disk.honest c.take_until_stop-went.new.flusher.disk → KeepFront (g.D.Disk.images c.take_until_stop-went.new.flusher.disk) c.args.flusher.now.broker.state cs) (λ honest.
+    keep_front c.args.flusher.now c.take_until_stop-went.new.flusher cs (g.D.Disk.images c.take_until_stop-went.new.flusher.disk) c.requires.idle
+    (gone_front c.args.flusher.now c.take_until_stop-went.new.flusher c.next-first.result c.next.result c.len-count.result c.append_all.new.seats.items cs c.next-first.ensures.next c.next.ensures.next
+    (subst (λ n. n ≤ c.len-count.result) c.saturating_sub.ensures c.if-saturating_sub-count.false) many
+    c.next-first.ensures.kept.opened c.next.ensures.kept.opened c.take_until_stop-went.ensures.way c.in_ok-append_all.ensures.placed c.compare_all.ensures.agree)
+    (c.next.ensures.kept.each honest)))
 
 pub returns-clause-full : goal.returns-clause-full
 returns-clause-full g c honest is =
