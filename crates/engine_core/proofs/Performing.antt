@@ -9,6 +9,10 @@ use Rattle.disk_core.specs.Memory.{Memory}
 use Rattle.recover_core.specs.Opens.{IsRestartOf}
 use Rattle.recover_core.specs.Standing.{Stands}
 use Rattle.recover_core.proofs.Single.{stands_one}
+use Rattle.script_journal.specs.Journals.{IsFull}
+use Rattle.script_journal.specs.Placed.{commands_of}
+use Rattle.script_journal.specs.declared.waiting.Waiting.{Waiting}
+use Rattle.engine_core.specs.Queues.{LacksRoom, QueueValue}
 use Rattle.engine_core.specs.Running.{ScriptValue, beginning}
 use Rattle.engine_core.specs.Scripts.{BeginsWith, HasDisk, Opens, open_text, Crashes, GoesBy, GoesOn, IsNotUnderstood, IsStopped, OnRunning, Prints, RunsOn}
 use Rattle.engine_core.specs.declared.script.Script.{Script}
@@ -88,3 +92,9 @@ pub no_disk : {A : Type 0} (durable : Bool) (result : Option A) (P : A → Type 
 no_disk durable (Some disk) P some is = is
 no_disk true None P some is = absurd (false≢true (some refl))
 no_disk false None P some is = refl
+
+-- a queue of these commands, of whose journal that is so
+pub lacks_room : (q : QueueValue) (waiting : List Waiting) (state : State) → waiting ≡ q.waiting → state ≡ q.state → ((image : List ℕ) × IsFull state (commands_of waiting) image) → LacksRoom q
+lacks_room q waiting state same_waiting same_state full =
+    subst (λ s. (image : List ℕ) × IsFull s (commands_of q.waiting) image) same_state
+    (subst (λ w. (image : List ℕ) × IsFull state (commands_of w) image) same_waiting full)
