@@ -1,2 +1,3 @@
+mod Asking
 mod Nothing
 pub mod Words

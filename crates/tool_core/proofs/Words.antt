@@ -1,8 +1,9 @@
 -- Words and the arguments that they give.
-use Rattle.std.proofs.Common.{◌≡◌, ◌≢◌, ◌∙◌, ◌≤◌, ◌-◌, ◌↔◌, Bool, List, [], ◌∷◌, ℕ, IfOk, IsTrue, Result, ap, arith, codes, drop, false, inl, inr, length, map, refl, slice_index_or, subst, sym, take, true}
-use Rattle.std.proofs.lemmas.List.{take_all}
+use Rattle.std.proofs.Common.{◌≡◌, ◌≢◌, ◌∙◌, ◌≤◌, ◌<◌, ◌+◌, ◌-◌, ◌⊎◌, ◌++◌, ◌↔◌, Bool, List, [], ◌∷◌, ℕ, IfOk, IsTrue, Result, ap, arith, codes, drop, false, inl, inr, length, length-append, map, refl, slice_index_or, subst, sym, take, true}
+use Rattle.std.proofs.lemmas.List.{length-map, take_all}
 use Rattle.std.proofs.lemmas.Result.{IfOk-weaker}
-use Rattle.tool_core.specs.CommandLines.{AskFor, Give}
+use Rattle.std.specs.List.{AllByRecursion}
+use Rattle.tool_core.specs.CommandLines.{AskFor, Give, GiveNo}
 use Rattle.tool_core.specs.declared.command_line.Refused.{Refused}
 use Rattle.tool_core.specs.declared.command_line.Subcommand.{Subcommand}
 
@@ -39,6 +40,54 @@ module _ {A : Type 0} (text : A → List ℕ) where
   named (x ∷ []) a some second = absurd (omega (arith, some))
   named (x ∷ y ∷ words) a some second = (text x, λ i. text x ∷ text (sym second i) ∷ map text (sym (take_all (length (x ∷ y ∷ words) - 2) words (omega arith)) i))
 
+-- The arguments that words give are no others: the words before them are split at the first `--`.
+
+abbrev Plain : List (List ℕ) → Type 0
+Plain front = AllByRecursion (λ word. word ≢ codes "--") front
+
+abbrev Are : List (List ℕ) → List (List ℕ) → List (List ℕ) → Type 0
+Are words front behind = ((words ≡ front) × (behind ≡ [])) ⊎ (words ≡ front ++ codes "--" ∷ behind)
+
+no_dashes_among : (front behind : List (List ℕ)) → Plain (front ++ codes "--" ∷ behind) → ⊥
+no_dashes_among [] behind plain = plain.0 refl
+no_dashes_among (x ∷ front) behind plain = no_dashes_among front behind plain.1
+
+same_split : (f a g b : List (List ℕ)) → Plain f → Plain g → f ++ codes "--" ∷ a ≡ g ++ codes "--" ∷ b → f ++ a ≡ g ++ b
+same_split [] a [] b p q e = cc
+same_split [] a (y ∷ g) b p q e = let d : y ≡ codes "--" = cc in absurd (q.0 d)
+same_split (x ∷ f) a [] b p q e = let d : x ≡ codes "--" = cc in absurd (p.0 d)
+same_split (x ∷ f) a (y ∷ g) b p q e =
+    let h : x ≡ y = cc in
+    let t : f ++ codes "--" ∷ a ≡ g ++ codes "--" ∷ b = cc in
+    let rest = same_split f a g b p.1 q.1 t in λ i. h i ∷ rest i
+
+same_given : (words f a g b : List (List ℕ)) → Plain f → Plain g → Are words f a → Are words g b → f ++ a ≡ g ++ b
+same_given words f a g b p q (inl m) (inl n) = cc
+same_given words f a g b p q (inl m) (inr n) = absurd (no_dashes_among g b (subst Plain (sym m.0 ∙ n) p))
+same_given words f a g b p q (inr m) (inl n) = absurd (no_dashes_among f a (subst Plain (sym n.0 ∙ m) q))
+same_given words f a g b p q (inr m) (inr n) = same_split f a g b p q (sym m ∙ n)
+
+pub give_same : (words a b : List (List ℕ)) → Give words a → Give words b → a ≡ b
+give_same words a b x y = x.all ∙ same_given words x.front x.behind y.front y.behind x.plain y.plain x.are y.are ∙ sym y.all
+
+are_as_many : (words f a : List (List ℕ)) → Are words f a → (length (f ++ a) ≤ length words) × (length words ≤ length (f ++ a) + 1)
+are_as_many words f a (inl m) = (omega (arith, ap length m.0, ap length m.1, length-append f a), omega (arith, ap length m.0, ap length m.1, length-append f a))
+are_as_many words f a (inr m) = (omega (arith, ap length m, length-append f a, length-append f (codes "--" ∷ a)), omega (arith, ap length m, length-append f a, length-append f (codes "--" ∷ a)))
+
+give_as_many : (words a : List (List ℕ)) → Give words a → (length a ≤ length words) × (length words ≤ length a + 1)
+give_as_many words a x = subst (λ l. (length l ≤ length words) × (length words ≤ length l + 1)) (sym x.all) (are_as_many words x.front x.behind x.are)
+
+-- so words that give some arguments give no other number of them
+pub gives_other : (n : ℕ) (words a : List (List ℕ)) → Give words a → length a ≢ n → GiveNo n words
+gives_other n words a gives other b too is = other (ap length (give_same words a b gives too) ∙ is)
+
+module _ {A : Type 0} (text : A → List ℕ) where
+  pub too_few : (n : ℕ) (words : List A) → length words < n → GiveNo n (map text words)
+  too_few n words few a gives is = let many = (give_as_many _ a gives).0 in omega (arith, few, is, many, length-map words text)
+
+  pub too_many : (n : ℕ) (words : List A) → n + 1 < length words → GiveNo n (map text words)
+  too_many n words some a gives is = let few = (give_as_many _ a gives).1 in omega (arith, some, is, few, length-map words text)
+
 pub no_dashes : (b : Bool) (word : List ℕ) → b ≡ false → (IsTrue b ↔ (word ≡ codes "--")) → word ≢ codes "--"
 no_dashes b word off both is = let on : IsTrue b = both.1 is in absurd (cc (off, on))
 
@@ -47,6 +96,18 @@ is_dashes b word on both = both.0 on
 
 pub gives_one : (words : List (List ℕ)) (a : List ℕ) → words ≡ a ∷ [] → a ≢ codes "--" → Give words (a ∷ [])
 gives_one words a are plain = record { front = a ∷ []; behind = []; all = refl; plain = (plain, tt); are = inl (are, refl) }
+
+pub gives_none : (words : List (List ℕ)) (d : List ℕ) → words ≡ d ∷ [] → d ≡ codes "--" → Give words []
+gives_none words d are dashes = record { front = []; behind = []; all = refl; plain = tt; are = inr (are ∙ ap (λ z. z ∷ []) dashes) }
+
+pub gives_one_behind : (words : List (List ℕ)) (d a : List ℕ) → words ≡ d ∷ a ∷ [] → d ≡ codes "--" → Give words (a ∷ [])
+gives_one_behind words d a are dashes = record { front = []; behind = a ∷ []; all = refl; plain = tt; are = inr (are ∙ ap (λ z. z ∷ a ∷ []) dashes) }
+
+pub gives_one_before : (words : List (List ℕ)) (a d : List ℕ) → words ≡ a ∷ d ∷ [] → a ≢ codes "--" → d ≡ codes "--" → Give words (a ∷ [])
+gives_one_before words a d are plain dashes = record { front = a ∷ []; behind = []; all = refl; plain = (plain, tt); are = inr (are ∙ ap (λ z. a ∷ z ∷ []) dashes) }
+
+pub gives_three : (words : List (List ℕ)) (a b d : List ℕ) → words ≡ a ∷ b ∷ d ∷ [] → a ≢ codes "--" → b ≢ codes "--" → d ≢ codes "--" → Give words (a ∷ b ∷ d ∷ [])
+gives_three words a b d are plain too also = record { front = a ∷ b ∷ d ∷ []; behind = []; all = refl; plain = (plain, (too, (also, tt))); are = inl (are, refl) }
 
 pub gives_two : (words : List (List ℕ)) (a b : List ℕ) → words ≡ a ∷ b ∷ [] → a ≢ codes "--" → b ≢ codes "--" → Give words (a ∷ b ∷ [])
 gives_two words a b are plain too = record { front = a ∷ b ∷ []; behind = []; all = refl; plain = (plain, (too, tt)); are = inl (are, refl) }

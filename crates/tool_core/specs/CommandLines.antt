@@ -1,5 +1,5 @@
 -- What the words of a command line ask for.
-use Rattle.std.specs.Prelude.{◌≡◌, ◌≢◌, ◌⊎◌, ◌<◌, List, [], ◌∷◌, ◌++◌, ℕ, codes}
+use Rattle.std.specs.Prelude.{◌≡◌, ◌≢◌, ◌⊎◌, ◌<◌, ◌^◌, List, [], ◌∷◌, ◌++◌, ℕ, codes, length}
 use Rattle.std.specs.List.{AllByRecursion}
 use Rattle.std.specs.Str.Parse.{IsNumeral, digits_value}
 use Rattle.tool_core.specs.declared.command_line.Subcommand.{Subcommand}
@@ -18,6 +18,10 @@ pub record Give (words arguments : List (List ℕ)) : Type 0 where
   pub plain : AllByRecursion (λ word. word ≢ codes "--") front
   pub are : ((words ≡ front) × (behind ≡ [])) ⊎ (words ≡ front ++ codes "--" ∷ behind)
 
+-- the words give no such number of arguments
+abbrev pub GiveNo : ℕ → List (List ℕ) → Type 0
+GiveNo n words = (arguments : List (List ℕ)) → Give words arguments → length arguments ≢ n
+
 -- the words are the program's name, this one, and what gives these arguments
 abbrev pub Name : List (List ℕ) → List ℕ → List (List ℕ) → Type 0
 Name words subcommand arguments = (program : List ℕ) × (rest : List (List ℕ)) × (words ≡ program ∷ subcommand ∷ rest) × Give rest arguments
@@ -26,9 +30,13 @@ Name words subcommand arguments = (program : List ℕ) × (rest : List (List ℕ
 abbrev pub IsNumber : List ℕ → ℕ → Type 0
 IsNumber text n = IsNumeral 10 text × (n ≡ digits_value 10 text)
 
--- the words ask for just that
+-- The words ask for just that: a file's size in bytes is a number under 2 ^ 64, and a port one under 2 ^ 16 that is not 0.
 abbrev pub AskFor : List (List ℕ) → Subcommand → Type 0
 AskFor words Script = Name words (codes "script") []
-AskFor words (Format file bytes) = (text : List ℕ) × Name words (codes "format") (file.now ∷ text ∷ []) × IsNumber text bytes
+AskFor words (Format file bytes) = (text : List ℕ) × Name words (codes "format") (file.now ∷ text ∷ []) × IsNumber text bytes × (bytes < 2 ^ 64)
 AskFor words (Show file) = Name words (codes "show") (file.now ∷ [])
-AskFor words (Serve file port) = (text : List ℕ) × Name words (codes "serve") (file.now ∷ text ∷ []) × IsNumber text port × (0 < port)
+AskFor words (Serve file port) = (text : List ℕ) × Name words (codes "serve") (file.now ∷ text ∷ []) × IsNumber text port × (0 < port) × (port < 2 ^ 16)
+
+-- the words ask for nothing that the program does
+abbrev pub AskForNothing : List (List ℕ) → Type 0
+AskForNothing words = (asked : Subcommand) → AskFor words asked → ⊥

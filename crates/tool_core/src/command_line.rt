@@ -1,7 +1,7 @@
 //! What the words of a command line ask for.
 
-ghost use Rattle.std.specs.Prelude.{◌≡◌, ◌<◌, ◌∷◌, ◌↔◌, [], List, ℕ, IfOk, IfSome, IsTrue, codes, true, map, Ok};
-ghost use Rattle.tool_core.specs.CommandLines.{AskFor, AsksForScript, Give, IsNumber};
+ghost use Rattle.std.specs.Prelude.{◌≡◌, ◌<◌, ◌≤◌, ◌^◌, ◌∷◌, ◌↔◌, [], List, ℕ, IfNone, IfOk, IfSome, IsErrOf, IsTrue, OnErr, codes, length, true, map, Ok};
+ghost use Rattle.tool_core.specs.CommandLines.{AskFor, AskForNothing, AsksForScript, Give, GiveNo, IsNumber};
 ghost use Rattle.tool_core.specs.declared.command_line.Subcommand.TheVariants.{Script};
 
 use clap::{Arg, ArgAction, ArgMatches, Command, Error};
@@ -33,9 +33,11 @@ pub enum Refused {
 
 /// The subcommand that the words ask for, of which the first is the program's name. Where `clap` refuses the words, its error
 /// is the answer; what it takes has one of the program's forms, and is refused as a number that is none where it hasn't.
+/// Words that are refused for a number ask for nothing that the program does.
 pub fn subcommand_of<'a, S: AsStr>(alloc: Global, words: &'a [S]) -> Result<Subcommand<'a>, Refused>
     ensures script { AsksForScript (map S.text words.now) → result ≡ Ok Script }
     ensures ok { IfOk result (AskFor (map S.text words.now)) }
+    ensures number { IsErrOf result Refused.Number → (asked : Subcommand) → AskFor (map S.text words.now) asked → ⊥ }
 {
     // The words of a script have nothing to parse, and take no memory.
     if is_script(words) {
@@ -98,7 +100,8 @@ fn matches_of<'a, S: AsStr>(alloc: Global, words: &'a [S]) -> Result<ArgMatches<
 
 /// The subcommand that words ask for which `clap` takes.
 fn asked_of<'a, S: AsStr>(words: &'a [S]) -> Result<Subcommand<'a>, Refused>
-    ensures { IfOk result (AskFor (map S.text words.now)) }
+    ensures ok { IfOk result (AskFor (map S.text words.now)) }
+    ensures number { OnErr result (AskForNothing (map S.text words.now)) }
 {
     let Some((name, rest)) = named(words) else {
         return Err(Refused::Number);
@@ -114,7 +117,8 @@ fn asked_of<'a, S: AsStr>(words: &'a [S]) -> Result<Subcommand<'a>, Refused>
 
 /// The word behind the program's name, and the words behind that.
 fn named<'a, S: AsStr>(words: &'a [S]) -> Option<(&'a str, &'a [S])>
-    ensures { IfSome result (λ it. (program : List ℕ) × (map S.text words.now ≡ program ∷ it.0.now ∷ map S.text it.1.now)) }
+    ensures some { IfSome result (λ it. (program : List ℕ) × (map S.text words.now ≡ program ∷ it.0.now ∷ map S.text it.1.now)) }
+    ensures none { IfNone result (length words.now < 2) }
 {
     if words.len() < 2 {
         return None;
@@ -123,7 +127,8 @@ fn named<'a, S: AsStr>(words: &'a [S]) -> Option<(&'a str, &'a [S])>
 }
 
 fn script_asked<'a, S: AsStr>(rest: &'a [S]) -> Result<Subcommand<'a>, Refused>
-    ensures { IfOk result (λ asked. (program : List ℕ) → AskFor (program ∷ codes "script" ∷ map S.text rest.now) asked) }
+    ensures ok { IfOk result (λ asked. (program : List ℕ) → AskFor (program ∷ codes "script" ∷ map S.text rest.now) asked) }
+    ensures number { OnErr result ((program : List ℕ) → AskForNothing (program ∷ codes "script" ∷ map S.text rest.now)) }
 {
     match rest {
         [] => Ok(Subcommand::Script),
@@ -139,7 +144,8 @@ fn script_asked<'a, S: AsStr>(rest: &'a [S]) -> Result<Subcommand<'a>, Refused>
 }
 
 fn format_asked<'a, S: AsStr>(rest: &'a [S]) -> Result<Subcommand<'a>, Refused>
-    ensures { IfOk result (λ asked. (program : List ℕ) → AskFor (program ∷ codes "format" ∷ map S.text rest.now) asked) }
+    ensures ok { IfOk result (λ asked. (program : List ℕ) → AskFor (program ∷ codes "format" ∷ map S.text rest.now) asked) }
+    ensures number { OnErr result ((program : List ℕ) → AskForNothing (program ∷ codes "format" ∷ map S.text rest.now)) }
 {
     let Some((file, text)) = two_given(rest) else {
         return Err(Refused::Number);
@@ -151,7 +157,8 @@ fn format_asked<'a, S: AsStr>(rest: &'a [S]) -> Result<Subcommand<'a>, Refused>
 }
 
 fn show_asked<'a, S: AsStr>(rest: &'a [S]) -> Result<Subcommand<'a>, Refused>
-    ensures { IfOk result (λ asked. (program : List ℕ) → AskFor (program ∷ codes "show" ∷ map S.text rest.now) asked) }
+    ensures ok { IfOk result (λ asked. (program : List ℕ) → AskFor (program ∷ codes "show" ∷ map S.text rest.now) asked) }
+    ensures number { OnErr result ((program : List ℕ) → AskForNothing (program ∷ codes "show" ∷ map S.text rest.now)) }
 {
     match one_given(rest) {
         Some(file) => Ok(Subcommand::Show { file }),
@@ -160,7 +167,8 @@ fn show_asked<'a, S: AsStr>(rest: &'a [S]) -> Result<Subcommand<'a>, Refused>
 }
 
 fn serve_asked<'a, S: AsStr>(rest: &'a [S]) -> Result<Subcommand<'a>, Refused>
-    ensures { IfOk result (λ asked. (program : List ℕ) → AskFor (program ∷ codes "serve" ∷ map S.text rest.now) asked) }
+    ensures ok { IfOk result (λ asked. (program : List ℕ) → AskFor (program ∷ codes "serve" ∷ map S.text rest.now) asked) }
+    ensures number { OnErr result ((program : List ℕ) → AskForNothing (program ∷ codes "serve" ∷ map S.text rest.now)) }
 {
     let Some((file, text)) = two_given(rest) else {
         return Err(Refused::Number);
@@ -173,7 +181,8 @@ fn serve_asked<'a, S: AsStr>(rest: &'a [S]) -> Result<Subcommand<'a>, Refused>
 
 /// The one argument that words give.
 fn one_given<'a, S: AsStr>(words: &'a [S]) -> Option<&'a str>
-    ensures { IfSome result (λ one. Give (map S.text words.now) (one.now ∷ [])) }
+    ensures some { IfSome result (λ one. Give (map S.text words.now) (one.now ∷ [])) }
+    ensures none { IfNone result (GiveNo 1 (map S.text words.now)) }
 {
     match words {
         [one] => {
@@ -196,7 +205,8 @@ fn one_given<'a, S: AsStr>(words: &'a [S]) -> Option<&'a str>
 
 /// The two arguments that words give.
 fn two_given<'a, S: AsStr>(words: &'a [S]) -> Option<(&'a str, &'a str)>
-    ensures { IfSome result (λ two. Give (map S.text words.now) (two.0.now ∷ two.1.now ∷ [])) }
+    ensures some { IfSome result (λ two. Give (map S.text words.now) (two.0.now ∷ two.1.now ∷ [])) }
+    ensures none { IfNone result (GiveNo 2 (map S.text words.now)) }
 {
     match words {
         [one, two] => {
@@ -234,7 +244,8 @@ fn is_dashes(word: &str) -> bool
 
 /// The port that a text of decimal digits means: from 1 to 65,535.
 fn port_of(text: &str) -> Option<u16>
-    ensures { IfSome result (λ port. IsNumber text.now port × (0 < port)) }
+    ensures some { IfSome result (λ port. IsNumber text.now port × (0 < port) × (port < 2 ^ 16)) }
+    ensures none { IfNone result ((port : ℕ) → IsNumber text.now port → 0 < port → 2 ^ 16 ≤ port) }
 {
     match number_of(text) {
         Some(number) if number > 0 => u16::try_from(number).ok(),
@@ -244,7 +255,8 @@ fn port_of(text: &str) -> Option<u16>
 
 /// The number that a text of decimal digits means.
 fn number_of(text: &str) -> Option<u64>
-    ensures { IfSome result (IsNumber text.now) }
+    ensures some { IfSome result (λ number. IsNumber text.now number × (number < 2 ^ 64)) }
+    ensures none { IfNone result ((number : ℕ) → IsNumber text.now number → 2 ^ 64 ≤ number) }
 {
     match text.as_bytes() {
         [b'+', ..] => None,
