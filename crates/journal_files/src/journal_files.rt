@@ -46,11 +46,7 @@ pub fn area_in(bytes: u64) -> Option<u64>
 /// Writes what the journal of a disk shows of itself: its version, its live area, how much of that is used, and the count and
 /// the held messages of the state that it stands for, in five lines. The disk is only read. Where it is not read as a journal,
 /// nothing is written.
-pub fn show<D: Disk, W: Write>(
-    alloc: Global,
-    disk: &mut D,
-    writer: &mut W,
-) -> Result<(), ShowFault>
+pub fn show<D: Disk, W: Write>(alloc: Global, disk: &mut D, writer: &mut W) -> Result<(), ShowFault>
     ensures shown { D.honest disk.old → OnOk result (ShowsOf (D.content disk.old) (W.contents writer.old) (W.contents writer.new)) }
     ensures shows { OnOk result (Shows (W.contents writer.old) (W.contents writer.new)) }
     ensures err { IfErr result (λ fault. fault ≢ ShowFault.Output → writer.new ≡ writer.old) }

@@ -1,19 +1,18 @@
 -- What a journal keeps at rest, and what is left of it where its disk stops.
 use Rattle.std.proofs.Common.{◌≡◌, ◌==◌, ◌+◌, ◌-◌, ◌<◌, ◌≤◌, ◌++◌, ℕ, zero, suc, List, [], ◌∷◌, false, true, length, take, set, slice_index_or, All, Option, Some, None, IsSome, IfSome, IfErr, IfOk, Result, Ok, Err, sym, ap, ◌∙◌, subst, arith, length-append}
 use mathlib.Core.Option.{some, some-injective, some-ne-none}
-use Rattle.std.proofs.Math.Logic.{∥∥₁_map, ∥∥₁_prop, ∥∥₁_elim}
+use Rattle.std.proofs.Math.Logic.{∥∥₁_map}
 use Rattle.disk_core.specs.Memory.{Memory}
 use lib.ListN.{get_elem?}
-use Rattle.std.proofs.lemmas.List.{length-take-le, take-take, take_all}
+use Rattle.std.proofs.lemmas.List.{length-take-le, take-take}
 use Rattle.std.proofs.lemmas.Bool.{false≢true}
 use Rattle.atomic_table.specs.Seated.{TableId}
 use Rattle.command_core.specs.Commands.{CommandValue}
-use Rattle.broker_core.specs.Operations.{restarted}
 use Rattle.broker_core.specs.States.{State, BrokerValue}
 use Rattle.broker_core.specs.Steps.{state_after}
 use Rattle.claim_core.specs.Seats.{FlushSeatValue, SessionSeatValue, new_flushing, new_session, next_ticket}
 use Rattle.recover_core.specs.Opens.{IsRestartOf}
-use Rattle.recover_core.specs.Standing.{StandFor, Stands}
+use Rattle.recover_core.specs.Standing.{Stands}
 use Rattle.recover_core.specs.Told.{IsOpenTold}
 use Rattle.area_core.specs.declared.faults.AreaFault.TheVariants as areas
 use Rattle.recover_core.specs.declared.faults.OpenFault.{OpenFault}
@@ -100,13 +99,6 @@ same_rest ring seats f u same rest = record {
 -- each image holds all under the mark of one that has gone a front, and perhaps more
 pub keep_front : {D : Type 0} (f g : Flushed D) (cs : List CommandValue) (images : List ℕ → Type 0) → IsIdle f → HasGoneFront f g cs → HoldBetween images g.opening g.seat → KeepFront images f.broker.state cs
 keep_front f g cs images idle front hold image is = ∥∥₁_map (hold image is) (stands_front f g cs image idle front)
-
--- while nothing was done, each image stands for the state of the broker
-pub rest_stands : {D : Type 0} (f : Flushed D) (images : List ℕ → Type 0) → IsIdle f → HoldBetween images f.opening f.seat → StandFor images f.broker.state
-rest_stands f images idle hold image is = ∥∥₁_elim (hold image is) ∥∥₁_prop (λ (after : AfterSome f.opening f.seat image).
-    let all : after.number ≡ next_ticket f.seat = omega (arith, after.marked, after.taken, idle.marked) in
-    let whole : take (after.number - f.seat.base) f.seat.taken ≡ f.seat.taken = take_all (after.number - f.seat.base) f.seat.taken (omega (arith, all)) in
-    subst (Stands image) (ap (state_after f.opening) whole ∙ sym idle.state) after.stands)
 
 -- a journal of the broker that a store was opened with, over this disk
 abbrev pub IsMade : Option BrokerValue → Memory → Result (JournalValue Memory) OpenFault → Type 0

@@ -1,5 +1,5 @@
 -- A failure before a script is read, and one over an empty journal.
-use Rattle.std.proofs.Common.{◌≡◌, ◌∙◌, List, [], ℕ, Option, refl, subst, inl, inr}
+use Rattle.std.proofs.Common.{◌≡◌, ◌∙◌, List, ℕ, Option, refl, subst, inl, inr}
 use Rattle.clap.specs.declared.error.Error.{Error}
 use Rattle.broker_core.specs.Operations.{restarted}
 use Rattle.std.specs.Io.KnownBytes.{Appends, Consumes, IsAtEnd}

@@ -1,4 +1,4 @@
-use Rattle.std.proofs.Common.{◌≡◌, ◌==◌, ◌<◌, ◌∙◌, ap, arith, false, length, sym, true}
+use Rattle.std.proofs.Common.{◌≡◌, ◌<◌, ◌∙◌, ap, arith, length, sym, true}
 use Rattle.atomic_table.proofs.Lists.{at_index}
 use Rattle.claim_core.specs.Seats.{SessionSeatValue}
 use Rattle.script_journal.proofs.Resting.{not_zero, still_rest}

@@ -1,5 +1,5 @@
 use Rattle.std.proofs.Common.{rules}
-use Rattle.tool_core.proofs.program.Failure.tell.Goals as goal
+use Rattle.tool_core.proofs.telling.tell.Goals as goal
 
 pub returns-in-Script : goal.returns-in-Script
 returns-in-Script g c = search rules
