@@ -74,6 +74,11 @@ def let_go(port):
     start = time.monotonic()
     for way, one in open_ones.items():
         one.sendall(ways[way][0])
+    for way, one in open_ones.items():
+        # Whoever asked for a WebSocket waits for the answer before it sends a frame (RFC 6455, section 4.1).
+        if ways[way][0]:
+            one.settimeout(5)
+            one.recv(4_096)
     for second in range(0, LONGEST, 3):
         time.sleep(max(0, start + second - time.monotonic()))
         for way, one in list(open_ones.items()):
