@@ -1,4 +1,4 @@
-use Rattle.std.specs.Prelude.{◌≡◌, ◌≢◌, ◌≤◌, ◌⊎◌, List, [], ◌∷◌, ◌++◌, ℕ, Option, codes}
+use Rattle.std.specs.Prelude.{◌≡◌, ◌≢◌, ◌≤◌, ◌⊎◌, List, [], ◌∷◌, ◌++◌, ℕ, Option, Result, Err, codes}
 use Rattle.std.specs.Io.KnownBytes.{Appends, Consumes, IsAtEnd}
 use Rattle.clap.specs.Values.{kind_of}
 use Rattle.clap.specs.declared.error.Error.{Error}
@@ -97,6 +97,11 @@ abbrev pub format_text : FormatFault → List ℕ
 format_text formats.TooSmall = codes "J8 disk too small"
 format_text formats.Device = codes "J3 device failed"
 format_text (formats.Memory refused) = codes "no memory"
+
+-- it is told that the bytes are too few for a journal
+abbrev pub IsTooShort : {T : Type 0} → Result T FileFault → Type 0
+IsTooShort (Err (files.Format formats.TooSmall)) = Unit {0}
+IsTooShort _ = ⊥
 
 -- what is told of a journal file that was not made, or not shown
 abbrev pub file_text : FileFault → List ℕ

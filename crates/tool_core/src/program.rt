@@ -1,11 +1,11 @@
 //! The program as a function of its words and streams.
 
-ghost use Rattle.std.specs.Prelude.{◌≡◌, ◌≢◌, ◌≤◌, IfErr, IfOk, OnOk, map};
+ghost use Rattle.std.specs.Prelude.{◌≡◌, ◌≢◌, ◌<◌, ◌≤◌, IfErr, IfOk, OnOk, map};
 ghost use Rattle.broker_core.specs.States.{empty_state};
 ghost use Rattle.recover_core.specs.Standing.{Stands};
 ghost use Rattle.journal_files.specs.JournalFiles.{Shows};
 ghost use Rattle.tool_core.specs.CommandLines.{AsksForScript};
-ghost use Rattle.tool_core.specs.Failures.{IsDone, RunsToEnd, StopsBy, IsBeforehand, IsOfScript, IsTold, Tells, status_of};
+ghost use Rattle.tool_core.specs.Failures.{IsDone, RunsToEnd, StopsBy, IsBeforehand, IsOfScript, IsTold, IsTooShort, Tells, status_of};
 
 use crate::command_line::{Refused, Subcommand, subcommand_of};
 use crate::telling::end_by;
@@ -167,6 +167,8 @@ fn format_file<R: Files<File = File>>(
     bytes: u64,
 ) -> Result<(), FileFault>
     ensures ok { OnOk result (8224 ≤ bytes) }
+    ensures small { bytes < 8224 → IsTooShort result }
+    ensures large { 8224 ≤ bytes → IsTooShort result → ⊥ }
 {
     let Some(area) = area_in(bytes) else {
         return Err(FileFault::Format(FormatFault::TooSmall));
