@@ -27,6 +27,10 @@ KeepsLive images area c = (snapshot : List ℕ) (blocks : List (List CommandValu
 abbrev pub KeepsRest : (List ℕ → Type 0) → Area → List ℕ → Type 0
 KeepsRest images area c = IsTorn (start area.size (other (is_odd area.selector))) area.size images c
 
+-- one of these images with any byte for the selector
+abbrev pub KeepsAllButSelector : (List ℕ → Type 0) → List ℕ → Type 0
+KeepsAllButSelector images c = IsTorn 16 1 images c
+
 -- where each image had both areas at the start, so has this one
 abbrev pub KeepsBoth : (List ℕ → Type 0) → Area → List ℕ → Type 0
 KeepsBoth images area c =

@@ -22,6 +22,7 @@ impl Area {
             IfOk result (λ r. IsPast r.0 r.1.items [] (D.content disk.old)) }
         ensures refused { D.honest disk.old → IfErr result (λ fault. IsFrontTold fault (D.content disk.old)) }
         ensures whole { IfOk result (λ r. r.0.broken ≡ false) }
+        ensures least { IfOk result (λ r. 4096 ≤ r.0.size) }
         ensures room { IfOk result (λ r. 32 + 2 * r.0.size ≤ length (D.content disk.new)) }
         ensures quiet { D.honest disk.old → Quiet D.Disk disk.old disk.new }
         ensures size { length (D.content disk.new) ≡ length (D.content disk.old) }

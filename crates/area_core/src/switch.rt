@@ -7,7 +7,7 @@ ghost use Rattle.disk_core.specs.Moments.{LeavesOnly};
 ghost use Rattle.area_core.specs.Held.{IsAt};
 ghost use Rattle.area_core.specs.Puts.{Each};
 ghost use Rattle.area_core.specs.Steps.{IfMemory, IsCaused};
-ghost use Rattle.area_core.specs.Switches.{HasIdle, KeepsBoth, KeepsLive, KeepsRest};
+ghost use Rattle.area_core.specs.Switches.{HasIdle, KeepsAllButSelector, KeepsBoth, KeepsLive, KeepsRest};
 
 use crate::put::{closed, put};
 use crate::{Area, AreaFault};
@@ -66,12 +66,16 @@ impl Area {
 
     /// Makes the other area, which has the snapshot last written, the live one: the selector goes on by one, and 255 to 0.
     ///
-    /// A stop at any moment leaves both areas as they are, and one of them live. No memory is taken.
+    /// A stop at any moment leaves every byte but the selector as it was, so both areas as they are, and one of them live. No
+    /// memory is taken.
     pub fn switch<D: Disk>(&mut self, disk: &mut D) -> Result<(), AreaFault>
         requires room { 32 + 2 * self.old.size ≤ length (D.content disk.old) }
         ensures any_moment { D.honest disk.old →
             LeavesOnly D.moment D.images_since disk.old disk.new
             (KeepsBoth (D.images disk.old) self.old) }
+        ensures outside { D.honest disk.old →
+            LeavesOnly D.moment D.images_since disk.old disk.new
+            (KeepsAllButSelector (D.images disk.old)) }
         ensures after { D.honest disk.old → OnOk result (
             (snapshot : List ℕ) (blocks : List (List CommandValue)) (next : List ℕ) →
             Each (D.images disk.old) (IsAt self.old snapshot blocks) →

@@ -14,8 +14,11 @@ use Rattle.area_core.specs.Puts.{Each}
 use Rattle.area_core.specs.Areas.{IsArea}
 use Rattle.area_core.specs.Held.{IsAt}
 use Rattle.area_core.specs.Journals.{is_odd, other, start, Reads}
-use Rattle.recover_core.specs.Opens.{HasRead, HasRestarted, KeepsEither, StandsForSome, RestartsAs, KeepsRestart}
+use Rattle.recover_core.specs.Opens.{HasRead, HasRestarted, IsUnwritten, KeepsEither, StandsForSome, RestartsAs, KeepsRestart}
 use Rattle.recover_core.specs.Standing.{Leads, Stands}
+use Rattle.area_core.specs.Reading.{Quiet}
+use Rattle.area_core.proofs.Areas.{length-fresh}
+use Rattle.area_core.proofs.Unwritten.{untouched}
 use Rattle.area_core.specs.Switches.{HasIdle, IsBoth, KeepsLive, KeepsBoth}
 use Rattle.recover_core.proofs.Stores.{stands}
 use Rattle.recover_core.proofs.Single.{stands_one}
@@ -102,6 +105,13 @@ then_switched images now later area next last s w after snapshot blocks each =
     let held = after snapshot blocks w.snapshot (held_written w snapshot blocks each) w.idle in record {
       sound = ∣ record { snapshot = w.snapshot; blocks = []; held = held } ∣₁;
       stands = λ c image. stands last.size last.selector w.snapshot [] c (restarted s) (held c image).reads (fresh_leads s w.snapshot w.spells);
+      holds = λ c image. record {
+        selector = last.selector;
+        snapshot = w.snapshot;
+        reads = (held c image).reads;
+        spells = w.spells;
+        is_used = omega (arith, (held c image).gate, length-fresh w.snapshot);
+      };
     }
 
 -- what was read is what the content stood for
@@ -120,6 +130,17 @@ module _ {D : Type 0} (disk : Ghosts D) (start : D) (only_now : (c : List ℕ) �
       → LeavesOnly disk.moment disk.images_since synced read (disk.images synced) → LeavesOnly disk.moment disk.images_since start read (KeepsRestart (disk.images start))
   after_read synced read within so_far leaves =
       joined disk start synced read (KeepsRestart (disk.images start)) so_far (weaker disk synced read _ _ leaves (λ c image. same_image (disk.images start) c (within c image)))
+
+  -- a sync and reads write nothing, at any moment
+  pub none_written : (synced read : D) → disk.content synced ≡ disk.content start → Within (disk.images synced) (disk.images start) → Elapses (disk.moment start) (disk.moment synced) (disk.images_since start) (disk.images_since synced) (disk.images synced)
+      → Quiet disk synced read → IsUnwritten disk start read
+  none_written synced read same within time quiet = record {
+    content = quiet.content ∙ same;
+    images = λ c image. within c (quiet.images.no_more c image);
+    leaves = joined disk start synced read (disk.images start)
+        (goes_on disk start start synced (disk.images start) (disk.images synced) (untouched disk start only_now (disk.images start) (λ c image. image)) time within)
+        (weaker disk synced read _ _ quiet.leaves within);
+  }
 
   -- where nothing was done, the images are those of the start
   pub still : (area : Area) (s : State) → LeavesOnly disk.moment disk.images_since start start (KeepsEither (disk.images start) area s)

@@ -1,5 +1,5 @@
 -- Reading block after block.
-use Rattle.std.proofs.Common.{◌≡◌, inl, inr, Bool, true, false, Result, Ok, Err, IfErr, if◌then◌else◌, ◌-◌, ℕ, ◌+◌, ◌<◌, ◌≤◌, ◌^◌, List, [], ◌∷◌, ◌++◌, refl, ◌∙◌, arith}
+use Rattle.std.proofs.Common.{◌≡◌, inl, inr, Bool, true, false, Result, Ok, Err, IfErr, if◌then◌else◌, ◌-◌, ℕ, ◌+◌, ◌*◌, ◌<◌, ◌≤◌, ◌^◌, List, [], ◌∷◌, ◌++◌, refl, sym, subst, ◌∙◌, arith}
 use Rattle.command_core.specs.Commands.{CommandValue}
 use Rattle.broker_core.specs.States.{State}
 use Rattle.broker_core.specs.Steps.{state_after}
@@ -16,7 +16,7 @@ use Rattle.recover_core.specs.declared.faults.OpenFault.{OpenFault}
 use Rattle.recover_core.specs.declared.faults.OpenFault.TheVariants.{Read, CountTooLarge, Area as Areas}
 use Rattle.recover_core.specs.Opens.{HasRead, IsFolded}
 use Rattle.recover_core.specs.Standing.{joined}
-use Rattle.recover_core.specs.Told.{IfRead, IsOpenTold, IsSnapshotTold, IsStateRefused, IsTooLarge, IsWalkTold, IsWriteTold}
+use Rattle.recover_core.specs.Told.{IfFull, IfRead, IsOfReading, IsOpenTold, IsSnapshotTold, IsStateRefused, IsTooLarge, IsTooLongFor, IsWalkTold, IsWriteTold}
 use Rattle.recover_core.specs.Walks.{HasEnded, HasWalked}
 use Rattle.recover_core.proofs.Folded.{follows_leads, follows_more, leads_large}
 use Rattle.recover_core.proofs.Stores.{stands}
@@ -120,13 +120,37 @@ pub if_read : {T P : Type 0} (answer : Result T OpenFault) → P → IfErr answe
 if_read (Ok read) p = tt
 if_read (Err (Read fault)) p = p
 if_read (Err CountTooLarge) p = p
-if_read (Err (Areas fault)) p = tt
+if_read (Err (Areas areas.Device)) p = tt
+if_read (Err (Areas areas.Full)) p = p
+if_read (Err (Areas areas.Broken)) p = tt
+if_read (Err (Areas (areas.Memory refused))) p = tt
 
--- what is told of writing is told of nothing that was read
-pub written_told : (P : Type 0) (fault : OpenFault) (size : ℕ) (s : State) → IsWriteTold fault size s → IfRead fault P
-written_told P (Read fault) size s so = absurd so
-written_told P CountTooLarge size s so = absurd so
-written_told P (Areas fault) size s told = tt
+-- what is told of writing is told of nothing that was read, but that there is no room, and then the disk is as it was read
+pub written_told : {D : Type 0} (P : D → Type 0) (read now : D) (fault : OpenFault) (size : ℕ) (s : State) → IsWriteTold fault size s → IfFull fault (now ≡ read) → P read → IfRead fault (P now)
+written_told P read now (Read fault) size s so same was = absurd so
+written_told P read now CountTooLarge size s so same was = absurd so
+written_told P read now (Areas areas.Device) size s told same was = tt
+written_told P read now (Areas areas.Full) size s told same was = subst P (sym same) was
+written_told P read now (Areas areas.Broken) size s so same was = tt
+written_told P read now (Areas (areas.Memory refused)) size s told same was = tt
+
+-- reading does not tell that there is no room
+pub room_to_read : (P : Type 0) (fault : OpenFault) → IsOfReading fault → IfFull fault P
+room_to_read P (Read fault) told = tt
+room_to_read P CountTooLarge told = tt
+room_to_read P (Areas areas.Device) told = tt
+room_to_read P (Areas areas.Full) so = absurd so
+room_to_read P (Areas areas.Broken) told = tt
+room_to_read P (Areas (areas.Memory refused)) told = tt
+
+-- where it does not fit, it does not fit a disk of so many bytes
+pub full_told : (fault : OpenFault) (size bytes : ℕ) (s : State) → IsWriteTold fault size s → 4096 ≤ size → 32 + 2 * size ≤ bytes → s.count ≤ 2 ^ 61 → IfFull fault (IsTooLongFor bytes)
+full_told (Read fault) size bytes s so least two small = absurd so
+full_told CountTooLarge size bytes s so least two small = absurd so
+full_told (Areas areas.Device) size bytes s told least two small = tt
+full_told (Areas areas.Full) size bytes s told least two small = record { size = size; least = least; two = two; state = s; small = small; long = told }
+full_told (Areas areas.Broken) size bytes s so least two small = tt
+full_told (Areas (areas.Memory refused)) size bytes s told least two small = tt
 
 -- each block read takes the gate on, within the area
 pub measure : (was more : Bool) (size now gate next : ℕ) → was ≡ true → now ≡ size → gate ≤ next → (more ≡ true → gate < next) → next + 1 ≤ now

@@ -1,14 +1,17 @@
 -- What opening a journal keeps.
-use Rattle.std.specs.Prelude.{◌≡◌, ◌<◌, ◌^◌, ◌⊎◌, ℕ, List}
+use Rattle.std.specs.Prelude.{◌≡◌, ◌<◌, ◌^◌, ◌⊎◌, ◌+◌, ℕ, List, [], length}
 use Rattle.disk_core.specs.declared.disk.Disk.{Ghosts}
 use Rattle.disk_core.specs.Images.{Within}
+use Rattle.disk_core.specs.Moments.{LeavesOnly}
 use Rattle.command_core.specs.Commands.{CommandValue}
 use Rattle.broker_core.specs.Operations.{restarted}
 use Rattle.broker_core.specs.States.{State}
 use Rattle.broker_core.specs.Steps.{state_after}
 use Rattle.area_core.specs.declared.area.Area.{Area}
 use Rattle.area_core.specs.Held.{IsAt}
+use Rattle.area_core.specs.Journals.{Reads}
 use Rattle.area_core.specs.Puts.{Each}
+use Rattle.snapshot_core.specs.Snapshots.{Spells}
 use Rattle.recover_core.specs.Sound.{IsSound}
 use Rattle.recover_core.specs.Standing.{Leads, Stands, StandFor, StandsForEither}
 
@@ -30,10 +33,11 @@ pub record IsRestartOf (content : List ℕ) (now : State) : Type 0 where
   pub stood : Stands content before
   pub is : now ≡ restarted before
 
--- nothing was written: the content stays, and a stop leaves nothing that it might not have left before
+-- nothing was written: the content stays, and a stop at any moment leaves nothing that it might not have left before
 pub record IsUnwritten {D : Type 0} (disk : Ghosts D) (old new : D) : Type 0 where
   pub content : disk.content new ≡ disk.content old
   pub images : Within (disk.images new) (disk.images old)
+  pub leaves : LeavesOnly disk.moment disk.images_since old new (disk.images old)
 
 -- the image stands for a state that restarts as one of those does that one of these images stands for
 pub record RestartsAs (images : List ℕ → Type 0) (c : List ℕ) : Type 0 where
@@ -54,10 +58,20 @@ abbrev pub KeepsEither : (List ℕ → Type 0) → Area → State → List ℕ �
 KeepsEither images area s c =
     (snapshot : List ℕ) (blocks : List (List CommandValue)) → Each images (IsAt area snapshot blocks) → Leads snapshot blocks s → StandsForEither s (restarted s) c
 
--- each image has the area that is held now, and stands for the restart of that state
+-- The live area has a snapshot of this state and no block behind it. So many of its bytes are used: eight for the snapshot's
+-- length, the snapshot, and a gate.
+pub record HoldsOnlySnapshot (size used : ℕ) (s : State) (image : List ℕ) : Type 0 where
+  pub selector : ℕ
+  pub snapshot : List ℕ
+  pub reads : Reads size selector snapshot [] image
+  pub spells : Spells snapshot s
+  pub is_used : used ≡ length snapshot + 9
+
+-- each image has the area that is held now, and stands for the restart of that state, of which it holds the snapshot alone
 pub record HasRestarted (images : List ℕ → Type 0) (area : Area) (s : State) : Type 0 where
   pub sound : IsSound images area
   pub stands : StandFor images (restarted s)
+  pub holds : Each images (HoldsOnlySnapshot area.size (area.gate + 1) (restarted s))
 
 -- the count passes 2^61 on the way, and the rest was left out
 pub record IsLeftOut (before : State) (commands : List CommandValue) (now : State) : Type 0 where

@@ -1,5 +1,5 @@
 -- Which fault is told, and what is so of the content where it is.
-use Rattle.std.specs.Prelude.{◌≡◌, ◌⊎◌, ◌<◌, ◌≤◌, ◌+◌, ◌^◌, ℕ, List, [], length, Result, Ok, Err}
+use Rattle.std.specs.Prelude.{◌≡◌, ◌⊎◌, ◌<◌, ◌≤◌, ◌+◌, ◌*◌, ◌^◌, ℕ, List, [], length, Result, Ok, Err}
 use Rattle.disk_core.specs.Faults.{IsOneMore}
 use Rattle.command_core.specs.Commands.{CommandValue}
 use Rattle.broker_core.specs.Operations.{restarted}
@@ -64,6 +64,16 @@ pub record IsTooLong (content : List ℕ) : Type 0 where
   pub small : state.count ≤ 2 ^ 61
   pub long : IsLong size state
 
+-- A disk of so many bytes has room for two areas of some length, at least 4,096. The snapshot of a state after the restart
+-- doesn't fit into one, and the state's count is not too large.
+pub record IsTooLongFor (bytes : ℕ) : Type 0 where
+  pub size : ℕ
+  pub least : 4096 ≤ size
+  pub two : 32 + 2 * size ≤ bytes
+  pub state : State
+  pub small : state.count ≤ 2 ^ 61
+  pub long : IsLong size state
+
 -- what is told of writing is so
 abbrev pub IsAreaTold : AreaFault → List ℕ → Type 0
 IsAreaTold areas.Full content = IsTooLong content
@@ -116,8 +126,20 @@ IsStateRefused CountTooLarge content = IsTooLarge content
 IsStateRefused (Areas (areas.Memory _)) content = Unit {0}
 IsStateRefused _ content = ⊥
 
+-- it is told by reading: by what was read, or since memory was refused
+abbrev pub IsOfReading : OpenFault → Type 0
+IsOfReading (Areas (areas.Memory _)) = Unit {0}
+IsOfReading (Areas _) = ⊥
+IsOfReading _ = Unit {0}
+
+-- where what is left doesn't fit, this holds
+abbrev pub IfFull : OpenFault → Type 0 → Type 0
+IfFull (Areas areas.Full) P = P
+IfFull _ P = Unit {0}
+
 -- where it is told by what was read, before anything is written, this holds
 abbrev pub IfRead : OpenFault → Type 0 → Type 0
 IfRead (Read _) P = P
 IfRead CountTooLarge P = P
+IfRead (Areas areas.Full) P = P
 IfRead (Areas _) P = Unit {0}

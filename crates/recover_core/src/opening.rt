@@ -7,11 +7,11 @@ ghost use Rattle.area_core.specs.Held.{IsAt};
 ghost use Rattle.area_core.specs.Puts.{Each};
 ghost use Rattle.broker_core.specs.Operations.{restarted};
 ghost use Rattle.broker_core.specs.States.{State};
-ghost use Rattle.recover_core.specs.Opens.{HasRestarted, IsRestartOf, IsUnwritten, KeepsEither, KeepsRestart};
+ghost use Rattle.recover_core.specs.Opens.{HasRestarted, HoldsOnlySnapshot, IsRestartOf, IsUnwritten, KeepsEither, KeepsRestart};
 ghost use Rattle.recover_core.specs.Sound.{IsSound};
 ghost use Rattle.recover_core.specs.Standing.{Stands, StandFor};
-ghost use Rattle.recover_core.specs.Stores.{disk_of, is_broken, opened_by};
-ghost use Rattle.recover_core.specs.Told.{IfRead, IsCausedBy, IsOpenCaused, IsOpenTold, IsWriteTold};
+ghost use Rattle.recover_core.specs.Stores.{disk_of, is_broken, opened_by, size_of, used_of};
+ghost use Rattle.recover_core.specs.Told.{IfFull, IfRead, IsCausedBy, IsOpenCaused, IsOpenTold, IsTooLongFor, IsWriteTold};
 ghost use Rattle.snapshot_core.specs.Snapshots.{Spells};
 
 use crate::OpenFault;
@@ -57,6 +57,7 @@ fn write_restarted<D: Disk>(
     ensures whole { OnOk result ((broker.new.broken ≡ false) × (area.new.broken ≡ false)) }
     ensures size { (area.new.size ≡ area.old.size) × (length (D.content disk.new) ≡ length (D.content disk.old)) }
     ensures refused { IfErr result (λ fault. IsWriteTold fault area.old.size broker.old.state) }
+    ensures full { IfErr result (λ fault. IfFull fault (disk.new ≡ disk.old)) }
     ensures cause { IsOpenCaused (D.failures disk.old) (D.failures disk.new) result }
     ensures honest { D.honest disk.old → D.honest disk.new }
     ensures was_honest { D.honest disk.new → D.honest disk.old }
@@ -76,10 +77,13 @@ fn open_area<D: Disk>(alloc: Global, disk: &mut D) -> Result<(Area, Broker), Ope
         (s : State) → Stands (D.content disk.old) s → opened.1.state ≡ restarted s) }
     ensures stood { D.honest disk.old → IfOk result (λ opened. IsRestartOf (D.content disk.old) opened.1.state) }
     ensures stands { D.honest disk.old → IfOk result (λ opened. StandFor (D.images disk.new) opened.1.state) }
+    ensures compact { D.honest disk.old → IfOk result (λ opened.
+        Each (D.images disk.new) (HoldsOnlySnapshot opened.0.size (opened.0.gate + 1) opened.1.state)) }
     ensures small { IfOk result (λ opened. opened.1.state.count ≤ 2 ^ 61) }
     ensures whole { IfOk result (λ opened. (opened.0.broken ≡ false) × (opened.1.broken ≡ false)) }
     ensures room { IfOk result (λ opened. 32 + 2 * opened.0.size ≤ length (D.content disk.new)) }
     ensures refused { D.honest disk.old → IfErr result (λ fault. IsOpenTold fault (D.content disk.old)) }
+    ensures full { IfErr result (λ fault. IfFull fault (IsTooLongFor (length (D.content disk.old)))) }
     ensures unwritten { D.honest disk.old → IfErr result (λ fault. IfRead fault (IsUnwritten D.Disk disk.old disk.new)) }
     ensures cause { IsOpenCaused (D.failures disk.old) (D.failures disk.new) result }
     ensures size { length (D.content disk.new) ≡ length (D.content disk.old) }
@@ -97,8 +101,9 @@ fn open_area<D: Disk>(alloc: Global, disk: &mut D) -> Result<(Area, Broker), Ope
 /// Opens a journal: reads the state that the disk stands for, ends its sessions, writes what is left into the other area,
 /// and makes that one live.
 ///
-/// A stop at any moment leaves a disk that stands for a state with the same restart. A refusal hands the disk back, and it
-/// may be opened again; where what was read is the reason, nothing was written.
+/// A stop at any moment leaves a disk that stands for a state with the same restart. After Ok the live area has the snapshot of
+/// the state alone. A refusal hands the disk back, and it may be opened again; where what was read is the reason, a snapshot
+/// that does not fit among them, nothing was written at any moment.
 pub fn open<D: Disk>(alloc: Global, disk: D) -> Result<Store<D>, (D, OpenFault)>
     ensures any_moment { D.honest disk → IfOk result (λ store.
         LeavesOnly D.moment D.images_since disk (disk_of store) (KeepsRestart (D.images disk))) }
@@ -109,10 +114,13 @@ pub fn open<D: Disk>(alloc: Global, disk: D) -> Result<Store<D>, (D, OpenFault)>
     ensures stood { D.honest disk → IfOk result (λ store. IfSome (opened_by store) (λ broker.
         IsRestartOf (D.content disk) broker.state)) }
     ensures stands { D.honest disk → IfOk result (λ store. IfSome (opened_by store) (λ broker. StandFor (D.images (disk_of store)) broker.state)) }
+    ensures compact { D.honest disk → IfOk result (λ store. IfSome (opened_by store) (λ broker.
+        Each (D.images (disk_of store)) (HoldsOnlySnapshot (size_of store) (used_of store) broker.state))) }
     ensures opened { IfOk result (λ store. IsSome (opened_by store)) }
     ensures small { IfOk result (λ store. IfSome (opened_by store) (λ broker. (broker.state.count ≤ 2 ^ 61) × (broker.broken ≡ false))) }
     ensures whole { IfOk result (λ store. is_broken store ≡ false) }
     ensures refused { D.honest disk → IfErr result (λ back. IsOpenTold back.1 (D.content disk)) }
+    ensures full { IfErr result (λ back. IfFull back.1 (IsTooLongFor (length (D.content disk)))) }
     ensures unwritten { D.honest disk → IfErr result (λ back. IfRead back.1 (IsUnwritten D.Disk disk back.0)) }
     ensures cause { IfOk result (λ store. D.failures (disk_of store) ≡ D.failures disk) }
     ensures cause_err { IfErr result (λ back. IsCausedBy back.1 (D.failures disk) (D.failures back.0)) }

@@ -4,7 +4,7 @@ ghost use Rattle.std.specs.Prelude.{◌≡◌, ◌+◌, ◌*◌, ◌≤◌, ◌<
 ghost use Rattle.area_core.specs.Reading.{Quiet};
 ghost use Rattle.snapshot_core.specs.Snapshots.{Spells};
 ghost use Rattle.recover_core.specs.Opens.{HasRead};
-ghost use Rattle.recover_core.specs.Told.{IsOpenCaused, IsSnapshotTold, IsStateRefused, IsWalkTold};
+ghost use Rattle.recover_core.specs.Told.{IsOfReading, IsOpenCaused, IsSnapshotTold, IsStateRefused, IsWalkTold};
 ghost use Rattle.recover_core.specs.Walks.{HasEnded, HasWalked};
 
 use crate::OpenFault;
@@ -44,6 +44,7 @@ fn read_block<D: Disk>(
         HasWalked area.old broker.old.state (D.content disk.old) → HasEnded area.new broker.new.state (D.content disk.old)) }
     ensures refused { D.honest disk.old → IfErr result (λ fault.
         HasWalked area.old broker.old.state (D.content disk.old) → IsWalkTold fault (D.content disk.old)) }
+    ensures kind { IfErr result IsOfReading }
     ensures forward { area.old.gate ≤ area.new.gate }
     ensures grows { IfOk result (λ more. more ≡ true → area.old.gate < area.new.gate) }
     ensures place { (area.new.size ≡ area.old.size) × (area.new.selector ≡ area.old.selector) × (area.new.broken ≡ area.old.broken) }
@@ -79,6 +80,7 @@ fn read_blocks<D: Disk>(
     ensures small { OnOk result (broker.new.state.count ≤ 2 ^ 61) }
     ensures refused { D.honest disk.old → HasWalked area.old broker.old.state (D.content disk.old) →
         IfErr result (λ fault. IsWalkTold fault (D.content disk.old)) }
+    ensures kind { IfErr result IsOfReading }
     ensures place { (area.new.size ≡ area.old.size) × (area.new.selector ≡ area.old.selector) × (area.new.broken ≡ area.old.broken) }
     ensures whole { OnOk result (broker.new.broken ≡ false) }
     ensures quiet { D.honest disk.old → Quiet D.Disk disk.old disk.new }
@@ -102,7 +104,9 @@ pub(crate) fn read_state<D: Disk>(alloc: Global, disk: &mut D) -> Result<(Area, 
     ensures read { D.honest disk.old → IfOk result (λ r. HasRead r.0 r.1.state (D.content disk.old)) }
     ensures small { IfOk result (λ r. r.1.state.count ≤ 2 ^ 61) }
     ensures refused { D.honest disk.old → IfErr result (λ fault. IsStateRefused fault (D.content disk.old)) }
+    ensures kind { IfErr result IsOfReading }
     ensures whole { IfOk result (λ r. (r.0.broken ≡ false) × (r.1.broken ≡ false)) }
+    ensures least { IfOk result (λ r. 4096 ≤ r.0.size) }
     ensures room { IfOk result (λ r. 32 + 2 * r.0.size ≤ length (D.content disk.new)) }
     ensures quiet { D.honest disk.old → Quiet D.Disk disk.old disk.new }
     ensures cause { IsOpenCaused (D.failures disk.old) (D.failures disk.new) result }

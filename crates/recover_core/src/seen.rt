@@ -3,7 +3,7 @@
 ghost use Rattle.std.specs.Prelude.{◌≡◌, ◌+◌, ◌≤◌, ◌^◌, length, IfErr, IfOk};
 ghost use Rattle.area_core.specs.Reading.{Quiet};
 ghost use Rattle.recover_core.specs.Seen.{IsSeen};
-ghost use Rattle.recover_core.specs.Told.{IsOpenCaused, IsStateRefused};
+ghost use Rattle.recover_core.specs.Told.{IsOfReading, IsOpenCaused, IsStateRefused};
 
 use crate::OpenFault;
 use crate::reading::read_state;
@@ -38,6 +38,7 @@ pub fn read<D: Disk>(alloc: Global, disk: &mut D) -> Result<Seen, OpenFault>
     ensures seen { D.honest disk.old → IfOk result (λ seen. IsSeen seen (D.content disk.old)) }
     ensures small { IfOk result (λ seen. seen.count ≤ 2 ^ 61) }
     ensures refused { D.honest disk.old → IfErr result (λ fault. IsStateRefused fault (D.content disk.old)) }
+    ensures kind { IfErr result IsOfReading }
     ensures quiet { D.honest disk.old → Quiet D.Disk disk.old disk.new }
     ensures cause { IsOpenCaused (D.failures disk.old) (D.failures disk.new) result }
     ensures size { length (D.content disk.new) ≡ length (D.content disk.old) }

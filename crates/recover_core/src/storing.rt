@@ -23,6 +23,7 @@ impl<D: Disk> Store<D> {
         ensures broker { result ≡ opened_by self.old }
         ensures once { opened_by self.new ≡ None }
         ensures same { (disk_of self.new ≡ disk_of self.old) × (is_broken self.new ≡ is_broken self.old) }
+        ensures place { (size_of self.new ≡ size_of self.old) × (used_of self.new ≡ used_of self.old) }
     {
         self.opened.take()
     }
@@ -50,6 +51,8 @@ impl<D: Disk> Store<D> {
         ensures err { OnErr result (is_broken self.new ≡ true) }
         ensures cause { IsCaused (D.failures (disk_of self.old)) (D.failures (disk_of self.new)) result }
         ensures opened { opened_by self.new ≡ opened_by self.old }
+        ensures size { size_of self.new ≡ size_of self.old }
+        ensures used { OnOk result (used_of self.new ≡ used_of self.old + 9 + length (records (commands batch.now))) }
         ensures honest { D.honest (disk_of self.old) → D.honest (disk_of self.new) }
         ensures was_honest { D.honest (disk_of self.new) → D.honest (disk_of self.old) }
     {

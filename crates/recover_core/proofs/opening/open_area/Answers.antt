@@ -1,12 +1,15 @@
-use Rattle.std.proofs.Common.{◌≡◌, ℕ, List, sym, ◌∙◌, subst, ap}
+use Rattle.std.proofs.Common.{rules, ◌≡◌, ◌+◌, ℕ, List, length, sym, ◌∙◌, subst, ap, arith}
 use Rattle.disk_core.proofs.Runs.{joined, weaker}
 use Rattle.broker_core.specs.Operations.{restarted}
 use Rattle.broker_core.specs.States.{State}
-use Rattle.recover_core.specs.Opens.{HasRead, IsUnwritten, KeepsRestart}
+use Rattle.recover_core.specs.Opens.{HasRead, HoldsOnlySnapshot, IsUnwritten, KeepsRestart}
 use Rattle.recover_core.specs.Standing.{StandFor}
-use Rattle.recover_core.proofs.Opens.{after_read, after_sync, held_now, is_read, Known, while_restarted}
+use Rattle.recover_core.specs.Told.{IsOfReading, IsTooLongFor}
+use Rattle.std.proofs.lemmas.Result.{IfErr-weaker}
+use Rattle.area_core.specs.Puts.{Each}
+use Rattle.recover_core.proofs.Opens.{after_read, after_sync, held_now, is_read, Known, none_written, while_restarted}
 use Rattle.recover_core.proofs.Stores.{stands}
-use Rattle.recover_core.proofs.Walking.{if_read, write_told, written_told}
+use Rattle.recover_core.proofs.Walking.{full_told, if_read, room_to_read, write_told, written_told}
 use Rattle.recover_core.proofs.opening.open_area.Goals as goal
 
 pub returns-in_err-sync-clause-any_moment : goal.returns-in_err-sync-clause-any_moment
@@ -137,12 +140,36 @@ returns-in-Ok-clause-stood g c honest =
 
 pub returns-in_err-area-clause-unwritten : goal.returns-in_err-area-clause-unwritten
 returns-in_err-area-clause-unwritten g c honest =
-    let quiet = c.read_state.ensures.quiet (c.sync.ensures.honest honest) in
-    let none : IsUnwritten g.D.Disk c.args.disk.now c.read_state.new.disk = record {
-      content = quiet.content ∙ c.sync.ensures.content honest;
-      images = λ image is. c.sync.ensures.images honest image (quiet.images.no_more image is);
-    } in
-    if_read c.from_residual-in_err-area.result none
+    if_read c.from_residual-in_err-area.result
+    (none_written g.D.Disk c.args.disk.now (g.met.D.Disk.only_now c.args.disk.now) c.sync.new.self c.read_state.new.disk (c.sync.ensures.content honest) (c.sync.ensures.images honest) (c.sync.ensures.time honest) (c.read_state.ensures.quiet (c.sync.ensures.honest honest)))
 
 pub returns-in-Err-clause-unwritten : goal.returns-in-Err-clause-unwritten
-returns-in-Err-clause-unwritten g c honest = written_told _ c.in-Err.fault c.in_ok-area.area.size c.in_ok-area.broker.state c.in-Err.ensures.refused
+returns-in-Err-clause-unwritten g c honest =
+    written_told (λ d. IsUnwritten g.D.Disk c.args.disk.now d) c.read_state.new.disk c.write_restarted.new.disk c.in-Err.fault c.in_ok-area.area.size c.in_ok-area.broker.state c.in-Err.ensures.refused c.in-Err.ensures.full
+    (none_written g.D.Disk c.args.disk.now (g.met.D.Disk.only_now c.args.disk.now) c.sync.new.self c.read_state.new.disk (c.sync.ensures.content honest) (c.sync.ensures.images honest) (c.sync.ensures.time honest) (c.read_state.ensures.quiet (c.sync.ensures.honest honest)))
+
+pub returns-in-Err-clause-full : goal.returns-in-Err-clause-full
+returns-in-Err-clause-full g c =
+    full_told c.in-Err.fault c.in_ok-area.area.size (length (g.D.Disk.content c.args.disk.now)) c.in_ok-area.broker.state c.in-Err.ensures.refused c.in_ok-area.ensures.least
+    (omega (arith, c.in_ok-area.ensures.room, c.read_state.ensures.size, c.sync.ensures.size)) c.in_ok-area.ensures.small
+
+pub returns-in-Ok-clause-compact : goal.returns-in-Ok-clause-compact
+returns-in-Ok-clause-compact g c honest =
+    let first = g.D.Disk.images c.args.disk.now in
+    let area = c.in_ok-area.area in
+    let s = c.in_ok-area.broker.state in
+    let at_sync = c.sync.ensures.honest honest in
+    let content = g.D.Disk.content c.args.disk.now in
+    let same : g.D.Disk.content c.sync.new.self ≡ content = c.sync.ensures.content honest in
+    let known : Known first (g.D.Disk.images c.read_state.new.disk) area s = record {
+      image = content;
+      among = g.met.D.Disk.reads c.args.disk.now honest;
+      has = subst (λ (l : List ℕ). HasRead area s l) same (c.in_ok-area.ensures.read at_sync);
+      only = λ d image. c.in_ok-sync.ensures.stable honest d ((c.read_state.ensures.quiet at_sync).images.no_more d image);
+    } in
+    let opened = c.in-Ok.ensures.after (c.read_state.ensures.honest at_sync) known.has.snapshot known.has.blocks (held_now known) in
+    subst (λ (u : State). Each (g.D.Disk.images c.write_restarted.new.disk) (HoldsOnlySnapshot c.write_restarted.new.area.size (c.write_restarted.new.area.gate + 1) u)) (sym c.in-Ok.ensures.state) opened.holds
+
+pub returns-in_err-area-clause-full : goal.returns-in_err-area-clause-full
+returns-in_err-area-clause-full g c =
+    IfErr-weaker c.from_residual-in_err-area.result IsOfReading _ (room_to_read (IsTooLongFor (length (g.D.Disk.content c.args.disk.now)))) (search rules)

@@ -6,4 +6,5 @@ pub returns : goal.returns
 returns c = record {
   bound = restart_fits;
   never = λ content long. omega (arith, restart_fits long.state long.long.snapshot long.long.spells, long.long.long);
+  never_by_any = λ bytes long. omega (arith, restart_fits long.state long.long.snapshot long.long.spells, long.long.long);
 }

@@ -1,5 +1,6 @@
 use Rattle.std.proofs.Common.{ℕ, ◌+◌, ◌%◌, List, [], sym, subst, arith, rules}
 use Rattle.disk_core.proofs.Runs.{weaker}
+use Rattle.disk_core.proofs.Torn.{torn_same}
 use Rattle.area_core.specs.Journals.{Reads}
 use Rattle.area_core.proofs.Areas.{length-fresh}
 use Rattle.area_core.proofs.Switches.{keeps_both, switched}
@@ -34,3 +35,12 @@ returns-then-self-clause-any_moment g c honest = untouched g.D.Disk c.args.disk.
 
 pub returns-clause-selector : goal.returns-clause-selector
 returns-clause-selector g c = search rules
+
+pub returns-then-self-clause-outside : goal.returns-then-self-clause-outside
+returns-then-self-clause-outside g c honest = untouched g.D.Disk c.args.disk.now (g.met.D.Disk.only_now c.args.disk.now) _ (λ image is. (image, is, torn_same 16 1 image))
+
+pub returns-in_err-put-clause-outside : goal.returns-in_err-put-clause-outside
+returns-in_err-put-clause-outside g c honest = c.put.ensures.any_moment honest
+
+pub returns-clause-outside : goal.returns-clause-outside
+returns-clause-outside g c honest = c.put.ensures.any_moment honest
