@@ -11,3 +11,4 @@ pub mod EntryParts
 pub mod SnapshotNames
 pub mod SnapshotStates
 pub mod SnapshotForms
+pub mod Parts

@@ -1,3 +1,4 @@
 pub mod Snapshots
 pub mod Reading
 pub mod Worked
+pub mod Parts
