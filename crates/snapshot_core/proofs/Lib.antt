@@ -12,3 +12,4 @@ pub mod SnapshotNames
 pub mod SnapshotStates
 pub mod SnapshotForms
 pub mod Parts
+pub mod Capped

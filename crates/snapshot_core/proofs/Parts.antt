@@ -1,5 +1,5 @@
 -- What parts spell, as one is added and as one is written.
-use Rattle.std.proofs.Common.{◌≡◌, ◌++◌, ◌∙◌, ◌<◌, ◌+◌, ℕ, List, [], ◌∷◌, ap, sym, drop, length, append-nil, append_assoc}
+use Rattle.std.proofs.Common.{◌≡◌, ◌++◌, ◌∙◌, ℕ, List, [], ◌∷◌, ap, append-nil}
 use Rattle.std.proofs.lemmas.Grind.{flat_map-append}
 use Rattle.snapshot_core.specs.declared.part.Part.{Part}
 use Rattle.snapshot_core.specs.Parts.{spelled_by, written}

@@ -5,6 +5,7 @@
 mod decoding;
 mod entry_reading;
 mod laws;
+mod lengths;
 mod listing;
 mod message_reading;
 mod name_tables;
@@ -17,5 +18,6 @@ mod writing;
 
 pub use decoding::decode_state;
 pub use laws::snapshots_begin_no_other;
+pub use lengths::state_len;
 pub use worked::states_are_spelled;
 pub use writing::{StateWriter, encode_state};
