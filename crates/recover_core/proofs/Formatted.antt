@@ -1,5 +1,5 @@
 -- A journal that was formatted stands for the empty state.
-use Rattle.std.proofs.Common.{◌≡◌, List, [], ℕ, refl, arith}
+use Rattle.std.proofs.Common.{List, [], ℕ, refl, arith}
 use Rattle.area_core.specs.Areas.{first_snapshot}
 use Rattle.area_core.specs.Journals.{Reads}
 use Rattle.broker_core.specs.States.{empty_state}

@@ -119,18 +119,6 @@ pub is_read : (area : Area) (s t : State) (image : List ℕ) → HasRead area s 
 is_read area s t image r stand = stands_one image s t (stands area.size area.selector r.snapshot r.blocks image s r.at.reads r.leads) stand
 
 module _ {D : Type 0} (disk : Ghosts D) (start : D) (only_now : (c : List ℕ) → disk.images_since start (disk.moment start) c → disk.images start c) where
-  pub after_sync : (synced : D) → Within (disk.images synced) (disk.images start) → Elapses (disk.moment start) (disk.moment synced) (disk.images_since start) (disk.images_since synced) (disk.images synced)
-      → LeavesOnly disk.moment disk.images_since start synced (KeepsRestart (disk.images start))
-  after_sync synced within time =
-      goes_on disk start start synced (KeepsRestart (disk.images start)) (disk.images synced)
-      (record { later = omega arith; each = λ c since. same_image (disk.images start) c (only_now c since); before = λ t c le since. inl since })
-      time (λ c image. same_image (disk.images start) c (within c image))
-
-  pub after_read : (synced read : D) → Within (disk.images synced) (disk.images start) → LeavesOnly disk.moment disk.images_since start synced (KeepsRestart (disk.images start))
-      → LeavesOnly disk.moment disk.images_since synced read (disk.images synced) → LeavesOnly disk.moment disk.images_since start read (KeepsRestart (disk.images start))
-  after_read synced read within so_far leaves =
-      joined disk start synced read (KeepsRestart (disk.images start)) so_far (weaker disk synced read _ _ leaves (λ c image. same_image (disk.images start) c (within c image)))
-
   -- a sync and reads write nothing, at any moment
   pub none_written : (synced read : D) → disk.content synced ≡ disk.content start → Within (disk.images synced) (disk.images start) → Elapses (disk.moment start) (disk.moment synced) (disk.images_since start) (disk.images_since synced) (disk.images synced)
       → Quiet disk synced read → IsUnwritten disk start read
@@ -141,6 +129,16 @@ module _ {D : Type 0} (disk : Ghosts D) (start : D) (only_now : (c : List ℕ) �
         (goes_on disk start start synced (disk.images start) (disk.images synced) (untouched disk start only_now (disk.images start) (λ c image. image)) time within)
         (weaker disk synced read _ _ quiet.leaves within);
   }
+
+  -- where nothing is written, each image is one of the start's
+  pub while_unwritten : (read : D) → IsUnwritten disk start read → LeavesOnly disk.moment disk.images_since start read (KeepsRestart (disk.images start))
+  while_unwritten read none = weaker disk start read _ _ none.leaves (same_image (disk.images start))
+
+  pub then_written : (read now : D) (area : Area) (s : State) → IsUnwritten disk start read → Known (disk.images start) (disk.images read) area s
+      → LeavesOnly disk.moment disk.images_since read now (KeepsEither (disk.images read) area s) → LeavesOnly disk.moment disk.images_since start now (KeepsRestart (disk.images start))
+  then_written read now area s none known leaves =
+      joined disk start read now (KeepsRestart (disk.images start)) (while_unwritten read none)
+      (weaker disk read now _ _ leaves (while_restarted (disk.images start) (disk.images read) area s known))
 
   -- where nothing was done, the images are those of the start
   pub still : (area : Area) (s : State) → LeavesOnly disk.moment disk.images_since start start (KeepsEither (disk.images start) area s)

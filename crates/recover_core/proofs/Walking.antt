@@ -143,6 +143,24 @@ room_to_read P (Areas areas.Full) so = absurd so
 room_to_read P (Areas areas.Broken) told = tt
 room_to_read P (Areas (areas.Memory refused)) told = tt
 
+-- where there is never no room, anything is so of it
+pub never_full : (P : Type 0) (fault : OpenFault) → IfFull fault ⊥ → IfFull fault P
+never_full P (Read fault) never = tt
+never_full P CountTooLarge never = tt
+never_full P (Areas areas.Device) never = tt
+never_full P (Areas areas.Full) never = absurd never
+never_full P (Areas areas.Broken) never = tt
+never_full P (Areas (areas.Memory refused)) never = tt
+
+-- what is told of reading is told of opening
+pub state_told : (fault : OpenFault) (content : List ℕ) → IsStateRefused fault content → IsOpenTold fault content
+state_told (Read fault) content told = told
+state_told CountTooLarge content told = told
+state_told (Areas areas.Device) content so = absurd so
+state_told (Areas areas.Full) content so = absurd so
+state_told (Areas areas.Broken) content so = absurd so
+state_told (Areas (areas.Memory refused)) content told = told
+
 -- where it does not fit, it does not fit a disk of so many bytes
 pub full_told : (fault : OpenFault) (size bytes : ℕ) (s : State) → IsWriteTold fault size s → 4096 ≤ size → 32 + 2 * size ≤ bytes → s.count ≤ 2 ^ 61 → IfFull fault (IsTooLongFor bytes)
 full_told (Read fault) size bytes s so least two small = absurd so

@@ -2,12 +2,13 @@
 
 ghost use Rattle.std.specs.Prelude.{◌≡◌, ◌+◌, ◌*◌, ◌≤◌, ◌^◌, false, length, ℕ, List, IfErr, IfOk, IfSome, IsSome, OnOk};
 ghost use Rattle.command_core.specs.Commands.{CommandValue};
+ghost use Rattle.disk_core.specs.Images.{Only};
 ghost use Rattle.disk_core.specs.Moments.{LeavesOnly};
 ghost use Rattle.area_core.specs.Held.{IsAt};
 ghost use Rattle.area_core.specs.Puts.{Each};
 ghost use Rattle.broker_core.specs.Operations.{restarted};
 ghost use Rattle.broker_core.specs.States.{State};
-ghost use Rattle.recover_core.specs.Opens.{HasRestarted, HoldsOnlySnapshot, IsRestartOf, IsUnwritten, KeepsEither, KeepsRestart};
+ghost use Rattle.recover_core.specs.Opens.{HasRead, HasRestarted, HoldsOnlySnapshot, IsRestartOf, IsUnwritten, KeepsEither, KeepsRestart};
 ghost use Rattle.recover_core.specs.Sound.{IsSound};
 ghost use Rattle.recover_core.specs.Standing.{Stands, StandFor};
 ghost use Rattle.recover_core.specs.Stores.{disk_of, is_broken, opened_by, size_of, used_of};
@@ -68,6 +69,26 @@ fn write_restarted<D: Disk>(
     Ok(())
 }
 
+// Makes what was written before stable, and reads the state that the disk stands for. Nothing is written.
+fn read_synced<D: Disk>(alloc: Global, disk: &mut D) -> Result<(Area, Broker), OpenFault>
+    ensures read { D.honest disk.old → IfOk result (λ r. HasRead r.0 r.1.state (D.content disk.old)) }
+    ensures only { D.honest disk.old → OnOk result (Only (D.content disk.old) (D.images disk.new)) }
+    ensures unwritten { D.honest disk.old → IsUnwritten D.Disk disk.old disk.new }
+    ensures small { IfOk result (λ r. r.1.state.count ≤ 2 ^ 61) }
+    ensures whole { IfOk result (λ r. (r.0.broken ≡ false) × (r.1.broken ≡ false)) }
+    ensures least { IfOk result (λ r. 4096 ≤ r.0.size) }
+    ensures room { IfOk result (λ r. 32 + 2 * r.0.size ≤ length (D.content disk.new)) }
+    ensures refused { D.honest disk.old → IfErr result (λ fault. IsOpenTold fault (D.content disk.old)) }
+    ensures full { IfErr result (λ fault. IfFull fault ⊥) }
+    ensures cause { IsOpenCaused (D.failures disk.old) (D.failures disk.new) result }
+    ensures size { length (D.content disk.new) ≡ length (D.content disk.old) }
+    ensures honest { D.honest disk.old → D.honest disk.new }
+    ensures was_honest { D.honest disk.new → D.honest disk.old }
+{
+    disk.sync()?;
+    read_state(alloc, disk)
+}
+
 // Reads the state, writes what a restart leaves of it into the other area, and makes that one live.
 fn open_area<D: Disk>(alloc: Global, disk: &mut D) -> Result<(Area, Broker), OpenFault>
     ensures any_moment { D.honest disk.old →
@@ -90,8 +111,7 @@ fn open_area<D: Disk>(alloc: Global, disk: &mut D) -> Result<(Area, Broker), Ope
     ensures honest { D.honest disk.old → D.honest disk.new }
     ensures was_honest { D.honest disk.new → D.honest disk.old }
 {
-    disk.sync()?;
-    let (mut area, mut broker) = read_state(alloc, disk)?;
+    let (mut area, mut broker) = read_synced(alloc, disk)?;
     match write_restarted(alloc, disk, &mut area, &mut broker) {
         Ok(()) => Ok((area, broker)),
         Err(fault) => Err(fault),

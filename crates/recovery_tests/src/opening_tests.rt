@@ -1,5 +1,7 @@
-use crate::journals::{OPEN, SEND, append, batch_of, formatted, journal_of, tells};
-use area_core::{ReadFault, an_image_has_one_reading};
+use crate::journals::{
+    OPEN, SEND, append, batch_of, formatted, journal_of, opens_as, tells, with_batches,
+};
+use area_core::{ReadFault, an_image_has_one_reading, format};
 use disk_core::{Call, MemDisk};
 use recover_core::{
     AreaFault, OpenFault, Store, an_image_stands_for_one_state, open, restarts_fit_large_areas,
@@ -155,5 +157,51 @@ fn a_batch_that_does_not_fit_leaves_the_state_before(rt: HostRuntime) -> Result<
         let is_told = tells(rt.alloc(), disk, wanted)?;
         assert!(rt; is_told, "{body} bytes");
     }
+    Ok(())
+}
+
+// An empty journal with areas of so many bytes.
+fn formatted_with(alloc: Global, area_bytes: u32) -> Result<MemDisk, Fail> {
+    let size = u64::from(area_bytes);
+    let mut disk = MemDisk::new(alloc, 32 + 2 * size)?;
+    match format(alloc, &mut disk, size) {
+        Ok(()) => Ok(disk),
+        Err(fault) => Err(Fail::from(fault)),
+    }
+}
+
+// The snapshot after four commands, of which the last three were this SEND to `/queue/q`. A message is its command's number, its
+// place among that command's, and what follows the record's first ten bytes: a session, no receipt, and the operation.
+fn three_held(alloc: Global, record: &[u8]) -> Result<Vec<u8>, Fail> {
+    let Some(sent) = record.get(10..) else {
+        return Err(Fail::from("no SEND"));
+    };
+    let mut snapshot = Vec::from_slice(
+        alloc,
+        b"\0\0\0\0\0\0\0\x04\0\0\0\0\0\0\0\0\0\0\0\0\0\0\0\0",
+    )?;
+    snapshot.extend_from_slice(b"\0\0\0\x01\0\0\0\x08/queue/q\0\0\0\x03")?;
+    for number in 1..4u64 {
+        snapshot.extend_from_slice(&number.to_be_bytes())?;
+        snapshot.extend_from_slice(b"\0\0\0\0")?;
+        snapshot.extend_from_slice(sent)?;
+    }
+    snapshot.extend_from_slice(b"\0\0\0\0")?;
+    Ok(snapshot)
+}
+
+// Three messages with bodies of 30,000 bytes make a snapshot of 90,138. The second opening writes it, and the third reads it. No
+// memory is refused here, so none of them is.
+#[test]
+fn a_journal_with_a_snapshot_over_65_536_bytes_opens(rt: HostRuntime) -> Result<(), Fail> {
+    let record = sending(rt.alloc(), 30_000)?;
+    let sent = record.as_slice();
+    let empty = formatted_with(rt.alloc(), 262_144)?;
+    let journal = with_batches(rt.alloc(), empty, &[&[OPEN, sent], &[sent], &[sent]])?;
+    let journal = with_batches(rt.alloc(), journal, &[])?;
+    let wanted = three_held(rt.alloc(), sent)?;
+    assert_eq!(rt; wanted.len(), 90_138);
+    let is_right = opens_as(rt.alloc(), journal, wanted.as_slice())?;
+    assert!(rt; is_right);
     Ok(())
 }
