@@ -1,10 +1,10 @@
 -- Commands in the ring, each at a ticket of a seat's own.
-use Rattle.std.specs.Prelude.{◌≡◌, ◌+◌, ℕ, List, map}
+use Rattle.std.specs.Prelude.{◌≡◌, ◌+◌, ◌<◌, ℕ, List, map, set}
 use mathlib.Core.Option.{some}
 use lib.ListN.{get_elem?}
 use Rattle.atomic_table.specs.Seated.{TableId}
 use Rattle.command_core.specs.Commands.{CommandValue}
-use Rattle.claim_core.specs.Seats.{FlushSeatValue, SessionSeatValue}
+use Rattle.claim_core.specs.Seats.{FlushSeatValue, SessionSeatValue, with_seen}
 use Rattle.claim_core.specs.Endings.{Agree}
 use Rattle.script_journal.specs.declared.waiting.Waiting.{Waiting}
 
@@ -31,3 +31,11 @@ ArePlaced first seats commands = (i : ℕ) (c : CommandValue) → get_elem? comm
 -- each of the seats knows of the same history as the flusher's
 abbrev pub AgreeAll : FlushSeatValue → List SessionSeatValue → Type 0
 AgreeAll flush seats = (j : ℕ) (seat : SessionSeatValue) → get_elem? seats j ≡ some seat → Agree seat flush
+
+-- the seat at this place has read a mark over that number, and no other seat has done anything
+pub record IsReadBy (place number : ℕ) (old new : List SessionSeatValue) : Type 0 where
+  pub seat : SessionSeatValue
+  pub at : get_elem? old place ≡ some seat
+  pub mark : ℕ
+  pub under : number < mark
+  pub is : new ≡ set old place (with_seen seat mark)
