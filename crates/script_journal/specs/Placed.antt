@@ -16,17 +16,20 @@ commands_of waiting = map (λ w. w.command) waiting
 abbrev pub AreSeatsOf : TableId → List SessionSeatValue → Type 0
 AreSeatsOf ring seats = (j : ℕ) (seat : SessionSeatValue) → get_elem? seats j ≡ some seat → seat.ring ≡ ring
 
--- one of the seats has the command at this ticket
-pub record IsPlaced (seats : List SessionSeatValue) (ticket : ℕ) (command : CommandValue) : Type 0 where
-  pub place : ℕ
+-- the seat at this place has the command at this ticket
+pub record IsOwn (seats : List SessionSeatValue) (place ticket : ℕ) (command : CommandValue) : Type 0 where
   pub seat : SessionSeatValue
   pub at : get_elem? seats place ≡ some seat
   pub k : ℕ
   pub own : get_elem? seat.own k ≡ some (ticket, command)
 
--- the seats have these commands at tickets one after another, from the first on
-abbrev pub ArePlaced : ℕ → List SessionSeatValue → List CommandValue → Type 0
-ArePlaced first seats commands = (i : ℕ) (c : CommandValue) → get_elem? commands i ≡ some c → IsPlaced seats (first + i) c
+-- each of these commands is its connection's seat's own, at tickets one after another, from the first on
+abbrev pub ArePlaced : ℕ → List SessionSeatValue → List Waiting → Type 0
+ArePlaced first seats waiting = (i : ℕ) (w : Waiting) → get_elem? waiting i ≡ some w → IsOwn seats w.connection (first + i) w.command
+
+-- each of these commands is its connection's seat's own
+abbrev pub AreOwn : List SessionSeatValue → List Waiting → Type 0
+AreOwn seats waiting = (i : ℕ) (w : Waiting) → get_elem? waiting i ≡ some w → (ticket : ℕ) × IsOwn seats w.connection ticket w.command
 
 -- each of the seats knows of the same history as the flusher's
 abbrev pub AgreeAll : FlushSeatValue → List SessionSeatValue → Type 0

@@ -13,7 +13,7 @@ ghost use Rattle.recover_core.specs.Told.{IsCausedBy as IsOpenCausedBy, IsOpenTo
 ghost use Rattle.flush_core.specs.declared.faults.FlushFault.TheVariants.{Broken, Full};
 ghost use Rattle.script_journal.specs.Faults.{IsCausedBy, IsWantOfMemory};
 ghost use Rattle.script_journal.specs.Journals.{IsFull, IsMade, KeepFront};
-ghost use Rattle.script_journal.specs.Placed.{IsReadBy, commands_of};
+ghost use Rattle.script_journal.specs.Placed.{AreOwn, IsReadBy, commands_of};
 
 use crate::turning::go;
 use crate::waiting::{ScriptRing, ScriptSeat, Waiting};
@@ -118,6 +118,7 @@ impl<D: Disk> Journal<D> {
         ensures not_durable { IfOk result (λ outs. IsNone outs → self.new.durable ≡ false) }
         ensures kept { OnOk result (D.honest self.new.disk → KeepFront (D.images self.new.disk) self.old.state (commands_of waiting.items)) }
         ensures durable { OnOk result (self.old.durable ≡ true) }
+        ensures own { OnOk result (AreOwn self.new.seats waiting.items) }
         ensures failed { OnErr result (self.new.durable ≡ false) }
         ensures cause { IfErr result (IsCausedBy (D.failures self.old.disk) (D.failures self.new.disk)) }
         ensures full { D.honest self.old.disk → IsErrOf result Full → IsFull self.old.state (commands_of waiting.items) (D.content self.new.disk) }

@@ -8,17 +8,14 @@ use Rattle.script_journal.proofs.journal.Journal.release.Goals as goal
 
 pub release-requires : goal.release-requires
 release-requires g c =
-    let seats = c.self.inside.seats.items in
     let whole : c.self.inside.whole ≡ true = sym c.replace.ensures.value ∙ c.if-not-replace.false in
-    let some : c.args.connection < length seats = omega (arith, c.if-place-len.false, c.len.ensures) in
-    (omega arith, (omega arith, (c.self.invariant whole).seats_are c.args.connection c.index_mut.result.now (at_index seats c.args.connection c.index_mut.result.now some c.index_mut.ensures.value)))
+    let at = at_index c.self.inside.seats.items _ c.index_mut.result.now (omega (arith, c.if-place-len.false, c.len.ensures)) c.index_mut.ensures.value in
+    (omega arith, (omega arith, (c.self.invariant whole).seats_are _ c.index_mut.result.now at))
 
 pub invariant_of-self-in-Ok : goal.invariant_of-self-in-Ok
 invariant_of-self-in-Ok g c = λ again.
-    let seats = c.self.inside.seats.items in
     let whole : c.self.inside.whole ≡ true = sym c.replace.ensures.value ∙ c.if-not-replace.false in
-    let some : c.args.connection < length seats = omega (arith, c.if-place-len.false, c.len.ensures) in
-    still_rest _ _ _ _ _ _ (at_index seats c.args.connection c.index_mut.result.now some c.index_mut.ensures.value)
+    still_rest _ _ _ _ _ _ (at_index c.self.inside.seats.items _ c.index_mut.result.now (omega (arith, c.if-place-len.false, c.len.ensures)) c.index_mut.ensures.value)
     (ap (λ (s : SessionSeatValue). s.ring) c.release.ensures.seen) (c.self.invariant whole)
 
 pub returns-in-Ok-clause-seat : goal.returns-in-Ok-clause-seat
