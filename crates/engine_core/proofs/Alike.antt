@@ -1,10 +1,11 @@
--- Scripts that are alike: they differ at most in what sessions keep that are over, which they never read.
+-- Scripts that are alike: they differ at most in what sessions keep that are over, which they never read, and in their disks.
 use Rattle.std.proofs.Common.{◌≡◌, List, [], ◌∷◌, ◌++◌, ℕ, ◌⊎◌, Bool, true, false, cond, Ordering, Less, Equal, Greater, Some, refl, ap, sym, ◌∙◌, subst, inl, inr}
 use Rattle.std.specs.Prelude.{unwrap_or}
 use Rattle.std.specs.BTreeMap.{insert_entry, is_at}
 use Rattle.std.specs.List.{fold}
 use Rattle.std.specs.Map.{lookup, remove_entry}
 use Rattle.std.specs.Ordering.{match_ordering, nat_cmp}
+use Rattle.disk_core.specs.Memory.{fresh}
 use Rattle.frame_core.proofs.OneAnswer.{one_reading, fault_or_none}
 use Rattle.session_core.specs.declared.act.Act.{Act}
 use Rattle.session_core.specs.declared.phase.Phase.{Phase}
@@ -33,9 +34,9 @@ abbrev pub bare : List (ℕ × Connection) → List (ℕ × Connection)
 bare [] = []
 bare (e ∷ connections) = (e.0, shown e.1) ∷ bare connections
 
--- a script without what sessions keep that are over
+-- a script without what sessions keep that are over, and without its disk
 abbrev pub all_bare : ScriptValue → ScriptValue
-all_bare s = record { connections = bare s.connections; queue = s.queue }
+all_bare s = record { connections = bare s.connections; queue = s.queue; disk = fresh 0 }
 
 -- connections that are looked up, taken out and put in
 bare_lookup : (test : ℕ → Bool) (connections : List (ℕ × Connection)) → unwrap_or (lookup test (bare connections)) new_connection ≡ shown (unwrap_or (lookup test connections) new_connection)
@@ -150,9 +151,9 @@ receive_alike s r t u n bytes printed other alike h k =
     let of : Hearing → ℕ → Connection = λ session m. record { session = session; number = m } in
     let left : of (shown_of h.session) h.progress.number ≡ of (shown_of k.session) k.progress.number =
     ap (λ x. of x h.progress.number) heard.1 ∙ ap (λ (p : Progress). of (shown_of k.session) p.number) progress in
-    let after : ScriptValue → Connection → Progress → ScriptValue = λ x c p. record { connections = with_connection n c x.connections; queue = p.queue } in
+    let after : ScriptValue → Connection → Progress → ScriptValue = λ x c p. record { connections = with_connection n c x.connections; queue = p.queue; disk = fresh 0 } in
     let bared : (x : ScriptValue) (c : Connection) (p : Progress) → all_bare (after x c p) ≡ after (all_bare x) (shown c) p =
-    λ x c p. ap (λ cs. record { connections = cs; queue = p.queue }) (bare_with n c x.connections) in (
+    λ x c p. ap (λ cs. record { connections = cs; queue = p.queue; disk = fresh 0 }) (bare_with n c x.connections) in (
       h.same_text ∙ ap (λ (p : Progress). p.text) progress ∙ sym k.same_text,
       ap all_bare h.after ∙ bared s (of h.session h.progress.number) h.progress
           ∙ ap (λ x. after x (of (shown_of h.session) h.progress.number) h.progress) alike
@@ -166,9 +167,9 @@ lose_alike s r t u n printed other alike h k =
     let of : Connection → QueueValue → Progress = λ c q. acted_on n (record { number = c.number; queue = q; text = [] }) (loss_of c.session.phase) in
     let queue : s.queue ≡ r.queue = ap (λ (x : ScriptValue). x.queue) alike in
     let progress : h.progress ≡ k.progress = h.done ∙ ap (λ c. of c s.queue) (alike_at n s r alike) ∙ ap (of (connection_at n r)) queue ∙ sym k.done in
-    let after : ScriptValue → Progress → ScriptValue = λ x p. record { connections = remove_entry (is_at (nat_cmp n)) x.connections; queue = p.queue } in
+    let after : ScriptValue → Progress → ScriptValue = λ x p. record { connections = remove_entry (is_at (nat_cmp n)) x.connections; queue = p.queue; disk = fresh 0 } in
     let bared : (x : ScriptValue) (p : Progress) → all_bare (after x p) ≡ after (all_bare x) p =
-    λ x p. ap (λ cs. record { connections = cs; queue = p.queue }) (sym (bare_remove (is_at (nat_cmp n)) x.connections)) in (
+    λ x p. ap (λ cs. record { connections = cs; queue = p.queue; disk = fresh 0 }) (sym (bare_remove (is_at (nat_cmp n)) x.connections)) in (
       h.same_text ∙ ap (λ (p : Progress). p.text) progress ∙ sym k.same_text,
       ap all_bare h.after ∙ bared s h.progress ∙ ap (λ x. after x h.progress) alike ∙ ap (after (all_bare r)) progress ∙ sym (ap all_bare k.after ∙ bared r k.progress),
     )

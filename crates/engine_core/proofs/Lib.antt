@@ -1,5 +1,7 @@
 pub mod Performing
 pub mod Receiving
+pub mod Telling
+pub mod Unfailed
 pub mod Counting
 pub mod LineByLine
 pub mod Pieces

@@ -3,17 +3,17 @@ use Rattle.std.proofs.Common.{◌≡◌, ◌≢◌, ◌+◌, List, [], ◌∷◌
 use Rattle.std.specs.List.{AllByRecursion}
 use Rattle.std.specs.Io.KnownBytes.{Appends}
 use Rattle.std.proofs.lemmas.Grind.{flat_map-append}
-use Rattle.flush_core.specs.declared.faults.FlushFault.{FlushFault}
-use Rattle.flush_core.specs.declared.faults.FlushFault.TheVariants as flush
+use Rattle.disk_core.specs.Memory.{Memory}
 use Rattle.engine_core.specs.OfQueue.{of_queue}
 use Rattle.engine_core.specs.StepFaults.{IsLineTold}
-use Rattle.engine_core.specs.Runs.{Goes, Halts, StopsIn, IsTooLong}
-use Rattle.engine_core.specs.declared.run.Run.{Run}
+use Rattle.engine_core.specs.Runs.{Goes, Halts, IsCause, IsNext, IsTooLong, StopsIn}
+use Rattle.engine_core.specs.declared.so_far.Run.{Run}
 use Rattle.engine_core.specs.declared.fault.QueueFault.{QueueFault}
 use Rattle.engine_core.specs.declared.fault.QueueFault.TheVariants as queue
 use Rattle.engine_core.specs.declared.fault.ScriptFault.{ScriptFault}
-use Rattle.engine_core.specs.declared.fault.ScriptFault.TheVariants.{Memory, NotUnderstood, CountTooLarge, Opening, Storing, Input, Output}
-use Rattle.engine_core.specs.Scripts.{IsNotUnderstood, Prints, PrintsAll, Takes, IsLine, HasNoLf, IsNotStored, RunsFull, RunsTooFar, Tries, text_of_lines}
+use Rattle.engine_core.specs.declared.fault.ScriptFault.TheVariants.{NotUnderstood, CountTooLarge, Opening, Storing, Input, Output}
+use Rattle.engine_core.specs.declared.fault.ScriptFault.TheVariants as faults
+use Rattle.engine_core.specs.Scripts.{IsNotUnderstood, Prints, PrintsAll, Takes, IsLine, HasNoLf, RunsTooFar, Tries, disk_of, text_of_lines}
 use Rattle.engine_core.specs.declared.script.Script.{Script}
 
 pub prints_append : (s t u : Script) (a b : List (List ℕ)) (p q : List ℕ) → PrintsAll s a p t → PrintsAll t b q u → PrintsAll s (a ++ b) (p ++ q) u
@@ -66,69 +66,74 @@ no_lf_append (x ∷ a) b first second = (first.0, no_lf_append a b first.1 secon
 abbrev pub halts_nothing : (old : Run) (bytes : List ℕ) (contents : Option (List ℕ)) → Halts old bytes [] (old.begun.items ++ bytes) contents contents
 halts_nothing old bytes contents = record { printed = []; end = old.script; takes = takes_nothing old.script old.begun.items bytes; writes = appends_nothing contents }
 
-not_stored : (fault : FlushFault) (s : Script) (line : List ℕ) → (queue.Storing fault ≡ queue.Storing flush.Full → RunsFull s line) → IsNotStored fault s line
-not_stored flush.Device s line full = tt
-not_stored flush.Full s line full = full refl
-not_stored flush.Broken s line full = tt
-not_stored (flush.Memory refused) s line full = tt
+-- the line that has begun, and these bytes behind it
+abbrev rest_of : Run → List ℕ → List ℕ
+rest_of old bytes = old.begun.items ++ (bytes ++ 10 ∷ [])
 
-pub stops_at_queue : (fault : QueueFault) (given : ScriptFault) (old : Run) (new : Script) (bytes line : List ℕ) (contents : Option (List ℕ))
-    → line ≡ old.begun.items ++ bytes → IsLine line → (fault ≡ queue.CountTooLarge → RunsTooFar old.script line) → (fault ≡ queue.Storing flush.Full → RunsFull old.script line) → IsLineTold old.script line new fault → given ≡ of_queue fault → StopsIn given old (bytes ++ 10 ∷ []) contents contents
-stops_at_queue (queue.Memory refused) given old new bytes line contents same is_line far full told e =
-    subst (λ f. StopsIn f old (bytes ++ 10 ∷ []) contents contents) (sym e) ([], old.begun.items ++ (bytes ++ 10 ∷ []), halts_nothing old (bytes ++ 10 ∷ []) contents)
-stops_at_queue (queue.Opening refused) given old new bytes line contents same is_line far full told e =
-    subst (λ f. StopsIn f old (bytes ++ 10 ∷ []) contents contents) (sym e) (
-      [],
-      old.begun.items ++ (bytes ++ 10 ∷ []),
-      halts_nothing old (bytes ++ 10 ∷ []) contents,
-      ([], sym (append_assoc old.begun.items bytes (10 ∷ [])) ∙ ap (λ l. l ++ 10 ∷ []) (sym same ∙ told.0), told.1),
-    )
-stops_at_queue (queue.Storing refused) given old new bytes line contents same is_line far full told e =
-    subst (λ f. StopsIn f old (bytes ++ 10 ∷ []) contents contents) (sym e) (
-      [],
-      old.begun.items ++ (bytes ++ 10 ∷ []),
-      halts_nothing old (bytes ++ 10 ∷ []) contents,
-      (line, [], sym (append_assoc old.begun.items bytes (10 ∷ [])) ∙ ap (λ l. l ++ 10 ∷ []) (sym same), is_line, not_stored refused old.script line full),
-    )
-stops_at_queue queue.CountTooLarge given old new bytes line contents same is_line far full told e =
-    subst (λ f. StopsIn f old (bytes ++ 10 ∷ []) contents contents) (sym e) (
-      [],
-      old.begun.items ++ (bytes ++ 10 ∷ []),
-      halts_nothing old (bytes ++ 10 ∷ []) contents,
-      (line, [], sym (append_assoc old.begun.items bytes (10 ∷ [])) ∙ ap (λ l. l ++ 10 ∷ []) (sym same), is_line, far refl),
-    )
+whole_line : (old : Run) (bytes line : List ℕ) → line ≡ old.begun.items ++ bytes → rest_of old bytes ≡ line ++ 10 ∷ []
+whole_line old bytes line same = sym (append_assoc old.begun.items bytes (10 ∷ [])) ∙ ap (λ l. l ++ 10 ∷ []) (sym same)
 
-pub stops_too_long : (fault : ScriptFault) (old : Run) (bytes after : List ℕ) (contents : Option (List ℕ)) → IsLine old.begun.items → HasNoLf bytes → IsTooLong fault old bytes → StopsIn fault old (bytes ++ after) contents contents
-stops_too_long (NotUnderstood k) old bytes after contents line no_lf (e, long) = (
+cause_of : (fault : QueueFault) (old : Run) (disk : Memory) (bytes line : List ℕ) → line ≡ old.begun.items ++ bytes → IsLine line
+    → (fault ≡ queue.CountTooLarge → RunsTooFar old.script line) → IsLineTold old.script line disk fault → IsCause (of_queue fault) old.script (rest_of old bytes) disk
+cause_of (queue.Memory refused) old disk bytes line same is_line far told = told
+cause_of (queue.Opening refused) old disk bytes line same is_line far told = ([], whole_line old bytes line same ∙ ap (λ l. l ++ 10 ∷ []) told.0, told.1)
+cause_of (queue.Storing refused) old disk bytes line same is_line far told = (line, [], whole_line old bytes line same, is_line, told)
+cause_of queue.CountTooLarge old disk bytes line same is_line far told = ((line, [], whole_line old bytes line same, is_line, far refl), told)
+
+-- none but a fault of a line tells its number
+is_next : (fault : QueueFault) (lines : ℕ) → IsNext (of_queue fault) lines
+is_next (queue.Memory refused) lines = tt
+is_next (queue.Opening refused) lines = tt
+is_next (queue.Storing refused) lines = tt
+is_next queue.CountTooLarge lines = tt
+
+-- a fault that is not the writer's stops a run at its next line
+pub stops_here : (fault : QueueFault) (old : Run) (bytes : List ℕ) (disk : Memory) (contents : Option (List ℕ)) → IsCause (of_queue fault) old.script (old.begun.items ++ bytes) disk → StopsIn (of_queue fault) old bytes disk contents contents
+stops_here (queue.Memory refused) old bytes disk contents cause = ([], old.begun.items ++ bytes, halts_nothing old bytes contents, tt, cause)
+stops_here (queue.Opening refused) old bytes disk contents cause = ([], old.begun.items ++ bytes, halts_nothing old bytes contents, tt, cause)
+stops_here (queue.Storing refused) old bytes disk contents cause = ([], old.begun.items ++ bytes, halts_nothing old bytes contents, tt, cause)
+stops_here queue.CountTooLarge old bytes disk contents cause = ([], old.begun.items ++ bytes, halts_nothing old bytes contents, tt, cause)
+
+pub stops_at_queue : (fault : QueueFault) (given : ScriptFault) (old : Run) (disk : Memory) (bytes line : List ℕ) (contents : Option (List ℕ)) → line ≡ old.begun.items ++ bytes → IsLine line
+    → (fault ≡ queue.CountTooLarge → RunsTooFar old.script line) → IsLineTold old.script line disk fault → given ≡ of_queue fault → StopsIn given old (bytes ++ 10 ∷ []) disk contents contents
+stops_at_queue fault given old disk bytes line contents same is_line far told e =
+    subst (λ f. StopsIn f old (bytes ++ 10 ∷ []) disk contents contents) (sym e)
+    (stops_here fault old (bytes ++ 10 ∷ []) disk contents (cause_of fault old disk bytes line same is_line far told))
+
+pub stops_too_long : (fault : ScriptFault) (old : Run) (bytes after : List ℕ) (disk : Memory) (contents : Option (List ℕ)) → IsLine old.begun.items → HasNoLf bytes → disk ≡ disk_of old.script → IsTooLong fault old bytes
+    → StopsIn fault old (bytes ++ after) disk contents contents
+stops_too_long (NotUnderstood k) old bytes after disk contents line no_lf same (e, long) = (
   [],
   old.begun.items ++ (bytes ++ after),
   halts_nothing old (bytes ++ after) contents,
   omega (arith, e),
-  inl (old.begun.items ++ bytes, after, sym (append_assoc old.begun.items bytes after), no_lf_append old.begun.items bytes line.no_lf no_lf, long),
+  (inl (old.begun.items ++ bytes, after, sym (append_assoc old.begun.items bytes after), no_lf_append old.begun.items bytes line.no_lf no_lf, long), same),
 )
-stops_too_long (Memory refused) old bytes after contents line no_lf h = ([], old.begun.items ++ (bytes ++ after), halts_nothing old (bytes ++ after) contents)
-stops_too_long (Opening refused) old bytes after contents line no_lf h = absurd h
-stops_too_long (Storing refused) old bytes after contents line no_lf h = absurd h
-stops_too_long CountTooLarge old bytes after contents line no_lf h = absurd h
-stops_too_long Input old bytes after contents line no_lf h = absurd h
-stops_too_long Output old bytes after contents line no_lf h = absurd h
+stops_too_long (faults.Memory refused) old bytes after disk contents line no_lf same h =
+    ([], old.begun.items ++ (bytes ++ after), halts_nothing old (bytes ++ after) contents, tt, ap (λ (d : Memory). d.failures) same)
+stops_too_long (Opening refused) old bytes after disk contents line no_lf same h = absurd h
+stops_too_long (Storing refused) old bytes after disk contents line no_lf same h = absurd h
+stops_too_long CountTooLarge old bytes after disk contents line no_lf same h = absurd h
+stops_too_long Input old bytes after disk contents line no_lf same h = absurd h
+stops_too_long Output old bytes after disk contents line no_lf same h = absurd h
 
-pub stops_at_no_form : (old : Run) (bytes line : List ℕ) (k : ℕ) (contents : Option (List ℕ)) → IsLine old.begun.items → HasNoLf bytes → line ≡ old.begun.items ++ bytes → IsNotUnderstood old.script line → k ≡ old.lines + 1 → StopsIn (NotUnderstood k) old (bytes ++ 10 ∷ []) contents contents
-stops_at_no_form old bytes line k contents begun no_lf same form e = (
+pub stops_at_no_form : (old : Run) (disk : Memory) (bytes line : List ℕ) (k : ℕ) (contents : Option (List ℕ)) → IsLine old.begun.items → HasNoLf bytes → line ≡ old.begun.items ++ bytes → IsNotUnderstood old.script line
+    → disk ≡ disk_of old.script → k ≡ old.lines + 1 → StopsIn (NotUnderstood k) old (bytes ++ 10 ∷ []) disk contents contents
+stops_at_no_form old disk bytes line k contents begun no_lf same form is e = (
   [],
-  old.begun.items ++ (bytes ++ 10 ∷ []),
+  rest_of old bytes,
   halts_nothing old (bytes ++ 10 ∷ []) contents,
   omega (arith, e),
-  inr (line, [], sym (append_assoc old.begun.items bytes (10 ∷ [])) ∙ ap (λ l. l ++ 10 ∷ []) (sym same), subst HasNoLf (sym same) (no_lf_append old.begun.items bytes begun.no_lf no_lf), form),
+  (inr (line, [], whole_line old bytes line same, subst HasNoLf (sym same) (no_lf_append old.begun.items bytes begun.no_lf no_lf), form), is),
 )
 
 -- the line is one, but what it prints could not be written
 pub stops_at_writer : (old : Run) (bytes line printed : List ℕ) (new : Script) (before after : Option (List ℕ)) (written unwritten : List ℕ)
     → line ≡ old.begun.items ++ bytes → IsLine line → Prints old.script line printed new → printed ≡ written ++ unwritten → unwritten ≢ [] → Appends before after written
-    → Tries old.script old.begun.items (bytes ++ 10 ∷ []) before after
+    → Tries old.script old.begun.items (bytes ++ 10 ∷ []) (disk_of new) before after
 stops_at_writer old bytes line printed new before after written unwritten same is_line prints split left writes = record {
   lines = [];
-  rest = old.begun.items ++ (bytes ++ 10 ∷ []);
+  rest = rest_of old bytes;
   printed = [];
   end = old.script;
   takes = takes_nothing old.script old.begun.items (bytes ++ 10 ∷ []);
@@ -136,9 +141,10 @@ stops_at_writer old bytes line printed new before after written unwritten same i
   behind = [];
   text = printed;
   next = new;
-  begins = sym (append_assoc old.begun.items bytes (10 ∷ [])) ∙ ap (λ l. l ++ 10 ∷ []) (sym same);
+  begins = whole_line old bytes line same;
   is_line = is_line;
   prints = prints;
+  disk_is = refl;
   written = written;
   unwritten = unwritten;
   split = split;

@@ -4,6 +4,7 @@ use Rattle.std.specs.Fmt.{decimal}
 use Rattle.std.specs.List.{AllByRecursion}
 use Rattle.broker_core.specs.Operations.{restarted}
 use Rattle.broker_core.specs.States.{State}
+use Rattle.disk_core.specs.Memory.{Memory, fresh}
 use Rattle.engine_core.specs.declared.script.Script.{Script}
 use Rattle.engine_core.specs.declared.script.Script.TheVariants.{Running}
 use Rattle.script_text.specs.PercentTexts.{decoded}
@@ -18,7 +19,7 @@ use Rattle.engine_core.proofs.LinesApart.{blank_first, flush_first, loss_first, 
 abbrev Leaves : ScriptValue → List ℕ → List ℕ → ScriptValue → Type 0
 Leaves s line printed t =
     ((line ≡ []) × (printed ≡ []) × (t ≡ s))
-    ⊎ (((line ≡ codes "open") × (printed ≡ open_text (restarted s.queue.state)) × (t ≡ beginning (restarted s.queue.state)))
+    ⊎ (((line ≡ codes "open") × (printed ≡ open_text (restarted s.queue.state)) × (t ≡ beginning (restarted s.queue.state) t.disk))
     ⊎ GoesOn s line printed t)
 
 abbrev LeavesSome : ScriptValue → List ℕ → List ℕ → Script → Type 0
@@ -28,21 +29,21 @@ leaves : (s : ScriptValue) (line printed : List ℕ) (t : Script) → IsNoCrash 
 leaves s line printed t none (inl h) = (s, inl (h.0, h.1, refl), h.2)
 leaves s line printed t none (inr (inl h)) =
     let o = h.1 in
-    (beginning o.state, inr (inl (h.0, o.same_text ∙ ap open_text o.reopens, ap beginning o.reopens)), o.after)
-leaves s line printed t none (inr (inr (inl h))) = (h.0, inr (inr h.1), h.2)
+    (beginning o.state o.disk, inr (inl (h.0, o.same_text ∙ ap open_text o.reopens, ap (λ state. beginning state o.disk) o.reopens)), o.after)
+leaves s line printed t none (inr (inr (inl h))) = (h.0, inr (inr h.1), h.3)
 leaves s line printed t none (inr (inr (inr h))) = absurd (none h.0 h.1 h.2)
 
 opens_alike : (s r t u : ScriptValue) (printed other : List ℕ) → all_bare s ≡ all_bare r
-    → printed ≡ open_text (restarted s.queue.state) → t ≡ beginning (restarted s.queue.state)
-    → other ≡ open_text (restarted r.queue.state) → u ≡ beginning (restarted r.queue.state) → PrintAlike printed other t u
+    → printed ≡ open_text (restarted s.queue.state) → t ≡ beginning (restarted s.queue.state) t.disk
+    → other ≡ open_text (restarted r.queue.state) → u ≡ beginning (restarted r.queue.state) u.disk → PrintAlike printed other t u
 opens_alike s r t u printed other alike text after more left =
     let queue : s.queue ≡ r.queue = ap (λ (x : ScriptValue). x.queue) alike in
-    let opened : t ≡ u = after ∙ ap (λ (q : QueueValue). beginning (restarted q.state)) queue ∙ sym left in
-    (text ∙ ap (λ (q : QueueValue). open_text (restarted q.state)) queue ∙ sym more, ap all_bare opened)
+    let opened : all_bare t ≡ all_bare u = ap all_bare after ∙ ap (λ (q : QueueValue). beginning (restarted q.state) (fresh 0)) queue ∙ sym (ap all_bare left) in
+    (text ∙ ap (λ (q : QueueValue). open_text (restarted q.state)) queue ∙ sym more, opened)
 
 flushes_alike : (s r t u : ScriptValue) (printed other : List ℕ) → all_bare s ≡ all_bare r
-    → printed ≡ flush_text s.queue → t ≡ record s { queue = flushed s.queue }
-    → other ≡ flush_text r.queue → u ≡ record r { queue = flushed r.queue } → PrintAlike printed other t u
+    → printed ≡ flush_text s.queue → t ≡ record s { queue = flushed s.queue; disk = t.disk }
+    → other ≡ flush_text r.queue → u ≡ record r { queue = flushed r.queue; disk = u.disk } → PrintAlike printed other t u
 flushes_alike s r t u printed other alike text after more left =
     let queue : s.queue ≡ r.queue = ap (λ (x : ScriptValue). x.queue) alike in
     let flush : ScriptValue → ScriptValue = λ x. record x { queue = flushed x.queue } in
@@ -98,11 +99,11 @@ from_alike (line ∷ lines) s r p q t u none alike (p1, p2, v, prints, more, who
     let rest = from_alike lines left.0 over.0 p2 q2 t u none.1 after.1 (subst (λ x. PrintsAll x lines p2 t) left.2 more) (subst (λ x. PrintsAll x lines q2 u) over.2 others) in
     whole ∙ ap (λ x. x ++ p2) after.0 ∙ ap (λ x. q1 ++ x) rest ∙ sym all
 
-pub one_text : (start : State) (lines : List (List ℕ)) (p q : List ℕ) (t u : Script) → AllByRecursion IsNoCrash lines
-    → PrintsAll (Running (beginning start)) lines p t → PrintsAll (Running (beginning start)) lines q u → p ≡ q
-one_text start lines p q t u none first second = from_alike lines (beginning start) (beginning start) p q t u none refl first second
+pub one_text : (start : State) (one other : Memory) (lines : List (List ℕ)) (p q : List ℕ) (t u : Script) → AllByRecursion IsNoCrash lines
+    → PrintsAll (Running (beginning start one)) lines p t → PrintsAll (Running (beginning start other)) lines q u → p ≡ q
+one_text start one other lines p q t u none first second = from_alike lines (beginning start one) (beginning start other) p q t u none refl first second
 
-pub one_script : (start : State) (input p q : List ℕ) (s : IsScript start input p) → AllByRecursion IsNoCrash s.lines → IsScript start input q → p ≡ q
-one_script start input p q s none r =
+pub one_script : (start : State) (one other : Memory) (input p q : List ℕ) (s : IsScript start one input p) → AllByRecursion IsNoCrash s.lines → IsScript start other input q → p ≡ q
+one_script start one other input p q s none r =
     let same = same_lines r.lines s.lines r.each s.each (sym r.whole ∙ s.whole) in
-    one_text start s.lines p q s.end r.end none s.prints (subst (λ lines. PrintsAll (Running (beginning start)) lines q r.end) same r.prints)
+    one_text start one other s.lines p q s.end r.end none s.prints (subst (λ lines. PrintsAll (Running (beginning start other)) lines q r.end) same r.prints)

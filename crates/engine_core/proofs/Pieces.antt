@@ -1,15 +1,18 @@
 -- A run over a piece, line by line.
-use Rattle.std.proofs.Common.{◌≡◌, ◌+◌, ◌-◌, ◌≤◌, List, [], ◌∷◌, ◌++◌, ℕ, Option, codes, length, take, drop, refl, ap, sym, ◌∙◌, append_assoc, append-nil, arith, subst, length-append, length-drop, inl, inr, take_all}
+use Rattle.std.proofs.Common.{◌≡◌, ◌+◌, ◌-◌, ◌≤◌, List, [], ◌∷◌, ◌++◌, ℕ, Option, codes, length, take, drop, ap, sym, ◌∙◌, append_assoc, append-nil, arith, subst, length-append, length-drop, inl, inr, take_all}
 use Rattle.std.proofs.Math.Seq.{take-add, take-append_seam}
 use Rattle.std.proofs.lemmas.List.{take-append-drop}
+use Rattle.disk_core.specs.Memory.{Memory}
 use Rattle.flush_core.specs.declared.faults.FlushFault.{FlushFault}
 use Rattle.recover_core.specs.declared.faults.OpenFault.{OpenFault}
 use Rattle.engine_core.specs.declared.script.Script.{Script}
-use Rattle.engine_core.specs.Scripts.{Takes, IsLine, HasNoLf, HasNoLine, HasLineNotOpened, HasLineNotStored, HasLineTooFar, text_of_lines}
-use Rattle.engine_core.specs.Runs.{Goes, Halts, StopsIn, IsTooLong}
-use Rattle.engine_core.specs.declared.run.Run.{Run}
+use Rattle.engine_core.specs.Scripts.{Takes, IsLine, HasNoLf, HasNoLine, HasLineTooFar, disk_of, text_of_lines}
+use Rattle.engine_core.specs.StepFaults.{HasLineNotOpened, HasLineNotStored}
+use Rattle.engine_core.specs.Runs.{Goes, Halts, IsCause, IsNext, IsTooLong, StopsIn}
+use Rattle.engine_core.specs.declared.so_far.Run.{Run}
 use Rattle.engine_core.specs.declared.fault.ScriptFault.{ScriptFault}
-use Rattle.engine_core.specs.declared.fault.ScriptFault.TheVariants.{Memory, NotUnderstood, CountTooLarge, Opening, Storing, Input, Output}
+use Rattle.engine_core.specs.declared.fault.ScriptFault.TheVariants.{NotUnderstood, CountTooLarge, Opening, Storing, Input, Output}
+use Rattle.engine_core.specs.declared.fault.ScriptFault.TheVariants as faults
 use Rattle.std.specs.Io.KnownBytes.{Appends}
 use Rattle.engine_core.proofs.LineByLine.{takes_append, appends_append, takes_nothing, appends_nothing, stops_too_long}
 
@@ -43,15 +46,27 @@ halts_later old mid x y lines rest before middle after g h = record {
   writes = appends_append before middle after g.printed h.printed g.writes h.writes;
 }
 
-pub stops_later : (fault : ScriptFault) (old mid : Run) (x y : List ℕ) (before middle after : Option (List ℕ)) → Goes old x mid before middle → StopsIn fault mid y middle after → StopsIn fault old (x ++ y) before after
-stops_later (NotUnderstood k) old mid x y before middle after g (lines, rest, h, e, none) =
-    (g.lines ++ lines, rest, halts_later old mid x y lines rest before middle after g h, omega (arith, e, g.count, length-append g.lines lines), none)
-stops_later (Memory refused) old mid x y before middle after g (lines, rest, h) = (g.lines ++ lines, rest, halts_later old mid x y lines rest before middle after g h)
-stops_later (Opening refused) old mid x y before middle after g (lines, rest, h, shut) = (g.lines ++ lines, rest, halts_later old mid x y lines rest before middle after g h, shut)
-stops_later (Storing refused) old mid x y before middle after g (lines, rest, h, lost) = (g.lines ++ lines, rest, halts_later old mid x y lines rest before middle after g h, lost)
-stops_later CountTooLarge old mid x y before middle after g (lines, rest, h, far) = (g.lines ++ lines, rest, halts_later old mid x y lines rest before middle after g h, far)
-stops_later Input old mid x y before middle after g (lines, rest, h) = (g.lines ++ lines, rest, halts_later old mid x y lines rest before middle after g h)
-stops_later Output old mid x y before middle after g h = record {
+-- the number of the line that is next
+next_later : (fault : ScriptFault) (lines more : ℕ) → lines ≡ more → IsNext fault lines → IsNext fault more
+next_later fault lines more same next = subst (IsNext fault) same next
+
+-- what stops a run within bytes, but for the writer
+abbrev Halted : ScriptFault → Run → List ℕ → Memory → Option (List ℕ) → Option (List ℕ) → Type 0
+Halted fault old bytes disk before after =
+    (lines : List (List ℕ)) × (rest : List ℕ) × (h : Halts old bytes lines rest before after) × IsNext fault (old.lines + length lines) × IsCause fault h.end rest disk
+
+halted_later : (fault : ScriptFault) (old mid : Run) (x y : List ℕ) (disk : Memory) (before middle after : Option (List ℕ)) → Goes old x mid before middle → Halted fault mid y disk middle after → Halted fault old (x ++ y) disk before after
+halted_later fault old mid x y disk before middle after g (lines, rest, h, next, cause) =
+    (g.lines ++ lines, rest, halts_later old mid x y lines rest before middle after g h, next_later fault (mid.lines + length lines) (old.lines + length (g.lines ++ lines)) (omega (arith, g.count, length-append g.lines lines)) next, cause)
+
+pub stops_later : (fault : ScriptFault) (old mid : Run) (x y : List ℕ) (disk : Memory) (before middle after : Option (List ℕ)) → Goes old x mid before middle → StopsIn fault mid y disk middle after → StopsIn fault old (x ++ y) disk before after
+stops_later (NotUnderstood k) old mid x y disk before middle after g h = halted_later (NotUnderstood k) old mid x y disk before middle after g h
+stops_later (faults.Memory refused) old mid x y disk before middle after g h = halted_later (faults.Memory refused) old mid x y disk before middle after g h
+stops_later (Opening refused) old mid x y disk before middle after g h = halted_later (Opening refused) old mid x y disk before middle after g h
+stops_later (Storing refused) old mid x y disk before middle after g h = halted_later (Storing refused) old mid x y disk before middle after g h
+stops_later CountTooLarge old mid x y disk before middle after g h = halted_later CountTooLarge old mid x y disk before middle after g h
+stops_later Input old mid x y disk before middle after g h = halted_later Input old mid x y disk before middle after g h
+stops_later Output old mid x y disk before middle after g h = record {
   lines = g.lines ++ h.lines;
   rest = h.rest;
   printed = g.printed ++ h.printed;
@@ -64,6 +79,7 @@ stops_later Output old mid x y before middle after g h = record {
   begins = h.begins;
   is_line = h.is_line;
   prints = h.prints;
+  disk_is = h.disk_is;
   written = h.written;
   unwritten = h.unwritten;
   split = h.split;
@@ -93,20 +109,32 @@ no_line_before s rest z (inr (line, behind, whole, no_lf, form)) = inr (line, be
 too_far_before : (s : Script) (rest z : List ℕ) → HasLineTooFar s rest → HasLineTooFar s (rest ++ z)
 too_far_before s rest z (line, behind, whole, is_line, far) = (line, behind ++ z, ap (λ l. l ++ z) whole ∙ append_assoc line (10 ∷ behind) z, is_line, far)
 
-not_opened_before : (s : Script) (fault : OpenFault) (rest z : List ℕ) → HasLineNotOpened s fault rest → HasLineNotOpened s fault (rest ++ z)
-not_opened_before s fault rest z (behind, whole, shut) = (behind ++ z, ap (λ l. l ++ z) whole ∙ append_assoc (codes "open") (10 ∷ behind) z, shut)
+not_opened_before : (s : Script) (fault : OpenFault) (disk : Memory) (rest z : List ℕ) → HasLineNotOpened s fault rest disk → HasLineNotOpened s fault (rest ++ z) disk
+not_opened_before s fault disk rest z (behind, whole, shut) = (behind ++ z, ap (λ l. l ++ z) whole ∙ append_assoc (codes "open") (10 ∷ behind) z, shut)
 
-not_stored_before : (s : Script) (fault : FlushFault) (rest z : List ℕ) → HasLineNotStored s fault rest → HasLineNotStored s fault (rest ++ z)
-not_stored_before s fault rest z (line, behind, whole, is_line, lost) = (line, behind ++ z, ap (λ l. l ++ z) whole ∙ append_assoc line (10 ∷ behind) z, is_line, lost)
+not_stored_before : (s : Script) (fault : FlushFault) (disk : Memory) (rest z : List ℕ) → HasLineNotStored s fault rest disk → HasLineNotStored s fault (rest ++ z) disk
+not_stored_before s fault disk rest z (line, behind, whole, is_line, lost) = (line, behind ++ z, ap (λ l. l ++ z) whole ∙ append_assoc line (10 ∷ behind) z, is_line, lost)
 
-pub stops_before : (fault : ScriptFault) (old : Run) (x z : List ℕ) (before after : Option (List ℕ)) → StopsIn fault old x before after → StopsIn fault old (x ++ z) before after
-stops_before (NotUnderstood k) old x z before after (lines, rest, h, e, none) = (lines, rest ++ z, halts_before old x z lines rest before after h, e, no_line_before h.end rest z none)
-stops_before (Memory refused) old x z before after (lines, rest, h) = (lines, rest ++ z, halts_before old x z lines rest before after h)
-stops_before (Opening refused) old x z before after (lines, rest, h, shut) = (lines, rest ++ z, halts_before old x z lines rest before after h, not_opened_before h.end refused rest z shut)
-stops_before (Storing refused) old x z before after (lines, rest, h, lost) = (lines, rest ++ z, halts_before old x z lines rest before after h, not_stored_before h.end refused rest z lost)
-stops_before CountTooLarge old x z before after (lines, rest, h, far) = (lines, rest ++ z, halts_before old x z lines rest before after h, too_far_before h.end rest z far)
-stops_before Input old x z before after (lines, rest, h) = (lines, rest ++ z, halts_before old x z lines rest before after h)
-stops_before Output old x z before after h = record {
+cause_before : (fault : ScriptFault) (s : Script) (rest z : List ℕ) (disk : Memory) → IsCause fault s rest disk → IsCause fault s (rest ++ z) disk
+cause_before (NotUnderstood k) s rest z disk cause = (no_line_before s rest z cause.0, cause.1)
+cause_before (faults.Memory refused) s rest z disk cause = cause
+cause_before (Opening refused) s rest z disk cause = not_opened_before s refused disk rest z cause
+cause_before (Storing refused) s rest z disk cause = not_stored_before s refused disk rest z cause
+cause_before CountTooLarge s rest z disk cause = (too_far_before s rest z cause.0, cause.1)
+cause_before Input s rest z disk cause = cause
+cause_before Output s rest z disk cause = cause
+
+halted_before : (fault : ScriptFault) (old : Run) (x z : List ℕ) (disk : Memory) (before after : Option (List ℕ)) → Halted fault old x disk before after → Halted fault old (x ++ z) disk before after
+halted_before fault old x z disk before after (lines, rest, h, next, cause) = (lines, rest ++ z, halts_before old x z lines rest before after h, next, cause_before fault h.end rest z disk cause)
+
+pub stops_before : (fault : ScriptFault) (old : Run) (x z : List ℕ) (disk : Memory) (before after : Option (List ℕ)) → StopsIn fault old x disk before after → StopsIn fault old (x ++ z) disk before after
+stops_before (NotUnderstood k) old x z disk before after h = halted_before (NotUnderstood k) old x z disk before after h
+stops_before (faults.Memory refused) old x z disk before after h = halted_before (faults.Memory refused) old x z disk before after h
+stops_before (Opening refused) old x z disk before after h = halted_before (Opening refused) old x z disk before after h
+stops_before (Storing refused) old x z disk before after h = halted_before (Storing refused) old x z disk before after h
+stops_before CountTooLarge old x z disk before after h = halted_before CountTooLarge old x z disk before after h
+stops_before Input old x z disk before after h = halted_before Input old x z disk before after h
+stops_before Output old x z disk before after h = record {
   lines = h.lines;
   rest = h.rest ++ z;
   printed = h.printed;
@@ -119,6 +147,7 @@ stops_before Output old x z before after h = record {
   begins = ap (λ l. l ++ z) h.begins ∙ append_assoc h.line (10 ∷ h.behind) z;
   is_line = h.is_line;
   prints = h.prints;
+  disk_is = h.disk_is;
   written = h.written;
   unwritten = h.unwritten;
   split = h.split;
@@ -158,34 +187,19 @@ goes_on old mid new piece at front before middle after line first second =
     subst (λ x. Goes old x new before after) (sym line.taken) (goes_append old mid new (take at piece) (front ++ 10 ∷ []) before middle after first second)
 
 -- a line stops
-pub stops_on : (fault : ScriptFault) (old mid : Run) (piece : List ℕ) (at : ℕ) (front : List ℕ) (before middle after : Option (List ℕ)) → LineAt piece at front
-    → Goes old (take at piece) mid before middle → StopsIn fault mid (front ++ 10 ∷ []) middle after → StopsIn fault old piece before after
-stops_on fault old mid piece at front before middle after line first second =
-    let stopped = stops_later fault old mid (take at piece) (front ++ 10 ∷ []) before middle after first second in
+pub stops_on : (fault : ScriptFault) (old mid : Run) (piece : List ℕ) (at : ℕ) (front : List ℕ) (disk : Memory) (before middle after : Option (List ℕ)) → LineAt piece at front
+    → Goes old (take at piece) mid before middle → StopsIn fault mid (front ++ 10 ∷ []) disk middle after → StopsIn fault old piece disk before after
+stops_on fault old mid piece at front disk before middle after line first second =
+    let stopped = stops_later fault old mid (take at piece) (front ++ 10 ∷ []) disk before middle after first second in
     let n = at + length front + 1 in
-    let here : StopsIn fault old (take n piece) before after = subst (λ x. StopsIn fault old x before after) (sym line.taken) stopped in
-    subst (λ x. StopsIn fault old x before after) (take-append-drop n piece) (stops_before fault old (take n piece) (drop n piece) before after here)
+    let here : StopsIn fault old (take n piece) disk before after = subst (λ x. StopsIn fault old x disk before after) (sym line.taken) stopped in
+    subst (λ x. StopsIn fault old x disk before after) (take-append-drop n piece) (stops_before fault old (take n piece) (drop n piece) disk before after here)
 
 -- the last part of a piece is too long
-pub stops_at_end : (fault : ScriptFault) (old mid : Run) (piece : List ℕ) (at : ℕ) (before after : Option (List ℕ)) → Goes old (take at piece) mid before after → HasNoLf (left_of piece at)
-    → IsTooLong fault mid (left_of piece at) → StopsIn fault old piece before after
-stops_at_end fault old mid piece at before after first no_lf long =
-    let stopped : StopsIn fault mid (left_of piece at ++ []) after after = stops_too_long fault mid (left_of piece at) [] after first.begun no_lf long in
-    let same : left_of piece at ++ [] ≡ drop at piece = append-nil (left_of piece at) ∙ all_left piece at in
-    let here : StopsIn fault mid (drop at piece) after after = subst (λ x. StopsIn fault mid x after after) same stopped in
-    subst (λ x. StopsIn fault old x before after) (take-append-drop at piece) (stops_later fault old mid (take at piece) (drop at piece) before after after first here)
-
--- the last part of a piece begins a line
-pub goes_to_end : (old mid new : Run) (piece : List ℕ) (at : ℕ) (before after : Option (List ℕ)) → Goes old (take at piece) mid before after
-    → new.script ≡ mid.script → new.lines ≡ mid.lines → new.begun.items ≡ mid.begun.items ++ left_of piece at → IsLine new.begun.items → Goes old piece new before after
-goes_to_end old mid new piece at before after first script lines begun line =
-    let more : Goes mid (drop at piece) new after after = record {
-      lines = [];
-      printed = [];
-      takes = record { whole = ap (λ x. mid.begun.items ++ x) (sym (all_left piece at)) ∙ sym begun; each = tt; prints = (refl, script) };
-      begun = line;
-      count = omega (arith, lines);
-      few = omega arith;
-      writes = appends_nothing after;
-    } in
-    subst (λ x. Goes old x new before after) (take-append-drop at piece) (goes_append old mid new (take at piece) (drop at piece) before after after first more)
+pub stops_at_end : (fault : ScriptFault) (old mid : Run) (piece : List ℕ) (at : ℕ) (disk : Memory) (before after : Option (List ℕ)) → Goes old (take at piece) mid before after → HasNoLf (left_of piece at)
+    → disk ≡ disk_of mid.script → IsTooLong fault mid (left_of piece at) → StopsIn fault old piece disk before after
+stops_at_end fault old mid piece at disk before after first no_lf same long =
+    let stopped : StopsIn fault mid (left_of piece at ++ []) disk after after = stops_too_long fault mid (left_of piece at) [] disk after first.begun no_lf same long in
+    let rest : left_of piece at ++ [] ≡ drop at piece = append-nil (left_of piece at) ∙ all_left piece at in
+    let here : StopsIn fault mid (drop at piece) disk after after = subst (λ x. StopsIn fault mid x disk after after) rest stopped in
+    subst (λ x. StopsIn fault old x disk before after) (take-append-drop at piece) (stops_later fault old mid (take at piece) (drop at piece) disk before after after first here)

@@ -19,17 +19,17 @@ received_too_far s t n bytes printed far h =
 lost_too_far : (s : ScriptValue) (line printed : List ℕ) (t : Script) (n : ℕ) → IsLoss line n → LosesSuch IsTooFar s n → Prints (Running s) line printed t → ⊥
 lost_too_far s line printed t n is far (inl h) = omega (arith, loss_first line n is, blank_first line h.0)
 lost_too_far s line printed t n is far (inr (inl h)) = omega (arith, loss_first line n is, open_first line h.0)
-lost_too_far s line printed t n is far (inr (inr (inl (u, inl h, after)))) = omega (arith, loss_first line n is, flush_first line h.0)
-lost_too_far s line printed t n is far (inr (inr (inl (u, inr (inl h), after)))) = h.2.within (subst (LosesSuch IsTooFar s) (one_loss line n h.0 is h.1) far)
-lost_too_far s line printed t n is far (inr (inr (inl (u, inr (inr h), after)))) = omega (arith, loss_first line n is, text_first line h.1 h.0 h.2 h.3)
+lost_too_far s line printed t n is far (inr (inr (inl (u, inl h, calm, after)))) = omega (arith, loss_first line n is, flush_first line h.0)
+lost_too_far s line printed t n is far (inr (inr (inl (u, inr (inl h), calm, after)))) = h.2.within (subst (LosesSuch IsTooFar s) (one_loss line n h.0 is h.1) far)
+lost_too_far s line printed t n is far (inr (inr (inl (u, inr (inr h), calm, after)))) = omega (arith, loss_first line n is, text_first line h.1 h.0 h.2 h.3)
 lost_too_far s line printed t n is far (inr (inr (inr h))) = omega (arith, loss_first line n is, crash_first line h.0 h.1 h.2)
 
 text_too_far : (s : ScriptValue) (line printed : List ℕ) (t : Script) (n : ℕ) (text : List ℕ) → n < 32 → line ≡ decimal n ++ 32 ∷ text → ReceivesSuch IsTooFar s n (decoded text) → Prints (Running s) line printed t → ⊥
 text_too_far s line printed t n text small is far (inl h) = omega (arith, text_first line text n small is, blank_first line h.0)
 text_too_far s line printed t n text small is far (inr (inl h)) = omega (arith, text_first line text n small is, open_first line h.0)
-text_too_far s line printed t n text small is far (inr (inr (inl (u, inl h, after)))) = omega (arith, text_first line text n small is, flush_first line h.0)
-text_too_far s line printed t n text small is far (inr (inr (inl (u, inr (inl h), after)))) = omega (arith, text_first line text n small is, loss_first line h.0 h.1)
-text_too_far s line printed t n text small is far (inr (inr (inl (u, inr (inr (m, body, less, also, h)), after)))) =
+text_too_far s line printed t n text small is far (inr (inr (inl (u, inl h, calm, after)))) = omega (arith, text_first line text n small is, flush_first line h.0)
+text_too_far s line printed t n text small is far (inr (inr (inl (u, inr (inl h), calm, after)))) = omega (arith, text_first line text n small is, loss_first line h.0 h.1)
+text_too_far s line printed t n text small is far (inr (inr (inl (u, inr (inr (m, body, less, also, h)), calm, after)))) =
     let same = one_receiver n m text body small less (sym is ∙ also) in
     received_too_far s u m (decoded body) printed (subst (λ x. ReceivesSuch IsTooFar s m (decoded x)) same.1 (subst (λ x. ReceivesSuch IsTooFar s x (decoded text)) same.0 far)) h
 text_too_far s line printed t n text small is far (inr (inr (inr h))) = omega (arith, text_first line text n small is, crash_first line h.0 h.1 h.2)

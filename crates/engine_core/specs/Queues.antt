@@ -6,6 +6,7 @@ use Rattle.std.specs.Map.{lookup}
 use Rattle.std.specs.Ordering.{nat_cmp}
 use Rattle.frame_core.specs.declared.frame.Frame.{Frame}
 use Rattle.frame_core.specs.Written.{written}
+use Rattle.disk_core.specs.Memory.{Memory}
 use Rattle.command_core.specs.declared.command.Op.{Op}
 use Rattle.command_core.specs.declared.command.Op.TheVariants.{Open}
 use Rattle.command_core.specs.Commands.{CommandValue}
@@ -27,6 +28,11 @@ pub record QueueValue : Type 0 where
   pub openers : List (ℕ × ℕ)
   pub state : State
   pub durable : Bool
+
+-- a queue, and the disk that its journal stands on
+pub record QueueOnDisk : Type 0 where
+  pub queue : QueueValue
+  pub disk : Memory
 
 -- a line that is printed for a connection: its number, a blank and the frame
 abbrev pub line_for : ℕ → Frame → List ℕ
@@ -115,15 +121,19 @@ abbrev pub IsTooFar : ℕ → QueueValue → Act → Type 0
 IsTooFar connection queue (Do op receipt) = CountsTooFar connection queue
 IsTooFar connection queue _ = ⊥
 
--- the journal has no room for some of the waiting commands: an image stands for the state after those before them, and is
--- too short for their block
-abbrev pub LacksRoom : QueueValue → Type 0
-LacksRoom queue = (image : List ℕ) × IsFull queue.state (commands_of queue.waiting) image
+-- the disk of this content has no room for some of the waiting commands: it stands for the state after those before them, and
+-- is too short for their block
+abbrev pub LacksRoom : List ℕ → QueueValue → Type 0
+LacksRoom content queue = IsFull queue.state (commands_of queue.waiting) content
 
--- an act is a command that a flush comes before, for which the journal has no room
-abbrev pub IsFilling : ℕ → QueueValue → Act → Type 0
-IsFilling connection queue (Do op receipt) = (is_full connection queue ≡ true) × LacksRoom queue
-IsFilling connection queue _ = ⊥
+-- whatever a queue is
+abbrev pub IsAny : QueueValue → Type 0
+IsAny queue = Unit {0}
+
+-- an act is a command that a flush comes before, of a queue that is so
+abbrev pub IsFlush : (QueueValue → Type 0) → ℕ → QueueValue → Act → Type 0
+IsFlush Such connection queue (Do op receipt) = (is_full connection queue ≡ true) × Such queue
+IsFlush Such connection queue _ = ⊥
 
 -- one of a connection's acts is such an act, behind what those before it lead to
 pub record ComeTo (connection : ℕ) (Such : ℕ → QueueValue → Act → Type 0) (start : Progress) (acts : List Act) : Type 0 where

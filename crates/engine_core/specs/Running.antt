@@ -4,6 +4,7 @@ use Rattle.std.specs.BTreeMap.{insert_entry, is_at}
 use Rattle.std.specs.List.{fold}
 use Rattle.std.specs.Map.{lookup, remove_entry}
 use Rattle.std.specs.Ordering.{nat_cmp}
+use Rattle.disk_core.specs.Memory.{Memory}
 use Rattle.broker_core.specs.States.{State}
 use Rattle.session_core.specs.Sessions.{Hearing, Hears, loss_of}
 use Rattle.session_core.specs.declared.act.Act.{Act}
@@ -11,14 +12,15 @@ use Rattle.engine_core.specs.Connections.{new_connection}
 use Rattle.engine_core.specs.Queues.{QueueValue, Progress, ComeTo, IsTooFar, acted, acted_on}
 use Rattle.engine_core.specs.declared.running_script.Connection.{Connection}
 
--- a script while its disk runs: its connections by rising number, and the queue
+-- a script while its disk runs: its connections by rising number, the queue, and the disk
 pub record ScriptValue : Type 0 where
   pub connections : List (ℕ × Connection)
   pub queue : QueueValue
+  pub disk : Memory
 
--- with a journal of this state just opened: nobody is connected, and nothing waits
-abbrev pub beginning : State → ScriptValue
-beginning state = record { connections = []; queue = record { waiting = []; openers = []; state = state; durable = true } }
+-- with a journal of this state just opened on this disk: nobody is connected, and nothing waits
+abbrev pub beginning : State → Memory → ScriptValue
+beginning state disk = record { connections = []; queue = record { waiting = []; openers = []; state = state; durable = true }; disk = disk }
 
 -- a connection, new where there is none
 abbrev pub connection_at : ℕ → ScriptValue → Connection
@@ -38,7 +40,7 @@ pub record Receives (s : ScriptValue) (n : ℕ) (bytes printed : List ℕ) (t : 
   pub progress : Progress
   pub done : progress ≡ fold (acted n) (record { number = (connection_at n s).number; queue = s.queue; text = [] }) acts
   pub same_text : printed ≡ progress.text
-  pub after : t ≡ record { connections = with_connection n (record { session = session; number = progress.number }) s.connections; queue = progress.queue }
+  pub after : t ≡ record { connections = with_connection n (record { session = session; number = progress.number }) s.connections; queue = progress.queue; disk = t.disk }
 
 -- a connection receives bytes of which one asks for such an act
 pub record ReceivesSuch (Such : ℕ → QueueValue → Act → Type 0) (s : ScriptValue) (n : ℕ) (bytes : List ℕ) : Type 0 where
@@ -60,4 +62,4 @@ pub record Loses (s : ScriptValue) (n : ℕ) (printed : List ℕ) (t : ScriptVal
   pub progress : Progress
   pub done : progress ≡ acted_on n (record { number = (connection_at n s).number; queue = s.queue; text = [] }) (loss_of (connection_at n s).session.phase)
   pub same_text : printed ≡ progress.text
-  pub after : t ≡ record { connections = remove_entry (is_at (nat_cmp n)) s.connections; queue = progress.queue }
+  pub after : t ≡ record { connections = remove_entry (is_at (nat_cmp n)) s.connections; queue = progress.queue; disk = t.disk }

@@ -1,30 +1,29 @@
 -- What the lines of a script print.
-use Rattle.std.specs.Prelude.{◌≡◌, ◌≢◌, ◌⊎◌, ◌<◌, ◌≤◌, List, [], ◌∷◌, ◌++◌, ℕ, Option, codes, length, flat_map}
+use Rattle.std.specs.Prelude.{◌≡◌, ◌≢◌, ◌⊎◌, ◌<◌, ◌≤◌, List, [], ◌∷◌, ◌++◌, ℕ, Option, Bool, codes, false, length, flat_map, true}
 use Rattle.std.specs.Fmt.{decimal}
 use Rattle.std.specs.List.{AllByRecursion}
 use Rattle.std.specs.Io.KnownBytes.{Appends}
-use Rattle.disk_core.specs.Memory.{Memory}
+use Rattle.disk_core.specs.Memory.{Memory, fresh}
 use Rattle.broker_core.specs.Operations.{restarted}
 use Rattle.broker_core.specs.States.{State, held_messages}
 use Rattle.recover_core.specs.Opens.{IsRestartOf}
 use Rattle.recover_core.specs.Standing.{Stands}
-use Rattle.recover_core.specs.Told.{IsOpenTold}
-use Rattle.recover_core.specs.declared.faults.OpenFault.{OpenFault}
-use Rattle.flush_core.specs.declared.faults.FlushFault.{FlushFault}
-use Rattle.flush_core.specs.declared.faults.FlushFault.TheVariants.{Full}
 use Rattle.script_journal.specs.Journals.{StandsAfterFront}
 use Rattle.script_journal.specs.Placed.{commands_of}
 use Rattle.script_text.specs.PercentTexts.{decoded}
 use Rattle.script_text.specs.ScriptLines.{IsOfNoForm, IsLoss, IsCrash}
 use Rattle.session_core.specs.declared.act.Act.{Act}
-use Rattle.engine_core.specs.Queues.{QueueValue, IsFilling, IsTooFar, LacksRoom, flush_text, flushed}
+use Rattle.engine_core.specs.Queues.{QueueValue, IsFlush, IsTooFar, flush_text, flushed}
 use Rattle.engine_core.specs.Running.{ScriptValue, beginning, Loses, LosesSuch, Receives, ReceivesSuch}
 use Rattle.engine_core.specs.declared.script.Script.{Script}
 use Rattle.engine_core.specs.declared.script.Script.TheVariants.{Running, Stopped, Over}
 
--- the state that a script begins with on a disk: the disk stands for a state, and this is its restart
-abbrev pub BeginsWith : List ℕ → State → Type 0
-BeginsWith content start = IsRestartOf content start
+-- A disk is opened: it stands for a state of which this is the restart, for which it stands from then on. None of its calls
+-- failed.
+pub record IsOpenedAs (disk : Memory) (state : State) (now : Memory) : Type 0 where
+  pub restart : IsRestartOf disk.content state
+  pub stands : Stands now.content state
+  pub calm : now.failures ≡ disk.failures
 
 -- the image stands for the state after the first so many of the waiting commands
 abbrev pub StandsWithin : QueueValue → List ℕ → Type 0
@@ -40,21 +39,31 @@ abbrev pub OnRunning : Script → (ScriptValue → Type 0) → Type 0
 OnRunning (Running s) P = P s
 OnRunning _ P = ⊥
 
--- the disk runs, and goes on to run as is said
+-- the disk runs, and goes on to run as is said, and none of its calls fails
 abbrev pub GoesBy : Script → (ScriptValue → ScriptValue → Type 0) → Script → Type 0
-GoesBy s P t = OnRunning s (λ before. (after : ScriptValue) × P before after × (t ≡ Running after))
+GoesBy s P t = OnRunning s (λ before. (after : ScriptValue) × P before after × (after.disk.failures ≡ before.disk.failures) × (t ≡ Running after))
 
--- a disk of this content is there, with the state that it stands for
-abbrev pub HasDisk : Script → List ℕ → Type 0
-HasDisk (Running s) content = Stands content s.queue.state
-HasDisk (Stopped disk) content = content ≡ disk.content
-HasDisk Over content = ⊥
+-- whether the script has a disk
+abbrev pub is_there : Script → Bool
+is_there (Running s) = true
+is_there (Stopped disk) = true
+is_there Over = false
 
--- the disk that is there is not opened, and what is told of it is so
-pub record IsNotOpened (s : Script) (fault : OpenFault) : Type 0 where
-  pub content : List ℕ
-  pub disk : HasDisk s content
-  pub told : IsOpenTold fault content
+-- the script's disk, as the lines so far have left it; one of no bytes where it has none
+abbrev pub disk_of : Script → Memory
+disk_of (Running s) = s.disk
+disk_of (Stopped disk) = disk
+disk_of Over = fresh 0
+
+-- none of its disk's calls failed between
+abbrev pub IsCalm : Script → Memory → Type 0
+IsCalm s disk = disk.failures ≡ (disk_of s).failures
+
+-- a step of it failed before, so that its journal takes nothing more
+abbrev pub HasFailed : Script → Type 0
+HasFailed (Running s) = s.queue.durable ≡ false
+HasFailed (Stopped disk) = ⊥
+HasFailed Over = Unit {0}
 
 -- a line has a connection receive bytes, or be gone, and comes to such an act
 abbrev pub ComesTo : (ℕ → QueueValue → Act → Type 0) → ScriptValue → List ℕ → Type 0
@@ -67,32 +76,40 @@ abbrev pub RunsTooFar : Script → List ℕ → Type 0
 RunsTooFar (Running s) line = ComesTo IsTooFar s line
 RunsTooFar _ line = ⊥
 
--- A line flushes, and the journal has no room for some of what waits: the line is `flush` or a `crash`, or it comes to a command
--- that a flush comes before.
-abbrev pub RunsFull : Script → List ℕ → Type 0
-RunsFull (Running s) line =
-    ((line ≡ codes "flush") × LacksRoom s.queue)
-    ⊎ (((k : ℕ) × (fill : Option ℕ) × IsCrash line k fill × LacksRoom s.queue)
-    ⊎ ComesTo IsFilling s line)
-RunsFull _ line = ⊥
+-- A line flushes, and the queue that it flushes is so: the line is `flush` or a `crash`, or it comes to a command that a flush
+-- comes before.
+abbrev pub RunsFlush : (QueueValue → Type 0) → Script → List ℕ → Type 0
+RunsFlush Such (Running s) line =
+    ((line ≡ codes "flush") × Such s.queue)
+    ⊎ (((k : ℕ) × (fill : Option ℕ) × IsCrash line k fill × Such s.queue)
+    ⊎ ComesTo (IsFlush Such) s line)
+RunsFlush Such _ line = ⊥
 
 -- what is printed of an opened journal: how many commands it counts, and how many messages it holds
 abbrev pub open_text : State → List ℕ
 open_text s = codes "open " ++ decimal s.count ++ 32 ∷ (decimal (held_messages s) ++ 10 ∷ [])
 
--- the state that opening gives: the restart of the one as it was last flushed, or of the one that a stopped disk stands for
+-- while the disk runs, it stands for the state as it was last flushed
+abbrev pub StandsAs : Script → Memory → Type 0
+StandsAs (Running s) disk = Stands disk.content s.queue.state
+StandsAs (Stopped stopped) disk = Unit {0}
+StandsAs Over disk = ⊥
+
+-- the state that opening gives: while the disk runs, the restart of the one as it was last flushed
 abbrev pub Reopens : Script → State → Type 0
 Reopens (Running s) state = state ≡ restarted s.queue.state
-Reopens (Stopped disk) state = IsRestartOf disk.content state
+Reopens (Stopped disk) state = Unit {0}
 Reopens Over state = ⊥
 
--- The disk is opened: what it counts and holds is printed, and the script goes on from there, with no connection and no
--- command that waits.
+-- The script's disk is opened: what it counts and holds is printed, and the script goes on from there, with no connection and
+-- no command that waits.
 pub record Opens (s : Script) (printed : List ℕ) (t : Script) : Type 0 where
   pub state : State
+  pub disk : Memory
+  pub opened : IsOpenedAs (disk_of s) state disk
   pub reopens : Reopens s state
   pub same_text : printed ≡ open_text state
-  pub after : t ≡ Running (beginning state)
+  pub after : t ≡ Running (beginning state disk)
 
 -- The disk stops within a flush: nothing is printed, and it stands for the state after so many of the waiting commands.
 pub record Crashes (s : ScriptValue) (printed : List ℕ) (t : Script) : Type 0 where
@@ -105,14 +122,14 @@ pub record Crashes (s : ScriptValue) (printed : List ℕ) (t : Script) : Type 0 
 -- number what the loss brings, such a number with a blank and a text what the connection receives
 abbrev pub GoesOn : ScriptValue → List ℕ → List ℕ → ScriptValue → Type 0
 GoesOn s line printed t =
-    ((line ≡ codes "flush") × (printed ≡ flush_text s.queue) × (t ≡ record s { queue = flushed s.queue }))
+    ((line ≡ codes "flush") × (printed ≡ flush_text s.queue) × (t ≡ record s { queue = flushed s.queue; disk = t.disk }))
     ⊎ (((n : ℕ) × IsLoss line n × Loses s n printed t)
     ⊎ ((n : ℕ) × (text : List ℕ) × (n < 32) × (line ≡ decimal n ++ 32 ∷ text) × Receives s n (decoded text) printed t))
 
--- what a line prints that is understood while the disk runs alone
+-- what a line prints that is understood while the disk runs alone: none of the disk's calls fails where it runs on
 abbrev pub RunsOn : Script → List ℕ → List ℕ → Script → Type 0
 RunsOn (Running s) line printed t =
-    ((u : ScriptValue) × GoesOn s line printed u × (t ≡ Running u))
+    ((u : ScriptValue) × GoesOn s line printed u × (u.disk.failures ≡ s.disk.failures) × (t ≡ Running u))
     ⊎ ((k : ℕ) × (fill : Option ℕ) × IsCrash line k fill × Crashes s printed t)
 RunsOn _ line printed t = ⊥
 
@@ -154,34 +171,21 @@ pub record Takes (s : Script) (begun bytes : List ℕ) (lines : List (List ℕ))
   pub each : AllByRecursion IsLine lines
   pub prints : PrintsAll s lines printed t
 
--- What a script's bytes print from this state on: they are whole lines, and these print it.
-pub record IsScript (start : State) (input printed : List ℕ) : Type 0 where
+-- What a script's bytes print from this state on, over this disk: they are whole lines, and these print it.
+pub record IsScript (start : State) (disk : Memory) (input printed : List ℕ) : Type 0 where
   pub lines : List (List ℕ)
   pub whole : input ≡ text_of_lines lines
   pub each : AllByRecursion IsLine lines
   pub end : Script
-  pub prints : PrintsAll (Running (beginning start)) lines printed end
+  pub prints : PrintsAll (Running (beginning start disk)) lines printed end
 
 -- bytes with a line at their front that runs too far
 abbrev pub HasLineTooFar : Script → List ℕ → Type 0
 HasLineTooFar s bytes = (line : List ℕ) × (behind : List ℕ) × (bytes ≡ line ++ 10 ∷ behind) × IsLine line × RunsTooFar s line
 
--- the line's commands are not stored, where the journal is told to be full for want of room
-abbrev pub IsNotStored : FlushFault → Script → List ℕ → Type 0
-IsNotStored Full s line = RunsFull s line
-IsNotStored _ s line = Unit {0}
-
--- bytes with a line at their front whose commands are not stored
-abbrev pub HasLineNotStored : Script → FlushFault → List ℕ → Type 0
-HasLineNotStored s fault bytes = (line : List ℕ) × (behind : List ℕ) × (bytes ≡ line ++ 10 ∷ behind) × IsLine line × IsNotStored fault s line
-
--- bytes with the line `open` at their front, which does not open the disk
-abbrev pub HasLineNotOpened : Script → OpenFault → List ℕ → Type 0
-HasLineNotOpened s fault bytes = (behind : List ℕ) × (bytes ≡ codes "open" ++ 10 ∷ behind) × IsNotOpened s fault
-
--- A part of a script leads as far as a line that prints. What is written is what the lines before print, and the beginning of
--- what that line does, but not all of it.
-pub record Tries (s : Script) (begun bytes : List ℕ) (before after : Option (List ℕ)) : Type 0 where
+-- A part of a script leads as far as a line that prints, and that leaves this disk. What is written is what the lines before
+-- print, and the beginning of what that line does, but not all of it.
+pub record Tries (s : Script) (begun bytes : List ℕ) (disk : Memory) (before after : Option (List ℕ)) : Type 0 where
   pub lines : List (List ℕ)
   pub rest : List ℕ
   pub printed : List ℕ
@@ -194,6 +198,7 @@ pub record Tries (s : Script) (begun bytes : List ℕ) (before after : Option (L
   pub begins : rest ≡ line ++ 10 ∷ behind
   pub is_line : IsLine line
   pub prints : Prints end line text next
+  pub disk_is : disk ≡ disk_of next
   pub written : List ℕ
   pub unwritten : List ℕ
   pub split : text ≡ written ++ unwritten

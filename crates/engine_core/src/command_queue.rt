@@ -1,6 +1,6 @@
 //! The queue between the connections and the broker: what waits for the next flush, and what a flush prints.
 
-ghost use Rattle.std.specs.Prelude.{◌≡◌, ◌≢◌, ◌++◌, ◌<◌, ◌≤◌, ◌^◌, OnOk, IfOk, IfErr, IfSome, IsSome, string_bytes, nat_eq, count_by, ◌+◌, length, true};
+ghost use Rattle.std.specs.Prelude.{◌≡◌, ◌≢◌, ◌++◌, ◌<◌, ◌≤◌, ◌^◌, OnOk, IfOk, IfErr, string_bytes, nat_eq, count_by, ◌+◌, length, false, true};
 ghost use Rattle.frame_core.specs.Writable.{Writable};
 ghost use Rattle.command_core.specs.Commands.{Fits};
 ghost use Rattle.command_core.specs.Operations.{IsOp};
@@ -17,8 +17,8 @@ use std::collections::BTreeMap;
 use std::marker::Model;
 use std::mem;
 
-/// The queue. Contracts see the commands that wait, which connection opened which session, and the broker's state as it
-/// was last flushed.
+/// The queue. Contracts see the commands that wait, which connection opened which session, the broker's state as it was last
+/// flushed, and the journal's disk.
 #[derive(Drop)]
 pub struct CommandQueue {
     waiting: Vec<Waiting>,
@@ -28,11 +28,11 @@ pub struct CommandQueue {
 
 impl Model for CommandQueue {
     ghost use Rattle.std.specs.Prelude.{◌≡◌, ◌+◌, ◌≤◌, ◌^◌, length, true};
-    ghost use Rattle.engine_core.specs.Queues.{QueueValue};
+    ghost use Rattle.engine_core.specs.Queues.{QueueOnDisk};
 
-    ghost Value = { QueueValue };
+    ghost Value = { QueueOnDisk };
 
-    ghost view = { λ a. record { waiting = a.waiting.items; openers = a.openers.entries; state = a.journal.state; durable = a.journal.durable } };
+    ghost view = { λ a. record { queue = record { waiting = a.waiting.items; openers = a.openers.entries; state = a.journal.state; durable = a.journal.durable }; disk = a.journal.disk } };
 
     ghost invariant = { λ a. a.journal.durable ≡ true → a.journal.state.count + length a.waiting.items ≤ 2 ^ 62 };
 }
@@ -55,7 +55,7 @@ impl CommandQueue {
     /// A queue in which nothing waits, over a journal that was just opened. No memory is taken.
     pub fn over(alloc: Global, journal: Journal<MemDisk>) -> CommandQueue
         requires { journal.state.count ≤ 2 ^ 62 }
-        ensures { result ≡ record { waiting = []; openers = []; state = journal.state; durable = journal.durable } }
+        ensures { result ≡ record { queue = record { waiting = []; openers = []; state = journal.state; durable = journal.durable }; disk = journal.disk } }
     {
         CommandQueue {
             waiting: Vec::new(alloc),
@@ -66,11 +66,12 @@ impl CommandQueue {
 
     /// Makes what waits durable, has the broker carry it out, and adds a line for each output to the text.
     pub fn flush(&mut self, alloc: Global, text: &mut String) -> Result<(), QueueFault>
-        ensures state { OnOk result (self.new ≡ flushed self.old) }
-        ensures text { OnOk result (string_bytes text.new ≡ string_bytes text.old ++ flush_text self.old) }
+        ensures state { OnOk result (self.new.queue ≡ flushed self.old.queue) }
+        ensures calm { OnOk result (self.new.disk.failures ≡ self.old.disk.failures) }
+        ensures text { OnOk result (string_bytes text.new ≡ string_bytes text.old ++ flush_text self.old.queue) }
         ensures err { IfErr result (λ fault. fault ≢ QueueFault.CountTooLarge) }
-        ensures full { IfErr result (λ fault. fault ≡ QueueFault.Storing FlushFault.Full → LacksRoom self.old) }
-        ensures told { IfErr result (IsStepTold self.new.durable) }
+        ensures full { IfErr result (λ fault. fault ≡ QueueFault.Storing FlushFault.Full → LacksRoom self.new.disk.content self.old.queue) }
+        ensures told { IfErr result (IsStepTold self.old.disk.failures self.new.queue.durable self.new.disk.failures) }
     {
         let waiting = mem::replace(&mut self.waiting, Vec::new(alloc));
         match self.journal.record(alloc, waiting) {
@@ -82,8 +83,8 @@ impl CommandQueue {
 
     /// What waits, and the journal.
     pub fn into_parts(self) -> (Vec<Waiting>, Journal<MemDisk>)
-        ensures waiting { result.0.items ≡ self.waiting }
-        ensures journal { (result.1.state ≡ self.state) × (result.1.durable ≡ self.durable) }
+        ensures waiting { result.0.items ≡ self.queue.waiting }
+        ensures journal { (result.1.state ≡ self.queue.state) × (result.1.durable ≡ self.queue.durable) × (result.1.disk ≡ self.disk) }
     {
         let CommandQueue {
             waiting,
@@ -93,20 +94,20 @@ impl CommandQueue {
         (waiting, journal)
     }
 
-    /// The disk, unless the journal failed. What waits is dropped.
-    pub fn into_disk(self) -> Option<MemDisk>
-        ensures stands { IfSome result (λ disk. Stands disk.content self.state) }
-        ensures some { self.durable ≡ true → IsSome result }
+    /// The disk, as an error where the journal failed. What waits is dropped.
+    pub fn into_disk(self) -> Result<MemDisk, MemDisk>
+        ensures stands { IfOk result (λ disk. (disk ≡ self.disk) × Stands disk.content self.queue.state) }
+        ensures failed { IfErr result (λ disk. (disk ≡ self.disk) × (self.queue.durable ≡ false)) }
     {
         let (_waiting, journal) = self.into_parts();
         let is_durable = journal.is_durable();
         let disk = journal.into_disk();
-        if is_durable { Some(disk) } else { None }
+        if is_durable { Ok(disk) } else { Err(disk) }
     }
 
     /// Whether as many commands of the connection wait as may.
     fn is_full(&self, connection: u8) -> bool
-        ensures { result ≡ is_full connection self.now }
+        ensures { result ≡ is_full connection self.now.queue }
     {
         count_of(self.waiting.as_slice(), connection) >= MOST_WAITING
     }
@@ -123,13 +124,15 @@ impl CommandQueue {
         text: &mut String,
     ) -> Result<u64, QueueFault>
         requires { Fits op 0 receipt × IsOp op }
-        ensures number { IfOk result (λ n. n ≡ number_for op number (with_room connection self.old)) }
-        ensures queue { OnOk result (self.new ≡ as_command connection op receipt number (with_room connection self.old)) }
-        ensures text { OnOk result (string_bytes text.new ≡ string_bytes text.old ++ room_text connection self.old) }
-        ensures counts { OnOk result (CountsTooFar connection self.old → ⊥) }
-        ensures err { IfErr result (λ fault. fault ≡ QueueFault.CountTooLarge → CountsTooFar connection self.old) }
-        ensures full { IfErr result (λ fault. fault ≡ QueueFault.Storing FlushFault.Full → (is_full connection self.old ≡ true) × LacksRoom self.old) }
-        ensures told { IfErr result (IsStepTold self.new.durable) }
+        ensures number { IfOk result (λ n. n ≡ number_for op number (with_room connection self.old.queue)) }
+        ensures queue { OnOk result (self.new.queue ≡ as_command connection op receipt number (with_room connection self.old.queue)) }
+        ensures calm { OnOk result (self.new.disk.failures ≡ self.old.disk.failures) }
+        ensures text { OnOk result (string_bytes text.new ≡ string_bytes text.old ++ room_text connection self.old.queue) }
+        ensures counts { OnOk result (CountsTooFar connection self.old.queue → ⊥) }
+        ensures err { IfErr result (λ fault. fault ≡ QueueFault.CountTooLarge → CountsTooFar connection self.old.queue) }
+        ensures full { IfErr result (λ fault. fault ≡ QueueFault.Storing FlushFault.Full → (is_full connection self.old.queue ≡ true) × LacksRoom self.new.disk.content self.old.queue) }
+        ensures broken { IfErr result (λ fault. fault ≡ QueueFault.Storing FlushFault.Broken → self.old.queue.durable ≡ true → is_full connection self.old.queue ≡ true) }
+        ensures told { IfErr result (IsStepTold self.old.disk.failures self.new.queue.durable self.new.disk.failures) }
     {
         match self.make_room(alloc, connection, text) {
             Ok(()) => self.add(connection, number, op, receipt),
@@ -148,13 +151,15 @@ impl CommandQueue {
         connection: u8,
         text: &mut String,
     ) -> Result<(), QueueFault>
-        ensures queue { OnOk result (self.new ≡ with_room connection self.old) }
-        ensures text { OnOk result (string_bytes text.new ≡ string_bytes text.old ++ room_text connection self.old) }
-        ensures durable { OnOk result (self.new.durable ≡ true) }
-        ensures few { OnOk result (self.new.state.count < 2 ^ 60) }
-        ensures err { IfErr result (λ fault. fault ≡ QueueFault.CountTooLarge → CountsTooFar connection self.old) }
-        ensures full { IfErr result (λ fault. fault ≡ QueueFault.Storing FlushFault.Full → (is_full connection self.old ≡ true) × LacksRoom self.old) }
-        ensures told { IfErr result (IsStepTold self.new.durable) }
+        ensures queue { OnOk result (self.new.queue ≡ with_room connection self.old.queue) }
+        ensures calm { OnOk result (self.new.disk.failures ≡ self.old.disk.failures) }
+        ensures text { OnOk result (string_bytes text.new ≡ string_bytes text.old ++ room_text connection self.old.queue) }
+        ensures durable { OnOk result (self.new.queue.durable ≡ true) }
+        ensures few { OnOk result (self.new.queue.state.count < 2 ^ 60) }
+        ensures err { IfErr result (λ fault. fault ≡ QueueFault.CountTooLarge → CountsTooFar connection self.old.queue) }
+        ensures full { IfErr result (λ fault. fault ≡ QueueFault.Storing FlushFault.Full → (is_full connection self.old.queue ≡ true) × LacksRoom self.new.disk.content self.old.queue) }
+        ensures broken { IfErr result (λ fault. fault ≡ QueueFault.Storing FlushFault.Broken → self.old.queue.durable ≡ true → is_full connection self.old.queue ≡ true) }
+        ensures told { IfErr result (IsStepTold self.old.disk.failures self.new.queue.durable self.new.disk.failures) }
     {
         if self.is_full(connection) {
             self.flush(alloc, text)?;
@@ -164,11 +169,11 @@ impl CommandQueue {
 
     // Whether one more command may be counted.
     fn count_more(&self) -> Result<(), QueueFault>
-        ensures durable { OnOk result (self.now.durable ≡ true) }
-        ensures few { OnOk result (self.now.state.count < 2 ^ 60) }
-        ensures err { IfErr result (λ fault. fault ≡ QueueFault.CountTooLarge → 2 ^ 60 ≤ self.now.state.count) }
+        ensures durable { OnOk result (self.now.queue.durable ≡ true) }
+        ensures few { OnOk result (self.now.queue.state.count < 2 ^ 60) }
+        ensures err { IfErr result (λ fault. fault ≡ QueueFault.CountTooLarge → 2 ^ 60 ≤ self.now.queue.state.count) }
         ensures room { IfErr result (λ fault. fault ≢ QueueFault.Storing FlushFault.Full) }
-        ensures told { IfErr result (IsStepTold self.now.durable) }
+        ensures told { IfErr result (IsStepTold self.now.disk.failures self.now.queue.durable self.now.disk.failures) }
     {
         if !self.journal.is_durable() {
             return Err(QueueFault::Storing(FlushFault::Broken));
@@ -189,10 +194,11 @@ impl CommandQueue {
         receipt: Option<HeaderText>,
     ) -> Result<u64, QueueFault>
         requires form { Fits op 0 receipt × IsOp op }
-        requires durable { self.old.durable ≡ true }
-        requires few { self.old.state.count < 2 ^ 60 }
-        ensures number { IfOk result (λ n. n ≡ number_for op number self.old) }
-        ensures queue { OnOk result (self.new ≡ as_command connection op receipt number self.old) }
+        requires durable { self.old.queue.durable ≡ true }
+        requires few { self.old.queue.state.count < 2 ^ 60 }
+        ensures number { IfOk result (λ n. n ≡ number_for op number self.old.queue) }
+        ensures queue { OnOk result (self.new.queue ≡ as_command connection op receipt number self.old.queue) }
+        ensures disk { self.new.disk ≡ self.old.disk }
         ensures memory { IfErr result IsMemory }
     {
         match self.number_session(connection, number, &op) {
@@ -218,12 +224,12 @@ impl CommandQueue {
         number: u64,
         op: &Op,
     ) -> Result<(u64, u64), QueueFault>
-        requires few { self.old.state.count < 2 ^ 60 }
-        ensures number { IfOk result (λ numbers. numbers.0 ≡ number_for op.now number self.old) }
+        requires few { self.old.queue.state.count < 2 ^ 60 }
+        ensures number { IfOk result (λ numbers. numbers.0 ≡ number_for op.now number self.old.queue) }
         ensures fits { IfOk result (λ numbers. (receipt : Option (List ℕ)) → Fits op.now 0 receipt → Fits op.now numbers.1 receipt) }
         ensures queue { IfOk result (λ numbers. (receipt : Option (List ℕ))
-            → as_command connection op.now receipt number self.old ≡ with_command connection (record { session = numbers.1; op = op.now; receipt = receipt }) self.new) }
-        ensures same { (self.new.durable ≡ self.old.durable) × (self.new.state ≡ self.old.state) }
+            → as_command connection op.now receipt number self.old.queue ≡ with_command connection (record { session = numbers.1; op = op.now; receipt = receipt }) self.new.queue) }
+        ensures same { (self.new.queue.durable ≡ self.old.queue.durable) × (self.new.queue.state ≡ self.old.queue.state) × (self.new.disk ≡ self.old.disk) }
         ensures memory { IfErr result IsMemory }
     {
         match op {
@@ -245,8 +251,9 @@ impl CommandQueue {
 
     // Has a command wait.
     fn push(&mut self, connection: u8, command: Command) -> Result<(), QueueFault>
-        requires few { self.old.state.count < 2 ^ 60 }
-        ensures queue { OnOk result (self.new ≡ with_command connection command self.old) }
+        requires few { self.old.queue.state.count < 2 ^ 60 }
+        ensures queue { OnOk result (self.new.queue ≡ with_command connection command self.old.queue) }
+        ensures disk { self.new.disk ≡ self.old.disk }
         ensures memory { IfErr result IsMemory }
     {
         let waiting = Waiting {

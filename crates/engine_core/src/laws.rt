@@ -2,20 +2,29 @@
 
 ghost use Rattle.std.specs.Prelude.{◌≡◌, List, ℕ};
 ghost use Rattle.std.specs.List.{AllByRecursion};
+ghost use Rattle.disk_core.specs.Memory.{Memory};
 ghost use Rattle.broker_core.specs.States.{State};
 ghost use Rattle.engine_core.specs.declared.script.Script.{Script};
 ghost use Rattle.engine_core.specs.declared.script.Script.TheVariants.{Running};
 ghost use Rattle.engine_core.specs.Running.{beginning};
 ghost use Rattle.script_text.specs.ScriptLines.{IsNoCrash};
-ghost use Rattle.engine_core.specs.Scripts.{IsScript, Prints, PrintsAll, RunsTooFar};
+ghost use Rattle.engine_core.specs.Scripts.{HasFailed, IsScript, Prints, PrintsAll, RunsTooFar, disk_of};
 
 /// A script without `crash` lines prints one text: from the same state the same lines print the same bytes, whatever runs
-/// them, and so does the same input, which is lines in one way.
+/// them, and whatever the disks are, and so does the same input, which is lines in one way.
 pub fn a_script_has_one_text()
-    ensures lines { (start : State) (lines : List (List ℕ)) (p q : List ℕ) (t u : Script) → AllByRecursion IsNoCrash lines
-        → PrintsAll (Running (beginning start)) lines p t → PrintsAll (Running (beginning start)) lines q u → p ≡ q }
-    ensures input { (start : State) (input p q : List ℕ) (script : IsScript start input p) → AllByRecursion IsNoCrash script.lines
-        → IsScript start input q → p ≡ q }
+    ensures lines { (start : State) (one other : Memory) (lines : List (List ℕ)) (p q : List ℕ) (t u : Script) → AllByRecursion IsNoCrash lines
+        → PrintsAll (Running (beginning start one)) lines p t → PrintsAll (Running (beginning start other)) lines q u → p ≡ q }
+    ensures input { (start : State) (one other : Memory) (input p q : List ℕ) (script : IsScript start one input p) → AllByRecursion IsNoCrash script.lines
+        → IsScript start other input q → p ≡ q }
+{}
+
+/// While lines print, no step of a script fails, and but for its `crash` lines no call of its disk does.
+pub fn a_script_that_prints_has_not_failed()
+    ensures durable { (start : State) (first : Memory) (lines : List (List ℕ)) (printed : List ℕ) (end : Script)
+        → PrintsAll (Running (beginning start first)) lines printed end → HasFailed end → ⊥ }
+    ensures calm { (start : State) (first : Memory) (lines : List (List ℕ)) (printed : List ℕ) (end : Script) → AllByRecursion IsNoCrash lines
+        → PrintsAll (Running (beginning start first)) lines printed end → (disk_of end).failures ≡ first.failures }
 {}
 
 /// A line that comes to a command once 2^60 have been carried out prints nothing.

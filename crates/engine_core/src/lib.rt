@@ -9,9 +9,12 @@ mod printing;
 mod run;
 mod running_script;
 mod script;
+mod so_far;
 mod worked;
 
 pub use fault::{ScriptFault, opening_text, storing_text};
-pub use laws::{a_line_too_far_prints_nothing, a_script_has_one_text};
+pub use laws::{
+    a_line_too_far_prints_nothing, a_script_has_one_text, a_script_that_prints_has_not_failed,
+};
 pub use run::run_script;
 pub use worked::flushes_print_what_is_answered;

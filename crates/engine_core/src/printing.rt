@@ -5,7 +5,8 @@ ghost use Rattle.std.specs.Fmt.{decimal};
 ghost use Rattle.std.specs.List.{flat_map};
 ghost use Rattle.frame_core.specs.Writable.{Writable};
 ghost use Rattle.script_text.specs.PercentTexts.{encoded};
-ghost use Rattle.engine_core.specs.Queues.{line_for, line_of_out};
+ghost use Rattle.script_journal.specs.Placed.{IsReadBy};
+ghost use Rattle.engine_core.specs.Queues.{line_for, line_of_out, opener_of};
 ghost use Rattle.engine_core.specs.StepFaults.{IsPrintTold};
 
 use crate::fault::QueueFault;
@@ -60,10 +61,11 @@ pub fn print_outs(
     outs: Vec<Out>,
     text: &mut String,
 ) -> Result<(), QueueFault>
-    ensures same { OnOk result (journal.new ≡ journal.old) }
-    ensures still { journal.new.durable ≡ true → journal.new ≡ journal.old }
+    ensures same { (journal.new.state ≡ journal.old.state) × (journal.new.disk ≡ journal.old.disk) }
+    ensures durable { OnOk result (journal.new.durable ≡ journal.old.durable) }
+    ensures still { journal.new.durable ≡ true → journal.old.durable ≡ true }
     ensures text { OnOk result (string_bytes text.new ≡ string_bytes text.old ++ flat_map (line_of_out openers.now.entries) outs.items) }
-    ensures told { IfErr result IsPrintTold }
+    ensures told { IfErr result (IsPrintTold journal.new.durable) }
 {
     for out in outs {
         print_out(alloc, journal, openers, out, text)?;
@@ -71,7 +73,7 @@ pub fn print_outs(
     Ok(())
 }
 
-// Lets one output leave, and adds its line.
+// Lets one output leave, by the seat of the connection that opened its session, and adds its line.
 fn print_out(
     alloc: Global,
     journal: &mut Journal<MemDisk>,
@@ -79,16 +81,18 @@ fn print_out(
     out: Out,
     text: &mut String,
 ) -> Result<(), QueueFault>
-    ensures same { OnOk result (journal.new ≡ journal.old) }
-    ensures still { journal.new.durable ≡ true → journal.new ≡ journal.old }
+    ensures same { (journal.new.state ≡ journal.old.state) × (journal.new.disk ≡ journal.old.disk) }
+    ensures durable { OnOk result (journal.new.durable ≡ journal.old.durable) }
+    ensures still { journal.new.durable ≡ true → journal.old.durable ≡ true }
+    ensures seat { OnOk result (IsReadBy (opener_of openers.now.entries out.session) out.number journal.old.seats journal.new.seats) }
     ensures text { OnOk result (string_bytes text.new ≡ string_bytes text.old ++ line_of_out openers.now.entries out) }
-    ensures told { IfErr result IsPrintTold }
+    ensures told { IfErr result (IsPrintTold journal.new.durable) }
 {
     let connection = match openers.get(&out.session()) {
         Some(connection) => *connection,
         None => 0,
     };
-    match journal.release(out) {
+    match journal.release(connection, out) {
         Ok(released) => {
             let printed = print_frame(alloc, text, connection, released.frame());
             drop(released);

@@ -3,14 +3,16 @@
 ghost use Rattle.std.specs.Prelude.{◌≡◌, ◌≢◌, ◌+◌, ◌++◌, ◌∷◌, ◌<◌, ◌≤◌, ◌*◌, ◌^◌, [], ℕ, List, true, IfOk, IfErr, OnOk, OnErr, MatchOption, length, drop, take, slice_index};
 ghost use Rattle.std.specs.List.{AllByRecursion};
 ghost use Rattle.std.specs.Io.KnownBytes.{Appends, Consumes, IsAtEnd};
+ghost use Rattle.disk_core.specs.Memory.{Memory};
 ghost use Rattle.broker_core.specs.States.{State};
-ghost use Rattle.recover_core.specs.Told.{IsOpenTold};
-ghost use Rattle.engine_core.specs.Scripts.{BeginsWith, IsLine, HasNoLf, IsScript};
+ghost use Rattle.engine_core.specs.Scripts.{IsLine, IsOpenedAs, HasNoLf, IsScript, disk_of};
+ghost use Rattle.engine_core.specs.StepFaults.{IsNotOpened};
 ghost use Rattle.engine_core.specs.Runs.{Goes, IsBegun, StopsIn, StopsOver, IsTooLong, Turned, Stopped};
 
 use crate::fault::ScriptFault;
 use crate::running_script::RunningScript;
 use crate::script::Script;
+use crate::so_far::Run;
 use disk_core::MemDisk;
 use memchr::memchr;
 use recover_core::OpenFault;
@@ -33,61 +35,52 @@ const MOST_WRITES: u64 = 4_294_967_296;
 /// How many bytes a line has at most, without its LF.
 const LONGEST_LINE: usize = 1_048_576;
 
-/// A script while its bytes are read: how far it has run, the line that has begun, and how many lines were whole.
-#[derive(Drop)]
-pub struct Run {
-    pub script: Script,
-    pub begun: Vec<u8>,
-    pub lines: u64,
-}
-
 /// Runs a script over a disk: opens the disk's journal, reads the script to its end, and writes what each line prints as
 /// soon as the line is done. The bytes are read in pieces of 65,536, and at most 4,294,967,296 reads are made.
 ///
 /// Where it is refused, what was written is what the lines before the refused one print; where it is the writer that failed,
 /// a front of what that line prints may be written too, but not all of it. Commands that wait at the end of the script are
-/// dropped.
+/// dropped. The disk comes back as the lines have left it.
 pub fn run_script<R: Read, W: Write>(
     alloc: Global,
     reader: &mut R,
     writer: &mut W,
     disk: MemDisk,
-) -> Result<(), ScriptFault>
+) -> (MemDisk, Result<(), ScriptFault>)
     // What is written is what the lines print that were read, and nothing else, from the restart of the state on that the
     // disk stands for.
-    ensures ok { OnOk result ((input : List ℕ) × (printed : List ℕ) × (start : State) × BeginsWith disk.content start
+    ensures ok { OnOk result.1 ((input : List ℕ) × (printed : List ℕ) × (start : State) × (first : Memory) × IsOpenedAs disk start first
         × Consumes (R.remaining reader.old) (R.remaining reader.new) input × IsAtEnd (R.remaining reader.new)
-        × IsScript start input printed × Appends (W.contents writer.old) (W.contents writer.new) printed) }
-    // On a fault, it is what the lines before print; a line is told only where it is none, a count too large only where the next
-    // line asks for a command once 2^60 have been carried out, and a full journal only where the next line flushes what it has
-    // no room for. The writer's fault comes only where the next line prints, and some of that is not written, though a front of
-    // it may be. Where the disk is not opened at the start, nothing is read or written.
-    ensures err { IfErr result (λ fault. StopsOver disk.content fault (R.remaining reader.old) (R.remaining reader.new) (W.contents writer.old) (W.contents writer.new)) }
+        × Appends (W.contents writer.old) (W.contents writer.new) printed
+        × (script : IsScript start first input printed) × (result.0 ≡ disk_of script.end)) }
+    // On a fault, it is what the lines before print; a line is told only where it is none, and a count too large only where the
+    // next line asks for a command once 2^60 have been carried out. The disk failed within the next line just where that is
+    // told; a full journal is told only where the next line flushes what the disk that comes back has no room for, and a broken
+    // store only where a step failed before, or the next line flushes. The writer's fault comes only where the next line prints,
+    // and some of that is not written, though a front of it may be. Where the disk is not opened at the start, nothing is read or
+    // written.
+    ensures err { IfErr result.1 (λ fault. StopsOver disk fault result.0 (R.remaining reader.old) (R.remaining reader.new) (W.contents writer.old) (W.contents writer.new)) }
 {
     match vec![in alloc; 0u8; PIECE] {
         Ok(mut piece) => match begin(alloc, disk) {
             Ok(mut run) => {
                 let ended = read_to_end(alloc, &mut run, piece.as_mut_slice(), reader, writer);
-                drop(run);
                 drop(piece);
-                ended
+                (run.script.into_disk(), ended)
             }
-            Err(fault) => {
+            Err((disk, fault)) => {
                 drop(piece);
-                Err(ScriptFault::Opening(fault))
+                (disk, Err(ScriptFault::Opening(fault)))
             }
         },
-        Err(refused) => {
-            drop(disk);
-            Err(ScriptFault::from(refused))
-        }
+        Err(refused) => (disk, Err(ScriptFault::from(refused))),
     }
 }
 
 /// A run before the first read.
-fn begin(alloc: Global, disk: MemDisk) -> Result<Run, OpenFault>
-    ensures ok { IfOk result (IsBegun disk.content) }
-    ensures err { IfErr result (λ fault. IsOpenTold fault disk.content) }
+fn begin(alloc: Global, disk: MemDisk) -> Result<Run, (MemDisk, OpenFault)>
+    ensures ok { IfOk result (IsBegun disk) }
+    ensures err { IfErr result (λ back. IsNotOpened disk back.1 back.0) }
 {
     match Journal::open(alloc, disk) {
         Ok(journal) => Ok(Run {
@@ -95,7 +88,7 @@ fn begin(alloc: Global, disk: MemDisk) -> Result<Run, OpenFault>
             begun: Vec::new(alloc),
             lines: 0,
         }),
-        Err(fault) => Err(fault),
+        Err(back) => Err(back),
     }
 }
 
@@ -111,7 +104,7 @@ fn read_to_end<R: Read, W: Write>(
     requires first { run.old.lines ≡ 0 }
     requires piece { length piece.old ≡ 65536 }
     ensures ok { OnOk result (Turned true run.old run.new (R.remaining reader.old) (R.remaining reader.new) (W.contents writer.old) (W.contents writer.new)) }
-    ensures err { IfErr result (λ fault. Stopped fault run.old (R.remaining reader.old) (R.remaining reader.new) (W.contents writer.old) (W.contents writer.new)) }
+    ensures err { IfErr result (λ fault. Stopped fault run.old (disk_of run.new.script) (R.remaining reader.old) (R.remaining reader.new) (W.contents writer.old) (W.contents writer.new)) }
 {
     for _read in 0..MOST_READS {
         if read_piece(alloc, run, piece, reader, writer)? {
@@ -134,7 +127,7 @@ fn read_piece<R: Read, W: Write>(
     requires piece { length piece.old ≡ 65536 }
     ensures ok { IfOk result (λ end. Turned end run.old run.new (R.remaining reader.old) (R.remaining reader.new) (W.contents writer.old) (W.contents writer.new)) }
     ensures few { OnOk result (run.new.lines ≤ run.old.lines + 65536) }
-    ensures err { IfErr result (λ fault. Stopped fault run.old (R.remaining reader.old) (R.remaining reader.new) (W.contents writer.old) (W.contents writer.new)) }
+    ensures err { IfErr result (λ fault. Stopped fault run.old (disk_of run.new.script) (R.remaining reader.old) (R.remaining reader.new) (W.contents writer.old) (W.contents writer.new)) }
 {
     match reader.read(piece) {
         Ok(0) => {
@@ -179,7 +172,7 @@ fn take_piece<W: Write>(
     requires begun { IsLine run.old.begun.items }
     requires room { run.old.lines + length piece.now + 1 < 2 ^ 64 }
     ensures ok { OnOk result (Goes run.old piece.now run.new (W.contents writer.old) (W.contents writer.new)) }
-    ensures err { IfErr result (λ fault. StopsIn fault run.old piece.now (W.contents writer.old) (W.contents writer.new)) }
+    ensures err { IfErr result (λ fault. StopsIn fault run.old piece.now (disk_of run.new.script) (W.contents writer.old) (W.contents writer.new)) }
 {
     let mut at = 0;
     while let Some(front) = before_lf(&piece[at..]) {
@@ -229,7 +222,7 @@ fn end_line<W: Write>(
     requires bytes { HasNoLf bytes.now }
     requires room { run.old.lines + 1 < 2 ^ 64 }
     ensures ok { OnOk result (Goes run.old (bytes.now ++ 10 ∷ []) run.new (W.contents writer.old) (W.contents writer.new)) }
-    ensures err { IfErr result (λ fault. StopsIn fault run.old (bytes.now ++ 10 ∷ []) (W.contents writer.old) (W.contents writer.new)) }
+    ensures err { IfErr result (λ fault. StopsIn fault run.old (bytes.now ++ 10 ∷ []) (disk_of run.new.script) (W.contents writer.old) (W.contents writer.new)) }
 {
     begin_line(run, bytes)?;
     match run.script.perform(alloc, run.begun.as_slice())? {

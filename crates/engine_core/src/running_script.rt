@@ -1,13 +1,13 @@
 //! A script while its disk runs: its connections and the queue.
 
-ghost use Rattle.std.specs.Prelude.{◌≡◌, ◌≢◌, ◌≤◌, ◌^◌, IfErr, IfOk, IfSome, IsSomeAnd, List, OnOk, string_bytes, unwrap_or};
+ghost use Rattle.std.specs.Prelude.{◌≡◌, ◌≢◌, ◌≤◌, ◌^◌, IfErr, IfOk, IfSome, IsSomeAnd, List, OnOk, string_bytes, true, unwrap_or};
 ghost use Rattle.std.specs.List.{AllByRecursion, fold};
 ghost use Rattle.session_core.specs.Sessions.{HasForm, Hearing, Hears};
 ghost use Rattle.std.specs.BTreeMap.{is_at};
 ghost use Rattle.std.specs.Map.{lookup, remove_entry};
 ghost use Rattle.std.specs.Ordering.{nat_cmp};
 ghost use Rattle.engine_core.specs.Connections.{new_connection};
-ghost use Rattle.engine_core.specs.Queues.{ComeTo, Progress, acted, acted_on, IsFilling, IsTooFar};
+ghost use Rattle.engine_core.specs.Queues.{ComeTo, IsAny, IsFlush, IsTooFar, LacksRoom, Progress, acted, acted_on};
 ghost use Rattle.engine_core.specs.StepFaults.{IsStepTold};
 
 use crate::command_queue::CommandQueue;
@@ -29,7 +29,7 @@ pub struct Connection {
     pub number: u64,
 }
 
-/// A script while its disk runs. Contracts see its connections by rising number, and the queue.
+/// A script while its disk runs. Contracts see its connections by rising number, the queue, and the disk.
 #[derive(Drop)]
 pub struct RunningScript {
     connections: BTreeMap<u8, Connection>,
@@ -41,20 +41,20 @@ impl Model for RunningScript {
 
     ghost Value = { ScriptValue };
 
-    ghost view = { λ a. record { connections = a.connections.entries; queue = a.queue } };
+    ghost view = { λ a. record { connections = a.connections.entries; queue = a.queue.queue; disk = a.queue.disk } };
 }
 
 impl RunningScript {
-    ghost use Rattle.std.specs.Prelude.{◌≡◌, [], IfOk, IfErr, OnOk, IfSome, IsSome, true, string_bytes};
+    ghost use Rattle.std.specs.Prelude.{◌≡◌, [], IfOk, IfErr, OnOk, false, true, string_bytes};
     ghost use Rattle.recover_core.specs.Standing.{Stands};
-    ghost use Rattle.engine_core.specs.Queues.{IsFilling, IsTooFar, LacksRoom, flush_text, flushed};
+    ghost use Rattle.engine_core.specs.Queues.{IsAny, IsFlush, IsTooFar, LacksRoom, flush_text, flushed};
     ghost use Rattle.engine_core.specs.Running.{beginning, Loses, LosesSuch, Receives, ReceivesSuch};
 
     /// A script with nobody connected, over a journal that was just opened. No memory is taken.
     pub fn over(alloc: Global, journal: Journal<MemDisk>) -> RunningScript
         requires count { journal.state.count ≤ 2 ^ 62 }
         requires durable { journal.durable ≡ true }
-        ensures { result ≡ beginning journal.state }
+        ensures { result ≡ beginning journal.state journal.disk }
     {
         RunningScript {
             connections: BTreeMap::new(alloc),
@@ -64,28 +64,29 @@ impl RunningScript {
 
     /// Flushes, and answers what is printed.
     pub fn flush(&mut self, alloc: Global) -> Result<String, QueueFault>
-        ensures state { OnOk result (self.new ≡ record self.old { queue = flushed self.old.queue }) }
+        ensures state { OnOk result (self.new ≡ record self.old { queue = flushed self.old.queue; disk = self.new.disk }) }
+        ensures calm { OnOk result (self.new.disk.failures ≡ self.old.disk.failures) }
         ensures text { IfOk result (λ text. string_bytes text ≡ flush_text self.old.queue) }
         ensures err { IfErr result (λ fault. fault ≢ QueueFault.CountTooLarge) }
-        ensures full { IfErr result (λ fault. fault ≡ QueueFault.Storing FlushFault.Full → LacksRoom self.old.queue) }
-        ensures told { IfErr result (IsStepTold self.new.queue.durable) }
+        ensures full { IfErr result (λ fault. fault ≡ QueueFault.Storing FlushFault.Full → LacksRoom self.new.disk.content self.old.queue) }
+        ensures told { IfErr result (IsStepTold self.old.disk.failures self.new.queue.durable self.new.disk.failures) }
     {
         let mut text = String::new(alloc);
         self.queue.flush(alloc, &mut text)?;
         Ok(text)
     }
 
-    /// The disk, unless the journal failed. What waits and the connections are dropped.
-    pub fn into_disk(self) -> Option<MemDisk>
-        ensures stands { IfSome result (λ disk. Stands disk.content self.queue.state) }
-        ensures some { self.queue.durable ≡ true → IsSome result }
+    /// The disk, as an error where the journal failed. What waits and the connections are dropped.
+    pub fn into_disk(self) -> Result<MemDisk, MemDisk>
+        ensures stands { IfOk result (λ disk. (disk ≡ self.disk) × Stands disk.content self.queue.state) }
+        ensures failed { IfErr result (λ disk. (disk ≡ self.disk) × (self.queue.durable ≡ false)) }
     {
         self.queue.into_disk()
     }
 
     /// The queue. The connections are dropped.
     pub fn into_queue(self) -> CommandQueue
-        ensures { result ≡ self.queue }
+        ensures { result ≡ record { queue = self.queue; disk = self.disk } }
     {
         let RunningScript { queue, .. } = self;
         queue
@@ -94,9 +95,11 @@ impl RunningScript {
     /// A connection receives bytes; answers what is printed.
     pub fn receive(&mut self, alloc: Global, n: u8, bytes: &[u8]) -> Result<String, QueueFault>
         ensures ok { IfOk result (λ text. Receives self.old n bytes.now (string_bytes text) self.new) }
+        ensures calm { OnOk result (self.new.disk.failures ≡ self.old.disk.failures) }
         ensures err { IfErr result (λ fault. fault ≡ QueueFault.CountTooLarge → ReceivesSuch IsTooFar self.old n bytes.now) }
-        ensures full { IfErr result (λ fault. fault ≡ QueueFault.Storing FlushFault.Full → ReceivesSuch IsFilling self.old n bytes.now) }
-        ensures told { IfErr result (IsStepTold self.new.queue.durable) }
+        ensures full { IfErr result (λ fault. fault ≡ QueueFault.Storing FlushFault.Full → ReceivesSuch (IsFlush (LacksRoom self.new.disk.content)) self.old n bytes.now) }
+        ensures broken { IfErr result (λ fault. fault ≡ QueueFault.Storing FlushFault.Broken → self.old.queue.durable ≡ true → ReceivesSuch (IsFlush IsAny) self.old n bytes.now) }
+        ensures told { IfErr result (IsStepTold self.old.disk.failures self.new.queue.durable self.new.disk.failures) }
     {
         let mut connection = take_connection(alloc, &mut self.connections, n);
         let mut text = String::new(alloc);
@@ -116,9 +119,11 @@ impl RunningScript {
     /// A connection is gone; answers what is printed.
     pub fn lose(&mut self, alloc: Global, n: u8) -> Result<String, QueueFault>
         ensures ok { IfOk result (λ text. Loses self.old n (string_bytes text) self.new) }
+        ensures calm { OnOk result (self.new.disk.failures ≡ self.old.disk.failures) }
         ensures err { IfErr result (λ fault. fault ≡ QueueFault.CountTooLarge → LosesSuch IsTooFar self.old n) }
-        ensures full { IfErr result (λ fault. fault ≡ QueueFault.Storing FlushFault.Full → LosesSuch IsFilling self.old n) }
-        ensures told { IfErr result (IsStepTold self.new.queue.durable) }
+        ensures full { IfErr result (λ fault. fault ≡ QueueFault.Storing FlushFault.Full → LosesSuch (IsFlush (LacksRoom self.new.disk.content)) self.old n) }
+        ensures broken { IfErr result (λ fault. fault ≡ QueueFault.Storing FlushFault.Broken → self.old.queue.durable ≡ true → LosesSuch (IsFlush IsAny) self.old n) }
+        ensures told { IfErr result (IsStepTold self.old.disk.failures self.new.queue.durable self.new.disk.failures) }
     {
         let Connection {
             mut session,
@@ -161,14 +166,17 @@ fn hear(
     text: &mut String,
 ) -> Result<(), QueueFault>
     ensures ok { OnOk result ((acts : List Act) × Hears connection.old.session bytes.now acts connection.new.session
-        × (ComeTo n IsTooFar (record { number = connection.old.number; queue = queue.old; text = string_bytes text.old }) acts → ⊥)
-        × (record { number = connection.new.number; queue = queue.new; text = string_bytes text.new }
-        ≡ fold (acted n) (record { number = connection.old.number; queue = queue.old; text = string_bytes text.old }) acts)) }
+        × (ComeTo n IsTooFar (record { number = connection.old.number; queue = queue.old.queue; text = string_bytes text.old }) acts → ⊥)
+        × (record { number = connection.new.number; queue = queue.new.queue; text = string_bytes text.new }
+        ≡ fold (acted n) (record { number = connection.old.number; queue = queue.old.queue; text = string_bytes text.old }) acts)) }
     ensures err { IfErr result (λ fault. fault ≡ QueueFault.CountTooLarge → (acts : List Act) × (session : Hearing) × Hears connection.old.session bytes.now acts session
-        × ComeTo n IsTooFar (record { number = connection.old.number; queue = queue.old; text = string_bytes text.old }) acts) }
+        × ComeTo n IsTooFar (record { number = connection.old.number; queue = queue.old.queue; text = string_bytes text.old }) acts) }
     ensures full { IfErr result (λ fault. fault ≡ QueueFault.Storing FlushFault.Full → (acts : List Act) × (session : Hearing) × Hears connection.old.session bytes.now acts session
-        × ComeTo n IsFilling (record { number = connection.old.number; queue = queue.old; text = string_bytes text.old }) acts) }
-    ensures told { IfErr result (IsStepTold queue.new.durable) }
+        × ComeTo n (IsFlush (LacksRoom queue.new.disk.content)) (record { number = connection.old.number; queue = queue.old.queue; text = string_bytes text.old }) acts) }
+    ensures broken { IfErr result (λ fault. fault ≡ QueueFault.Storing FlushFault.Broken → queue.old.queue.durable ≡ true → (acts : List Act) × (session : Hearing) × Hears connection.old.session bytes.now acts session
+        × ComeTo n (IsFlush IsAny) (record { number = connection.old.number; queue = queue.old.queue; text = string_bytes text.old }) acts) }
+    ensures calm { OnOk result (queue.new.disk.failures ≡ queue.old.disk.failures) }
+    ensures told { IfErr result (IsStepTold queue.old.disk.failures queue.new.queue.durable queue.new.disk.failures) }
 {
     let acts = connection.session.feed(alloc, bytes)?;
     let number = do_acts(alloc, queue, n, connection.number, acts, text)?;
@@ -186,12 +194,14 @@ fn do_loss(
     text: &mut String,
 ) -> Result<u64, QueueFault>
     requires { IfSome act HasForm }
-    ensures ok { IfOk result (λ n. record { number = n; queue = queue.new; text = string_bytes text.new }
-        ≡ acted_on connection (record { number = number; queue = queue.old; text = string_bytes text.old }) act) }
-    ensures within { OnOk result (IsSomeAnd act (IsTooFar connection queue.old) → ⊥) }
-    ensures err { IfErr result (λ fault. fault ≡ QueueFault.CountTooLarge → IsSomeAnd act (IsTooFar connection queue.old)) }
-    ensures full { IfErr result (λ fault. fault ≡ QueueFault.Storing FlushFault.Full → IsSomeAnd act (IsFilling connection queue.old)) }
-    ensures told { IfErr result (IsStepTold queue.new.durable) }
+    ensures ok { IfOk result (λ n. record { number = n; queue = queue.new.queue; text = string_bytes text.new }
+        ≡ acted_on connection (record { number = number; queue = queue.old.queue; text = string_bytes text.old }) act) }
+    ensures within { OnOk result (IsSomeAnd act (IsTooFar connection queue.old.queue) → ⊥) }
+    ensures err { IfErr result (λ fault. fault ≡ QueueFault.CountTooLarge → IsSomeAnd act (IsTooFar connection queue.old.queue)) }
+    ensures full { IfErr result (λ fault. fault ≡ QueueFault.Storing FlushFault.Full → IsSomeAnd act (IsFlush (LacksRoom queue.new.disk.content) connection queue.old.queue)) }
+    ensures broken { IfErr result (λ fault. fault ≡ QueueFault.Storing FlushFault.Broken → queue.old.queue.durable ≡ true → IsSomeAnd act (IsFlush IsAny connection queue.old.queue)) }
+    ensures calm { OnOk result (queue.new.disk.failures ≡ queue.old.disk.failures) }
+    ensures told { IfErr result (IsStepTold queue.old.disk.failures queue.new.queue.durable queue.new.disk.failures) }
 {
     match act {
         Some(act) => do_act(alloc, queue, connection, number, act, text),
@@ -209,14 +219,17 @@ fn do_acts(
     text: &mut String,
 ) -> Result<u64, QueueFault>
     requires { AllByRecursion HasForm acts.items }
-    ensures ok { IfOk result (λ n. record { number = n; queue = queue.new; text = string_bytes text.new }
-        ≡ fold (acted connection) (record { number = number; queue = queue.old; text = string_bytes text.old }) acts.items) }
-    ensures within { OnOk result (ComeTo connection IsTooFar (record { number = number; queue = queue.old; text = string_bytes text.old }) acts.items → ⊥) }
+    ensures ok { IfOk result (λ n. record { number = n; queue = queue.new.queue; text = string_bytes text.new }
+        ≡ fold (acted connection) (record { number = number; queue = queue.old.queue; text = string_bytes text.old }) acts.items) }
+    ensures within { OnOk result (ComeTo connection IsTooFar (record { number = number; queue = queue.old.queue; text = string_bytes text.old }) acts.items → ⊥) }
     ensures err { IfErr result (λ fault. fault ≡ QueueFault.CountTooLarge
-        → ComeTo connection IsTooFar (record { number = number; queue = queue.old; text = string_bytes text.old }) acts.items) }
+        → ComeTo connection IsTooFar (record { number = number; queue = queue.old.queue; text = string_bytes text.old }) acts.items) }
     ensures full { IfErr result (λ fault. fault ≡ QueueFault.Storing FlushFault.Full
-        → ComeTo connection IsFilling (record { number = number; queue = queue.old; text = string_bytes text.old }) acts.items) }
-    ensures told { IfErr result (IsStepTold queue.new.durable) }
+        → ComeTo connection (IsFlush (LacksRoom queue.new.disk.content)) (record { number = number; queue = queue.old.queue; text = string_bytes text.old }) acts.items) }
+    ensures broken { IfErr result (λ fault. fault ≡ QueueFault.Storing FlushFault.Broken → queue.old.queue.durable ≡ true
+        → ComeTo connection (IsFlush IsAny) (record { number = number; queue = queue.old.queue; text = string_bytes text.old }) acts.items) }
+    ensures calm { OnOk result (queue.new.disk.failures ≡ queue.old.disk.failures) }
+    ensures told { IfErr result (IsStepTold queue.old.disk.failures queue.new.queue.durable queue.new.disk.failures) }
 {
     let mut number = number;
     for act in acts {
@@ -234,12 +247,14 @@ fn do_act(
     text: &mut String,
 ) -> Result<u64, QueueFault>
     requires { HasForm act }
-    ensures ok { IfOk result (λ n. record { number = n; queue = queue.new; text = string_bytes text.new }
-        ≡ acted connection (record { number = number; queue = queue.old; text = string_bytes text.old }) act) }
-    ensures within { OnOk result (IsTooFar connection queue.old act → ⊥) }
-    ensures err { IfErr result (λ fault. fault ≡ QueueFault.CountTooLarge → IsTooFar connection queue.old act) }
-    ensures full { IfErr result (λ fault. fault ≡ QueueFault.Storing FlushFault.Full → IsFilling connection queue.old act) }
-    ensures told { IfErr result (IsStepTold queue.new.durable) }
+    ensures ok { IfOk result (λ n. record { number = n; queue = queue.new.queue; text = string_bytes text.new }
+        ≡ acted connection (record { number = number; queue = queue.old.queue; text = string_bytes text.old }) act) }
+    ensures within { OnOk result (IsTooFar connection queue.old.queue act → ⊥) }
+    ensures err { IfErr result (λ fault. fault ≡ QueueFault.CountTooLarge → IsTooFar connection queue.old.queue act) }
+    ensures full { IfErr result (λ fault. fault ≡ QueueFault.Storing FlushFault.Full → IsFlush (LacksRoom queue.new.disk.content) connection queue.old.queue act) }
+    ensures broken { IfErr result (λ fault. fault ≡ QueueFault.Storing FlushFault.Broken → queue.old.queue.durable ≡ true → IsFlush IsAny connection queue.old.queue act) }
+    ensures calm { OnOk result (queue.new.disk.failures ≡ queue.old.disk.failures) }
+    ensures told { IfErr result (IsStepTold queue.old.disk.failures queue.new.queue.durable queue.new.disk.failures) }
 {
     match act {
         Act::Do(op, receipt) => queue.submit(alloc, connection, number, op, receipt, text),

@@ -1,11 +1,11 @@
 //! A script as far as it has run, line by line.
 
-ghost use Rattle.std.specs.Prelude.{◌≡◌, ◌≢◌, ◌≤◌, ◌^◌, ◌++◌, List, ℕ, IfErr, IfOk, MatchOption, OnOk, true, string_bytes};
+ghost use Rattle.std.specs.Prelude.{◌≡◌, ◌≢◌, ◌≤◌, ◌^◌, ◌++◌, List, ℕ, IfErr, IfNone, IfOk, IfSome, MatchOption, OnOk, true, string_bytes};
 ghost use Rattle.script_journal.specs.Journals.{IsFull, StandsAfterFront};
 ghost use Rattle.script_journal.specs.Placed.{commands_of};
 ghost use Rattle.engine_core.specs.OfQueue.{IsMemory};
-ghost use Rattle.engine_core.specs.Scripts.{BeginsWith, HasDisk, open_text};
-ghost use Rattle.engine_core.specs.StepFaults.{HasNoDisk, IsCrashTold, IsOpeningTold};
+ghost use Rattle.engine_core.specs.Scripts.{HasFailed, IsOpenedAs, StandsAs, disk_of, is_there, open_text};
+ghost use Rattle.engine_core.specs.StepFaults.{IsCrashTold, IsOpeningTold};
 
 use crate::fault::QueueFault;
 use crate::running_script::RunningScript;
@@ -23,25 +23,26 @@ pub enum Script {
     Running(RunningScript),
     /// Its disk has stopped, and is to be opened.
     Stopped(MemDisk),
-    /// Its disk is gone: its journal failed, or was not opened.
+    /// Its disk is elsewhere: so it is within a step alone.
     Over,
 }
 
 impl Script {
-    ghost use Rattle.recover_core.specs.Standing.{Stands};
     ghost use Rattle.script_text.specs.PercentTexts.{decoded};
-    ghost use Rattle.engine_core.specs.Queues.{IsFilling, IsTooFar, LacksRoom, flush_text, flushed};
+    ghost use Rattle.engine_core.specs.Queues.{IsAny, IsFlush, IsTooFar, LacksRoom, flush_text, flushed};
     ghost use Rattle.engine_core.specs.Running.{Loses, LosesSuch, Receives, ReceivesSuch};
     ghost use Rattle.engine_core.specs.StepFaults.{IsCrashTold, IsLineTold, IsOpeningTold, IsRunTold};
-    ghost use Rattle.engine_core.specs.Scripts.{Crashes, GoesBy, IsNotUnderstood, IsStopped, OnRunning, Opens, Prints, RunsFull, RunsTooFar};
+    ghost use Rattle.engine_core.specs.Scripts.{Crashes, GoesBy, IsNotUnderstood, IsStopped, OnRunning, Opens, Prints, RunsTooFar, disk_of, is_there};
 
-    /// Does what a line says, and answers what it prints; `None` where the line says nothing that is understood.
+    /// Does what a line says, and answers what it prints; `None` where the line says nothing that is understood. The disk is
+    /// still there, whatever is told.
     pub fn perform(&mut self, alloc: Global, line: &[u8]) -> Result<Option<String>, QueueFault>
-        ensures ok { IfOk result (λ printed. MatchOption printed (IsNotUnderstood self.old line.now)
+        requires { is_there self.old ≡ true }
+        ensures there { is_there self.new ≡ true }
+        ensures ok { IfOk result (λ printed. MatchOption printed (IsNotUnderstood self.old line.now × (self.new ≡ self.old))
             (λ text. Prints self.old line.now (string_bytes text) self.new)) }
         ensures err { IfErr result (λ fault. fault ≡ QueueFault.CountTooLarge → RunsTooFar self.old line.now) }
-        ensures full { IfErr result (λ fault. fault ≡ QueueFault.Storing FlushFault.Full → RunsFull self.old line.now) }
-        ensures told { IfErr result (IsLineTold self.old line.now self.new) }
+        ensures told { IfErr result (IsLineTold self.old line.now (disk_of self.new)) }
     {
         match read_line(line) {
             None => Ok(None),
@@ -54,21 +55,37 @@ impl Script {
         }
     }
 
-    /// Opens the disk, and begins anew with what it stands for; answers what is printed.
-    fn open(&mut self, alloc: Global) -> Result<String, QueueFault>
-        ensures ok { IfOk result (λ text. Opens self.old (string_bytes text) self.new) }
-        ensures told { IfErr result (IsOpeningTold self.old) }
+    /// The disk, as the lines have left it.
+    pub fn into_disk(self) -> MemDisk
+        requires { is_there self ≡ true }
+        ensures { result ≡ disk_of self }
     {
-        match into_disk(mem::replace(self, Script::Over)) {
-            Some(disk) => self.begin_anew(alloc, disk),
-            None => Err(QueueFault::Storing(FlushFault::Broken)),
+        match whole_disk(self) {
+            Ok(disk) | Err(disk) => disk,
+        }
+    }
+
+    /// Opens the disk, and begins anew with what it stands for; answers what is printed. A disk that is not opened has stopped.
+    fn open(&mut self, alloc: Global) -> Result<String, QueueFault>
+        requires { is_there self.old ≡ true }
+        ensures there { is_there self.new ≡ true }
+        ensures ok { IfOk result (λ text. Opens self.old (string_bytes text) self.new) }
+        ensures told { IfErr result (IsOpeningTold self.old (disk_of self.new)) }
+    {
+        match whole_disk(mem::replace(self, Script::Over)) {
+            Ok(disk) => self.begin_anew(alloc, disk),
+            Err(disk) => {
+                drop(mem::replace(self, Script::Stopped(disk)));
+                Err(QueueFault::Storing(FlushFault::Broken))
+            }
         }
     }
 
     // Begins with what a disk stands for.
     fn begin_anew(&mut self, alloc: Global, disk: MemDisk) -> Result<String, QueueFault>
+        ensures there { is_there self.new ≡ true }
         ensures ok { IfOk result (λ text. Opens (Script.Stopped disk) (string_bytes text) self.new) }
-        ensures told { IfErr result (IsOpeningTold (Script.Stopped disk)) }
+        ensures told { IfErr result (IsOpeningTold (Script.Stopped disk) (disk_of self.new)) }
     {
         let mut text = String::new(alloc);
         match open_journal(alloc, disk, &mut text) {
@@ -77,8 +94,9 @@ impl Script {
                 drop(mem::replace(self, running));
                 Ok(text)
             }
-            Err(fault) => {
+            Err((disk, fault)) => {
                 drop(text);
+                drop(mem::replace(self, Script::Stopped(disk)));
                 Err(fault)
             }
         }
@@ -91,20 +109,21 @@ impl Script {
         calls: u64,
         fill: Option<u8>,
     ) -> Result<Option<String>, QueueFault>
-        ensures ok { IfOk result (λ printed. MatchOption printed (IsStopped self.old)
+        requires { is_there self.old ≡ true }
+        ensures there { is_there self.new ≡ true }
+        ensures ok { IfOk result (λ printed. MatchOption printed (IsStopped self.old × (self.new ≡ self.old))
             (λ text. OnRunning self.old (λ s. Crashes s (string_bytes text) self.new))) }
-        ensures full { IfErr result (λ fault. fault ≡ QueueFault.Storing FlushFault.Full → OnRunning self.old (λ s. LacksRoom s.queue)) }
-        ensures told { IfErr result (λ fault. IsCrashTold fault × (self.new ≡ Script.Over)) }
+        ensures full { IfErr result (λ fault. fault ≡ QueueFault.Storing FlushFault.Full → OnRunning self.old (λ s. LacksRoom (disk_of self.new).content s.queue)) }
+        ensures told { IfErr result (λ fault. IsCrashTold fault × OnRunning self.old (λ s. IsAny s.queue)) }
     {
         match mem::replace(self, Script::Over) {
             Script::Running(script) => {
                 let (waiting, journal) = script.into_queue().into_parts();
-                match stop_within(alloc, journal, waiting, calls, fill) {
-                    Ok(disk) => {
-                        drop(mem::replace(self, Script::Stopped(disk)));
-                        Ok(Some(String::new(alloc)))
-                    }
-                    Err(fault) => Err(fault),
+                let (disk, fault) = stop_within(alloc, journal, waiting, calls, fill);
+                drop(mem::replace(self, Script::Stopped(disk)));
+                match fault {
+                    None => Ok(Some(String::new(alloc))),
+                    Some(fault) => Err(fault),
                 }
             }
             stopped => {
@@ -116,11 +135,13 @@ impl Script {
 
     /// Flushes; answers what is printed, `None` where the disk has stopped.
     fn flush(&mut self, alloc: Global) -> Result<Option<String>, QueueFault>
-        ensures ok { IfOk result (λ printed. MatchOption printed (IsStopped self.old)
-            (λ text. GoesBy self.old (λ s u. (string_bytes text ≡ flush_text s.queue) × (u ≡ record s { queue = flushed s.queue })) self.new)) }
+        requires { is_there self.old ≡ true }
+        ensures there { is_there self.new ≡ true }
+        ensures ok { IfOk result (λ printed. MatchOption printed (IsStopped self.old × (self.new ≡ self.old))
+            (λ text. GoesBy self.old (λ s u. (string_bytes text ≡ flush_text s.queue) × (u ≡ record s { queue = flushed s.queue; disk = u.disk })) self.new)) }
         ensures err { IfErr result (λ fault. fault ≢ QueueFault.CountTooLarge) }
-        ensures full { IfErr result (λ fault. fault ≡ QueueFault.Storing FlushFault.Full → OnRunning self.old (λ s. LacksRoom s.queue)) }
-        ensures told { IfErr result (IsRunTold self.new) }
+        ensures full { IfErr result (λ fault. fault ≡ QueueFault.Storing FlushFault.Full → OnRunning self.old (λ s. LacksRoom (disk_of self.new).content s.queue)) }
+        ensures told { IfErr result (IsRunTold self.old self.new) }
     {
         match self {
             Script::Running(script) => Ok(Some(script.flush(alloc)?)),
@@ -130,11 +151,14 @@ impl Script {
 
     /// A connection is gone; answers what is printed, `None` where the disk has stopped.
     fn lose(&mut self, alloc: Global, n: u8) -> Result<Option<String>, QueueFault>
-        ensures ok { IfOk result (λ printed. MatchOption printed (IsStopped self.old)
+        requires { is_there self.old ≡ true }
+        ensures there { is_there self.new ≡ true }
+        ensures ok { IfOk result (λ printed. MatchOption printed (IsStopped self.old × (self.new ≡ self.old))
             (λ text. GoesBy self.old (λ s u. Loses s n (string_bytes text) u) self.new)) }
         ensures err { IfErr result (λ fault. fault ≡ QueueFault.CountTooLarge → OnRunning self.old (λ s. LosesSuch IsTooFar s n)) }
-        ensures full { IfErr result (λ fault. fault ≡ QueueFault.Storing FlushFault.Full → OnRunning self.old (λ s. LosesSuch IsFilling s n)) }
-        ensures told { IfErr result (IsRunTold self.new) }
+        ensures full { IfErr result (λ fault. fault ≡ QueueFault.Storing FlushFault.Full → OnRunning self.old (λ s. LosesSuch (IsFlush (LacksRoom (disk_of self.new).content)) s n)) }
+        ensures broken { IfErr result (λ fault. fault ≡ QueueFault.Storing FlushFault.Broken → OnRunning self.old (λ s. s.queue.durable ≡ true → LosesSuch (IsFlush IsAny) s n)) }
+        ensures told { IfErr result (IsRunTold self.old self.new) }
     {
         match self {
             Script::Running(script) => Ok(Some(script.lose(alloc, n)?)),
@@ -144,11 +168,14 @@ impl Script {
 
     /// A connection receives what a text stands for; answers what is printed, `None` where the disk has stopped.
     fn receive(&mut self, alloc: Global, n: u8, text: &[u8]) -> Result<Option<String>, QueueFault>
-        ensures ok { IfOk result (λ printed. MatchOption printed (IsStopped self.old)
+        requires { is_there self.old ≡ true }
+        ensures there { is_there self.new ≡ true }
+        ensures ok { IfOk result (λ printed. MatchOption printed (IsStopped self.old × (self.new ≡ self.old))
             (λ answer. GoesBy self.old (λ s u. Receives s n (decoded text.now) (string_bytes answer) u) self.new)) }
         ensures err { IfErr result (λ fault. fault ≡ QueueFault.CountTooLarge → OnRunning self.old (λ s. ReceivesSuch IsTooFar s n (decoded text.now))) }
-        ensures full { IfErr result (λ fault. fault ≡ QueueFault.Storing FlushFault.Full → OnRunning self.old (λ s. ReceivesSuch IsFilling s n (decoded text.now))) }
-        ensures told { IfErr result (IsRunTold self.new) }
+        ensures full { IfErr result (λ fault. fault ≡ QueueFault.Storing FlushFault.Full → OnRunning self.old (λ s. ReceivesSuch (IsFlush (LacksRoom (disk_of self.new).content)) s n (decoded text.now))) }
+        ensures broken { IfErr result (λ fault. fault ≡ QueueFault.Storing FlushFault.Broken → OnRunning self.old (λ s. s.queue.durable ≡ true → ReceivesSuch (IsFlush IsAny) s n (decoded text.now))) }
+        ensures told { IfErr result (IsRunTold self.old self.new) }
     {
         match self {
             Script::Running(script) => {
@@ -160,29 +187,31 @@ impl Script {
     }
 }
 
-// The disk, where there is one.
-fn into_disk(script: Script) -> Option<MemDisk>
-    ensures { MatchOption result (HasNoDisk script) (λ disk. HasDisk script disk.content) }
+// The disk, as an error where a step of a script failed.
+fn whole_disk(script: Script) -> Result<MemDisk, MemDisk>
+    requires { is_there script ≡ true }
+    ensures ok { IfOk result (λ disk. (disk ≡ disk_of script) × StandsAs script disk) }
+    ensures failed { IfErr result (λ disk. (disk ≡ disk_of script) × HasFailed script) }
 {
     match script {
         Script::Running(script) => script.into_disk(),
-        Script::Stopped(disk) => Some(disk),
-        Script::Over => None,
+        Script::Stopped(disk) => Ok(disk),
+        Script::Over => unreachable!(),
     }
 }
 
 // Records what waits while so many calls of the disk pass. The disk then stops, and has the fill in what was not synced, or
-// without one what it held at the last sync.
+// without one what it held at the last sync. Where what waits is not recorded for another reason, that is told too.
 fn stop_within(
     alloc: Global,
     journal: Journal<MemDisk>,
     waiting: Vec<Waiting>,
     calls: u64,
     fill: Option<u8>,
-) -> Result<MemDisk, QueueFault>
-    ensures stands { IfOk result (λ disk. ∥ StandsAfterFront journal.state (commands_of waiting.items) disk.content ∥₁) }
-    ensures full { IfErr result (λ fault. fault ≡ QueueFault.Storing FlushFault.Full → (image : List ℕ) × IsFull journal.state (commands_of waiting.items) image) }
-    ensures told { IfErr result IsCrashTold }
+) -> (MemDisk, Option<QueueFault>)
+    ensures stands { IfNone result.1 (∥ StandsAfterFront journal.state (commands_of waiting.items) result.0.content ∥₁) }
+    ensures full { IfSome result.1 (λ fault. fault ≡ QueueFault.Storing FlushFault.Full → IsFull journal.state (commands_of waiting.items) result.0.content) }
+    ensures told { IfSome result.1 IsCrashTold }
 {
     let mut fused = journal.fuse(calls);
     match fused.record(alloc, waiting) {
@@ -190,12 +219,12 @@ fn stop_within(
             drop(outs);
             let mut disk = fused.into_disk().into_inner();
             disk.crash(fill);
-            Ok(disk)
+            (disk, None)
         }
-        Err(fault) => {
-            drop(fused);
-            Err(QueueFault::Storing(beside_stop(fault)))
-        }
+        Err(fault) => (
+            fused.into_disk().into_inner(),
+            Some(QueueFault::Storing(beside_stop(fault))),
+        ),
     }
 }
 
@@ -216,22 +245,19 @@ fn open_journal(
     alloc: Global,
     disk: MemDisk,
     text: &mut String,
-) -> Result<Journal<MemDisk>, QueueFault>
-    ensures stood { IfOk result (λ journal. BeginsWith disk.content journal.state) }
+) -> Result<Journal<MemDisk>, (MemDisk, QueueFault)>
+    ensures opened { IfOk result (λ journal. IsOpenedAs disk journal.state journal.disk) }
     ensures durable { IfOk result (λ journal. journal.durable ≡ true) }
     ensures text { IfOk result (λ journal. string_bytes text.new ≡ string_bytes text.old ++ open_text journal.state) }
     ensures small { IfOk result (λ journal. journal.state.count ≤ 2 ^ 61) }
-    ensures told { IfErr result (IsOpeningTold (Script.Stopped disk)) }
+    ensures told { IfErr result (λ back. IsOpeningTold (Script.Stopped disk) back.0 back.1) }
 {
     match Journal::open(alloc, disk) {
         Ok(journal) => match tell(alloc, &journal, text) {
             Ok(()) => Ok(journal),
-            Err(fault) => {
-                drop(journal);
-                Err(fault)
-            }
+            Err(fault) => Err((journal.into_disk(), fault)),
         },
-        Err(fault) => Err(QueueFault::Opening(fault)),
+        Err((disk, fault)) => Err((disk, QueueFault::Opening(fault))),
     }
 }
 

@@ -5,7 +5,9 @@ use lib.ListN.{get_elem?}
 use Rattle.std.proofs.lemmas.List.{append_assoc}
 use Rattle.command_core.specs.Commands.{CommandValue}
 use Rattle.claim_core.specs.Seats.{FlushSeatValue, SessionSeatValue}
-use Rattle.script_journal.specs.Placed.{AgreeAll, ArePlaced, IsPlaced}
+use Rattle.script_journal.specs.Placed.{AgreeAll, ArePlaced, IsOwn, commands_of}
+use Rattle.script_journal.specs.declared.waiting.Waiting.{Waiting}
+use Rattle.script_journal.proofs.Placing.{command_at}
 
 module _ {A : Type 0} where
   -- behind a front
@@ -27,18 +29,19 @@ module _ {A : Type 0} where
       let rest : xs ≡ take (length xs) ys = is_front xs ys (omega arith) (λ i a at lt. same (suc i) a at (omega arith)) in
       λ i. first i ∷ rest i
 
-module _ (first : ℕ) (seats : List SessionSeatValue) (flush : FlushSeatValue) (before more commands : List CommandValue) (begins : flush.base + length before ≡ first) (taken : flush.taken ≡ before ++ more)
-    (placed : ArePlaced first seats commands) (agree : AgreeAll flush seats) where
-  same_at : (i : ℕ) (c : CommandValue) → get_elem? commands i ≡ some c → i < length more → get_elem? more i ≡ some c
+module _ (first : ℕ) (seats : List SessionSeatValue) (flush : FlushSeatValue) (before more : List CommandValue) (waiting : List Waiting) (begins : flush.base + length before ≡ first) (taken : flush.taken ≡ before ++ more)
+    (placed : ArePlaced first seats waiting) (agree : AgreeAll flush seats) where
+  same_at : (i : ℕ) (c : CommandValue) → get_elem? (commands_of waiting) i ≡ some c → i < length more → get_elem? more i ≡ some c
   same_at i c at lt =
-      let p : IsPlaced seats (first + i) c = placed i c at in
-      let a = agree p.place p.seat p.at in
+      let w = command_at waiting i c at in
+      let p : IsOwn seats w.0.connection (first + i) w.0.command = placed i w.0 w.1 in
+      let a = agree w.0.connection p.seat p.at in
       let log = a.0 in
       let rest = a.1.0 in
-      let own = a.2.own p.k (first + i, c) p.own in
+      let own = a.2.own p.k (first + i, w.0.command) p.own in
       let index : own.0 ≡ length before + i = omega (arith, own.1, begins) in
       let whole : log ≡ before ++ (more ++ rest) = a.1.1 ∙ (ap (λ (l : List CommandValue). l ++ rest) taken ∙ append_assoc before more rest) in
-      sym (at_front more rest i lt) ∙ (sym (at_behind before (more ++ rest) i) ∙ (ap (λ (l : List CommandValue). get_elem? l (length before + i)) (sym whole) ∙ (ap (get_elem? log) (sym index) ∙ own.2)))
+      sym (at_front more rest i lt) ∙ (sym (at_behind before (more ++ rest) i) ∙ (ap (λ (l : List CommandValue). get_elem? l (length before + i)) (sym whole) ∙ (ap (get_elem? log) (sym index) ∙ (own.2 ∙ ap some w.2))))
 
-  pub took_front : length more ≤ length commands → more ≡ take (length more) commands
-  took_front few = is_front more commands few same_at
+  pub took_front : length more ≤ length (commands_of waiting) → more ≡ take (length more) (commands_of waiting)
+  took_front few = is_front more (commands_of waiting) few same_at

@@ -21,7 +21,8 @@ use Rattle.flush_core.specs.Room.{HasNoRoom}
 use Rattle.flush_core.proofs.Taken.{all_at, from_end, from_more}
 use Rattle.script_journal.specs.Going.{HasFilled, HasGone, HasGoneFront, HasGoneSomeWay, IsIdle}
 use Rattle.script_journal.specs.Journals.{IsFull}
-use Rattle.script_journal.specs.Placed.{AgreeAll, ArePlaced}
+use Rattle.script_journal.specs.Placed.{AgreeAll, ArePlaced, commands_of}
+use Rattle.script_journal.specs.declared.waiting.Waiting.{Waiting}
 use Rattle.script_journal.proofs.Fronts.{took_front}
 
 outs_append : (xs : List CommandValue) (s : State) (ys : List CommandValue) → outs_of s (xs ++ ys) ≡ outs_of s xs ++ outs_of (state_after s xs) ys
@@ -122,20 +123,22 @@ module _ {D : Type 0} where
   failed_some_way X f g h more (Memory refused) idle gone fell = falls_some_way f g h more idle gone fell
 
   -- what has gone is what the seats have there
-  pub gone_all : (f g : Flushed D) (first : ℕ) (seats : List SessionSeatValue) (more cs : List CommandValue) → first ≡ next_ticket f.seat → HasGone f g more → length more ≡ length cs
-      → ArePlaced first seats cs → AgreeAll g.seat seats → HasGone f g cs
-  gone_all f g first seats more cs begins gone many placed agree =
+  pub gone_all : (f g : Flushed D) (first : ℕ) (seats : List SessionSeatValue) (more : List CommandValue) (waiting : List Waiting) → first ≡ next_ticket f.seat → HasGone f g more → length more ≡ length (commands_of waiting)
+      → ArePlaced first seats waiting → AgreeAll g.seat seats → HasGone f g (commands_of waiting)
+  gone_all f g first seats more waiting begins gone many placed agree =
+      let cs = commands_of waiting in
       let begun : g.seat.base + length f.seat.taken ≡ first = ap (λ (s : FlushSeatValue). s.base + length f.seat.taken) gone.seat ∙ sym begins in
-      let front : more ≡ take (length more) cs = took_front first seats g.seat f.seat.taken more cs begun (ap (λ (s : FlushSeatValue). s.taken) gone.seat) placed agree (omega (arith, many)) in
+      let front : more ≡ take (length more) cs = took_front first seats g.seat f.seat.taken more waiting begun (ap (λ (s : FlushSeatValue). s.taken) gone.seat) placed agree (omega (arith, many)) in
       subst (HasGone f g) (front ∙ take_all (length more) cs (omega (arith, many))) gone
 
-  pub gone_front : (f g : Flushed D) (first last count : ℕ) (seats : List SessionSeatValue) (cs : List CommandValue) → first ≡ next_ticket f.seat → last ≡ next_ticket g.seat → last - first ≤ count → count ≡ length cs
-      → f.opening.count ≡ f.seat.base → g.opening.count ≡ g.seat.base → HasGoneSomeWay f g → ArePlaced first seats cs → AgreeAll g.seat seats → HasGoneFront f g cs
-  gone_front f g first last count seats cs begins ends few many opened opened' way placed agree =
+  pub gone_front : (f g : Flushed D) (first last count : ℕ) (seats : List SessionSeatValue) (waiting : List Waiting) → first ≡ next_ticket f.seat → last ≡ next_ticket g.seat → last - first ≤ count → count ≡ length (commands_of waiting)
+      → f.opening.count ≡ f.seat.base → g.opening.count ≡ g.seat.base → HasGoneSomeWay f g → ArePlaced first seats waiting → AgreeAll g.seat seats → HasGoneFront f g (commands_of waiting)
+  gone_front f g first last count seats waiting begins ends few many opened opened' way placed agree =
+      let cs = commands_of waiting in
       let base : g.seat.base ≡ f.seat.base = sym opened' ∙ (ap (λ (s : State). s.count) way.opening ∙ opened) in
       let long : length g.seat.taken ≡ length f.seat.taken + length way.more = ap length way.taken ∙ length-append f.seat.taken way.more in
       let fits : length way.more ≤ length cs = omega (arith, begins, ends, few, many, base, long) in
-      let front : way.more ≡ take (length way.more) cs = took_front first seats g.seat f.seat.taken way.more cs (omega (arith, begins, base)) way.taken placed agree fits in
+      let front : way.more ≡ take (length way.more) cs = took_front first seats g.seat f.seat.taken way.more waiting (omega (arith, begins, base)) way.taken placed agree fits in
       record {
         ring = way.ring;
         base = base;
@@ -167,13 +170,14 @@ module _ {D : Type 0} where
       }
 
   -- and these are of what the seats have there
-  pub filled_full : (f g : Flushed D) (first last count : ℕ) (seats : List SessionSeatValue) (cs : List CommandValue) (image : List ℕ) → first ≡ next_ticket f.seat → last ≡ next_ticket g.seat → last - first ≤ count → count ≡ length cs
-      → HasFilled f g image → ArePlaced first seats cs → AgreeAll g.seat seats → IsFull f.broker.state cs image
-  filled_full f g first last count seats cs image begins ends few many filled placed agree =
+  pub filled_full : (f g : Flushed D) (first last count : ℕ) (seats : List SessionSeatValue) (waiting : List Waiting) (image : List ℕ) → first ≡ next_ticket f.seat → last ≡ next_ticket g.seat → last - first ≤ count → count ≡ length (commands_of waiting)
+      → HasFilled f g image → ArePlaced first seats waiting → AgreeAll g.seat seats → IsFull f.broker.state (commands_of waiting) image
+  filled_full f g first last count seats waiting image begins ends few many filled placed agree =
+      let cs = commands_of waiting in
       let both = filled.done ++ filled.batch in
       let long : length g.seat.taken ≡ length f.seat.taken + length both = ap length filled.taken ∙ length-append f.seat.taken both in
       let fits : length both ≤ length cs = omega (arith, begins, ends, few, many, filled.base, long) in
-      let front : both ≡ take (length both) cs = took_front first seats g.seat f.seat.taken both cs (omega (arith, begins, filled.base)) filled.taken placed agree fits in
+      let front : both ≡ take (length both) cs = took_front first seats g.seat f.seat.taken both waiting (omega (arith, begins, filled.base)) filled.taken placed agree fits in
       record {
         done = filled.done;
         batch = filled.batch;

@@ -9,7 +9,7 @@ use Rattle.command_core.specs.Commands.{CommandValue}
 use Rattle.claim_core.specs.Endings.{Agree}
 use Rattle.claim_core.specs.Seats.{FlushSeatValue, SessionSeatValue}
 use Rattle.script_journal.specs.declared.waiting.Waiting.{Waiting}
-use Rattle.script_journal.specs.Placed.{ArePlaced, AreSeatsOf, IsPlaced, commands_of}
+use Rattle.script_journal.specs.Placed.{AreOwn, ArePlaced, AreSeatsOf, IsOwn, commands_of}
 
 module _ {A : Type 0} where
   pub below : (l : List A) (i : ℕ) (a : A) → get_elem? l i ≡ some a → i < length l
@@ -29,32 +29,26 @@ still_ring ring seats place old new at same all j seat is =
     ⊎_elim (λ (x : (j ≡ place) × (new ≡ seat)). ap (λ (s : SessionSeatValue). s.ring) (sym x.1) ∙ (same ∙ all place old at)) (λ (x : (j ≢ place) × (get_elem? seats j ≡ some seat)). all j seat x.1) (at_set seats place j new seat is)
 
 module _ (seats : List SessionSeatValue) (place : ℕ) (old new : SessionSeatValue) (ticket : ℕ) (command : CommandValue) (at : get_elem? seats place ≡ some old) (more : new.own ≡ old.own ++ (ticket, command) ∷ []) where
-  pub placed_here : IsPlaced (set seats place new) ticket command
+  pub placed_here : IsOwn (set seats place new) place ticket command
   placed_here = record {
-    place = place;
     seat = new;
     at = set_here seats place new (below seats place old at);
     k = length old.own;
     own = ap (λ (l : List (ℕ × CommandValue)). get_elem? l (length old.own)) more ∙ at_last old.own (ticket, command) (length old.own) refl;
   }
 
-  pub still_placed : (t : ℕ) (c : CommandValue) → IsPlaced seats t c → IsPlaced (set seats place new) t c
-  still_placed t c was = ⊎_elim
-      (λ (same : was.place ≡ place).
+  pub still_placed : (p t : ℕ) (c : CommandValue) → IsOwn seats p t c → IsOwn (set seats place new) p t c
+  still_placed p t c was = ⊎_elim
+      (λ (same : p ≡ place).
       let one : was.seat ≡ old = some-injective was.seat old (sym was.at ∙ (ap (get_elem? seats) same ∙ at)) in
       record {
-        place = place;
         seat = new;
-        at = set_here seats place new (below seats place old at);
+        at = ap (get_elem? (set seats place new)) same ∙ set_here seats place new (below seats place old at);
         k = was.k;
         own = ap (λ (l : List (ℕ × CommandValue)). get_elem? l was.k) more ∙ at_longer old.own ((ticket, command) ∷ []) was.k (t, c) (ap (λ (s : SessionSeatValue). get_elem? s.own was.k) (sym one) ∙ was.own);
       })
-      (λ (other : was.place ≢ place). record { place = was.place; seat = was.seat; at = set_else seats place was.place new other ∙ was.at; k = was.k; own = was.own })
-      (cases_eq was.place place)
-
-pub commands_snoc : (ws : List Waiting) (w : Waiting) → commands_of (ws ++ w ∷ []) ≡ commands_of ws ++ w.command ∷ []
-commands_snoc [] w = refl
-commands_snoc (v ∷ vs) w = ap (λ (l : List CommandValue). v.command ∷ l) (commands_snoc vs w)
+      (λ (other : p ≢ place). record { seat = was.seat; at = set_else seats place p new other ∙ was.at; k = was.k; own = was.own })
+      (cases_eq p place)
 
 pub commands_length : (ws : List Waiting) → length (commands_of ws) ≡ length ws
 commands_length [] = refl
@@ -62,14 +56,23 @@ commands_length (w ∷ ws) = ap suc (commands_length ws)
 
 -- one more command is placed
 pub one_more : (first next : ℕ) (before after : List SessionSeatValue) (ws : List Waiting) (w : Waiting) → next ≡ first + length ws
-    → ArePlaced first before (commands_of ws) → ((t : ℕ) (c : CommandValue) → IsPlaced before t c → IsPlaced after t c) → IsPlaced after next w.command
-    → ArePlaced first after (commands_of (ws ++ w ∷ []))
-one_more first next before after ws w is were others here i c at = ⊎_elim
-    (λ (old : get_elem? (commands_of ws) i ≡ some c). others (first + i) c (were i c old))
-    (λ (new : (i ≡ length (commands_of ws)) × (w.command ≡ c)).
-    let ticket : next ≡ first + i = omega (arith, is, new.0, commands_length ws) in
-    subst (λ (z : ℕ × CommandValue). IsPlaced after z.0 z.1) (λ j. (ticket j, new.1 j)) here)
-    (at_end (commands_of ws) w.command c i (ap (λ (l : List CommandValue). get_elem? l i) (sym (commands_snoc ws w)) ∙ at))
+    → ArePlaced first before ws → ((place t : ℕ) (c : CommandValue) → IsOwn before place t c → IsOwn after place t c) → IsOwn after w.connection next w.command
+    → ArePlaced first after (ws ++ w ∷ [])
+one_more first next before after ws w is were others here i v at = ⊎_elim
+    (λ (old : get_elem? ws i ≡ some v). others v.connection (first + i) v.command (were i v old))
+    (λ (new : (i ≡ length ws) × (w ≡ v)).
+    let ticket : next ≡ first + i = omega (arith, is, new.0) in
+    subst (λ (z : ℕ × Waiting). IsOwn after z.1.connection z.0 z.1.command) (λ j. (ticket j, new.1 j)) here)
+    (at_end ws w v i at)
+
+pub own_of : (first : ℕ) (seats : List SessionSeatValue) (ws : List Waiting) → ArePlaced first seats ws → AreOwn seats ws
+own_of first seats ws placed i w at = (first + i, placed i w at)
+
+-- one of the commands is that of a connection
+pub command_at : (ws : List Waiting) (i : ℕ) (c : CommandValue) → get_elem? (commands_of ws) i ≡ some c → (w : Waiting) × (get_elem? ws i ≡ some w) × (w.command ≡ c)
+command_at [] i c at = absurd (some-ne-none c (sym at))
+command_at (w ∷ ws) zero c at = (w, refl, some-injective w.command c at)
+command_at (w ∷ ws) (suc i) c at = command_at ws i c at
 
 -- one seat more agrees
 pub agree_more : (flush : FlushSeatValue) (seats : List SessionSeatValue) (place : ℕ) (seat : SessionSeatValue) → get_elem? seats place ≡ some seat

@@ -1,8 +1,9 @@
 -- What a journal keeps at rest, and what is left of it where its disk stops.
-use Rattle.std.proofs.Common.{◌≡◌, ◌==◌, ◌+◌, ◌-◌, ◌<◌, ◌≤◌, ◌++◌, ℕ, zero, suc, List, [], ◌∷◌, false, true, length, take, set, slice_index_or, All, Option, Some, None, IsSome, IfSome, IfErr, IfOk, Result, Ok, Err, sym, ap, ◌∙◌, subst, arith, length-append}
+use Rattle.std.proofs.Common.{◌≡◌, ◌+◌, ◌-◌, ◌≤◌, ◌++◌, ℕ, zero, suc, List, [], ◌∷◌, false, length, take, set, slice_index_or, All, Option, Some, None, IsSome, IfSome, IfErr, IfOk, Result, Ok, Err, sym, ap, ◌∙◌, subst, arith, length-append}
 use mathlib.Core.Option.{some, some-injective, some-ne-none}
 use Rattle.std.proofs.Math.Logic.{∥∥₁_map}
-use Rattle.disk_core.specs.Memory.{Memory}
+use Rattle.disk_core.specs.Images.{IsImage}
+use Rattle.disk_core.specs.Memory.{Memory, reads_image}
 use lib.ListN.{get_elem?}
 use Rattle.std.proofs.lemmas.List.{length-take-le, take-take}
 use Rattle.std.proofs.lemmas.Bool.{false≢true}
@@ -12,8 +13,8 @@ use Rattle.broker_core.specs.States.{State, BrokerValue}
 use Rattle.broker_core.specs.Steps.{state_after}
 use Rattle.claim_core.specs.Seats.{FlushSeatValue, SessionSeatValue, new_flushing, new_session, next_ticket}
 use Rattle.recover_core.specs.Opens.{IsRestartOf}
-use Rattle.recover_core.specs.Standing.{Stands}
-use Rattle.recover_core.specs.Told.{IsOpenTold}
+use Rattle.recover_core.specs.Standing.{StandFor, Stands}
+use Rattle.recover_core.specs.Told.{IsCausedBy as IsOpenCausedBy, IsOpenTold}
 use Rattle.area_core.specs.declared.faults.AreaFault.TheVariants as areas
 use Rattle.recover_core.specs.declared.faults.OpenFault.{OpenFault}
 use Rattle.recover_core.specs.declared.faults.OpenFault.TheVariants as opens
@@ -22,7 +23,7 @@ use Rattle.flush_core.specs.Flushed.{AfterSome, Flushed, HoldBetween, IsSame}
 use Rattle.flush_core.specs.Batches.{state_at, state_taken}
 use Rattle.script_journal.specs.Faults.{IsWantOfMemory}
 use Rattle.script_journal.specs.Going.{HasGoneFront, IsIdle}
-use Rattle.script_journal.specs.Journals.{IsAtRest, JournalValue, KeepFront, StandsAfterFront}
+use Rattle.script_journal.specs.Journals.{IsAtRest, IsMade, JournalValue, KeepFront, StandsAfterFront}
 use Rattle.script_journal.specs.Placed.{AreSeatsOf}
 use Rattle.script_journal.proofs.Placing.{below, still_ring}
 
@@ -100,31 +101,34 @@ same_rest ring seats f u same rest = record {
 pub keep_front : {D : Type 0} (f g : Flushed D) (cs : List CommandValue) (images : List ℕ → Type 0) → IsIdle f → HasGoneFront f g cs → HoldBetween images g.opening g.seat → KeepFront images f.broker.state cs
 keep_front f g cs images idle front hold image is = ∥∥₁_map (hold image is) (stands_front f g cs image idle front)
 
--- a journal of the broker that a store was opened with, over this disk
-abbrev pub IsMade : Option BrokerValue → Memory → Result (JournalValue Memory) OpenFault → Type 0
-IsMade opened disk result = IfOk result (λ journal. IfSome opened (λ broker. journal ≡ record { state = broker.state; durable = true; disk = disk }))
+module _ (opened : Option BrokerValue) (result : Result (JournalValue Memory) (Memory × OpenFault)) (disk : Memory) where
+  -- what is so of the broker that a store was opened with, and of this disk, is so of the journal
+  pub opened_as : (P : BrokerValue → Type 0) (Q : JournalValue Memory → Type 0) → IsSome opened → IfSome opened P → ((broker : BrokerValue) (journal : JournalValue Memory) → P broker → IsMade broker.state disk journal → Q journal)
+      → IfOk result (λ journal. IfSome opened (λ broker. IsMade broker.state disk journal)) → IfOk result Q
+  opened_as P Q there is then made = by opened result there is made
+    where
+      by : (o : Option BrokerValue) (r : Result (JournalValue Memory) (Memory × OpenFault)) → IsSome o → IfSome o P → IfOk r (λ journal. IfSome o (λ broker. IsMade broker.state disk journal)) → IfOk r Q
+      by None r there is made = absurd (false≢true there)
+      by (Some broker) (Ok journal) there is made = then broker journal is made
+      by (Some broker) (Err back) there is made = tt
 
-pub opened_state : (opened : Option BrokerValue) (result : Result (JournalValue Memory) OpenFault) (content : List ℕ) (disk : Memory) → IsSome opened → IfSome opened (λ broker. IsRestartOf content broker.state)
-    → IsMade opened disk result → IfOk result (λ journal. IsRestartOf content journal.state)
-opened_state None result content disk there stood made = absurd (false≢true there)
-opened_state (Some broker) (Ok journal) content disk there stood made = record { before = stood.before; stood = stood.stood; is = ap (λ (j : JournalValue Memory). j.state) made ∙ stood.is }
-opened_state (Some broker) (Err fault) content disk there stood made = tt
+pub restart_of : (content : List ℕ) (disk : Memory) (broker : BrokerValue) (journal : JournalValue Memory) → IsRestartOf content broker.state → IsMade broker.state disk journal → IsRestartOf content journal.state
+restart_of content disk broker journal stood made = subst (IsRestartOf content) (sym made.state_is) stood
 
-pub opened_calm : (opened : Option BrokerValue) (result : Result (JournalValue Memory) OpenFault) (disk : Memory) (before : ℕ) → IsSome opened → disk.failures ≡ before → IsMade opened disk result → IfOk result (λ journal. journal.disk.failures ≡ before)
-opened_calm None result disk before there same made = absurd (false≢true there)
-opened_calm (Some broker) (Ok journal) disk before there same made = ap (λ (j : JournalValue Memory). j.disk.failures) made ∙ same
-opened_calm (Some broker) (Err fault) disk before there same made = tt
+pub stands_of : (disk : Memory) (broker : BrokerValue) (journal : JournalValue Memory) → StandFor (IsImage disk.content disk.held) broker.state → IsMade broker.state disk journal → Stands journal.disk.content journal.state
+stands_of disk broker journal stand made =
+    subst (λ (s : State). Stands journal.disk.content s) (sym made.state_is) (subst (λ (d : Memory). Stands d.content broker.state) (sym made.disk_is) (stand disk.content (reads_image disk)))
 
--- where memory was refused, nothing is told of the content
-pub memory_told : (content : List ℕ) (result : Result (JournalValue Memory) OpenFault) → IfErr result IsWantOfMemory → IfErr result (λ fault. IsOpenTold fault content)
-memory_told content (Ok journal) want = tt
-memory_told content (Err (opens.Area (areas.Memory refused))) want = tt
-memory_told content (Err (opens.Area areas.Device)) want = absurd want
-memory_told content (Err (opens.Area areas.Full)) want = absurd want
-memory_told content (Err (opens.Area areas.Broken)) want = absurd want
-memory_told content (Err opens.CountTooLarge) want = absurd want
-memory_told content (Err (opens.Read fault)) want = absurd want
+-- where memory was refused, nothing is told of the content, and the disk did not fail
+pub memory_told : (content : List ℕ) (before : ℕ) (disk back : Memory) (fault : OpenFault) → disk.failures ≡ before → back ≡ disk → IsWantOfMemory fault → IsOpenTold fault content × IsOpenCausedBy fault before back.failures
+memory_told content before disk back (opens.Area (areas.Memory refused)) calm is want = (tt, ap (λ (d : Memory). d.failures) is ∙ calm)
+memory_told content before disk back (opens.Area areas.Device) calm is want = absurd want
+memory_told content before disk back (opens.Area areas.Full) calm is want = absurd want
+memory_told content before disk back (opens.Area areas.Broken) calm is want = absurd want
+memory_told content before disk back opens.CountTooLarge calm is want = absurd want
+memory_told content before disk back (opens.Read fault) calm is want = absurd want
 
-pub not_zero : (n : ℕ) → (n == 0) ≡ false → 0 < n
-not_zero zero none = absurd (false≢true (sym none))
-not_zero (suc n) none = omega arith
+pub refused_for_memory : (content : List ℕ) (before : ℕ) (disk : Memory) (result : Result (JournalValue Memory) (Memory × OpenFault)) → disk.failures ≡ before
+    → IfErr result (λ back. IsWantOfMemory back.1 × (back.0 ≡ disk)) → IfErr result (λ back. IsOpenTold back.1 content × IsOpenCausedBy back.1 before back.0.failures)
+refused_for_memory content before disk (Ok journal) calm want = tt
+refused_for_memory content before disk (Err back) calm want = memory_told content before disk back.0 back.1 calm want.1 want.0

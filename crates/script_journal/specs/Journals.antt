@@ -1,5 +1,5 @@
 -- What a script's journal keeps.
-use Rattle.std.specs.Prelude.{◌≡◌, ◌≢◌, ◌≤◌, ◌++◌, ℕ, Bool, List, [], length, take}
+use Rattle.std.specs.Prelude.{◌≡◌, ◌≢◌, ◌≤◌, ◌++◌, ℕ, Bool, List, [], length, take, true}
 use Rattle.atomic_table.specs.Seated.{TableId}
 use Rattle.command_core.specs.Commands.{CommandValue}
 use Rattle.broker_core.specs.States.{State}
@@ -12,11 +12,19 @@ use Rattle.recover_core.specs.Standing.{Stands}
 use Rattle.script_journal.specs.Going.{IsIdle}
 use Rattle.script_journal.specs.Placed.{AreSeatsOf}
 
--- A journal: the broker's state after its commands, whether they are durable, and its disk.
+-- A journal: the broker's state after its commands, whether they are durable, its disk, and the seats at its ring, one for
+-- each connection.
 pub record JournalValue (D : Type 0) : Type 0 where
   pub state : State
   pub durable : Bool
   pub disk : D
+  pub seats : List SessionSeatValue
+
+-- a durable journal of this state over this disk
+pub record IsMade {D : Type 0} (state : State) (disk : D) (journal : JournalValue D) : Type 0 where
+  pub state_is : journal.state ≡ state
+  pub durable_is : journal.durable ≡ true
+  pub disk_is : journal.disk ≡ disk
 
 -- the seats and the flusher are at this ring, and the flusher is idle and has handed all outputs out
 pub record IsAtRest {D : Type 0} (ring : TableId) (seats : List SessionSeatValue) (flusher : Flushed D) : Type 0 where

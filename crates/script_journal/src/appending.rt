@@ -3,7 +3,7 @@
 ghost use Rattle.std.specs.Prelude.{◌≡◌, ◌+◌, ℕ, [], ◌∷◌, ◌++◌, OnOk, IfErr, IfOk, IfSome, Ok};
 ghost use Rattle.command_core.specs.Commands.{CommandValue};
 ghost use Rattle.script_journal.specs.Faults.{IsOfRing};
-ghost use Rattle.script_journal.specs.Placed.{ArePlaced, AreSeatsOf, IsPlaced, commands_of};
+ghost use Rattle.script_journal.specs.Placed.{ArePlaced, AreSeatsOf, IsOwn};
 
 use crate::waiting::{ScriptBox, ScriptRing, ScriptSeat, Waiting};
 use claim_core::Refused;
@@ -24,7 +24,7 @@ pub fn append_all(
 ) -> Result<(), FlushFault>
     requires { AreSeatsOf ring.now seats.old.items }
     ensures seats { AreSeatsOf ring.now seats.new.items }
-    ensures placed { OnOk result (ArePlaced first seats.new.items (commands_of waiting.items)) }
+    ensures placed { OnOk result (ArePlaced first seats.new.items waiting.items) }
     ensures fault { IfErr result IsOfRing }
 {
     let mut next = first;
@@ -45,9 +45,9 @@ fn append_one(
     requires { AreSeatsOf ring.now seats.old.items }
     ensures seats { AreSeatsOf ring.now seats.new.items }
     ensures next { IfOk result (λ next. next ≡ ticket + 1) }
-    ensures placed { OnOk result (IsPlaced seats.new.items ticket waiting.command) }
+    ensures placed { OnOk result (IsOwn seats.new.items waiting.connection ticket waiting.command) }
     ensures fault { IfErr result IsOfRing }
-    ensures others { OnOk result ((t : ℕ) (c : CommandValue) → IsPlaced seats.old.items t c → IsPlaced seats.new.items t c) }
+    ensures others { OnOk result ((place t : ℕ) (c : CommandValue) → IsOwn seats.old.items place t c → IsOwn seats.new.items place t c) }
 {
     let Waiting {
         connection,

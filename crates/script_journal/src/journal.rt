@@ -7,13 +7,13 @@ ghost use Rattle.disk_core.specs.Faults.{IsOneMore};
 ghost use Rattle.disk_core.specs.Fuse.{calls_left, fused};
 ghost use Rattle.disk_core.specs.Images.{IsImage};
 ghost use Rattle.recover_core.specs.Opens.{IsRestartOf};
-ghost use Rattle.recover_core.specs.Standing.{StandFor};
+ghost use Rattle.recover_core.specs.Standing.{StandFor, Stands};
 ghost use Rattle.recover_core.specs.Stores.{disk_of, is_broken, opened_by};
-ghost use Rattle.recover_core.specs.Told.{IsOpenTold};
+ghost use Rattle.recover_core.specs.Told.{IsCausedBy as IsOpenCausedBy, IsOpenTold};
 ghost use Rattle.flush_core.specs.declared.faults.FlushFault.TheVariants.{Broken, Full};
 ghost use Rattle.script_journal.specs.Faults.{IsCausedBy, IsWantOfMemory};
-ghost use Rattle.script_journal.specs.Journals.{IsFull, KeepFront};
-ghost use Rattle.script_journal.specs.Placed.{commands_of};
+ghost use Rattle.script_journal.specs.Journals.{IsFull, IsMade, KeepFront};
+ghost use Rattle.script_journal.specs.Placed.{AreOwn, IsReadBy, commands_of};
 
 use crate::turning::go;
 use crate::waiting::{ScriptRing, ScriptSeat, Waiting};
@@ -30,7 +30,7 @@ use std::marker::Model;
 use std::mem;
 
 /// An opened journal with its ring, whose seats are all here, and the broker after its commands. Contracts see the broker's
-/// state, whether it is durable, and the disk. Where it is durable, whatever a stop leaves of the disk stands for it. Once a
+/// state, whether it is durable, the disk, and the seats, one for each connection. Where it is durable, whatever a stop leaves of the disk stands for it. Once a
 /// step failed it is not, and the journal takes nothing more.
 #[derive(Drop)]
 pub struct Journal<D: Disk> {
@@ -47,23 +47,26 @@ impl<D: Disk> Model for Journal<D> {
 
     ghost Value = { JournalValue D };
 
-    ghost view = { λ a. record { state = a.flusher.broker.state; durable = a.whole; disk = a.flusher.disk } };
+    ghost view = { λ a. record { state = a.flusher.broker.state; durable = a.whole; disk = a.flusher.disk; seats = a.seats.items } };
 
     ghost invariant = { λ a. a.whole ≡ true → IsAtRest a.ring a.seats.items a.flusher };
 }
 
 impl Journal<MemDisk> {
-    /// Opens the journal of a disk, whose state is the restart of the one that the disk stood for.
-    pub fn open(alloc: Global, disk: MemDisk) -> Result<Journal<MemDisk>, OpenFault>
+    /// Opens the journal of a disk, whose state is the restart of the one that the disk stood for. A disk that is not opened
+    /// comes back.
+    pub fn open(alloc: Global, disk: MemDisk) -> Result<Journal<MemDisk>, (MemDisk, OpenFault)>
         ensures stood { IfOk result (λ journal. IsRestartOf disk.content journal.state) }
         ensures durable { IfOk result (λ journal. journal.durable ≡ true) }
         ensures small { IfOk result (λ journal. journal.state.count ≤ 2 ^ 61) }
+        ensures stands { IfOk result (λ journal. Stands journal.disk.content journal.state) }
         ensures calm { IfOk result (λ journal. journal.disk.failures ≡ disk.failures) }
-        ensures refused { IfErr result (λ fault. IsOpenTold fault disk.content) }
+        ensures refused { IfErr result (λ back. IsOpenTold back.1 disk.content) }
+        ensures cause { IfErr result (λ back. IsOpenCausedBy back.1 disk.failures back.0.failures) }
     {
         match recover_core::open(alloc, disk) {
             Ok(store) => with_broker(alloc, store),
-            Err((_, fault)) => Err(fault),
+            Err(back) => Err(back),
         }
     }
 }
@@ -108,13 +111,14 @@ impl<D: Disk> Journal<D> {
         alloc: Global,
         waiting: Vec<Waiting>,
     ) -> Result<Option<Vec<Out>>, FlushFault>
-        ensures state { IfOk result (λ outs. IsSome outs → self.new ≡ record self.old { state = state_after self.old.state (commands_of waiting.items); disk = self.new.disk }) }
+        ensures state { IfOk result (λ outs. IsSome outs → self.new ≡ record self.old { state = state_after self.old.state (commands_of waiting.items); disk = self.new.disk; seats = self.new.seats }) }
         ensures outs { IfOk result (λ outs. IfSome outs (λ outs. outs.items ≡ outs_of self.old.state (commands_of waiting.items))) }
         ensures calm { IfOk result (λ outs. IsSome outs → D.failures self.new.disk ≡ D.failures self.old.disk) }
         ensures stopped { IfOk result (λ outs. IsNone outs → IsOneMore (D.failures self.old.disk) (D.failures self.new.disk)) }
         ensures not_durable { IfOk result (λ outs. IsNone outs → self.new.durable ≡ false) }
         ensures kept { OnOk result (D.honest self.new.disk → KeepFront (D.images self.new.disk) self.old.state (commands_of waiting.items)) }
         ensures durable { OnOk result (self.old.durable ≡ true) }
+        ensures own { OnOk result (AreOwn self.new.seats waiting.items) }
         ensures failed { OnErr result (self.new.durable ≡ false) }
         ensures cause { IfErr result (IsCausedBy (D.failures self.old.disk) (D.failures self.new.disk)) }
         ensures full { D.honest self.old.disk → IsErrOf result Full → IsFull self.old.state (commands_of waiting.items) (D.content self.new.disk) }
@@ -140,20 +144,22 @@ impl<D: Disk> Journal<D> {
         }
     }
 
-    /// Lets an output leave by a seat, as any may that has read a mark over its number. `Broken` where a step failed, or where
-    /// the seat reads a mark that isn't over the output's number, which it does of none that `record` answered: the journal
-    /// is not durable then, and takes nothing more.
-    pub fn release(&mut self, out: Out) -> Result<Released, FlushFault>
-        ensures same { OnOk result (self.new ≡ self.old) }
+    /// Lets an output leave by its connection's seat, which has read a mark over its number. `Broken` where a step failed, where
+    /// the connection has no seat, or where the seat reads a mark that isn't over the output's number, which it does of none
+    /// that `record` answered: the journal is not durable then, and takes nothing more.
+    pub fn release(&mut self, connection: u8, out: Out) -> Result<Released, FlushFault>
+        ensures same { OnOk result (self.new ≡ record self.old { seats = self.new.seats }) }
+        ensures seat { OnOk result (IsReadBy connection out.number self.old.seats self.new.seats) }
         ensures durable { OnOk result (self.old.durable ≡ true) }
         ensures released { IfOk result (λ released. released ≡ out) }
         ensures refused { IfErr result (λ fault. fault ≡ Broken) }
-        ensures failed { OnErr result (self.new ≡ record self.old { durable = false }) }
+        ensures failed { OnErr result (self.new ≡ record self.old { durable = false; seats = self.new.seats }) }
     {
-        if !mem::replace(&mut self.whole, false) || self.seats.is_empty() {
+        let place = connection as usize;
+        if !mem::replace(&mut self.whole, false) || place >= self.seats.len() {
             return Err(FlushFault::Broken);
         }
-        match self.ring.release(&mut self.seats[0], out) {
+        match self.ring.release(&mut self.seats[place], out) {
             Ok(released) => {
                 self.whole = true;
                 Ok(released)
@@ -193,13 +199,16 @@ impl<D: Disk> Journal<D> {
     }
 }
 
-// The journal of a store that was just opened.
-fn with_broker(alloc: Global, store: Store<MemDisk>) -> Result<Journal<MemDisk>, OpenFault>
+// The journal of a store that was just opened. The store's disk comes back where memory is refused.
+fn with_broker(
+    alloc: Global,
+    store: Store<MemDisk>,
+) -> Result<Journal<MemDisk>, (MemDisk, OpenFault)>
     requires opened { IsSome (opened_by store) }
     requires stands { IfSome (opened_by store) (λ broker. StandFor (IsImage (disk_of store).content (disk_of store).held) broker.state × (broker.broken ≡ false) × (broker.state.count ≤ 2 ^ 61)) }
     requires whole { is_broken store ≡ false }
-    ensures made { IfOk result (λ journal. IfSome (opened_by store) (λ broker. journal ≡ record { state = broker.state; durable = true; disk = disk_of store })) }
-    ensures refused { IfErr result IsWantOfMemory }
+    ensures made { IfOk result (λ journal. IfSome (opened_by store) (λ broker. IsMade broker.state (disk_of store) journal)) }
+    ensures refused { IfErr result (λ back. IsWantOfMemory back.1 × (back.0 ≡ disk_of store)) }
 {
     let mut store = store;
     let broker = store.broker().unwrap();
@@ -211,12 +220,12 @@ fn with_ring(
     alloc: Global,
     store: Store<MemDisk>,
     broker: Broker,
-) -> Result<Journal<MemDisk>, OpenFault>
+) -> Result<Journal<MemDisk>, (MemDisk, OpenFault)>
     requires stands { StandFor (IsImage (disk_of store).content (disk_of store).held) broker.state }
     requires broker { (broker.broken ≡ false) × (broker.state.count ≤ 2 ^ 61) }
     requires whole { is_broken store ≡ false }
-    ensures made { IfOk result (λ journal. journal ≡ record { state = broker.state; durable = true; disk = disk_of store }) }
-    ensures refused { IfErr result IsWantOfMemory }
+    ensures made { IfOk result (IsMade broker.state (disk_of store)) }
+    ensures refused { IfErr result (λ back. IsWantOfMemory back.1 × (back.0 ≡ disk_of store)) }
 {
     match ScriptRing::new(alloc, broker.count()) {
         Ok((ring, seats, seat)) => Ok(Journal {
@@ -225,6 +234,10 @@ fn with_ring(
             flusher: Flusher::new(alloc, store, broker, seat),
             whole: true,
         }),
-        Err(refused) => Err(OpenFault::Area(AreaFault::Memory(refused))),
+        Err(refused) => {
+            drop(broker);
+            let fault = OpenFault::Area(AreaFault::Memory(refused));
+            Err((store.into_disk(), fault))
+        }
     }
 }

@@ -7,7 +7,7 @@ ghost use Rattle.flush_core.specs.declared.faults.FlushFault.TheVariants.{Full};
 ghost use Rattle.script_journal.specs.Faults.{IsCausedBy, IsOutOfStep};
 ghost use Rattle.script_journal.specs.Going.{HasFilled, HasGone, HasGoneFront, HasGoneSomeWay, IsIdle};
 ghost use Rattle.script_journal.specs.Journals.{IsFull, KeepFront};
-ghost use Rattle.script_journal.specs.Placed.{AgreeAll, AreSeatsOf, commands_of};
+ghost use Rattle.script_journal.specs.Placed.{AgreeAll, AreOwn, AreSeatsOf, commands_of};
 
 use crate::appending::append_all;
 use crate::waiting::{ScriptRing, ScriptSeat, Waiting};
@@ -104,6 +104,7 @@ pub fn go<D: Disk>(
     requires seats { AreSeatsOf ring.now seats.old.items }
     requires idle { IsIdle flusher.old }
     ensures seats { AreSeatsOf ring.now seats.new.items }
+    ensures own { OnOk result (AreOwn seats.new.items waiting.items) }
     ensures all { IfOk result (λ all. all ≡ true → HasGone flusher.old flusher.new (commands_of waiting.items)) }
     ensures some { IfOk result (λ all. HasGoneFront flusher.old flusher.new (commands_of waiting.items)) }
     ensures kept { OnOk result (D.honest flusher.new.disk → KeepFront (D.images flusher.new.disk) flusher.old.broker.state (commands_of waiting.items)) }

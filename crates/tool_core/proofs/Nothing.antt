@@ -1,13 +1,15 @@
 -- A failure before a script is read, and one over an empty journal.
-use Rattle.std.proofs.Common.{◌≡◌, ◌∙◌, List, ℕ, Option, refl, subst, inl, inr}
+use Rattle.std.proofs.Common.{◌≡◌, ◌∙◌, List, ℕ, Option, Result, Ok, Err, IfErr, OnOk, refl, subst, inl, inr}
 use Rattle.clap.specs.declared.error.Error.{Error}
 use Rattle.broker_core.specs.Operations.{restarted}
 use Rattle.std.specs.Io.KnownBytes.{Appends, Consumes, IsAtEnd}
 use Rattle.broker_core.specs.States.{State, empty_state}
-use Rattle.engine_core.specs.Scripts.{BeginsWith, IsScript}
+use Rattle.engine_core.specs.Scripts.{IsOpenedAs, IsScript, disk_of}
 use Rattle.recover_core.specs.Standing.{Stands}
 use Rattle.engine_core.specs.declared.fault.ScriptFault.{ScriptFault}
-use Rattle.engine_core.specs.declared.fault.ScriptFault.TheVariants.{Memory, NotUnderstood, CountTooLarge, Opening, Storing, Input, Output}
+use Rattle.engine_core.specs.declared.fault.ScriptFault.TheVariants.{NotUnderstood, CountTooLarge, Opening, Storing, Input, Output}
+use Rattle.engine_core.specs.declared.fault.ScriptFault.TheVariants as scripts
+use Rattle.disk_core.specs.Memory.{Memory}
 use Rattle.engine_core.proofs.Performing.{restart_is}
 use Rattle.engine_core.specs.Runs.{IsToldAtOnce, Stops, StopsOver}
 use Rattle.tool_core.specs.Failures.{RunsToEnd, IsAtOnce, IsBeforehand, StopsBy, Tells}
@@ -20,7 +22,7 @@ stops_before error (Format fault) unread held told = absurd told
 stops_before error (File fault) unread held told = absurd told
 stops_before error (Server fault) unread held told = absurd told
 stops_before error Number unread held told = absurd told
-stops_before error (Script (Memory refused)) unread held told = inl (tt, (refl, refl))
+stops_before error (Script (scripts.Memory refused)) unread held told = inl (tt, (refl, refl))
 stops_before error (Script (NotUnderstood k)) unread held told = absurd told
 stops_before error (Script CountTooLarge) unread held told = absurd told
 stops_before error (Script (Opening fault)) unread held told = absurd told
@@ -34,7 +36,7 @@ stops_beforehand (Format fault) unread held is = (refl, refl)
 stops_beforehand (File fault) unread held is = absurd is
 stops_beforehand (Server fault) unread held is = absurd is
 stops_beforehand Number unread held is = absurd is
-stops_beforehand (Script (Memory refused)) unread held is = inl (tt, (refl, refl))
+stops_beforehand (Script (scripts.Memory refused)) unread held is = inl (tt, (refl, refl))
 stops_beforehand (Script (NotUnderstood k)) unread held is = absurd is
 stops_beforehand (Script CountTooLarge) unread held is = absurd is
 stops_beforehand (Script (Opening fault)) unread held is = absurd is
@@ -42,34 +44,49 @@ stops_beforehand (Script (Storing fault)) unread held is = absurd is
 stops_beforehand (Script Input) unread held is = absurd is
 stops_beforehand (Script Output) unread held is = absurd is
 
-at_once : (fault : ScriptFault) (content : List ℕ) → IsToldAtOnce fault content → IsAtOnce fault
-at_once (Memory refused) content told = tt
-at_once (NotUnderstood k) content told = absurd told
-at_once CountTooLarge content told = absurd told
-at_once (Opening fault) content told = tt
-at_once (Storing fault) content told = absurd told
-at_once Input content told = absurd told
-at_once Output content told = absurd told
+at_once : (fault : ScriptFault) (disk now : Memory) → IsToldAtOnce fault disk now → IsAtOnce fault
+at_once (scripts.Memory refused) disk now told = tt
+at_once (NotUnderstood k) disk now told = absurd told
+at_once CountTooLarge disk now told = absurd told
+at_once (Opening fault) disk now told = tt
+at_once (Storing fault) disk now told = absurd told
+at_once Input disk now told = absurd told
+at_once Output disk now told = absurd told
 
 -- nobody is connected to an empty journal
 pub restarted_empty : restarted empty_state ≡ empty_state
 restarted_empty = refl
 
-pub stops_over : (content : List ℕ) (fault : ScriptFault) (unread left before after : Option (List ℕ)) → Stands content empty_state
-    → StopsOver content fault unread left before after → StopsBy (Script fault) unread left before after
-stops_over content fault unread left before after stands (inl once) = inl (at_once fault content once.told, (once.same_unread, once.same_written))
-stops_over content fault unread left before after stands (inr (start, begins, stops)) =
-    inr (subst (λ s. Stops s fault unread left before after) (restart_is content empty_state start stands begins ∙ restarted_empty) stops)
+-- a disk that stood for the empty state is opened as that
+from_empty : (disk : Memory) (start : State) (first : Memory) → Stands disk.content empty_state → IsOpenedAs disk start first → start ≡ empty_state
+from_empty disk start first stands opened = restart_is disk.content empty_state start stands opened.restart ∙ restarted_empty
+
+pub stops_over : (disk now : Memory) (fault : ScriptFault) (unread left before after : Option (List ℕ)) → Stands disk.content empty_state
+    → StopsOver disk fault now unread left before after → StopsBy (Script fault) unread left before after
+stops_over disk now fault unread left before after stands (inl once) = inl (at_once fault disk now once.told, (once.same_unread, once.same_written))
+stops_over disk now fault unread left before after stands (inr (start, first, opened, stops)) =
+    inr (record { first = first; now = now; stops = subst (λ s. Stops s first fault now unread left before after) (from_empty disk start first stands opened) stops })
 
 -- over an empty journal a script runs from the empty state on
-pub runs_to_end : (content : List ℕ) (unread left before after : Option (List ℕ)) → Stands content empty_state
-    → ((input : List ℕ) × (printed : List ℕ) × (start : State) × BeginsWith content start × Consumes unread left input × IsAtEnd left × IsScript start input printed × Appends before after printed)
+pub runs_to_end : (disk now : Memory) (unread left before after : Option (List ℕ)) → Stands disk.content empty_state
+    → ((input : List ℕ) × (printed : List ℕ) × (start : State) × (first : Memory) × IsOpenedAs disk start first × Consumes unread left input × IsAtEnd left
+    × Appends before after printed × (script : IsScript start first input printed) × (now ≡ disk_of script.end))
     → RunsToEnd unread left before after
-runs_to_end content unread left before after stands w = record {
+runs_to_end disk now unread left before after stands w = record {
   input = w.0;
   printed = w.1;
-  reads = w.4;
-  ends = w.5;
-  is_script = subst (λ s. IsScript s w.0 w.1) (restart_is content empty_state w.2 stands w.3 ∙ restarted_empty) w.6;
+  reads = w.5;
+  ends = w.6;
+  disk = w.3;
+  is_script = subst (λ s. IsScript s w.3 w.0 w.1) (from_empty disk w.2 w.3 stands w.4) w.8;
   writes = w.7;
 }
+
+-- what is so of an answer
+pub on_ok_is : {A B : Type 0} (P : Type 0) (r : Result A B) (a : A) → r ≡ Ok a → OnOk r P → P
+on_ok_is P (Ok b) a is so = so
+on_ok_is P (Err e) a is so = cc
+
+pub if_err_is : {A B : Type 0} (P : B → Type 0) (r : Result A B) (e : B) → r ≡ Err e → IfErr r P → P e
+if_err_is P (Ok a) e is so = cc
+if_err_is P (Err d) e is so = let same : d ≡ e = cc in subst P same so

@@ -12,7 +12,9 @@ use Rattle.engine_core.specs.FaultTexts.{fault_text, open_fault_text, storing_te
 use Rattle.broker_core.specs.States.{empty_state}
 use Rattle.engine_core.specs.Runs.{Stops}
 use Rattle.engine_core.specs.declared.fault.ScriptFault.{ScriptFault}
-use Rattle.engine_core.specs.declared.fault.ScriptFault.TheVariants.{Memory, Opening}
+use Rattle.engine_core.specs.declared.fault.ScriptFault.TheVariants.{Opening}
+use Rattle.engine_core.specs.declared.fault.ScriptFault.TheVariants as scripts
+use Rattle.disk_core.specs.Memory.{Memory}
 use Rattle.journal_files.specs.JournalFiles.{Shows}
 use Rattle.journal_files.specs.declared.journal_files.ShowFault.TheVariants as shows
 use Rattle.tool_core.specs.CommandLines.{AskFor}
@@ -23,13 +25,14 @@ use Rattle.tool_core.specs.declared.program.FileFault.TheVariants as files
 use Rattle.tool_core.specs.declared.program.Failure.{Failure}
 use Rattle.tool_core.specs.declared.program.Failure.TheVariants.{CommandLine, Number, Script, Format, File, Server}
 
--- a script was read to its end, and what was written is what it prints from an empty journal on
+-- a script was read to its end, and what was written is what it prints from an empty journal on, on some disk
 pub record RunsToEnd (unread left before after : Option (List ℕ)) : Type 0 where
   pub input : List ℕ
   pub printed : List ℕ
   pub reads : Consumes unread left input
   pub ends : IsAtEnd left
-  pub is_script : IsScript empty_state input printed
+  pub disk : Memory
+  pub is_script : IsScript empty_state disk input printed
   pub writes : Appends before after printed
 
 -- nothing was read or written
@@ -59,14 +62,14 @@ status_of Number = 2
 
 -- memory was refused, or the disk was not opened, before the script was read
 abbrev pub IsAtOnce : ScriptFault → Type 0
-IsAtOnce (Memory refused) = Unit {0}
+IsAtOnce (scripts.Memory refused) = Unit {0}
 IsAtOnce (Opening fault) = Unit {0}
 IsAtOnce _ = ⊥
 
 -- the failure comes before a script is read: memory was refused, or its disk was not formatted
 abbrev pub IsBeforehand : Failure → Type 0
 IsBeforehand (CommandLine error) = ⊥
-IsBeforehand (Script (Memory refused)) = Unit {0}
+IsBeforehand (Script (scripts.Memory refused)) = Unit {0}
 IsBeforehand (Script _) = ⊥
 IsBeforehand (Format fault) = Unit {0}
 IsBeforehand (File fault) = ⊥
@@ -82,11 +85,17 @@ IsOfScript (File fault) = ⊥
 IsOfScript (Server fault) = ⊥
 IsOfScript Number = ⊥
 
+-- a fault stops a script that began with an empty journal, on some disk
+pub record StopsOnDisk (fault : ScriptFault) (unread left before after : Option (List ℕ)) : Type 0 where
+  pub first : Memory
+  pub now : Memory
+  pub stops : Stops empty_state first fault now unread left before after
+
 -- the failure is the script's, which a fault stops, at once or once it began with an empty journal; or nothing was read, and
 -- written only where a journal is shown
 abbrev pub StopsBy : Failure → Option (List ℕ) → Option (List ℕ) → Option (List ℕ) → Option (List ℕ) → Type 0
 StopsBy (CommandLine error) unread left before after = Untouched unread left before after
-StopsBy (Script fault) unread left before after = (IsAtOnce fault × Untouched unread left before after) ⊎ Stops empty_state fault unread left before after
+StopsBy (Script fault) unread left before after = (IsAtOnce fault × Untouched unread left before after) ⊎ StopsOnDisk fault unread left before after
 StopsBy (Format fault) unread left before after = Untouched unread left before after
 StopsBy (File fault) unread left before after = (left ≡ unread) × (fault ≢ files.Show shows.Output → after ≡ before)
 StopsBy (Server fault) unread left before after = Untouched unread left before after
@@ -135,7 +144,7 @@ IsTold (Server fault) before after = Appends before after (line_of (server_text 
 -- the failure tells of a refused command line, or of want of memory there
 abbrev pub Tells : Error → Failure → Type 0
 Tells error (CommandLine other) = (other ≡ error) × (kind_of error ≢ OutOfMemory)
-Tells error (Script (Memory refused)) = kind_of error ≡ OutOfMemory
+Tells error (Script (scripts.Memory refused)) = kind_of error ≡ OutOfMemory
 Tells error (Script _) = ⊥
 Tells error (Format fault) = ⊥
 Tells error (File fault) = ⊥

@@ -212,10 +212,14 @@ fn script<R: Read, W: Write>(alloc: Global, reader: &mut R, writer: &mut W) -> R
     ensures err { IfErr result (λ failure. StopsBy failure (R.remaining reader.old) (R.remaining reader.new) (W.contents writer.old) (W.contents writer.new)) }
 {
     match empty_journal(alloc, SCRIPT_DISK) {
-        Ok(disk) => match run_script(alloc, reader, writer, disk) {
-            Ok(()) => Ok(()),
-            Err(fault) => Err(Failure::Script(fault)),
-        },
+        Ok(disk) => {
+            let (disk, ended) = run_script(alloc, reader, writer, disk);
+            drop(disk);
+            match ended {
+                Ok(()) => Ok(()),
+                Err(fault) => Err(Failure::Script(fault)),
+            }
+        }
         Err(failure) => Err(failure),
     }
 }

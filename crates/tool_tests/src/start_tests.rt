@@ -43,7 +43,9 @@ open 7 1
 fn printed_over(alloc: Global, disk: MemDisk) -> Result<Vec<u8>, Fail> {
     let mut reader = SCRIPT;
     let mut written = Vec::new(alloc);
-    run_script(alloc, &mut reader, &mut written, disk)?;
+    let (disk, ended) = run_script(alloc, &mut reader, &mut written, disk);
+    drop(disk);
+    ended?;
     Ok(written)
 }
 
@@ -78,7 +80,9 @@ fn push_over(alloc: Global, front: &[u8], script: &[u8], all: &mut Vec<u8>) -> R
     let mut disk = MemDisk::new(alloc, DISK_BYTES)?;
     disk.write_at(0, front)?;
     let mut reader = script;
-    match run_script(alloc, &mut reader, all, disk) {
+    let (disk, ended) = run_script(alloc, &mut reader, all, disk);
+    drop(disk);
+    match ended {
         Ok(()) => Ok(()),
         Err(fault) => push_fault(&fault, all),
     }
@@ -151,7 +155,8 @@ fn over_a_disk_of_zeros_nothing_is_read_and_nothing_written(rt: HostRuntime) -> 
     let disk = MemDisk::new(rt.alloc(), 64)?;
     let mut reader = SCRIPT;
     let mut written = Vec::new(rt.alloc());
-    let ended = run_script(rt.alloc(), &mut reader, &mut written, disk);
+    let (disk, ended) = run_script(rt.alloc(), &mut reader, &mut written, disk);
+    drop(disk);
     let is_told = is_no_journal(&ended);
     let is_silent = written.is_empty();
     drop(ended);

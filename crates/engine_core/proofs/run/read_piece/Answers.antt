@@ -1,6 +1,6 @@
 use Rattle.std.proofs.Common.{◌≡◌, ◌<◌, arith, ap, take, length}
 use Rattle.std.proofs.lemmas.Result.{err_from_is_err_and}
-use Rattle.engine_core.proofs.Turning.{stopped_at_end, turned_kept}
+use Rattle.engine_core.proofs.Turning.{stopped_at_end, stopped_by_reader, turned_kept}
 use Rattle.engine_core.proofs.run.read_piece.Goals as goal
 
 pub returns-in_err-end-in-Ok-eq0-clause-err : goal.returns-in_err-end-in-Ok-eq0-clause-err
@@ -14,3 +14,6 @@ returns-in_err-end-in-Ok-eq0-clause-err g c =
 
 pub returns-else-ne-clause-ok : goal.returns-else-ne-clause-ok
 returns-else-ne-clause-ok g c = turned_kept c.args.run.now _ _ _ c.requires.begun c.in-Err.ensures.bytes
+
+pub returns-then-ne-clause-err : goal.returns-then-ne-clause-err
+returns-then-ne-clause-err g c = stopped_by_reader c.args.run.now _ _ _ c.requires.begun c.in-Err.ensures.bytes

@@ -7,9 +7,11 @@ use Rattle.engine_core.proofs.running_script.do_acts.Given as goal
 
 abbrev pub invariant-loop-act : goal.invariant-loop-act
 invariant-loop-act l = record {
-  done : record { number = l.number; queue = l.queue; text = string_bytes l.text }
-      ≡ fold (acted l.connection) (record { number = l.fn.number; queue = l.fn.queue; text = string_bytes l.fn.text }) l.yielded;
-  within : ComeToNone l.connection IsTooFar (record { number = l.fn.number; queue = l.fn.queue; text = string_bytes l.fn.text }) l.yielded;
+  done : record { number = l.number; queue = l.queue.queue; text = string_bytes l.text }
+      ≡ fold (acted l.connection) (record { number = l.fn.number; queue = l.fn.queue.queue; text = string_bytes l.fn.text }) l.yielded;
+  within : ComeToNone l.connection IsTooFar (record { number = l.fn.number; queue = l.fn.queue.queue; text = string_bytes l.fn.text }) l.yielded;
+  durable : l.queue.queue.durable ≡ l.fn.queue.queue.durable;
+  calm : l.queue.disk.failures ≡ l.fn.queue.disk.failures;
   whole : l.fn.acts.items ≡ l.yielded ++ l.act-iterator.rest.items;
   rest : AllByRecursion HasForm l.act-iterator.rest.items;
 }

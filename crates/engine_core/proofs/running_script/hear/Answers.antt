@@ -13,3 +13,8 @@ pub returns-in_err-number-clause-full : goal.returns-in_err-number-clause-full
 returns-in_err-number-clause-full c =
     let p = err_from_is_err_and c.from_residual-in_err-number.result c.from_residual-in_err-number.ensures.1 in
     rw (p.1, p.2) (λ e. (c.in_ok-acts.acts.items, c.feed.new.self, c.in_ok-acts.ensures.acts, c.in_err-number.ensures.full e))
+
+pub returns-in_err-number-clause-broken : goal.returns-in_err-number-clause-broken
+returns-in_err-number-clause-broken c =
+    let p = err_from_is_err_and c.from_residual-in_err-number.result c.from_residual-in_err-number.ensures.1 in
+    rw (p.1, p.2) (λ e durable. (c.in_ok-acts.acts.items, c.feed.new.self, c.in_ok-acts.ensures.acts, c.in_err-number.ensures.broken e durable))

@@ -2,12 +2,13 @@ use Rattle.std.proofs.Common.{◌≡◌, ◌+◌, ◌++◌, ◌∙◌, OnOk, ari
 use Rattle.std.proofs.lemmas.Result.{on_ok_weaker}
 use Rattle.std.specs.List.{flat_map}
 use Rattle.disk_core.specs.Memory.{Memory}
+use Rattle.broker_core.specs.States.{State}
 use Rattle.broker_core.specs.Steps.{outs_of}
 use Rattle.flush_core.proofs.Taken.{count_after}
 use Rattle.script_journal.specs.Journals.{JournalValue}
 use Rattle.script_journal.specs.Placed.{commands_of}
 use Rattle.script_journal.proofs.Placing.{commands_length}
-use Rattle.engine_core.specs.Queues.{flush_text, line_of_out}
+use Rattle.engine_core.specs.Queues.{QueueOnDisk, flush_text, line_of_out}
 use Rattle.engine_core.proofs.command_queue.CommandQueue.flush.Goals as goal
 
 pub invariant_of-self : goal.invariant_of-self
@@ -15,7 +16,7 @@ invariant_of-self c = λ durable.
     let ws = c.replace-waiting.result.items in
     let made = c.in-Ok-Some.ensures in
     let counted : c.print_outs.new.journal.state.count ≡ c.self.inside.journal.state.count + length (commands_of ws) =
-    ap (λ (j : JournalValue Memory). j.state.count) (c.print_outs.ensures.still durable ∙ made.state (ap is_some c.in-Ok-Some.field-0-is)) ∙ count_after (commands_of ws) c.self.inside.journal.state in
+    ap (λ (s : State). s.count) c.print_outs.ensures.same.0 ∙ ap (λ (j : JournalValue Memory). j.state.count) (made.state (ap is_some c.in-Ok-Some.field-0-is)) ∙ count_after (commands_of ws) c.self.inside.journal.state in
     omega (arith, counted, commands_length ws, c.self.invariant made.durable, ap (λ w. length w.items) c.replace-waiting.ensures.value, ap (λ w. length w.items) c.replace-waiting.ensures.after, ap length c.new.ensures.items)
 
 pub returns-in-Ok-Some-clause-text : goal.returns-in-Ok-Some-clause-text
@@ -24,5 +25,5 @@ returns-in-Ok-Some-clause-text c =
     let before = string_bytes c.args.text.now in
     let given = subst (λ o. IfSome o (λ outs. outs.items ≡ outs_of inside.journal.state (commands_of c.replace-waiting.result.items))) c.in-Ok-Some.field-0-is c.in-Ok-Some.ensures.outs in
     let outs = given ∙ ap (λ w. outs_of inside.journal.state (commands_of w.items)) c.replace-waiting.ensures.value in
-    subst (λ q. OnOk c.print_outs.result (string_bytes c.print_outs.new.text ≡ before ++ flush_text q)) c.self.view_is
+    subst (λ (q : QueueOnDisk). OnOk c.print_outs.result (string_bytes c.print_outs.new.text ≡ before ++ flush_text q.queue)) c.self.view_is
     (on_ok_weaker c.print_outs.result (λ printed. printed ∙ ap (λ os. before ++ flat_map (line_of_out inside.openers.entries) os) outs) c.print_outs.ensures.text)

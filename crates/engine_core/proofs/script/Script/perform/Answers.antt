@@ -1,11 +1,28 @@
-use Rattle.std.proofs.Common.{◌≡◌, ◌<◌, ◌++◌, ◌∷◌, inr, string_bytes, subst}
+use Rattle.std.proofs.Common.{◌≡◌, ◌<◌, ◌++◌, ◌∷◌, inl, inr, string_bytes, subst}
 use Rattle.std.specs.Fmt.{decimal}
 use Rattle.std.proofs.lemmas.Result.{IfOk-weaker}
-use Rattle.script_text.specs.ScriptLines.{Says}
+use Rattle.script_text.specs.ScriptLines.{IsLoss, Says}
 use Rattle.script_text.specs.PercentTexts.{decoded}
-use Rattle.engine_core.specs.Running.{Receives}
-use Rattle.engine_core.proofs.Performing.{of_text, performed}
+use Rattle.engine_core.specs.Queues.{IsFlush}
+use Rattle.engine_core.specs.Running.{Loses, LosesSuch, Receives, ReceivesSuch}
+use Rattle.engine_core.proofs.Performing.{of_loss, of_text, performed}
+use Rattle.engine_core.proofs.Telling.{all_told}
 use Rattle.engine_core.proofs.script.Script.perform.Goals as goal
+
+pub returns-in-Some-Lose-clause-ok : goal.returns-in-Some-Lose-clause-ok
+returns-in-Some-Lose-clause-ok c =
+    let n = c.in-Some-Lose.connection in
+    let said : IsLoss c.args.line.now n = subst (Says c.args.line.now) c.in-Some-Lose.field-0-is c.in-Some-Lose.ensures in
+    IfOk-weaker c.lose.result _ _
+    (λ printed given. performed string_bytes c.args.self.now _ c.args.line.now (λ answer a b. Loses a n answer b) printed (of_loss c.args.line.now n said)
+    (λ answer a b loses. inr (inl (n, said, loses))) given)
+    c.lose.ensures.ok
+
+pub returns-in-Some-Lose-clause-told : goal.returns-in-Some-Lose-clause-told
+returns-in-Some-Lose-clause-told c =
+    let n = c.in-Some-Lose.connection in
+    let said : IsLoss c.args.line.now n = subst (Says c.args.line.now) c.in-Some-Lose.field-0-is c.in-Some-Lose.ensures in
+    all_told c.args.line.now (λ Such s. LosesSuch (IsFlush Such) s n) (λ Such s loses. inr (inr (inl (n, said, loses)))) c.args.self.now c.lose.new.self c.lose.result c.lose.ensures.full c.lose.ensures.broken c.lose.ensures.told
 
 pub returns-in-Some-Receive-clause-ok : goal.returns-in-Some-Receive-clause-ok
 returns-in-Some-Receive-clause-ok c =
@@ -16,3 +33,10 @@ returns-in-Some-Receive-clause-ok c =
     (λ printed given. performed string_bytes c.args.self.now _ c.args.line.now (λ answer a b. Receives a n (decoded text) answer b) printed (of_text c.args.line.now text n said.0 said.1)
     (λ answer a b receives. inr (inr (n, text, said.0, said.1, receives))) given)
     c.receive.ensures.ok
+
+pub returns-in-Some-Receive-clause-told : goal.returns-in-Some-Receive-clause-told
+returns-in-Some-Receive-clause-told c =
+    let n = c.in-Some-Receive.connection in
+    let text = c.in-Some-Receive.text.now in
+    let said : (n < 32) × (c.args.line.now ≡ decimal n ++ 32 ∷ text) = subst (Says c.args.line.now) c.in-Some-Receive.field-0-is c.in-Some-Receive.ensures in
+    all_told c.args.line.now (λ Such s. ReceivesSuch (IsFlush Such) s n (decoded text)) (λ Such s receives. inr (inr (inr (n, text, said.0, said.1, receives)))) c.args.self.now c.receive.new.self c.receive.result c.receive.ensures.full c.receive.ensures.broken c.receive.ensures.told
