@@ -2,10 +2,12 @@
 
 ghost use Rattle.std.specs.Prelude.{◌≡◌, ◌<◌, ◌≤◌, ◌+◌, ◌++◌, [], OnOk, length, vec_capacity};
 ghost use Rattle.boxes_core.specs.Giving.{AreGiven, unboxed, without};
+ghost use Rattle.flush_core.specs.Flushed.{AreUnder};
 
 use boxes_core::Boxes;
+use claim_core::FlushSeat;
 use command_core::Out;
-use outbox_core::Bell;
+use outbox_core::{Bell, OutSender};
 use std::alloc::{AllocError, Global};
 use std::mem::{replace, swap};
 
@@ -59,7 +61,11 @@ impl<B: Bell> Outlet<B> {
 
     // Lets the boxes go of sessions whose last outputs are given, and gives what waits to the boxes of its sessions. What goes
     // to no box may be handed out, behind what might be already.
-    pub(crate) fn give(&mut self)
+    //
+    // All that waits is under the mark that the seat has published: a box rings as it is given something, and whoever looks
+    // then finds that its outputs may leave.
+    pub(crate) fn give(&mut self, seat: &FlushSeat<OutSender<B>>)
+        requires under { AreUnder seat.now.published self.old.waiting.items }
         requires none { length self.old.spare.items ≡ 0 }
         requires spare { length self.old.waiting.items ≤ vec_capacity self.old.spare }
         requires left { 0 < length self.old.left.items → length self.old.left.items + length self.old.waiting.items ≤ vec_capacity self.old.left }
@@ -68,6 +74,7 @@ impl<B: Bell> Outlet<B> {
         ensures left { self.new.left.items ≡ self.old.left.items ++ unboxed (without self.old.boxes self.old.past.items) self.old.waiting.items }
         ensures none { (self.new.waiting.items ≡ []) × (self.new.spare.items ≡ []) }
     {
+        let _published = seat;
         let_past_go(&mut self.boxes, &mut self.past, &mut self.ended);
         give_waiting(&mut self.boxes, &mut self.waiting, &mut self.spare);
         leave(&mut self.left, &mut self.spare);

@@ -29,7 +29,7 @@ impl<D: Disk, B: Bell> Flusher<D, B> {
         ensures held { D.honest self.new.disk → StandFor (D.images self.new.disk) (state_at self.new.opening self.new.seat self.new.seat.published) }
     {
         ring.raise(&mut self.seat, self.stored);
-        self.outlet.give();
+        self.outlet.give(&self.seat);
     }
 
     /// Hands out the outputs that are published and went to no box, in the order of their commands: the number of each is under

@@ -2,6 +2,7 @@
 
 ghost use Rattle.std.specs.Prelude.{◌≡◌};
 ghost use Rattle.hub_core.specs.Conversations.{Continues};
+ghost use Rattle.hub_core.specs.Steps.{Answers, IsKept};
 
 use crate::connection::{Connection, Stage};
 use crate::ended::Ended;
@@ -113,7 +114,9 @@ impl<B: Bell> Connection<B> {
         entry: Entry<OutSender<B>>,
     ) -> Step
         requires { seat.old.ring ≡ ring.now }
-        ensures { Continues self.old.progress seat.old self.new.progress seat.new }
+        ensures continues { Continues self.old.progress seat.old self.new.progress seat.new }
+        ensures outbox { self.new.outbox ≡ self.old.outbox }
+        ensures kept { IsKept entry self.new.entry result }
     {
         let is_last = asks_last(entry.command());
         match speak(ring, seat, &mut self.progress, entry) {
@@ -131,7 +134,9 @@ impl<B: Bell> Connection<B> {
     // An entry that the ring refused is kept for as long as the window is full. A ring that takes nothing more ends the
     // connection.
     fn hold(&mut self, entry: Entry<OutSender<B>>, refused: Refused) -> Step
-        ensures { self.new.progress ≡ self.old.progress }
+        ensures same { (self.new.progress ≡ self.old.progress) × (self.new.outbox ≡ self.old.outbox) }
+        ensures kept { IsKept entry self.new.entry result }
+        ensures answers { Answers refused result }
     {
         match refused {
             Refused::Busy(mark) => {

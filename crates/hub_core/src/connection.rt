@@ -1,9 +1,10 @@
 //! One connection, as its worker keeps it from turn to turn.
 
-ghost use Rattle.std.specs.Prelude.{◌≡◌, ◌≢◌, ◌⊎◌, ◌++◌, [], None, true, false, option_to_list, IfSome, IfOk, IfErr};
+ghost use Rattle.std.specs.Prelude.{◌≡◌, ◌≢◌, ◌⊎◌, ◌++◌, [], None, true, false, option_to_list, IfSome, IfOk, IfErr, OnErr};
 ghost use Rattle.session_core.specs.Sessions.{HasForm};
 ghost use Rattle.session_core.specs.declared.act.Act.TheVariants as acts;
-ghost use Rattle.hub_core.specs.Conversations.{asked};
+ghost use Rattle.hub_core.specs.Boxes.{Carries, IsBoxFor};
+ghost use Rattle.hub_core.specs.Conversations.{asked, role_of};
 ghost use Rattle.hub_core.specs.Tasks.{all_of};
 ghost use Rattle.hub_core.specs.declared.connection.Stage.TheVariants.{Running, GivingUp, Leaving};
 ghost use Rattle.hub_core.specs.declared.progress.Progress.TheVariants.{New};
@@ -127,7 +128,8 @@ impl<B: Bell> Connection<B> {
         }
     }
 
-    // The entry of an operation for this session, or the act again where memory was refused. An Open gets its outbox here.
+    // The entry of an operation for this session, or the act again where memory was refused. An Open gets its outbox here: its
+    // entry carries the end that gives, and the connection keeps the end of the same box that takes.
     pub fn entry_of<M: Ringers<B>>(
         &mut self,
         alloc: Global,
@@ -139,6 +141,8 @@ impl<B: Bell> Connection<B> {
         ensures same { (self.new.progress ≡ self.old.progress) × (self.new.acts ≡ self.old.acts) }
         ensures form { IfErr result HasForm }
         ensures entry { IfOk result (λ entry. entry.command ≡ asked self.old.progress op receipt) }
+        ensures outbox { IfOk result (λ entry. Carries (role_of op) entry.outbox self.old.outbox self.new.outbox) }
+        ensures refused { OnErr result (self.new.outbox ≡ self.old.outbox) }
         ensures back { IfErr result (λ act. act ≡ acts.Do op receipt) }
     {
         let role = Role::of(&op);
@@ -175,7 +179,9 @@ fn box_for<B: Bell, M: Ringers<B>>(
     alloc: Global,
     ringers: &M,
     role: Role,
-) -> Result<(Option<OutSender<B>>, Option<OutTaker>), AllocError> {
+) -> Result<(Option<OutSender<B>>, Option<OutTaker>), AllocError>
+    ensures { IfOk result (λ ends. IsBoxFor role ends.0 ends.1) }
+{
     if role != Role::Opens {
         return Ok((None, None));
     }

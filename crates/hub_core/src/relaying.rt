@@ -11,13 +11,14 @@ use claim_core::{BrokerRing, BrokerSeat, Released};
 use outbox_core::{OutTaker, Taken};
 use std::alloc::Global;
 use std::mem;
-use ws_core::{Link, LinkFault};
+use ws_core::{LinkFault, Outgoing};
 
 /// Handles one output, the one that is kept or else the next in the outbox: sends it where its number is under the mark.
 ///
-/// Where it isn't sent it is kept, and the next call handles it again. No memory is taken but what sending takes: after
-/// `Memory` the call may be made again, after `Gone` the link is over.
-pub fn relay<B, L: Link>(
+/// Where it isn't sent it is kept, and the next call handles it again. No memory is taken but what sending takes. A fault is the
+/// link's own: after `Memory` the link is as it was and the call may be made again, after `Gone` the link is over. The link is
+/// neither read nor closed.
+pub fn relay<B, L: Outgoing>(
     alloc: Global,
     ring: &BrokerRing<B>,
     seat: &mut BrokerSeat<B>,
@@ -30,6 +31,8 @@ pub fn relay<B, L: Link>(
     ensures no_less { seat.old.seen ≤ seat.new.seen }
     ensures relays { IfOk result (Relays (passage taker.old kept.old (L.sent link.old)) (passage taker.new kept.new (L.sent link.new)) seat.new.seen) }
     ensures refused { IfErr result (λ fault. IsRefused (passage taker.old kept.old (L.sent link.old)) (passage taker.new kept.new (L.sent link.new)) seat.new.seen) }
+    ensures fault { IfErr result (L.refuses link.old link.new) }
+    ensures memory { IfErr result (λ fault. fault ≡ LinkFault.Memory → link.new ≡ link.old) }
 {
     match find(ring, seat, taker, kept) {
         Ok(released) => pass(alloc, released, kept, link),
@@ -38,7 +41,7 @@ pub fn relay<B, L: Link>(
 }
 
 // Sends an output that may leave, or keeps it where the link refuses it.
-fn pass<L: Link>(
+fn pass<L: Outgoing>(
     alloc: Global,
     released: Released,
     kept: &mut Kept,
@@ -48,6 +51,8 @@ fn pass<L: Link>(
     ensures told { IfOk result (λ relayed. (relayed ≡ Relayed.Sent released.number released.frame.verb) × (kept.new ≡ Kept.Nothing)
         × (L.sent link.new ≡ with_message (written released.frame) (L.sent link.old))) }
     ensures untold { OnErr result ((kept.new ≡ Kept.Unsent released) × (L.sent link.new ≡ L.sent link.old)) }
+    ensures fault { IfErr result (L.refuses link.old link.new) }
+    ensures memory { IfErr result (λ fault. fault ≡ LinkFault.Memory → link.new ≡ link.old) }
 {
     match link.send(alloc, &released) {
         Ok(()) => {

@@ -12,11 +12,11 @@ use claim_core::{BrokerRing, BrokerSeat};
 use frame_core::Verb;
 use outbox_core::{Bell, OutSender};
 use std::alloc::Global;
-use ws_core::{Link, LinkFault};
+use ws_core::{LinkFault, Outgoing};
 
 impl<B: Bell> Connection<B> {
     /// Sends what may leave, until nothing more may or the connection is to be closed. A link that is over sends nothing.
-    pub fn pass_on<L: Link>(
+    pub fn pass_on<L: Outgoing>(
         &mut self,
         alloc: Global,
         ring: &BrokerRing<OutSender<B>>,
@@ -34,7 +34,7 @@ impl<B: Bell> Connection<B> {
     }
 
     // Relays one output, and answers whether the next may follow.
-    fn pass_one<L: Link>(
+    fn pass_one<L: Outgoing>(
         &mut self,
         alloc: Global,
         ring: &BrokerRing<OutSender<B>>,

@@ -287,6 +287,33 @@ fn each_step_of_a_turn_does_its_part_alone(rt: HostRuntime) -> Result<(), Fail> 
     Ok(())
 }
 
+// How many commands each of two gathers takes, and the mark once both are published.
+fn gather_twice(alloc: Global, setup: &mut Setup) -> Option<[u64; 3]>
+    requires ring { (setup.old.first.ring ≡ setup.old.ring) × (setup.old.flusher.seat.ring ≡ setup.old.ring) }
+    requires settled { setup.old.flusher.settled ≡ setup.old.flusher.stored }
+{
+    let first = setup.flusher.gather(&setup.ring).ok()?;
+    let Some(Ok(5)) = append(alloc, &setup.ring, &mut setup.first, FIRST_SEND) else {
+        return None;
+    };
+    let second = setup.flusher.gather(&setup.ring).ok()?;
+    setup.flusher.store(alloc, &setup.ring).ok()?;
+    setup.flusher.settle(alloc, &setup.ring).ok()?;
+    setup.flusher.publish(&setup.ring);
+    Some([first, second, setup.flusher.mark()])
+}
+
+#[test]
+fn a_second_gather_takes_more_while_a_batch_waits(rt: HostRuntime) -> Result<(), Fail> {
+    let Some(mut setup) = opened(rt.alloc()) else {
+        panic!(rt; "no flusher was made")
+    };
+    let gathered = gather_twice(rt.alloc(), &mut setup);
+    drop(setup);
+    assert_eq!(rt; gathered, Some([3, 1, 6]));
+    Ok(())
+}
+
 // Stores what the three have sent, in a step of its own or in a turn, and answers whether the disk failed.
 fn fails<D: Disk>(
     alloc: Global,

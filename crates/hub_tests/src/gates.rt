@@ -56,9 +56,16 @@ impl<R: Clock> Gate for Turnstile<R> {
     }
 }
 
+/// A turn of a worker that is taken once every number under a mark is published.
+#[derive(Clone, Copy)]
+pub struct Awaited {
+    pub turn: u64,
+    pub mark: u64,
+}
+
 /// The gate of worker 0 and of a flusher, which notes what it hears. Each turn sleeps a millisecond. The flusher is held up
-/// until it is let go, or the worker has found its window full, or has ended; then that one turns no more. A worker whose
-/// window is full is held up until the mark has risen, or will rise no more.
+/// until it is let go, or the worker has found its window full, or awaits a mark, or has ended; then that one turns no more. A
+/// worker whose window is full is held up until the mark has risen, or will rise no more.
 #[derive(Drop)]
 pub struct Noting<R> {
     rt: R,
@@ -69,7 +76,10 @@ pub struct Noting<R> {
     appended: AtomicBool,
     full: AtomicBool,
     stopped: AtomicBool,
+    short: AtomicBool,
     mark: AtomicU64,
+    awaited_turn: AtomicU64,
+    awaited_mark: AtomicU64,
 }
 
 impl<R> Noting<R> {
@@ -83,12 +93,16 @@ impl<R> Noting<R> {
             appended: AtomicBool::new(false),
             full: AtomicBool::new(false),
             stopped: AtomicBool::new(false),
+            short: AtomicBool::new(false),
             mark: AtomicU64::new(0),
+            awaited_turn: AtomicU64::new(u64::MAX),
+            awaited_mark: AtomicU64::new(0),
         }
     }
 
-    /// Begins anew: whether the worker is held up, and whether the flusher is let go from the beginning.
-    pub fn begin(&self, shut: bool, flushes: bool) {
+    /// Begins anew: whether the worker is held up, whether the flusher is let go from the beginning, and for which turn the
+    /// worker awaits a mark.
+    pub fn begin(&self, shut: bool, flushes: bool, awaits: Option<Awaited>) {
         self.shut.store(shut, Ordering::SeqCst);
         self.waits.store(false, Ordering::SeqCst);
         self.flushes.store(flushes, Ordering::SeqCst);
@@ -96,7 +110,14 @@ impl<R> Noting<R> {
         self.appended.store(false, Ordering::SeqCst);
         self.full.store(false, Ordering::SeqCst);
         self.stopped.store(false, Ordering::SeqCst);
+        self.short.store(false, Ordering::SeqCst);
         self.mark.store(0, Ordering::SeqCst);
+        let (turn, mark) = match awaits {
+            Some(awaited) => (awaited.turn, awaited.mark),
+            None => (u64::MAX, 0),
+        };
+        self.awaited_turn.store(turn, Ordering::SeqCst);
+        self.awaited_mark.store(mark, Ordering::SeqCst);
     }
 
     /// The worker has ended.
@@ -112,14 +133,36 @@ impl<R> Noting<R> {
         let stopped = self.stopped.load(Ordering::SeqCst);
         ([appended, full, stopped], self.mark.load(Ordering::SeqCst))
     }
+
+    /// Whether it heard that memory was refused.
+    pub fn was_short(&self) -> bool {
+        self.short.load(Ordering::SeqCst)
+    }
+}
+
+impl<R: Clock> Noting<R> {
+    // Lets the flusher go, and waits for the mark, for ten seconds at most.
+    fn await_mark(&self) {
+        self.flushes.store(true, Ordering::SeqCst);
+        let wanted = self.awaited_mark.load(Ordering::SeqCst);
+        for _ in 0..10_000u32 {
+            if self.mark.load(Ordering::SeqCst) >= wanted {
+                return;
+            }
+            thread::sleep(&self.rt, Duration::from_millis(1));
+        }
+    }
 }
 
 impl<R: Clock> Gate for Noting<R> {
-    fn pass(&self, worker: u32, _turn: u64) -> bool {
+    fn pass(&self, worker: u32, turn: u64) -> bool {
         if self.ended.load(Ordering::SeqCst) {
             return worker == u32::MAX;
         }
         thread::sleep(&self.rt, Duration::from_millis(1));
+        if worker == 0 && turn == self.awaited_turn.load(Ordering::SeqCst) {
+            self.await_mark();
+        }
         match worker {
             0 => !self.shut.load(Ordering::SeqCst) && !self.waits.load(Ordering::SeqCst),
             u32::MAX => self.flushes.load(Ordering::SeqCst),
@@ -139,6 +182,10 @@ impl<R: Clock> Gate for Noting<R> {
         if self.mark.load(Ordering::SeqCst) > mark || self.stopped.load(Ordering::SeqCst) {
             self.waits.store(false, Ordering::SeqCst);
         }
+    }
+
+    fn is_short(&self, _worker: u32) {
+        self.short.store(true, Ordering::SeqCst);
     }
 
     fn published(&self, mark: u64) {

@@ -12,10 +12,16 @@ mod gates;
 #[cfg(test)]
 mod hubs;
 #[cfg(test)]
+mod like_script_tests;
+#[cfg(test)]
 mod links;
 #[cfg(test)]
 mod many_commands_tests;
 #[cfg(test)]
+mod rows;
+#[cfg(test)]
 mod script_tests;
+#[cfg(test)]
+mod texts;
 #[cfg(test)]
 mod two_sessions_tests;

@@ -3,6 +3,7 @@ ghost use Rattle.std.specs.Prelude.{◌≡◌, IfOk};
 use command_core::{Out, connected_reply};
 use outbox_core::{Bell, OUTBOX_OUTPUTS, OutSender, OutTaker, Silent, Taken, outbox};
 use std::alloc::{AllocError, Global};
+use std::cell::{Cell, RefCell};
 use std::sync::Arc;
 use std::sync::atomic::{AtomicU64, Ordering};
 use std::test::Fail;
@@ -143,5 +144,74 @@ fn a_box_rings_when_it_is_given_something_cut_dropped_or_finished(
     let theirs = Arc::try_clone(&rings)?;
     assert!(rt; finish_one(alloc, Counted { rings: theirs })?);
     assert_eq!(rt; rings.load(Ordering::SeqCst), 515);
+    Ok(())
+}
+
+// What the taker finds behind all that waits.
+fn look_behind(taker: &mut OutTaker) -> Got {
+    for _ in 0..600u32 {
+        let got = look(taker);
+        if got == Got::Empty || got == Got::Cut {
+            return got;
+        }
+    }
+    Got::Item(600)
+}
+
+// Has the taker look as it rings, on the thread that gives, and notes what that found behind all that waited.
+#[derive(Drop)]
+struct Looking<'a> {
+    taker: &'a RefCell<Option<OutTaker>>,
+    found: &'a Cell<Option<Got>>,
+}
+
+impl Bell for Looking<'_> {
+    fn ring(&self) {
+        if let Ok(mut taker) = self.taker.try_borrow_mut()
+            && let Some(taker) = &mut *taker
+        {
+            self.found.set(Some(look_behind(taker)));
+        }
+    }
+}
+
+// How the sending end of a box goes.
+#[derive(Clone, Copy)]
+enum Way {
+    Dropped,
+    Finished,
+    Cut,
+}
+
+// What a taker finds that looks as the bell rings, where the end of a full box goes in that way.
+fn find_at_ring(alloc: Global, way: Way) -> Result<Option<Got>, AllocError> {
+    let place = RefCell::new(None);
+    let found = Cell::new(None);
+    let (mut sender, taker) = outbox(
+        alloc,
+        Looking {
+            taker: &place,
+            found: &found,
+        },
+    )?;
+    fill(alloc, &mut sender)?;
+    drop(place.try_replace(Some(taker)));
+    match way {
+        Way::Dropped => drop(sender),
+        Way::Finished => drop(sender.finish()),
+        Way::Cut => {
+            back(alloc, &mut sender, 512)?;
+            drop(place.try_replace(None));
+            drop(sender);
+        }
+    }
+    Ok(found.get())
+}
+
+#[test]
+fn a_taker_that_looks_as_the_bell_rings_finds_the_end_gone(rt: HostRuntime) -> Result<(), Fail> {
+    for way in [Way::Dropped, Way::Finished, Way::Cut] {
+        assert_eq!(rt; find_at_ring(rt.alloc(), way)?, Some(Got::Cut));
+    }
     Ok(())
 }

@@ -8,5 +8,7 @@ mod pace;
 mod serving;
 mod socket_stream;
 
+pub use doorbell::BellRope;
 pub use fault::ServeFault;
-pub use serving::{Server, WORKERS, Worker};
+pub use serving::{Server, Worker};
+pub use socket_stream::SocketStream;

@@ -21,6 +21,7 @@ use std::io::Write;
 use std::marker::Model;
 use std::net::{Net, TcpListener, TcpStream};
 use std::sync::{Arc, Wait};
+use std::thread::Threads;
 use std::time::{Clock, Duration};
 use std::{io, mem, thread};
 use ws_core::WsLink;
@@ -32,9 +33,6 @@ type ServerFlusher = Flusher<FileDisk, BellRope>;
 type ServerRing = BrokerRing<OutSender<BellRope>>;
 
 type ServerSeat = BrokerSeat<OutSender<BellRope>>;
-
-/// How many workers a server has: one for each seat at its ring.
-pub const WORKERS: usize = SEATS;
 
 /// For how many milliseconds a worker rests where a connection was not accepted.
 const REST: u64 = 20;
@@ -248,6 +246,31 @@ impl<R: Drop> Server<R> {
     }
 }
 
+impl<R> Server<R>
+where
+    R: Threads
+        + Net<Listener = TcpListener, Stream = TcpStream>
+        + Wait
+        + Clock
+        + Clone
+        + Drop
+        + Send
+        + Sync
+        + 'static,
+{
+    /// Starts all workers, each in a thread of its own. `Threads` where the system starts no more: those that were started
+    /// go on.
+    pub fn start_workers(&mut self, rt: &R, alloc: Global) -> Result<(), ServeFault>
+        ensures all { OnOk result (self.new.seats ≡ []) }
+        ensures same { self.new ≡ record self.old { seats = self.new.seats } }
+    {
+        for _seat in 0..self.seats.len() {
+            start_worker(rt, alloc, self)?;
+        }
+        Ok(())
+    }
+}
+
 impl<R: Wait + Clock + Drop> Server<R> {
     /// Writes `listening` and the port, and flushes until a step fails, which it answers: the flusher is broken then, its
     /// ring is stopped, and nothing more is acknowledged. `Output` where the line can't be written: nothing has changed.
@@ -290,6 +313,30 @@ impl<R: Net + Wait + Clock + Clone + Drop> Worker<R> {
                 Err(_) => thread::sleep(&shared.rt, Duration::from_millis(REST)),
             }
         }
+    }
+}
+
+// Starts the next worker, if there is one.
+fn start_worker<R>(rt: &R, alloc: Global, server: &mut Server<R>) -> Result<(), ServeFault>
+where
+    R: Threads
+        + Net<Listener = TcpListener, Stream = TcpStream>
+        + Wait
+        + Clock
+        + Clone
+        + Drop
+        + Send
+        + Sync
+        + 'static,
+    ensures one { server.old.seats ≢ [] → OnOk result (length server.old.seats ≡ length server.new.seats + 1) }
+    ensures same { server.new ≡ record server.old { seats = server.new.seats } }
+{
+    let Some(worker) = server.next_worker()? else {
+        return Ok(());
+    };
+    match thread::spawn(rt, move || worker.run(alloc)) {
+        Ok(_) => Ok(()),
+        Err(_) => Err(ServeFault::Threads),
     }
 }
 

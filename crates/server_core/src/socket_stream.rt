@@ -62,7 +62,7 @@ pub struct SocketStream<T> {
 
 impl<T: Net + Clock + Drop> SocketStream<T> {
     /// The stream of a socket that was just accepted. What is written leaves at once (no delay by Nagle's algorithm).
-    pub(crate) fn new(alloc: Global, rt: T, socket: net::TcpStream) -> io::Result<SocketStream<T>> {
+    pub fn new(alloc: Global, rt: T, socket: net::TcpStream) -> io::Result<SocketStream<T>> {
         socket.set_nodelay(true)?;
         socket.set_nonblocking(true)?;
         let since = Instant::now(&rt)?;
@@ -82,7 +82,7 @@ impl<T: Net + Clock + Drop> SocketStream<T> {
     }
 
     /// What ends a wait of its reads.
-    pub(crate) fn rope(&self) -> io::Result<BellRope> {
+    pub fn rope(&self) -> io::Result<BellRope> {
         Ok(BellRope::new(self.bell.clone()?))
     }
 

@@ -1,15 +1,15 @@
 use crate::journals::make_journal;
-use crate::workers::start_worker;
+use crate::writers::Failing;
 use server_core::{ServeFault, Server};
 use std::alloc::Global;
 use std::fs::{File, Files};
-use std::io::{ErrorKind, Read, Write};
+use std::io::{Read, Write};
 use std::net::{Net, TcpListener, TcpStream};
 use std::sync::Wait;
 use std::test::Fail;
 use std::thread::Threads;
 use std::time::{Clock, Duration};
-use std::{fs, io, thread};
+use std::{fs, thread};
 
 const PORT: u16 = 47_619;
 
@@ -17,20 +17,6 @@ const BEGINNING: &[u8] = b"GET / HTTP/1.1\r\nHost: a\r\nUpgrade: websocket\r\nCo
 
 const REST: &[u8] =
     b"ection: Upgrade\r\nSec-WebSocket-Key: dGhlIHNhbXBsZSBub25jZQ==\r\nSec-WebSocket-Version: 13\r\n\r\n";
-
-/// A writer that takes nothing, so that a server ends before it flushes. Its workers go on.
-#[derive(Drop)]
-struct Failing;
-
-impl Write for Failing {
-    fn write(&mut self, _buf: &[u8]) -> io::Result<usize> {
-        Err(io::Error::from(ErrorKind::BrokenPipe))
-    }
-
-    fn flush(&mut self) -> io::Result<()> {
-        Ok(())
-    }
-}
 
 // Reads until an empty line, or the end.
 fn hear(stream: &mut TcpStream, answer: &mut Vec<u8>) -> bool {
@@ -88,7 +74,7 @@ fn shake(rt: &HostRuntime, alloc: Global) -> bool {
     }
 }
 
-// Whether a server that could not announce itself ended for that, and whether its worker takes a handshake then.
+// Whether a server that could not announce itself ended for that, and whether a worker takes a handshake then.
 fn serve<R>(rt: &R, host: &HostRuntime, alloc: Global, path: &str) -> Option<(bool, bool)>
 where
     R: Files<File = File>
@@ -104,7 +90,7 @@ where
 {
     match Server::open(alloc, rt, path, PORT) {
         Ok(mut server) => {
-            let started = start_worker(rt, alloc, &mut server);
+            let started = server.start_workers(rt, alloc).is_ok();
             let ended = matches!(server.run(alloc, &mut Failing), ServeFault::Output);
             let taken = started && shake(host, alloc);
             drop(server);

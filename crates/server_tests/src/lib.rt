@@ -6,6 +6,8 @@
 #[cfg(test)]
 mod client;
 #[cfg(test)]
+mod crowd_tests;
+#[cfg(test)]
 mod handshake_tests;
 #[cfg(test)]
 mod journals;
@@ -14,4 +16,8 @@ mod loopback_tests;
 #[cfg(test)]
 mod opening_tests;
 #[cfg(test)]
-mod workers;
+mod servers;
+#[cfg(test)]
+mod stream_tests;
+#[cfg(test)]
+mod writers;

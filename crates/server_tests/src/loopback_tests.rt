@@ -1,27 +1,19 @@
 use crate::client::Client;
-use crate::journals::make_journal;
-use crate::workers::start_worker;
-use flush_core::FlushFault;
-use server_core::{ServeFault, Server};
+use crate::servers::{CONNECT, CONNECTED, RECEIPT, SEND, fill, opened, serve};
+use crate::writers::Buffered;
+use server_core::Server;
 use std::alloc::Global;
-use std::fs::{File, Files};
+use std::fs::{self, File, Files};
 use std::net::{Net, TcpListener, TcpStream};
 use std::sync::Wait;
 use std::sync::atomic::{AtomicU32, Ordering};
 use std::test::Fail;
-use std::thread;
-use std::thread::Threads;
+use std::thread::{self, Threads};
 use std::time::{Clock, Duration};
 
 const PORT: u16 = 47_613;
 
-const CONNECT: &str = "CONNECT\naccept-version:1.2\nhost:a\n\n\0";
-
-const CONNECTED: &str = "CONNECTED\nversion:1.2\n";
-
-const SEND: &str = "SEND\ndestination:/topic/a\nreceipt:r1\n\nhi\0";
-
-const RECEIPT: &str = "RECEIPT\nreceipt-id:r1\n\n\0";
+const JOURNAL: &str = "server_over_loopback";
 
 /// How far both clients have come together: the first is CONNECTED, and the second has its RECEIPT.
 const FIRST_IS_CONNECTED: u32 = 1;
@@ -35,16 +27,6 @@ fn wait_for(rt: &HostRuntime, stage: &AtomicU32, wanted: u32) -> bool {
             return true;
         }
         thread::sleep(rt, Duration::from_millis(1));
-    }
-    false
-}
-
-// Sends until the journal, of two areas of 4,096 bytes, is full: the server ends then.
-fn fill(alloc: Global, client: &mut Client<HostRuntime>) -> bool {
-    for _ in 0..10_000u32 {
-        if !client.send(alloc, SEND) || !client.reads(RECEIPT) {
-            return true;
-        }
     }
     false
 }
@@ -72,18 +54,6 @@ fn second(rt: &HostRuntime, alloc: Global, stage: &AtomicU32) -> Option<bool> {
     Some(told)
 }
 
-// A server at the port, over a journal of the smallest areas.
-fn opened<R>(rt: &R, alloc: Global) -> Option<Server<R>>
-where
-    R: Files<File = File> + Net<Listener = TcpListener, Stream = TcpStream> + Wait + Clone + Drop,
-{
-    let path = "server_over_loopback";
-    if !make_journal(rt, alloc, path) {
-        return None;
-    }
-    Server::open(alloc, rt, path, PORT).ok()
-}
-
 // Both clients.
 fn speak<R: Threads + Sync>(
     rt: &R,
@@ -98,21 +68,13 @@ fn speak<R: Threads + Sync>(
     )
 }
 
-// Runs the server until the journal is full, and ends it. Whether it was that.
-fn serve<R: Wait + Clock + Drop>(alloc: Global, server: Server<R>, written: &mut Vec<u8>) -> bool {
-    let mut server = server;
-    let fault = server.run(alloc, written);
-    server.close();
-    matches!(fault, ServeFault::Flushing(FlushFault::Full))
-}
-
 // Both clients beside the server.
 fn serve_both<R: Threads + Wait + Clock + Drop + Sync>(
     rt: &R,
     host: &HostRuntime,
     alloc: Global,
     server: Server<R>,
-    written: &mut Vec<u8>,
+    written: &mut Buffered,
 ) -> ((Option<bool>, Option<bool>), bool) {
     thread::join(
         rt,
@@ -121,7 +83,7 @@ fn serve_both<R: Threads + Wait + Clock + Drop + Sync>(
     )
 }
 
-// What the clients told, whether the journal was full at the end, and whether the server wrote its line.
+// What the clients told, whether the journal was full at the end, and whether the server showed its line.
 fn run<R>(
     rt: &R,
     host: &HostRuntime,
@@ -139,13 +101,12 @@ where
         + Sync
         + 'static,
 {
-    match opened(rt, alloc) {
+    match opened(rt, alloc, JOURNAL, PORT) {
         Some(mut server) => {
-            let mut written = Vec::new(alloc);
-            let started = start_worker(rt, alloc, &mut server)
-                && start_worker(rt, alloc, &mut server);
+            let mut written = Buffered::new(alloc);
+            let started = server.start_workers(rt, alloc).is_ok();
             let (told, full) = serve_both(rt, host, alloc, server, &mut written);
-            let announced = written.as_slice() == b"listening 47613\n".as_slice();
+            let announced = written.shown.as_slice() == b"listening 47613\n".as_slice();
             drop(written);
             Some((told, full, started && announced))
         }
@@ -156,6 +117,7 @@ where
 #[test]
 fn over_loopback(rt: HostRuntime) -> Result<(), Fail> {
     let ran = run(&rt, &rt, rt.alloc());
+    let _ = fs::remove_file(&rt, JOURNAL);
     assert_eq!(rt; ran, Some(((Some(true), Some(true)), true, true)));
     Ok(())
 }

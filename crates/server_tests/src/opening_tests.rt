@@ -89,3 +89,30 @@ fn a_server_wants_a_port_at_which_nobody_listens(rt: HostRuntime) -> Result<(), 
     assert!(rt; matches!(fault, Some(ServeFault::CannotOpen)));
     Ok(())
 }
+
+// Whether a server at the port is reached at two addresses of this machine.
+fn reached<R>(rt: &R, alloc: Global, path: &str) -> Option<(bool, bool)>
+where
+    R: Files<File = File> + Net<Listener = TcpListener, Stream = TcpStream> + Wait + Clone + Drop,
+{
+    match Server::open(alloc, rt, path, PORT + 8) {
+        Ok(server) => {
+            let here = TcpStream::connect(rt, ("127.0.0.1", PORT + 8)).is_ok();
+            let there = TcpStream::connect(rt, ("127.0.0.2", PORT + 8)).is_ok();
+            drop(server);
+            Some((here, there))
+        }
+        Err(_) => None,
+    }
+}
+
+// All of 127.0.0.0/8 is this machine: who listens at every address of it is reached at 127.0.0.2 too.
+#[test]
+fn a_server_listens_at_127_0_0_1_alone(rt: HostRuntime) -> Result<(), Fail> {
+    let path = "server_at_one_address";
+    assert!(rt; make_journal(&rt, rt.alloc(), path));
+    let reached = reached(&rt, rt.alloc(), path);
+    let _ = fs::remove_file(&rt, path);
+    assert_eq!(rt; reached, Some((true, false)));
+    Ok(())
+}

@@ -3,17 +3,16 @@
 #![tactic(auto)]
 
 use engine_core::ScriptFault;
-use server_core::{ServeFault, Server, WORKERS};
+use server_core::{ServeFault, Server};
 use std::alloc::{AllocError, Global};
 use std::io::{ErrorKind, Lock, Write};
 use std::process::ExitCode;
 use std::sync::Wait;
 use std::time::Clock;
-use std::{env, io, thread};
+use std::{env, io};
 use tool_core::{BAD_COMMAND_LINE, Failure, Subcommand, end_by, subcommand_of, tool};
 
-/// Runs the program on its arguments, standard input, standard output and standard error. The threads of a server are
-/// started here.
+/// Runs the program on its arguments, standard input, standard output and standard error.
 fn main(rt: HostRuntime) -> ExitCode {
     let alloc = rt.alloc();
     let words = match words_of(&rt) {
@@ -27,16 +26,8 @@ fn main(rt: HostRuntime) -> ExitCode {
         Ok(server) => server,
         Err(fault) => return failed(&rt, fault),
     };
-    for _worker in 0..WORKERS {
-        match server.next_worker() {
-            Ok(Some(worker)) => {
-                if thread::spawn(&rt, move || worker.run(alloc)).is_err() {
-                    return failed(&rt, ServeFault::Threads);
-                }
-            }
-            Ok(None) => break,
-            Err(fault) => return failed(&rt, fault),
-        }
+    if let Err(fault) = server.start_workers(&rt, alloc) {
+        return failed(&rt, fault);
     }
     let mut writer = rt.stdout().lock();
     let fault = ended(alloc, server, &mut writer);

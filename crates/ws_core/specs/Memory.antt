@@ -1,5 +1,7 @@
 -- What a link in memory holds, and what its calls do.
 use Rattle.std.specs.Prelude.{◌≡◌, ℕ, List, [], ◌∷◌, ◌++◌, Bool, true, false}
+use Rattle.ws_core.specs.declared.fault.LinkFault.{LinkFault}
+use Rattle.ws_core.specs.declared.fault.LinkFault.TheVariants as faults
 use Rattle.ws_core.specs.declared.link.Received.{Received}
 use Rattle.ws_core.specs.declared.link.Received.TheVariants.{Bytes, Nothing, Closed}
 
@@ -25,3 +27,8 @@ with_sent old bytes = remembered old.coming (old.sent ++ bytes ∷ []) old.over
 -- it is over
 abbrev pub ended : Remembered → Remembered
 ended old = remembered old.coming old.sent true
+
+-- a refusal leaves the same link: one that is over, where it is gone, or one that goes on
+abbrev pub Forgoes : Remembered → Remembered → LinkFault → Type 0
+Forgoes old new faults.Gone = (old.over ≡ true) × (new ≡ old)
+Forgoes old new faults.Memory = (old.over ≡ false) × (new ≡ old)

@@ -13,7 +13,7 @@ mod ws_link;
 
 pub use closing::CloseReason;
 pub use fault::LinkFault;
-pub use link::{Link, Received};
+pub use link::{Link, Outgoing, Received};
 pub use mem_link::MemLink;
 pub use offers::{Choice, choose};
 pub use ws_link::WsLink;

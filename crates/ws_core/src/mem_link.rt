@@ -5,7 +5,7 @@ ghost use Rattle.ws_core.specs.Memory.{remembered};
 
 use crate::closing::CloseReason;
 use crate::fault::LinkFault;
-use crate::link::{Link, Received};
+use crate::link::{Link, Outgoing, Received};
 use claim_core::Released;
 use frame_core::{Frame, Verb, write_frame};
 use std::alloc::Global;
@@ -70,13 +70,30 @@ impl MemLink {
     }
 }
 
+impl Outgoing for MemLink {
+    ghost use Rattle.std.specs.Prelude.{◌≡◌, Some, Err, OnOk, OnErr, IfErr, true};
+    ghost use Rattle.frame_core.specs.Written.{written};
+    ghost use Rattle.ws_core.specs.Memory.{Forgoes, with_sent};
+
+    ghost sent = { λ a. Some a.sent };
+
+    ghost refuses = { Forgoes };
+
+    fn send(&mut self, alloc: Global, released: &Released) -> Result<(), LinkFault>
+        ensures ok { OnOk result ((self.old.over ≡ false) × (self.new ≡ with_sent self.old (written released.now.frame))) }
+        ensures refused { OnErr result (self.new ≡ self.old) }
+        ensures gone { self.old.over ≡ true → result ≡ Err LinkFault.Gone }
+        ensures memory { self.old.over ≡ false → IfErr result (λ fault. fault ≡ LinkFault.Memory) }
+    {
+        self.keep(alloc, released.frame())
+    }
+}
+
 impl Link for MemLink {
-    ghost use Rattle.std.specs.Prelude.{◌≡◌, Some, Err, OnOk, OnErr, IsOk, IfErr, true};
+    ghost use Rattle.std.specs.Prelude.{◌≡◌, Err, OnOk, OnErr, IsOk, IfErr, true};
     ghost use Rattle.frame_core.specs.Writable.{Writable};
     ghost use Rattle.frame_core.specs.Written.{written};
     ghost use Rattle.ws_core.specs.Memory.{Recalls, with_sent, ended};
-
-    ghost sent = { λ a. Some a.sent };
 
     fn receive(&mut self, _alloc: Global) -> Received
         ensures { Recalls self.old self.new result }
@@ -88,15 +105,6 @@ impl Link for MemLink {
             Some(message) => Received::Bytes(message),
             None => Received::Nothing,
         }
-    }
-
-    fn send(&mut self, alloc: Global, released: &Released) -> Result<(), LinkFault>
-        ensures ok { OnOk result ((self.old.over ≡ false) × (self.new ≡ with_sent self.old (written released.now.frame))) }
-        ensures refused { OnErr result (self.new ≡ self.old) }
-        ensures gone { self.old.over ≡ true → result ≡ Err LinkFault.Gone }
-        ensures memory { self.old.over ≡ false → IfErr result (λ fault. fault ≡ LinkFault.Memory) }
-    {
-        self.keep(alloc, released.frame())
     }
 
     fn send_direct(&mut self, alloc: Global, frame: &Frame) -> Result<(), LinkFault>

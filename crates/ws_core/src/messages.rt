@@ -65,15 +65,15 @@ fn bytes_of(alloc: Global, bytes: &[u8]) -> Received
     }
 }
 
-// Whether the stream only has nothing to give yet.
+// Whether the stream only has nothing to give yet. `TimedOut` says something else: a read sends what waits first, such as the
+// answer to a ping, and the peer took nothing of it for as long as it was given.
 fn is_wait(error: &Error) -> bool
     ensures { IsTrue result → IsIo error.now }
 {
     match error {
-        Error::Io(error) => matches!(
-            error.kind(),
-            ErrorKind::WouldBlock | ErrorKind::TimedOut | ErrorKind::Interrupted
-        ),
+        Error::Io(error) => {
+            matches!(error.kind(), ErrorKind::WouldBlock | ErrorKind::Interrupted)
+        }
         _ => false,
     }
 }

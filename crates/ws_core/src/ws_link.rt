@@ -6,7 +6,7 @@ ghost use Rattle.ws_core.specs.Limits.{HasOurLimits};
 use crate::closing::CloseReason;
 use crate::fault::LinkFault;
 use crate::handshake::shake_hands;
-use crate::link::{Link, Received};
+use crate::link::{Link, Outgoing, Received};
 use crate::messages::{hear, hear_close, message_of, say_close};
 use claim_core::Released;
 use frame_core::{Frame, Verb, write_frame};
@@ -22,7 +22,9 @@ const WAITING_BYTES: usize = 1_048_576;
 // What one read of the stream asks for.
 const READ_BYTES: usize = 16_384;
 
-/// A WebSocket over a stream, after its handshake. Contracts see the socket, and whether the link is over.
+/// A WebSocket over a stream, after its handshake. A read of the stream that has nothing to give yet fails with `WouldBlock`;
+/// any other failure but `Interrupted` ends the link, and so does a write that was given up. Contracts see the socket, and
+/// whether the link is over.
 #[derive(Drop)]
 pub struct WsLink<S> {
     socket: WebSocket<S, NoMask>,
@@ -104,6 +106,21 @@ impl<S: Read + Write + Drop> WsLink<S> {
     }
 }
 
+impl<S: Read + Write + Drop> Outgoing for WsLink<S> {
+    ghost use Rattle.std.specs.Prelude.{OnOk, IfErr};
+    ghost use Rattle.frame_core.specs.Written.{written};
+    ghost use Rattle.ws_core.specs.Sending.{Sends, Refuses};
+
+    ghost refuses = { Refuses };
+
+    fn send(&mut self, alloc: Global, released: &Released) -> Result<(), LinkFault>
+        ensures sends { OnOk result (Sends S.contents self.old self.new (written released.now.frame)) }
+        ensures refuses { IfErr result (Refuses self.old self.new) }
+    {
+        self.send_frame(alloc, released.frame())
+    }
+}
+
 impl<S: Read + Write + Drop> Link for WsLink<S> {
     ghost use Rattle.std.specs.Prelude.{◌≡◌, OnOk, IfErr};
     ghost use Rattle.frame_core.specs.Writable.{Writable};
@@ -121,13 +138,6 @@ impl<S: Read + Write + Drop> Link for WsLink<S> {
         let received = hear(alloc, &mut self.socket);
         self.over = matches!(received, Received::Closed);
         received
-    }
-
-    fn send(&mut self, alloc: Global, released: &Released) -> Result<(), LinkFault>
-        ensures sends { OnOk result (Sends S.contents self.old self.new (written released.now.frame)) }
-        ensures refuses { IfErr result (Refuses self.old self.new) }
-    {
-        self.send_frame(alloc, released.frame())
     }
 
     fn send_direct(&mut self, alloc: Global, frame: &Frame) -> Result<(), LinkFault>

@@ -4,6 +4,7 @@ use crate::frames::frames;
 use crate::wire::Wire;
 use frame_core::{Bytes, Frame, Headers, Verb, writable};
 use std::alloc::{AllocError, Global};
+use std::io::ErrorKind;
 use std::test::Fail;
 use ws_core::{CloseReason, Link, LinkFault, Received, WsLink};
 
@@ -23,8 +24,10 @@ pub enum Do {
     End(CloseReason),
     /// So many bytes behind the request are open.
     Open(usize),
-    /// The stream takes nothing more.
+    /// The stream takes nothing more: each write fails.
     Cut,
+    /// The same, and each write was tried for as long as it is given.
+    Stall,
 }
 
 fn put_received(shown: &mut Vec<u8>, received: &Received) -> Result<(), AllocError> {
@@ -91,7 +94,8 @@ fn act(
         Do::SendLong(length) => put_done(shown, &send_long(alloc, link, length)?)?,
         Do::End(reason) => put_done(shown, &link.end(reason))?,
         Do::Open(count) => wire.open_to(REQUEST.len().saturating_add(count)),
-        Do::Cut => wire.cut(),
+        Do::Cut => wire.break_with(ErrorKind::ConnectionReset),
+        Do::Stall => wire.break_with(ErrorKind::TimedOut),
     }
     Ok(wire.move_output(shown)?)
 }

@@ -93,6 +93,19 @@ fn what_breaks_the_protocol_closes_the_link(rt: HostRuntime) -> Result<(), Fail>
     Ok(())
 }
 
+// A ping is answered before the next read, and the peer takes nothing of that for as long as it is given.
+const UNANSWERED: &[Row] = &[(
+    &[(0x89, b"Hello"), (0x82, b"a"), (0x82, b"b")],
+    &[Do::Stall, Do::Hear, Do::Hear, Do::Hear],
+    b".!!",
+)];
+
+#[test]
+fn a_write_that_timed_out_within_a_read_ends_the_link(rt: HostRuntime) -> Result<(), Fail> {
+    assert_eq!(rt; first_wrong(rt.alloc(), UNANSWERED)?, None);
+    Ok(())
+}
+
 // "A single-frame masked text message" of RFC 6455, section 5.7, and the same unmasked.
 const MASKED_HELLO: &[u8] = b"\x81\x85\x37\xfa\x21\x3d\x7f\x9f\x4d\x51\x58";
 

@@ -116,7 +116,7 @@ fn the_peers_close_is_heard_or_64_messages_or_three_waits(rt: HostRuntime) -> Re
         (closes.as_slice(), 20, ErrorKind::WouldBlock, (20, 0)),
         (goes_on.as_slice(), 1000, ErrorKind::WouldBlock, (640, 0)),
         (goes_on.as_slice(), 0, ErrorKind::WouldBlock, (0, 3)),
-        (goes_on.as_slice(), 0, ErrorKind::TimedOut, (0, 3)),
+        (goes_on.as_slice(), 0, ErrorKind::TimedOut, (0, 1)),
         (goes_on.as_slice(), 0, ErrorKind::Interrupted, (0, 3)),
         (goes_on.as_slice(), 0, ErrorKind::ConnectionReset, (0, 1)),
     ];

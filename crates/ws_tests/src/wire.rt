@@ -16,8 +16,8 @@ pub struct Wire {
     open: Cell<usize>,
     at: Cell<usize>,
     output: RefCell<Vec<u8>>,
-    // Writes fail from now on.
-    cut: Cell<bool>,
+    // What each write fails with from now on.
+    broken: Cell<Option<ErrorKind>>,
     // What a read that finds nothing open is refused with, and how many were.
     refusal: ErrorKind,
     refused: Cell<u64>,
@@ -35,7 +35,7 @@ impl Wire {
             open,
             at: Cell::new(0),
             output: RefCell::new(Vec::new(alloc)),
-            cut: Cell::new(false),
+            broken: Cell::new(None),
             refusal: ErrorKind::WouldBlock,
             refused: Cell::new(0),
         })
@@ -70,8 +70,9 @@ impl Wire {
         Ok(())
     }
 
-    pub fn cut(&self) {
-        self.cut.set(true);
+    /// From now on each write fails with this error.
+    pub fn break_with(&self, error: ErrorKind) {
+        self.broken.set(Some(error));
     }
 }
 
@@ -98,8 +99,8 @@ impl Read for &Wire {
 
 impl Write for &Wire {
     fn write(&mut self, buf: &[u8]) -> io::Result<usize> {
-        if self.cut.get() {
-            return Err(io::Error::from(ErrorKind::ConnectionReset));
+        if let Some(error) = self.broken.get() {
+            return Err(io::Error::from(error));
         }
         match self.output.try_borrow_mut() {
             Ok(mut output) => {

@@ -1,0 +1,28 @@
+-- The box through which a session's outputs come, and its two ends.
+use Rattle.std.specs.Prelude.{◌≡◌, Option, Some, None, []}
+use Rattle.outbox_core.specs.Boxes.{SenderValue, TakerValue}
+use Rattle.hub_core.specs.declared.progress.Role.{Role}
+use Rattle.hub_core.specs.declared.progress.Role.TheVariants.{Opens, Talks, Ends}
+
+-- both ends of one box, to which nothing was given
+pub record AreEnds (sender : Option SenderValue) (taker : Option TakerValue) : Type 0 where
+  pub giving : SenderValue
+  pub taking : TakerValue
+  pub sender_is : sender ≡ Some giving
+  pub taker_is : taker ≡ Some taking
+  pub one_box : giving.box ≡ taking.box
+  pub none_given : giving.given ≡ []
+  pub none_taken : taking.taken ≡ []
+
+-- an Open gets both ends of a new box, and no other command gets one
+abbrev pub IsBoxFor : Role → Option SenderValue → Option TakerValue → Type 0
+IsBoxFor Opens sender taker = AreEnds sender taker
+IsBoxFor Talks sender taker = (sender ≡ None) × (taker ≡ None)
+IsBoxFor Ends sender taker = (sender ≡ None) × (taker ≡ None)
+
+-- The entry of an Open carries the sending end of a new box, of which its connection has the other end from then on. The entry
+-- of any other command carries none, and the connection's taker stays.
+abbrev pub Carries : Role → Option SenderValue → Option TakerValue → Option TakerValue → Type 0
+Carries Opens carried old new = AreEnds carried new
+Carries Talks carried old new = (carried ≡ None) × (new ≡ old)
+Carries Ends carried old new = (carried ≡ None) × (new ≡ old)
