@@ -10,6 +10,7 @@ mod reading;
 mod seen;
 mod size_law;
 mod store;
+mod stored;
 mod storing;
 
 pub use area_core::AreaFault;
@@ -19,3 +20,4 @@ pub use opening::open;
 pub use seen::{Seen, VERSION, read};
 pub use size_law::restarts_fit_large_areas;
 pub use store::Store;
+pub use stored::stored_broker;

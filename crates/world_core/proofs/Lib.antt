@@ -9,3 +9,4 @@ pub mod Schedules
 pub mod SessionEvents
 pub mod Shown
 pub mod Telling
+pub mod Copying

@@ -13,8 +13,8 @@ use Rattle.recover_core.proofs.Folded.{count_after}
 use Rattle.recover_core.proofs.Stores.{after-append}
 use Rattle.world_core.specs.declared.place.Phase.TheVariants.{Running}
 use Rattle.world_core.specs.declared.place.Place.{Place}
-use Rattle.world_core.specs.declared.place.Place.TheVariants.{Rest, Broken, BlockWritten, BlockSynced, GateWritten, OpenSynced, OpenRead, SnapshotWritten, SnapshotSynced, SelectorWritten, Opened}
-use Rattle.world_core.specs.Keeping.{Exact, HasPrefix, IsAt, Log, Staged, upto}
+use Rattle.world_core.specs.declared.place.Place.TheVariants.{Rest, Broken, BlockWritten, BlockSynced, GateWritten, Copying, CopySynced, SwitchWritten, OpenSynced, OpenRead, SnapshotWriting, SnapshotSynced, SelectorWritten, Opened}
+use Rattle.world_core.specs.Keeping.{Copied, Exact, HasCopy, HasPrefix, IsAt, Log, Staged, upto}
 use Rattle.world_core.specs.Worlds.{DiskValue, between, state_under}
 
 take_plus : (a b : ℕ) (xs : List CommandValue) → take (a + b) xs ≡ take a xs ++ take b (drop a xs)
@@ -113,6 +113,29 @@ exact_stays : (log next : Log) (d : DiskValue) → next.stored ≡ log.stored �
 exact_stays log next d stored phase le same e =
     exact_moves log next d next.stored (ap (λ (k : ℕ). upto next k) stored ∙ same.upto_is log.stored le ∙ ap (λ (k : ℕ). upto log k) (sym stored)) (λ r. phase ∙ r) (subst (λ (k : ℕ). Exact log d k) (sym stored) e)
 
+stored_stays : (log next : Log) (s : State) → next.stored ≡ log.stored → log.stored ≤ log.taken → AreSame log next log.taken → s ≡ upto log log.stored → s ≡ upto next next.stored
+stored_stays log next s stored le same is = is ∙ sym (same.upto_is log.stored le) ∙ ap (λ (k : ℕ). upto next k) (sym stored)
+
+copied_stays : (log next : Log) (d : DiskValue) (done all : ℕ) → next.stored ≡ log.stored → next.phase ≡ log.phase → log.stored ≤ log.taken → AreSame log next log.taken → Copied log d done all → Copied next d done all
+copied_stays log next d done all stored phase le same c = record {
+  running = phase ∙ c.running;
+  reading = c.reading;
+  is_read = c.is_read;
+  state = stored_stays log next c.reading.state stored le same c.state;
+  can = c.can;
+  copies = c.copies;
+}
+
+has_copy_stays : (log next : Log) (d : DiskValue) → next.stored ≡ log.stored → next.phase ≡ log.phase → log.stored ≤ log.taken → AreSame log next log.taken → HasCopy log d → HasCopy next d
+has_copy_stays log next d stored phase le same c = record {
+  running = phase ∙ c.running;
+  reading = c.reading;
+  is_read = c.is_read;
+  state = stored_stays log next c.reading.state stored le same c.state;
+  can = c.can;
+  idle = c.idle;
+}
+
 pub at_moves : (log next : Log) (d : DiskValue) (p : Place) → next.stored ≡ log.stored → log.taken ≤ next.taken → next.phase ≡ log.phase → log.base ≤ log.stored → log.stored ≤ log.taken → AreSame log next log.taken → IsAt log d p → IsAt next d p
 at_moves log next d Rest stored taken phase low le same is = (is.0, exact_stays log next d stored phase le same is.1)
 at_moves log next d Broken stored taken phase low le same is = tt
@@ -120,9 +143,12 @@ at_moves log next d (BlockWritten to) stored taken phase low le same is = staged
 at_moves log next d (BlockSynced to) stored taken phase low le same is = (is.0, staged_moves log next d to stored taken phase low same is.1)
 at_moves log next d (GateWritten to) stored taken phase low le same is =
     (omega (arith, stored, is.0), omega (arith, taken, is.1), exact_moves log next d to (same.upto_is to is.1) (λ r. phase ∙ r) is.2)
+at_moves log next d (Copying done all) stored taken phase low le same is = copied_stays log next d done all stored phase le same is
+at_moves log next d CopySynced stored taken phase low le same is = (is.0, has_copy_stays log next d stored phase le same is.1)
+at_moves log next d SwitchWritten stored taken phase low le same is = exact_stays log next d stored phase le same is
 at_moves log next d OpenSynced stored taken phase low le same is = (is.0, λ r. is.1 (sym phase ∙ r))
 at_moves log next d OpenRead stored taken phase low le same is = (is.0, λ r. is.1 (sym phase ∙ r))
-at_moves log next d SnapshotWritten stored taken phase low le same is = (λ r. is.0 (sym phase ∙ r), is.1)
+at_moves log next d (SnapshotWriting done all) stored taken phase low le same is = (λ r. is.0 (sym phase ∙ r), is.1)
 at_moves log next d SnapshotSynced stored taken phase low le same is = (is.0, λ r. is.1 (sym phase ∙ r), is.2)
 at_moves log next d SelectorWritten stored taken phase low le same is = (λ r. is.0 (sym phase ∙ r), is.1)
 at_moves log next d Opened stored taken phase low le same is = (is.0, λ r. is.1 (sym phase ∙ r), is.2)

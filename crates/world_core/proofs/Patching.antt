@@ -10,13 +10,14 @@ use Rattle.area_core.proofs.Areas.{length-closed}
 use Rattle.area_core.proofs.Journals.{start_most}
 use Rattle.world_core.specs.declared.patches.Patch.{Patch}
 use Rattle.world_core.specs.declared.place.Place.{Place}
-use Rattle.world_core.specs.declared.place.Place.TheVariants.{Rest, Broken, BlockWritten, BlockSynced, GateWritten, OpenSynced, OpenRead, SnapshotWritten, SnapshotSynced, SelectorWritten, Opened}
-use Rattle.world_core.specs.Calls.{CanRestart, MayLead, batch, gate_of, idle_of, patch, patch_to}
+use Rattle.world_core.specs.declared.place.Place.TheVariants.{Rest, Broken, BlockWritten, BlockSynced, GateWritten, Copying, CopySynced, SwitchWritten, OpenSynced, OpenRead, SnapshotWriting, SnapshotSynced, SelectorWritten, Opened}
+use Rattle.world_core.specs.Calls.{CanCopy, CanRestart, MayLead, batch, copy_of, done_at, gate_of, idle_of, patch, patch_to, rest_of}
 use Rattle.world_core.specs.Keeping.{IsKept}
 use Rattle.world_core.specs.Readings.{IsRead, Reading}
 use Rattle.world_core.specs.Recoveries.{IsReadable}
 use Rattle.world_core.specs.Touches.{IsBlockPatch, IsDue, IsNoPatch, IsPatch}
 use Rattle.world_core.specs.Worlds.{WorldValue, between}
+use Rattle.world_core.proofs.Copying.{piece_size}
 use Rattle.world_core.proofs.DeviceCalls.{is_content}
 use Rattle.world_core.proofs.Readings.{gate_within}
 
@@ -78,25 +79,40 @@ pub gate_patch_is : (w : WorldValue) (to gate at : ℕ) (bytes : List ℕ) → (
     → at ≡ start w.disk.size (is_odd (slice_index w.disk.content 16)) + gate → bytes ≡ 1 ∷ [] → IsPatch w (GateWritten to) at bytes
 gate_patch_is w to gate at bytes gates place is r x = (tt, patch_is at (gate_of w.disk r) bytes (1 ∷ []) (omega (arith, place, gates r x)) is)
 
-pub snapshot_is : (w : WorldValue) (at : ℕ) (second : Bool) (snapshot bytes : List ℕ) → ((r : Reading) → IsRead w.disk.size w.disk.content r → CanRestart w.disk.size r × (snapshot ≡ snapshot_of (restarted r.state)))
-    → at ≡ start w.disk.size second → second ≡ other (is_odd (slice_index w.disk.content 16)) → bytes ≡ closed snapshot → IsPatch w SnapshotWritten at bytes
-snapshot_is w at second snapshot bytes can place idle closes r x =
+-- a piece of a snapshot
+
+pub copy_is : (w : WorldValue) (done all at : ℕ) (bytes part : List ℕ) → ((r : Reading) → IsRead w.disk.size w.disk.content r → CanCopy w.disk.size r × (bytes ≡ copy_of r))
+    → at ≡ idle_of w.disk + done_at w.place → part ≡ take (done - done_at w.place) (drop (done_at w.place) bytes) → IsPatch w (Copying done all) at part
+copy_is w done all at bytes part can place is r x =
     let both = can r x in
-    (both.0, patch_is at (idle_of w.disk) bytes (closed (snapshot_of (restarted r.state))) (place ∙ ap (λ (b : Bool). start w.disk.size b) idle) (closes ∙ ap (λ (l : List ℕ). closed l) both.1))
+    (both.0, patch_is at (idle_of w.disk + done_at w.place) part _ place (is ∙ ap (λ (l : List ℕ). take (done - done_at w.place) (drop (done_at w.place) l)) both.1))
+
+pub rest_is : (w : WorldValue) (done all at : ℕ) (bytes part : List ℕ) → ((r : Reading) → IsRead w.disk.size w.disk.content r → CanRestart w.disk.size r × (bytes ≡ rest_of r))
+    → at ≡ idle_of w.disk + done_at w.place → part ≡ take (done - done_at w.place) (drop (done_at w.place) bytes) → IsPatch w (SnapshotWriting done all) at part
+rest_is w done all at bytes part can place is r x =
+    let both = can r x in
+    (both.0, patch_is at (idle_of w.disk + done_at w.place) part _ place (is ∙ ap (λ (l : List ℕ). take (done - done_at w.place) (drop (done_at w.place) l)) both.1))
 
 -- what is written lies within the disk
-pub patch_fits : (w : WorldValue) → IsKept w → (to : Place) (r : Reading) → IsRead w.disk.size w.disk.content r → MayLead w r to → (patch_to w r to).at + length (patch_to w r to).bytes ≤ length w.disk.content
-patch_fits w k (BlockWritten to) r x may = omega (arith, k.size, may.fits, length-closed (records (batch w to)), start_most w.disk.size (is_odd (slice_index w.disk.content 16)))
-patch_fits w k (GateWritten to) r x may = omega (arith, k.size, gate_within w.disk.size w.disk.content r x, start_most w.disk.size (is_odd (slice_index w.disk.content 16)))
-patch_fits w k SnapshotWritten r x may = omega (arith, k.size, may.fits, length-closed (snapshot_of (restarted r.state)), start_most w.disk.size (other (is_odd (slice_index w.disk.content 16))))
-patch_fits w k SelectorWritten r x may = omega (arith, k.size)
-patch_fits w k Rest r x may = omega arith
-patch_fits w k Broken r x may = omega arith
-patch_fits w k (BlockSynced to) r x may = omega arith
-patch_fits w k OpenSynced r x may = omega arith
-patch_fits w k OpenRead r x may = omega arith
-patch_fits w k SnapshotSynced r x may = omega arith
-patch_fits w k Opened r x may = omega arith
+pub patch_fits : (w : WorldValue) → IsKept w → (to : Place) (r : Reading) → IsRead w.disk.size w.disk.content r → IsDue w to → MayLead w r to → (patch_to w r to).at + length (patch_to w r to).bytes ≤ length w.disk.content
+patch_fits w k (BlockWritten to) r x due may = omega (arith, k.size, may.fits, length-closed (records (batch w to)), start_most w.disk.size (is_odd (slice_index w.disk.content 16)))
+patch_fits w k (GateWritten to) r x due may = omega (arith, k.size, gate_within w.disk.size w.disk.content r x, start_most w.disk.size (is_odd (slice_index w.disk.content 16)))
+patch_fits w k (Copying done all) r x due may =
+    let there = due r x in
+    omega (arith, k.size, there.0, there.1, piece_size (done_at w.place) done (copy_of r) there.0 there.1, may.fits, length-closed (snapshot_of r.state), start_most w.disk.size (other (is_odd (slice_index w.disk.content 16))))
+patch_fits w k (SnapshotWriting done all) r x due may =
+    let there = due r x in
+    omega (arith, k.size, there.0, there.1, piece_size (done_at w.place) done (rest_of r) there.0 there.1, may.fits, length-closed (snapshot_of (restarted r.state)), start_most w.disk.size (other (is_odd (slice_index w.disk.content 16))))
+patch_fits w k SwitchWritten r x due may = omega (arith, k.size)
+patch_fits w k CopySynced r x due may = omega arith
+patch_fits w k SelectorWritten r x due may = omega (arith, k.size)
+patch_fits w k Rest r x due may = omega arith
+patch_fits w k Broken r x due may = omega arith
+patch_fits w k (BlockSynced to) r x due may = omega arith
+patch_fits w k OpenSynced r x due may = omega arith
+patch_fits w k OpenRead r x due may = omega arith
+patch_fits w k SnapshotSynced r x due may = omega arith
+patch_fits w k Opened r x due may = omega arith
 
 -- the place that is due
 
@@ -116,9 +132,29 @@ pub not_other : (a b : Bool) → a ≡ b → not a ≡ other b
 not_other a true is = ap not is
 not_other a false is = ap not is
 
-pub found_snapshot : (o : Option (Vec ℕ Global)) (v : Vec ℕ Global) (size : ℕ) (c d : List ℕ) → o ≡ Some v → d ≡ c
-    → IfSome o (λ snapshot. (r : Reading) → IsRead size d r → CanRestart size r × (snapshot.items ≡ snapshot_of (restarted r.state)))
-    → (r : Reading) → IsRead size c r → CanRestart size r × (v.items ≡ snapshot_of (restarted r.state))
-found_snapshot o v size c d is same some =
-    subst (λ (q : Option (Vec ℕ Global)). IfSome q (λ snapshot. (r : Reading) → IsRead size c r → CanRestart size r × (snapshot.items ≡ snapshot_of (restarted r.state)))) is
-    (subst (λ (l : List ℕ). IfSome o (λ snapshot. (r : Reading) → IsRead size l r → CanRestart size r × (snapshot.items ≡ snapshot_of (restarted r.state)))) same some)
+-- what was found for the bytes of the disk
+
+pub found_copy : (o : Option (Vec ℕ Global)) (v : Vec ℕ Global) (size : ℕ) (c d bytes : List ℕ) → o ≡ Some v → d ≡ c
+    → IfSome o (λ snapshot. (r : Reading) → IsRead size d r → CanCopy size r × (snapshot.items ≡ snapshot_of r.state)) → bytes ≡ closed v.items
+    → (r : Reading) → IsRead size c r → CanCopy size r × (bytes ≡ copy_of r)
+found_copy o v size c d bytes is same some closes r x =
+    let it = subst (λ (q : Option (Vec ℕ Global)). IfSome q (λ snapshot. (r : Reading) → IsRead size c r → CanCopy size r × (snapshot.items ≡ snapshot_of r.state))) is
+    (subst (λ (l : List ℕ). IfSome o (λ snapshot. (r : Reading) → IsRead size l r → CanCopy size r × (snapshot.items ≡ snapshot_of r.state))) same some) r x in
+    (it.0, closes ∙ ap (λ (l : List ℕ). closed l) it.1)
+
+pub found_rest : (o : Option (Vec ℕ Global)) (v : Vec ℕ Global) (size : ℕ) (c d bytes : List ℕ) → o ≡ Some v → d ≡ c
+    → IfSome o (λ snapshot. (r : Reading) → IsRead size d r → CanRestart size r × (snapshot.items ≡ snapshot_of (restarted r.state))) → bytes ≡ closed v.items
+    → (r : Reading) → IsRead size c r → CanRestart size r × (bytes ≡ rest_of r)
+found_rest o v size c d bytes is same some closes r x =
+    let it = subst (λ (q : Option (Vec ℕ Global)). IfSome q (λ snapshot. (r : Reading) → IsRead size c r → CanRestart size r × (snapshot.items ≡ snapshot_of (restarted r.state)))) is
+    (subst (λ (l : List ℕ). IfSome o (λ snapshot. (r : Reading) → IsRead size l r → CanRestart size r × (snapshot.items ≡ snapshot_of (restarted r.state)))) same some) r x in
+    (it.0, closes ∙ ap (λ (l : List ℕ). closed l) it.1)
+
+-- what was found is what is written
+pub copy_bytes_of : (o : Option (Vec ℕ Global)) (v : Vec ℕ Global) (size : ℕ) (c : List ℕ) → o ≡ Some v
+    → IfSome o (λ bytes. (r : Reading) → IsRead size c r → CanCopy size r × (bytes.items ≡ copy_of r)) → (r : Reading) → IsRead size c r → CanCopy size r × (v.items ≡ copy_of r)
+copy_bytes_of o v size c is some = subst (λ (q : Option (Vec ℕ Global)). IfSome q (λ bytes. (r : Reading) → IsRead size c r → CanCopy size r × (bytes.items ≡ copy_of r))) is some
+
+pub rest_bytes_of : (o : Option (Vec ℕ Global)) (v : Vec ℕ Global) (size : ℕ) (c : List ℕ) → o ≡ Some v
+    → IfSome o (λ bytes. (r : Reading) → IsRead size c r → CanRestart size r × (bytes.items ≡ rest_of r)) → (r : Reading) → IsRead size c r → CanRestart size r × (v.items ≡ rest_of r)
+rest_bytes_of o v size c is some = subst (λ (q : Option (Vec ℕ Global)). IfSome q (λ bytes. (r : Reading) → IsRead size c r → CanRestart size r × (bytes.items ≡ rest_of r))) is some

@@ -12,9 +12,9 @@ use Rattle.recover_core.specs.Standing.{Stands}
 use Rattle.recover_core.specs.Told.{IsTooLarge, IsTooLong}
 use Rattle.recover_core.proofs.Single.{stands_one}
 use Rattle.recover_core.proofs.Stores.{stands}
-use Rattle.world_core.specs.Calls.{CanRestart}
+use Rattle.world_core.specs.Calls.{CanCopy, CanRestart}
 use Rattle.world_core.specs.Readings.{IsRead, Reading}
-use Rattle.world_core.specs.Recoveries.{HasEnded, HasPassed, IsReadable}
+use Rattle.world_core.specs.Recoveries.{HasEnded, HasNoSnapshot, HasPassed, IsReadable}
 
 pub passed_more : (area next : Area) (content : List ℕ) (cs : List CommandValue)
     → ((snapshot : List ℕ) (blocks : List (List CommandValue)) → IsPast area snapshot blocks content → IsPast next snapshot (blocks ++ cs ∷ []) content)
@@ -94,3 +94,40 @@ pub within_none : {E : Type 0} (res : Result (Option (Vec ℕ Global)) E) (size 
     → IfOk res (λ found. found ≡ None → (r : Reading) → IsRead size content r → CanRestart size r → ⊥)
 within_none (Err e) size content state is m = m
 within_none (Ok o) size content state is m = λ none. let s = m none in does_not_fit content state s.0 s.1 is size s.2
+
+-- the state as it is
+
+module _ (content : List ℕ) (state : State) (stands : Stands content state) (size : ℕ) (r : Reading) (x : IsRead size content r) where
+  stored_is : state ≡ r.state
+  stored_is = stands_one content state r.state stands (read_stands size content r x)
+
+  pub can_copy : (spelling : List ℕ) → Spells spelling state → state.count ≤ 2 ^ 61 → length spelling + 9 ≤ size → CanCopy size r × (spelling ≡ snapshot_of r.state)
+  can_copy spelling spells low fits =
+      let spelled : spelling ≡ snapshot_of r.state = spells.spelled ∙ ap snapshot_of stored_is in (
+        record {
+          low = omega (arith, low, ap (λ (s : State). s.count) stored_is);
+          spelled = subst (λ (s : State). Spells (snapshot_of s) s) stored_is (subst (λ (l : List ℕ). Spells l state) spells.spelled spells);
+          fits = omega (arith, fits, ap (λ (l : List ℕ). length l) spelled);
+        },
+        spelled,
+      )
+
+  pub cannot_copy : HasNoSnapshot size state → CanCopy size r → ⊥
+  cannot_copy none can = subst (λ (s : State). HasNoSnapshot size s) stored_is none can.spelled can.fits
+
+pub too_large_to_copy : (content : List ℕ) (size : ℕ) → IsTooLarge content → (r : Reading) → IsRead size content r → CanCopy size r → ⊥
+too_large_to_copy content size t r x can =
+    let same : t.state ≡ r.state = stands_one content t.state r.state t.stands (read_stands size content r x) in
+    omega (arith, t.large, can.low, ap (λ (s : State). s.count) same)
+
+pub copy_found : {E : Type 0} (res : Result (Option (Vec ℕ Global)) E) (content : List ℕ) (state : State) → Stands content state → state.count ≤ 2 ^ 61 → (size : ℕ)
+    → IfOk res (λ found. IfSome found (λ snapshot. Spells snapshot.items state × (length snapshot.items + 9 ≤ size)))
+    → IfOk res (λ found. IfSome found (λ snapshot. (r : Reading) → IsRead size content r → CanCopy size r × (snapshot.items ≡ snapshot_of r.state)))
+copy_found (Err e) content state stands low size found = found
+copy_found (Ok None) content state stands low size found = found
+copy_found (Ok (Some v)) content state stands low size found = λ r x. can_copy content state stands size r x v.items found.0 low found.1
+
+pub no_copy_found : {E : Type 0} (res : Result (Option (Vec ℕ Global)) E) (content : List ℕ) (state : State) → Stands content state → (size : ℕ)
+    → IfOk res (λ found. found ≡ None → HasNoSnapshot size state) → IfOk res (λ found. found ≡ None → (r : Reading) → IsRead size content r → CanCopy size r → ⊥)
+no_copy_found (Err e) content state stands size found = found
+no_copy_found (Ok o) content state stands size found = λ none r x. cannot_copy content state stands size r x (found none)

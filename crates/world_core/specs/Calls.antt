@@ -1,5 +1,5 @@
 -- Device calls: which may come next, what they write, and where they lead.
-use Rattle.std.specs.Prelude.{◌<◌, ◌≤◌, ℕ, ◌+◌, ◌%◌, Bool, true, false, List, [], ◌∷◌, length, slice_index, Option, Some, None}
+use Rattle.std.specs.Prelude.{◌<◌, ◌≤◌, ℕ, ◌+◌, ◌-◌, ◌%◌, Bool, true, false, nat_lt, min, if◌then◌else◌, List, [], ◌∷◌, length, take, drop, slice_index, Option, Some, None}
 use Rattle.command_core.specs.Commands.{CommandValue}
 use Rattle.disk_core.specs.Images.{patched}
 use Rattle.disk_core.specs.Memory.{held_over, none_held}
@@ -15,16 +15,22 @@ use Rattle.world_core.specs.declared.event.CallList.TheVariants.{Append, Snapsho
 use Rattle.world_core.specs.declared.place.Phase.{Phase}
 use Rattle.world_core.specs.declared.place.Phase.TheVariants.{Running, Reopening}
 use Rattle.world_core.specs.declared.place.Place.{Place}
-use Rattle.world_core.specs.declared.place.Place.TheVariants.{Rest, Broken, BlockWritten, BlockSynced, GateWritten, OpenSynced, OpenRead, SnapshotWritten, SnapshotSynced, SelectorWritten, Opened}
+use Rattle.world_core.specs.declared.place.Place.TheVariants.{Rest, Broken, BlockWritten, BlockSynced, GateWritten, Copying, CopySynced, SwitchWritten, OpenSynced, OpenRead, SnapshotWriting, SnapshotSynced, SelectorWritten, Opened}
 use Rattle.world_core.specs.Limits.{most_counted}
 use Rattle.world_core.specs.Readings.{Reading}
 use Rattle.world_core.specs.Worlds.{DiskValue, WorldValue, between}
 
 -- Where the next call of a list leads when it succeeds, by the place where the world is. None where it may not come.
 
+-- A snapshot is written with its length and a closed gate, in pieces of 65,536 bytes, of which the last may be shorter: so far a
+-- piece goes that begins behind so many bytes of the whole.
+abbrev pub piece_end : ℕ → ℕ → ℕ
+piece_end done whole = min (done + 65536) whole
+
 -- a block is written behind the closed gate and synced, and then its gate; it has all that is taken when it is written
 abbrev pub append_writes : ℕ → Place → Option Place
 append_writes taken Rest = Some (BlockWritten taken)
+append_writes taken CopySynced = Some (BlockWritten taken)
 append_writes taken (BlockSynced to) = Some (GateWritten to)
 append_writes taken at = None
 
@@ -33,13 +39,37 @@ append_syncs (BlockWritten to) = Some (BlockSynced to)
 append_syncs (GateWritten to) = Some Rest
 append_syncs at = None
 
--- the list of Open may begin at rest and when broken, and anew after its first sync and after a read
+-- a snapshot of the state as it is may be written where no list is under way
+abbrev pub copy_writes : ℕ → Place → Option Place
+copy_writes whole Rest = Some (Copying (piece_end 0 whole) whole)
+copy_writes whole CopySynced = Some (Copying (piece_end 0 whole) whole)
+copy_writes whole (Copying done all) = if nat_lt done all then Some (Copying (piece_end done all) all) else None
+copy_writes whole at = None
+
+-- and is synced once all of it is written
+abbrev pub copy_syncs : Place → Option Place
+copy_syncs (Copying done all) = if nat_lt done all then None else Some CopySynced
+copy_syncs at = None
+
+-- the areas are switched right behind that, and at no other time
+abbrev pub switch_writes : Place → Option Place
+switch_writes CopySynced = Some SwitchWritten
+switch_writes at = None
+
+abbrev pub switch_syncs : Place → Option Place
+switch_syncs SwitchWritten = Some Rest
+switch_syncs at = None
+
+-- The list of Open may begin at rest and when broken, behind a snapshot and between two of its pieces; and anew after its first
+-- sync, after a read and between two pieces.
 abbrev pub open_syncs : Place → Option Place
 open_syncs Rest = Some OpenSynced
 open_syncs Broken = Some OpenSynced
+open_syncs (Copying done all) = if nat_lt done all then Some OpenSynced else None
+open_syncs CopySynced = Some OpenSynced
 open_syncs OpenSynced = Some OpenSynced
 open_syncs OpenRead = Some OpenSynced
-open_syncs SnapshotWritten = Some SnapshotSynced
+open_syncs (SnapshotWriting done all) = if nat_lt done all then Some OpenSynced else Some SnapshotSynced
 open_syncs SelectorWritten = Some Opened
 open_syncs at = None
 
@@ -48,21 +78,33 @@ open_reads OpenSynced = Some OpenRead
 open_reads OpenRead = Some OpenRead
 open_reads at = None
 
-abbrev pub open_writes : Place → Option Place
-open_writes OpenRead = Some SnapshotWritten
-open_writes SnapshotSynced = Some SelectorWritten
-open_writes at = None
+abbrev pub open_writes : ℕ → Place → Option Place
+open_writes whole OpenRead = Some (SnapshotWriting (piece_end 0 whole) whole)
+open_writes whole (SnapshotWriting done all) = if nat_lt done all then Some (SnapshotWriting (piece_end done all) all) else None
+open_writes whole SnapshotSynced = Some SelectorWritten
+open_writes whole at = None
 
--- a journal is not compacted yet: Snapshot and Switch are no lists of their own
-abbrev pub leads : WorldValue → CallList → CallKind → Option Place
-leads w Append Read = None
-leads w Append Write = append_writes w.taken w.place
-leads w Append Sync = append_syncs w.place
-leads w Snapshot kind = None
-leads w Switch kind = None
-leads w Open Read = open_reads w.place
-leads w Open Write = open_writes w.place
-leads w Open Sync = open_syncs w.place
+-- what is written of the state that is read, its sessions included, and of what a restart leaves of it
+abbrev pub copy_of : Reading → List ℕ
+copy_of r = closed (snapshot_of r.state)
+
+abbrev pub rest_of : Reading → List ℕ
+rest_of r = closed (snapshot_of (restarted r.state))
+
+-- where this is read of the disk
+abbrev pub leads : WorldValue → Reading → CallList → CallKind → Option Place
+leads w r Append Read = None
+leads w r Append Write = append_writes w.taken w.place
+leads w r Append Sync = append_syncs w.place
+leads w r Snapshot Read = None
+leads w r Snapshot Write = copy_writes (length (copy_of r)) w.place
+leads w r Snapshot Sync = copy_syncs w.place
+leads w r Switch Read = None
+leads w r Switch Write = switch_writes w.place
+leads w r Switch Sync = switch_syncs w.place
+leads w r Open Read = open_reads w.place
+leads w r Open Write = open_writes (length (rest_of r)) w.place
+leads w r Open Sync = open_syncs w.place
 
 -- the commands that are taken and not stored, under a number
 abbrev pub batch : WorldValue → ℕ → List CommandValue
@@ -72,6 +114,13 @@ batch w to = between w.base w.history w.stored to
 pub record MayStore (w : WorldValue) (r : Reading) (to : ℕ) : Type 0 where
   pub some : w.stored < to
   pub fits : r.gate + 10 + length (records (batch w to)) ≤ w.disk.size
+
+-- The state that is read has a snapshot, which fits into an area of this length with the gate behind it, and its count is not too
+-- large for a journal to be opened again.
+pub record CanCopy (size : ℕ) (r : Reading) : Type 0 where
+  pub low : r.state.count ≤ most_counted
+  pub spelled : Spells (snapshot_of r.state) r.state
+  pub fits : length (snapshot_of r.state) + 9 ≤ size
 
 -- A new life may begin with the count of what was read, and what a restart leaves of that has a snapshot, which fits into an
 -- area of this length with the gate behind it.
@@ -83,7 +132,8 @@ pub record CanRestart (size : ℕ) (r : Reading) : Type 0 where
 -- what a call asks for that leads to a place
 abbrev pub MayLead : WorldValue → Reading → Place → Type 0
 MayLead w r (BlockWritten to) = MayStore w r to
-MayLead w r SnapshotWritten = CanRestart w.disk.size r
+MayLead w r (Copying done all) = CanCopy w.disk.size r
+MayLead w r (SnapshotWriting done all) = CanRestart w.disk.size r
 MayLead w r to = Unit {0}
 
 -- where the closed gate of the live area is on the disk
@@ -102,12 +152,24 @@ pub record Patch : Type 0 where
 abbrev pub patch : ℕ → List ℕ → Patch
 patch at bytes = record { at = at; bytes = bytes }
 
--- What the write that leads to a place writes: a block and the next gate, the block's own gate as 1, what a restart leaves
--- of the state, or the selector plus 1.
+-- how much is written of a snapshot
+abbrev pub done_at : Place → ℕ
+done_at (Copying done all) = done
+done_at (SnapshotWriting done all) = done
+done_at at = 0
+
+-- these bytes from one place on and before another, written where the whole of them begins
+abbrev pub piece : ℕ → ℕ → ℕ → List ℕ → Patch
+piece begins from to bytes = patch (begins + from) (take (to - from) (drop from bytes))
+
+-- What the write that leads to a place writes: a block and the next gate, the block's own gate as 1, a piece of a snapshot, or
+-- the selector plus 1.
 abbrev pub patch_to : WorldValue → Reading → Place → Patch
 patch_to w r (BlockWritten to) = patch (gate_of w.disk r + 1) (closed (records (batch w to)))
 patch_to w r (GateWritten to) = patch (gate_of w.disk r) (1 ∷ [])
-patch_to w r SnapshotWritten = patch (idle_of w.disk) (closed (snapshot_of (restarted r.state)))
+patch_to w r (Copying done all) = piece (idle_of w.disk) (done_at w.place) done (copy_of r)
+patch_to w r SwitchWritten = patch 16 (((slice_index w.disk.content 16 + 1) % 256) ∷ [])
+patch_to w r (SnapshotWriting done all) = piece (idle_of w.disk) (done_at w.place) done (rest_of r)
 patch_to w r SelectorWritten = patch 16 (((slice_index w.disk.content 16 + 1) % 256) ∷ [])
 patch_to w r to = patch 0 []
 

@@ -55,7 +55,7 @@ Possible w r (Look j) = AreThere w.phase × (j < length w.seats)
 Possible w r (Claim j command) = CanClaim w j × HasRecord command
 Possible w r (Ready j) = (w.phase ≡ Running) × IsSomeAnd (slice_get w.seats j) (λ seat. IsPending w (last_of seat.own))
 Possible w r Take = (w.phase ≡ Running) × (slice_get w.ready (w.taken - w.base) ≡ Some true)
-Possible w r (Device call) = IsSomeAnd (leads w call.list call.kind) (MayLead w r)
+Possible w r (Device call) = IsSomeAnd (leads w r call.list call.kind) (MayLead w r)
 Possible w r (Raise n) = (w.phase ≡ Running) × (w.mark ≤ n) × (n ≤ w.stored)
 Possible w r (Release j n) = AreThere w.phase × IsSomeAnd (slice_get w.seats j) (λ seat. n < seat.seen)
 Possible w r Stop = w.phase ≡ Running
@@ -111,7 +111,7 @@ after w r (Look j) = record w { seats = with_seat (looks w.mark) j (slice_get w.
 after w r (Claim j command) = record (with_number w j) { history = w.history ++ command ∷ [] }
 after w r (Ready j) = record w { ready = readied w (slice_get w.seats j) }
 after w r Take = record w { taken = w.taken + 1 }
-after w r (Device call) = called w r call w.place (leads w call.list call.kind)
+after w r (Device call) = called w r call w.place (leads w r call.list call.kind)
 after w r (Raise n) = record w { mark = n }
 after w r (Release j n) = record w { released = w.released ++ n ∷ [] }
 after w r Stop = record w { stopped = true }

@@ -1,20 +1,20 @@
 -- What each event keeps.
-use Rattle.std.specs.Prelude.{◌≡◌, ◌≢◌, ℕ, ◌+◌, ◌*◌, ◌<◌, ◌≤◌, List, [], length, drop, All}
+use Rattle.std.specs.Prelude.{◌≡◌, ◌≢◌, ℕ, ◌+◌, ◌*◌, ◌<◌, ◌≤◌, List, [], length, take, drop, All}
 use Rattle.std.specs.List.{AllByRecursion}
 use Rattle.command_core.specs.Commands.{CommandValue}
-use Rattle.disk_core.specs.Images.{IsImage, patched}
+use Rattle.disk_core.specs.Images.{IsImage, Torn, patched}
 use Rattle.disk_core.specs.Memory.{none_held}
 use Rattle.area_core.specs.Areas.{HasRecord, IsArea, IsBlock, closed, records}
-use Rattle.area_core.specs.Journals.{is_odd, other, start}
+use Rattle.area_core.specs.Journals.{is_odd, start}
 use Rattle.broker_core.specs.Operations.{restarted}
 use Rattle.broker_core.specs.States.{State}
 use Rattle.snapshot_core.specs.Snapshots.{snapshot_of}
 use Rattle.world_core.specs.declared.place.Phase.{Phase}
 use Rattle.world_core.specs.declared.place.Phase.TheVariants.{Running}
 use Rattle.world_core.specs.declared.place.Place.{Place}
-use Rattle.world_core.specs.declared.place.Place.TheVariants.{Rest, Broken, BlockWritten, BlockSynced, GateWritten, OpenSynced, OpenRead, SnapshotWritten, SnapshotSynced, SelectorWritten, Opened}
+use Rattle.world_core.specs.declared.place.Place.TheVariants.{Rest, Broken, BlockWritten, BlockSynced, GateWritten, Copying, CopySynced, SwitchWritten, OpenSynced, OpenRead, SnapshotWriting, SnapshotSynced, SelectorWritten, Opened}
 use Rattle.world_core.specs.declared.seat.Seat.{Seat}
-use Rattle.world_core.specs.Calls.{CanRestart}
+use Rattle.world_core.specs.Calls.{CanCopy, CanRestart, copy_of, idle_of, rest_of}
 use Rattle.world_core.specs.Limits.{most_counted}
 use Rattle.world_core.specs.Readings.{IsRead, Reading}
 use Rattle.world_core.specs.Worlds.{DiskValue, WorldValue, between, claimed, state_under}
@@ -65,12 +65,45 @@ pub record Staged (log : Log) (d : DiskValue) (to : ℕ) : Type 0 where
   pub room : reading.gate + 10 + length (records (between log.base log.history log.stored to)) ≤ d.size
   pub content : d.content ≡ patched (start d.size (is_odd was_read.selector) + reading.gate + 1) (closed (records (between log.base log.history log.stored to))) before
 
+-- Of these bytes the first so many stand in the idle area, and so many are all. A stop leaves any bytes in that area, and nothing
+-- else but what is read.
+pub record Copies (d : DiskValue) (bytes : List ℕ) (done all : ℕ) : Type 0 where
+  pub whole : all ≡ length bytes
+  pub within : done ≤ all
+  pub there : take done (drop (idle_of d) d.content) ≡ take done bytes
+  pub torn : (c : List ℕ) → IsImage d.content d.held c → Torn (idle_of d) d.size d.content c
+
+-- a snapshot of what is read, the state after what is stored, stands in the idle area so far
+pub record Copied (log : Log) (d : DiskValue) (done all : ℕ) : Type 0 where
+  pub running : log.phase ≡ Running
+  pub reading : Reading
+  pub is_read : IsRead d.size d.content reading
+  pub state : reading.state ≡ upto log log.stored
+  pub can : CanCopy d.size reading
+  pub copies : Copies d (copy_of reading) done all
+
+-- and all of it
+pub record HasCopy (log : Log) (d : DiskValue) : Type 0 where
+  pub running : log.phase ≡ Running
+  pub reading : Reading
+  pub is_read : IsRead d.size d.content reading
+  pub state : reading.state ≡ upto log log.stored
+  pub can : CanCopy d.size reading
+  pub idle : IsArea d.size (snapshot_of reading.state) [] (drop (idle_of d) d.content)
+
+-- a snapshot of what a restart leaves of the state that is read stands in the idle area so far
+pub record Preparing (d : DiskValue) (done all : ℕ) : Type 0 where
+  pub reading : Reading
+  pub is_read : IsRead d.size d.content reading
+  pub can : CanRestart d.size reading
+  pub copies : Copies d (rest_of reading) done all
+
 -- the idle area has the snapshot of what a restart leaves of the state that is read
 pub record Prepared (d : DiskValue) : Type 0 where
   pub reading : Reading
   pub is_read : IsRead d.size d.content reading
   pub can : CanRestart d.size reading
-  pub idle : IsArea d.size (snapshot_of (restarted reading.state)) [] (drop (start d.size (other (is_odd is_read.selector))) d.content)
+  pub idle : IsArea d.size (snapshot_of (restarted reading.state)) [] (drop (idle_of d) d.content)
 
 -- what is read is a state that is restarted
 pub record Restarted (d : DiskValue) : Type 0 where
@@ -90,9 +123,12 @@ IsAt log d Broken = Unit {0}
 IsAt log d (BlockWritten to) = Staged log d to
 IsAt log d (BlockSynced to) = IsStill d × Staged log d to
 IsAt log d (GateWritten to) = (log.stored ≤ to) × (to ≤ log.taken) × Exact log d to
+IsAt log d (Copying done all) = Copied log d done all
+IsAt log d CopySynced = IsStill d × HasCopy log d
+IsAt log d SwitchWritten = Exact log d log.stored
 IsAt log d OpenSynced = IsStill d × (log.phase ≢ Running)
 IsAt log d OpenRead = IsStill d × (log.phase ≢ Running)
-IsAt log d SnapshotWritten = (log.phase ≢ Running) × Prepared d
+IsAt log d (SnapshotWriting done all) = (log.phase ≢ Running) × Preparing d done all
 IsAt log d SnapshotSynced = IsStill d × (log.phase ≢ Running) × Prepared d
 IsAt log d SelectorWritten = (log.phase ≢ Running) × Restarted d
 IsAt log d Opened = IsStill d × (log.phase ≢ Running) × Restarted d

@@ -1,9 +1,11 @@
 -- What is read of a disk on the way.
-use Rattle.std.specs.Prelude.{ℕ, List}
+use Rattle.std.specs.Prelude.{ℕ, List, ◌+◌, ◌≤◌, length}
 use Rattle.command_core.specs.Commands.{CommandValue}
 use Rattle.area_core.specs.declared.area.Area.{Area}
 use Rattle.area_core.specs.Held.{IsAt}
 use Rattle.area_core.specs.Reading.{IsPast}
+use Rattle.broker_core.specs.States.{State}
+use Rattle.snapshot_core.specs.Snapshots.{Spells, snapshot_of}
 use Rattle.world_core.specs.Readings.{IsRead, Reading}
 
 -- these bytes are a journal with areas of this length
@@ -22,3 +24,7 @@ pub record HasEnded (area : Area) (content : List ℕ) : Type 0 where
   pub snapshot : List ℕ
   pub blocks : List (List CommandValue)
   pub at : IsAt area snapshot blocks content
+
+-- the state has no snapshot that fits into an area of so many bytes with the gate behind it
+abbrev pub HasNoSnapshot : ℕ → State → Type 0
+HasNoSnapshot size s = Spells (snapshot_of s) s → length (snapshot_of s) + 9 ≤ size → ⊥

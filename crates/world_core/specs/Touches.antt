@@ -1,20 +1,47 @@
 -- What the parts of a world do for a call of the device.
-use Rattle.std.specs.Prelude.{◌≡◌, ◌+◌, ◌≤◌, ℕ, List, Bool, MatchBool, length, slice_index}
+use Rattle.std.specs.Prelude.{◌≡◌, ◌+◌, ◌≤◌, ℕ, List, Bool, true, false, MatchBool, Option, Some, IsSomeAnd, length, slice_index}
 use Rattle.area_core.specs.Areas.{closed}
 use Rattle.area_core.specs.Journals.{is_odd, start}
 use Rattle.broker_core.specs.States.{State}
 use Rattle.world_core.specs.declared.event.CallKind.{CallKind}
+use Rattle.world_core.specs.declared.event.CallKind.TheVariants.{Write}
+use Rattle.world_core.specs.declared.event.CallList.{CallList}
+use Rattle.world_core.specs.declared.event.CallList.TheVariants.{Snapshot, Open}
 use Rattle.world_core.specs.declared.place.Place.{Place}
-use Rattle.world_core.specs.declared.place.Place.TheVariants.{BlockWritten}
-use Rattle.world_core.specs.Calls.{MayLead, disk_after, patch, patch_to, with_disk}
+use Rattle.world_core.specs.declared.place.Place.TheVariants.{BlockWritten, Copying, SnapshotWriting}
+use Rattle.world_core.specs.Calls.{MayLead, copy_of, disk_after, done_at, leads, patch, patch_to, rest_of, with_disk}
 use Rattle.world_core.specs.Events.{reopened}
 use Rattle.world_core.specs.Readings.{IsRead, Reading}
 use Rattle.world_core.specs.Worlds.{DiskValue, WorldValue}
 
--- a block has all that is taken
+-- the bytes from one place on and before another are there
+abbrev pub HasPiece : ℕ → ℕ → List ℕ → Type 0
+HasPiece from to bytes = (from ≤ to) × (to ≤ length bytes)
+
+-- a block has all that is taken, and a piece is of what there is to write
 abbrev pub IsDue : WorldValue → Place → Type 0
 IsDue w (BlockWritten to) = to ≡ w.taken
+IsDue w (Copying done all) = (r : Reading) → IsRead w.disk.size w.disk.content r → HasPiece (done_at w.place) done (copy_of r)
+IsDue w (SnapshotWriting done all) = (r : Reading) → IsRead w.disk.size w.disk.content r → HasPiece (done_at w.place) done (rest_of r)
 IsDue w to = Unit {0}
+
+-- whatever is read of the disk, the next call of that list and kind leads there
+abbrev pub LeadsTo : WorldValue → CallList → CallKind → Place → Type 0
+LeadsTo w list kind to = (r : Reading) → IsRead w.disk.size w.disk.content r → leads w r list kind ≡ Some to
+
+-- it may not come
+abbrev pub LeadsNowhere : WorldValue → CallList → CallKind → Type 0
+LeadsNowhere w list kind = (r : Reading) → IsRead w.disk.size w.disk.content r → IsSomeAnd (leads w r list kind) (MayLead w r) → ⊥
+
+-- it may be the write of a snapshot, whose length is read
+abbrev pub writes_snapshot : CallList → CallKind → Bool
+writes_snapshot Snapshot Write = true
+writes_snapshot Open Write = true
+writes_snapshot list kind = false
+
+-- but for these, it leads there whatever is read
+abbrev pub IsLead : WorldValue → CallList → CallKind → Option Place → Type 0
+IsLead w list kind found = writes_snapshot list kind ≡ false → (r : Reading) → found ≡ leads w r list kind
 
 -- the write that leads there may come, and writes these bytes at that offset, whatever is read of the disk
 abbrev pub IsPatch : WorldValue → Place → ℕ → List ℕ → Type 0

@@ -1,17 +1,32 @@
 //! Which device call may come next.
 
-ghost use Rattle.std.specs.Prelude.{◌≡◌};
-ghost use Rattle.world_core.specs.Calls.{append_syncs, append_writes, leads, open_reads, open_syncs, open_writes, phase_after, place_after, stored_after};
+ghost use Rattle.std.specs.Prelude.{◌≡◌, IfOk, IfSome, None};
+ghost use Rattle.world_core.specs.Calls.{append_syncs, append_writes, copy_syncs, copy_writes, open_reads, open_syncs, open_writes, phase_after, piece_end, place_after, stored_after, switch_syncs, switch_writes};
+ghost use Rattle.world_core.specs.Keeping.{IsKept};
 ghost use Rattle.world_core.specs.Parts.{value_of};
+ghost use Rattle.world_core.specs.Touches.{IsLead, LeadsNowhere, LeadsTo, writes_snapshot};
+ghost use Rattle.world_core.specs.declared.event.CallKind.TheVariants.{Write};
+ghost use Rattle.world_core.specs.declared.event.CallList.TheVariants.{Open, Snapshot};
 
 use crate::parts::Parts;
 use crate::{CallKind, CallList, Phase, Place};
+use std::alloc::{AllocError, Global};
+
+// A snapshot is written in pieces of so many bytes, of which the last may be shorter.
+const PIECE_BYTES: u64 = 65_536;
+
+// How far the piece goes that begins behind so many bytes of the whole.
+fn piece_end(done: u64, whole: u64) -> u64
+    ensures { result ≡ piece_end done whole }
+{
+    done.saturating_add(PIECE_BYTES).min(whole)
+}
 
 fn append_writes(taken: u64, place: Place) -> Option<Place>
     ensures { result ≡ append_writes taken place }
 {
     match place {
-        Place::Rest => Some(Place::BlockWritten(taken)),
+        Place::Rest | Place::CopySynced => Some(Place::BlockWritten(taken)),
         Place::BlockSynced(to) => Some(Place::GateWritten(to)),
         _ => None,
     }
@@ -27,14 +42,52 @@ fn append_syncs(place: Place) -> Option<Place>
     }
 }
 
+fn copy_writes(whole: u64, place: Place) -> Option<Place>
+    ensures { result ≡ copy_writes whole place }
+{
+    match place {
+        Place::Rest | Place::CopySynced => Some(Place::Copying(piece_end(0, whole), whole)),
+        Place::Copying(done, all) if done < all => Some(Place::Copying(piece_end(done, all), all)),
+        _ => None,
+    }
+}
+
+fn copy_syncs(place: Place) -> Option<Place>
+    ensures { result ≡ copy_syncs place }
+{
+    match place {
+        Place::Copying(done, all) if done >= all => Some(Place::CopySynced),
+        _ => None,
+    }
+}
+
+fn switch_writes(place: Place) -> Option<Place>
+    ensures { result ≡ switch_writes place }
+{
+    match place {
+        Place::CopySynced => Some(Place::SwitchWritten),
+        _ => None,
+    }
+}
+
+fn switch_syncs(place: Place) -> Option<Place>
+    ensures { result ≡ switch_syncs place }
+{
+    match place {
+        Place::SwitchWritten => Some(Place::Rest),
+        _ => None,
+    }
+}
+
 fn open_syncs(place: Place) -> Option<Place>
     ensures { result ≡ open_syncs place }
 {
     match place {
-        Place::Rest | Place::Broken | Place::OpenSynced | Place::OpenRead => {
-            Some(Place::OpenSynced)
-        }
-        Place::SnapshotWritten => Some(Place::SnapshotSynced),
+        Place::Rest | Place::Broken | Place::CopySynced | Place::OpenSynced | Place::OpenRead =>
+            Some(Place::OpenSynced),
+        Place::Copying(done, all) if done < all => Some(Place::OpenSynced),
+        Place::SnapshotWriting(done, all) if done < all => Some(Place::OpenSynced),
+        Place::SnapshotWriting(_, _) => Some(Place::SnapshotSynced),
         Place::SelectorWritten => Some(Place::Opened),
         _ => None,
     }
@@ -49,28 +102,98 @@ fn open_reads(place: Place) -> Option<Place>
     }
 }
 
-fn open_writes(place: Place) -> Option<Place>
-    ensures { result ≡ open_writes place }
+fn open_writes(whole: u64, place: Place) -> Option<Place>
+    ensures { result ≡ open_writes whole place }
 {
     match place {
-        Place::OpenRead => Some(Place::SnapshotWritten),
+        Place::OpenRead => Some(Place::SnapshotWriting(piece_end(0, whole), whole)),
+        Place::SnapshotWriting(done, all) if done < all => {
+            Some(Place::SnapshotWriting(piece_end(done, all), all))
+        }
         Place::SnapshotSynced => Some(Place::SelectorWritten),
         _ => None,
     }
 }
 
+// Whether it may be the write of a snapshot, for which it takes the length of that to know where it leads.
+fn writes_snapshot(list: CallList, kind: CallKind) -> bool
+    ensures { result ≡ writes_snapshot list kind }
+{
+    match (list, kind) {
+        (CallList::Snapshot | CallList::Open, CallKind::Write) => true,
+        _ => false,
+    }
+}
+
 impl Parts {
-    // Where the next call of a list leads when it succeeds.
-    pub(crate) fn leads(&self, list: CallList, kind: CallKind) -> Option<Place>
-        ensures { result ≡ leads (value_of self.now) list kind }
+    // Where the next call leads when it succeeds, but for the writes of snapshots.
+    fn place_leads(&self, list: CallList, kind: CallKind) -> Option<Place>
+        ensures { IsLead (value_of self.now) list kind result }
     {
         match (list, kind) {
             (CallList::Append, CallKind::Write) => append_writes(self.taken, self.place),
             (CallList::Append, CallKind::Sync) => append_syncs(self.place),
+            (CallList::Snapshot, CallKind::Sync) => copy_syncs(self.place),
+            (CallList::Switch, CallKind::Write) => switch_writes(self.place),
+            (CallList::Switch, CallKind::Sync) => switch_syncs(self.place),
             (CallList::Open, CallKind::Read) => open_reads(self.place),
-            (CallList::Open, CallKind::Write) => open_writes(self.place),
             (CallList::Open, CallKind::Sync) => open_syncs(self.place),
             _ => None,
+        }
+    }
+
+    // Where the next write of a snapshot of the state as it is leads, or none where it may not come.
+    fn copy_leads(&self, alloc: Global) -> Result<Option<Place>, AllocError>
+        requires { IsKept (value_of self.now) }
+        ensures some { IfOk result (λ found. IfSome found (LeadsTo (value_of self.now) Snapshot Write)) }
+        ensures none { IfOk result (λ found. found ≡ None → LeadsNowhere (value_of self.now) Snapshot Write) }
+    {
+        match self.copy_bytes(alloc)? {
+            Some(bytes) => {
+                let whole = bytes.len() as u64;
+                drop(bytes);
+                Ok(copy_writes(whole, self.place))
+            }
+            None => Ok(None),
+        }
+    }
+
+    // Where the next write of an opening leads, or none where it may not come.
+    fn open_leads(&self, alloc: Global) -> Result<Option<Place>, AllocError>
+        requires { IsKept (value_of self.now) }
+        ensures some { IfOk result (λ found. IfSome found (LeadsTo (value_of self.now) Open Write)) }
+        ensures none { IfOk result (λ found. found ≡ None → LeadsNowhere (value_of self.now) Open Write) }
+    {
+        if let Place::SnapshotSynced = self.place {
+            return Ok(Some(Place::SelectorWritten));
+        }
+        match self.rest_bytes(alloc)? {
+            Some(bytes) => {
+                let whole = bytes.len() as u64;
+                drop(bytes);
+                Ok(open_writes(whole, self.place))
+            }
+            None => Ok(None),
+        }
+    }
+
+    // Where the next call of a list leads when it succeeds, or none where it may not come.
+    pub(crate) fn leads(
+        &self,
+        alloc: Global,
+        list: CallList,
+        kind: CallKind,
+    ) -> Result<Option<Place>, AllocError>
+        requires { IsKept (value_of self.now) }
+        ensures some { IfOk result (λ found. IfSome found (LeadsTo (value_of self.now) list kind)) }
+        ensures none { IfOk result (λ found. found ≡ None → LeadsNowhere (value_of self.now) list kind) }
+    {
+        if !writes_snapshot(list, kind) {
+            return Ok(self.place_leads(list, kind));
+        }
+        match list {
+            CallList::Snapshot => self.copy_leads(alloc),
+            _ => self.open_leads(alloc),
         }
     }
 }

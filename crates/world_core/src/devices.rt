@@ -1,13 +1,13 @@
 //! Device calls on the parts of a world, and the end of an opening.
 
-ghost use Rattle.std.specs.Prelude.{◌≡◌, ◌+◌, ◌≤◌, IfOk, OnErr, Some, false, length, true};
+ghost use Rattle.std.specs.Prelude.{◌≡◌, ◌+◌, ◌≤◌, IfOk, OnErr, false, length, true};
 ghost use Rattle.broker_core.specs.States.{State};
 ghost use Rattle.world_core.specs.Answers.{IsTold};
-ghost use Rattle.world_core.specs.Calls.{leads, patch, synced, with_disk, wrote};
+ghost use Rattle.world_core.specs.Calls.{patch, synced, with_disk, wrote};
 ghost use Rattle.world_core.specs.Events.{reopened};
 ghost use Rattle.world_core.specs.Keeping.{IsKept};
 ghost use Rattle.world_core.specs.Parts.{disk_of, value_of};
-ghost use Rattle.world_core.specs.Touches.{IsDue, IsTouched, begun};
+ghost use Rattle.world_core.specs.Touches.{IsDue, IsTouched, LeadsTo, begun};
 
 use crate::calls::{phase_after, place_after, stored_after};
 use crate::parts::Parts;
@@ -57,7 +57,7 @@ impl Parts {
     // Makes a call on the disk that leads to a place when it succeeds, where it may come.
     fn touch(&mut self, alloc: Global, call: Call, to: Place) -> Result<bool, AllocError>
         requires kept { IsKept (value_of self.old) }
-        requires leads { leads (value_of self.old) call.list call.kind ≡ Some to }
+        requires leads { LeadsTo (value_of self.old) call.list call.kind to }
         ensures ok { IfOk result (λ answer. IsTouched (value_of self.old) call.kind call.ok to answer (value_of self.new)) }
         ensures err { OnErr result (value_of self.new ≡ value_of self.old) }
     {
@@ -76,7 +76,7 @@ impl Parts {
         ensures ok { IfOk result (λ answer. IsTold (value_of self.old) (Event.Device call) answer (value_of self.new)) }
         ensures err { OnErr result (value_of self.new ≡ value_of self.old) }
     {
-        let Some(to) = self.leads(call.list, call.kind) else {
+        let Some(to) = self.leads(alloc, call.list, call.kind)? else {
             return Ok(false);
         };
         if !self.touch(alloc, call, to)? {

@@ -8,9 +8,10 @@ use frame_core::Bytes;
 pub enum CallList {
     /// A block is added: written, synced, and its gate written and synced.
     Append,
-    /// A snapshot of the state as it is is written. As a list of its own it is not made yet.
+    /// A snapshot of the state as it is, its sessions included, is written into the area that is not live, piece by piece, and
+    /// synced. It begins where no list is under way.
     Snapshot,
-    /// The selector is written. As a list of its own it is not made yet.
+    /// The area with that snapshot is made live: the selector is written and synced. It comes right behind Snapshot.
     Switch,
     /// A journal is opened: a sync, reads, a snapshot of what a restart leaves written and synced, the selector written and
     /// synced.

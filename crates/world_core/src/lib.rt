@@ -9,6 +9,7 @@ mod formatting;
 mod laws;
 mod parts;
 mod patches;
+mod pieces;
 mod place;
 mod recovering;
 mod seat;

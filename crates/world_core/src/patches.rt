@@ -11,7 +11,7 @@ ghost use Rattle.world_core.specs.Touches.{IsBlockPatch, IsDue, IsNoPatch, IsPat
 
 use crate::Place;
 use crate::parts::Parts;
-use crate::recovering::{gate_in, restarted_snapshot};
+use crate::recovering::gate_in;
 use area_core::closed;
 use command_core::Entry;
 use std::alloc::{AllocError, Global};
@@ -35,7 +35,7 @@ fn records_of(alloc: Global, entries: &[Entry<()>]) -> Result<Vec<u8>, AllocErro
 }
 
 // Where the first or the second of two areas of so many bytes begins.
-fn area_begins(size: u64, second: bool) -> usize
+pub(crate) fn area_begins(size: u64, second: bool) -> usize
     requires { size ≤ 1048576 }
     ensures at { result ≡ start size second }
     ensures low { result ≤ 32 + size }
@@ -57,7 +57,7 @@ fn block_behind(alloc: Global, gate: usize, records: &[u8]) -> Result<Patch, All
 }
 
 impl Parts {
-    fn is_second_live(&self) -> bool
+    pub(crate) fn is_second_live(&self) -> bool
         requires { IsKept (value_of self.now) }
         ensures { result ≡ is_odd (slice_index self.now.content.items 16) }
     {
@@ -133,22 +133,10 @@ impl Parts {
         })
     }
 
-    fn snapshot_patch(&self, alloc: Global) -> Result<Option<Patch>, AllocError>
-        requires { IsKept (value_of self.now) }
-        ensures some { IfOk result (λ found. IfSome found (λ p. IsPatch (value_of self.now) Place.SnapshotWritten p.at p.bytes.items)) }
-        ensures none { IfOk result (λ found. found ≡ None → IsNoPatch (value_of self.now) Place.SnapshotWritten) }
-    {
-        let Some(snapshot) = restarted_snapshot(alloc, &self.content, self.size)? else {
-            return Ok(None);
-        };
-        let bytes = closed(alloc, &snapshot)?;
-        let begins = area_begins(self.size, !self.is_second_live());
-        Ok(Some(Patch { at: begins, bytes }))
-    }
-
     fn selector_patch(&self, alloc: Global) -> Result<Patch, AllocError>
         requires { IsKept (value_of self.now) }
-        ensures { IfOk result (λ p. IsPatch (value_of self.now) Place.SelectorWritten p.at p.bytes.items) }
+        ensures switch { IfOk result (λ p. IsPatch (value_of self.now) Place.SwitchWritten p.at p.bytes.items) }
+        ensures open { IfOk result (λ p. IsPatch (value_of self.now) Place.SelectorWritten p.at p.bytes.items) }
     {
         Ok(Patch {
             at: 16,
@@ -166,7 +154,9 @@ impl Parts {
         match to {
             Place::BlockWritten(_) => self.block_patch(alloc),
             Place::GateWritten(to) => Ok(Some(self.gate_patch(alloc, to)?)),
-            Place::SnapshotWritten => self.snapshot_patch(alloc),
+            Place::Copying(done, all) => self.copy_patch(alloc, done, all),
+            Place::SnapshotWriting(done, all) => self.rest_patch(alloc, done, all),
+            Place::SwitchWritten => Ok(Some(self.selector_patch(alloc)?)),
             Place::SelectorWritten => Ok(Some(self.selector_patch(alloc)?)),
             _ => Ok(Some(Patch {
                 at: 0,

@@ -13,12 +13,18 @@ pub enum Place {
     BlockSynced(u64),
     /// Append: its gate is written.
     GateWritten(u64),
+    /// Snapshot: so many bytes of a snapshot of the state as it is, and of so many in all, are written into the idle area.
+    Copying(u64, u64),
+    /// Snapshot: it is synced. All its calls are made.
+    CopySynced,
+    /// Switch: the selector is written.
+    SwitchWritten,
     /// Open: the first sync is made.
     OpenSynced,
     /// Open: a read is made.
     OpenRead,
-    /// Open: the snapshot is written into the idle area.
-    SnapshotWritten,
+    /// Open: so many bytes of the snapshot, and of so many in all, are written into the idle area.
+    SnapshotWriting(u64, u64),
     /// Open: it is synced.
     SnapshotSynced,
     /// Open: the selector is written.

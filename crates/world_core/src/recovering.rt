@@ -7,14 +7,14 @@ ghost use Rattle.recover_core.specs.Standing.{Stands};
 ghost use Rattle.recover_core.specs.Stores.{opened_by};
 ghost use Rattle.recover_core.specs.Told.{IsOpenTold, IsTooLarge, IsTooLong};
 ghost use Rattle.snapshot_core.specs.Snapshots.{Spells, snapshot_of};
-ghost use Rattle.world_core.specs.Calls.{CanRestart};
+ghost use Rattle.world_core.specs.Calls.{CanCopy, CanRestart};
 ghost use Rattle.world_core.specs.Readings.{IsRead, Reading};
-ghost use Rattle.world_core.specs.Recoveries.{HasEnded, HasPassed, IsReadable};
+ghost use Rattle.world_core.specs.Recoveries.{HasEnded, HasNoSnapshot, HasPassed, IsReadable};
 
 use area_core::{Area, AreaFault};
 use broker_core::Broker;
 use disk_core::{Disk, MemDisk};
-use recover_core::{OpenFault, Store, open};
+use recover_core::{OpenFault, Store, open, stored_broker};
 use snapshot_core::encode_state;
 use std::alloc::{AllocError, Global};
 
@@ -158,6 +158,64 @@ pub(crate) fn restarted_snapshot(
     match restarted_broker(alloc, content)? {
         Some(broker) => {
             let snapshot = snapshot_within(alloc, &broker, size);
+            drop(broker);
+            snapshot
+        }
+        None => Ok(None),
+    }
+}
+
+// The broker of the state that these bytes stand for, or none where its count is too large. A journal is refused for that and
+// for want of memory alone.
+fn broker_in(alloc: Global, content: &[u8]) -> Result<Option<Broker>, AllocError>
+    ensures state { IfOk result (λ found. IfSome found (λ broker. Stands content.now broker.state)) }
+    ensures small { IfOk result (λ found. IfSome found (λ broker. (broker.state.count ≤ 2 ^ 61) × (broker.broken ≡ false))) }
+    ensures none { IfOk result (λ found. found ≡ None → IsTooLarge content.now) }
+{
+    let mut disk = copy_of(alloc, content)?;
+    let found = stored_broker(alloc, &mut disk);
+    drop(disk);
+    match found {
+        Ok(broker) => Ok(Some(broker)),
+        Err(OpenFault::CountTooLarge) => Ok(None),
+        Err(fault) => {
+            drop(fault);
+            Err(AllocError)
+        }
+    }
+}
+
+// A broker's snapshot, or none where four bytes can't count what it has, or where it doesn't fit into an area of so many bytes.
+fn counted_snapshot(
+    alloc: Global,
+    broker: &Broker,
+    size: u64,
+) -> Result<Option<Vec<u8>>, AllocError>
+    requires whole { broker.now.broken ≡ false }
+    ensures some { IfOk result (λ found. IfSome found (λ snapshot. Spells snapshot.items broker.now.state × (length snapshot.items + 9 ≤ size))) }
+    ensures none { IfOk result (λ found. found ≡ None → HasNoSnapshot size broker.now.state) }
+{
+    if broker.sessions().len() >= 1 << 32 || broker.subscription_count() >= 1 << 32 {
+        return Ok(None);
+    }
+    snapshot_within(alloc, broker, size)
+}
+
+// The snapshot of the state that these bytes stand for, its sessions included, or none where its count is too large, where four
+// bytes can't count what it has, or where it doesn't fit into an area of so many bytes.
+pub(crate) fn stored_snapshot(
+    alloc: Global,
+    content: &[u8],
+    size: u64,
+) -> Result<Option<Vec<u8>>, AllocError>
+    requires { IsReadable size content.now }
+    ensures some { IfOk result (λ found. IfSome found (λ snapshot. (r : Reading) → IsRead size content.now r
+        → CanCopy size r × (snapshot.items ≡ snapshot_of r.state))) }
+    ensures none { IfOk result (λ found. found ≡ None → (r : Reading) → IsRead size content.now r → CanCopy size r → ⊥) }
+{
+    match broker_in(alloc, content)? {
+        Some(broker) => {
+            let snapshot = counted_snapshot(alloc, &broker, size);
             drop(broker);
             snapshot
         }

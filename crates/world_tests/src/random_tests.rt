@@ -24,9 +24,9 @@ fn once_in(seed: &mut u64, times: u64) -> bool
 }
 
 fn pick_call(seed: &mut u64, running: bool) -> Call {
-    let list = if once_in(seed, 40) {
+    let list = if once_in(seed, 12) {
         CallList::Snapshot
-    } else if once_in(seed, 40) {
+    } else if once_in(seed, 6) {
         CallList::Switch
     } else if running && !once_in(seed, 60) {
         CallList::Append

@@ -1,9 +1,12 @@
 //! Single schedules: tables of events, and whether each is possible then.
-use crate::schedules::{FIRST_GATE, Pick, apply, open};
+use crate::schedules::{FIRST_GATE, Pick, apply, claim, open};
+use command_core::{Command, Op};
+use frame_core::{Bytes, Headers};
+use record_core::{Dest, Sending};
 use std::alloc::{AllocError, Global};
 use std::process::Abort;
 use std::test::Fail;
-use world_core::{Call, CallKind, CallList, World};
+use world_core::{Call, CallKind, CallList, Event, World};
 
 const READ: Pick = Pick::Device(Call {
     list: CallList::Append,
@@ -188,32 +191,147 @@ fn after_a_failure_the_journal_is_opened(rt: HostRuntime) -> Result<(), Fail> {
     Ok(())
 }
 
-fn call_lists(
-    rt: &impl Abort,
-    alloc: Global,
-    world: &mut World,
-    list: CallList,
-) -> Result<(), AllocError> {
-    for kind in [CallKind::Read, CallKind::Write, CallKind::Sync] {
-        let call = Call {
-            list,
-            kind,
-            ok: true,
-        };
-        run(rt, alloc, world, &[(Pick::Device(call), false)])?;
-    }
+const COPY: Pick = Pick::Device(Call {
+    list: CallList::Snapshot,
+    kind: CallKind::Write,
+    ok: true,
+});
+
+const COPY_SYNC: Pick = Pick::Device(Call {
+    list: CallList::Snapshot,
+    kind: CallKind::Sync,
+    ok: true,
+});
+
+const SWITCH: Pick = Pick::Device(Call {
+    list: CallList::Switch,
+    kind: CallKind::Write,
+    ok: true,
+});
+
+const SWITCH_SYNC: Pick = Pick::Device(Call {
+    list: CallList::Switch,
+    kind: CallKind::Sync,
+    ok: true,
+});
+
+const OPEN_SYNC: Pick = Pick::Device(Call {
+    list: CallList::Open,
+    kind: CallKind::Sync,
+    ok: true,
+});
+
+// A snapshot is synced before the switch, which comes right behind it, while sessions claim.
+const COMPACT: [(Pick, bool); 13] = [
+    (SWITCH, false),
+    (COPY, true),
+    (SWITCH, false),
+    (OPEN_SYNC, false),
+    (Pick::Claim(1), true),
+    (COPY_SYNC, true),
+    (COPY_SYNC, false),
+    (SWITCH, true),
+    (COPY, false),
+    (WRITE, false),
+    (SWITCH_SYNC, true),
+    (SWITCH_SYNC, false),
+    (SWITCH, false),
+];
+
+// A block may come between a snapshot and its switch, which may not come then.
+const APPEND_BEHIND_A_COPY: [(Pick, bool); 6] = [
+    (COPY, true),
+    (COPY_SYNC, true),
+    (Pick::Ready(1), true),
+    (Pick::Take, true),
+    (WRITE, true),
+    (SWITCH, false),
+];
+
+fn compact(rt: &impl Abort, alloc: Global, world: &mut World) -> Result<(), AllocError> {
+    run(rt, alloc, world, &WRITE_ONE)?;
+    run(rt, alloc, world, &RELEASE_ONE)?;
+    run(rt, alloc, world, &COMPACT)?;
+    run(rt, alloc, world, &APPEND_BEHIND_A_COPY)
+}
+
+#[test]
+fn a_switch_comes_right_behind_a_snapshot_that_is_synced(rt: HostRuntime) -> Result<(), Fail> {
+    let alloc = rt.alloc();
+    let mut world = World::new(alloc, 4_096)?;
+    let done = compact(&rt, alloc, &mut world);
+    drop(world);
+    done?;
     Ok(())
 }
 
-// Lists of their own for compaction are not made yet.
+// A Send with a body of 60,000 bytes: a snapshot that holds two of them has two pieces.
+fn long_send(alloc: Global) -> Option<Command> {
+    let mut body = Vec::new(alloc);
+    if body.resize(60_000, b'x').is_err() {
+        return None;
+    }
+    match Dest::read(alloc, "/queue/q") {
+        Ok(queue) => {
+            let sending = Sending::new(queue, Headers::new(Vec::new(alloc)), Bytes::new(body));
+            Some(Command::new(0, Op::Send(sending), None))
+        }
+        Err(_) => None,
+    }
+}
+
+fn claim_long(alloc: Global, world: &mut World) -> Result<bool, AllocError> {
+    match long_send(alloc) {
+        Some(send) => world.apply(Event::Claim(0, send)),
+        None => Err(AllocError),
+    }
+}
+
+const STORE_ONE: [(Pick, bool); 6] = [
+    (Pick::Ready(0), true),
+    (Pick::Take, true),
+    (WRITE, true),
+    (SYNC, true),
+    (WRITE, true),
+    (SYNC, true),
+];
+
+// Between the two pieces an opening may begin, and behind the second it may not.
+const TWO_PIECES: [(Pick, bool); 7] = [
+    (COPY, true),
+    (COPY_SYNC, false),
+    (COPY, true),
+    (COPY, false),
+    (OPEN_SYNC, false),
+    (COPY_SYNC, true),
+    (SWITCH, true),
+];
+
+const BROKEN_OFF: [(Pick, bool); 5] = [
+    (SWITCH_SYNC, true),
+    (COPY, true),
+    (OPEN_SYNC, true),
+    (COPY, false),
+    (Pick::Claim(0), false),
+];
+
+fn copy_in_two(rt: &impl Abort, alloc: Global, world: &mut World) -> Result<(), AllocError> {
+    assert!(rt; claim(world, 0)?);
+    run(rt, alloc, world, &STORE_ONE)?;
+    for _ in 0..2 {
+        assert!(rt; claim_long(alloc, world)?);
+        run(rt, alloc, world, &STORE_ONE)?;
+    }
+    run(rt, alloc, world, &TWO_PIECES)?;
+    run(rt, alloc, world, &BROKEN_OFF)
+}
+
 #[test]
-fn nothing_is_compacted(rt: HostRuntime) -> Result<(), Fail> {
+fn an_opening_may_begin_between_two_pieces(rt: HostRuntime) -> Result<(), Fail> {
     let alloc = rt.alloc();
-    let mut world = World::new(alloc, 4_096)?;
-    let snapshots = call_lists(&rt, alloc, &mut world, CallList::Snapshot);
-    let switches = call_lists(&rt, alloc, &mut world, CallList::Switch);
+    let mut world = World::new(alloc, 262_144)?;
+    let done = copy_in_two(&rt, alloc, &mut world);
     drop(world);
-    snapshots?;
-    switches?;
+    done?;
     Ok(())
 }

@@ -60,6 +60,23 @@ fn block_of(alloc: Global, count: u64) -> Result<Vec<u8>, AllocError> {
     }
 }
 
+// A snapshot with its length and a closed gate: the count, no delivery, the open sessions, each a number and no client's name, of
+// which some stand in these bytes and those between these numbers come behind, and nothing else.
+fn fill_copy(copy: &mut Vec<u8>, stood: &[u8], from: u64, to: u64) -> Result<(), AllocError> {
+    let sessions = (stood.len() / 9) as u64;
+    let all = sessions.saturating_add(to.saturating_sub(from));
+    copy.extend_from_slice(&all.saturating_mul(9).saturating_add(32).to_be_bytes())?;
+    copy.extend_from_slice(&to.to_be_bytes())?;
+    copy.extend_from_slice(&[0; 8])?;
+    copy.extend_from_slice(&all.to_be_bytes()[4..])?;
+    copy.extend_from_slice(stood)?;
+    for number in from..to {
+        copy.extend_from_slice(&number.to_be_bytes())?;
+        copy.push(0)?;
+    }
+    copy.extend_from_slice(&[0; 13])
+}
+
 // What a restart leaves is the count alone: 32 bytes, of which the first eight are not zero. A closed gate is behind it.
 fn front_of(count: u64) -> [u8; 41] {
     let mut front = [0; 41];
@@ -232,7 +249,8 @@ impl SlowWorld {
     fn read(&self) -> (usize, u64) {
         let begins = self.live();
         let mut count = number_at(&self.content, begins.saturating_add(8));
-        let mut gate = begins.saturating_add(40);
+        let size = number_at(&self.content, begins);
+        let mut gate = begins.saturating_add(8).saturating_add(size as usize);
         for _ in 0..AREA {
             if byte_at(&self.content, gate) != 1 {
                 return (gate, count);
@@ -269,16 +287,79 @@ impl SlowWorld {
         Ok(true)
     }
 
+    fn idle(&self) -> usize {
+        if self.live() == 32 { 32 + AREA } else { 32 }
+    }
+
     fn write_snapshot(&mut self) {
         let (_, count) = self.read();
-        let idle = if self.live() == 32 { 32 + AREA } else { 32 };
-        self.write(idle, &front_of(count));
-        self.place = Place::SnapshotWritten;
+        self.write(self.idle(), &front_of(count));
+        self.place = Place::SnapshotWriting(41, 41);
+    }
+
+    // The sessions of the live area's snapshot: how many there are stands behind three numbers of eight bytes.
+    fn sessions(&self) -> &[u8] {
+        let from = self.live().saturating_add(24);
+        let count = number_at(&self.content, from.saturating_sub(4)) % 4_294_967_296;
+        let begins = from.saturating_add(4);
+        let to = begins.saturating_add((count as usize).saturating_mul(9));
+        if begins <= to && to <= self.content.len() {
+            &self.content[begins..to]
+        } else {
+            &[]
+        }
+    }
+
+    fn copy(&self, alloc: Global) -> Result<Vec<u8>, AllocError> {
+        let (_, count) = self.read();
+        let first = number_at(&self.content, self.live().saturating_add(8));
+        let mut copy = Vec::new(alloc);
+        match fill_copy(&mut copy, self.sessions(), first, count) {
+            Ok(()) => Ok(copy),
+            Err(fault) => {
+                drop(copy);
+                Err(fault)
+            }
+        }
+    }
+
+    fn write_copy(&mut self, alloc: Global) -> Result<bool, AllocError> {
+        let copy = self.copy(alloc)?;
+        let all = copy.len();
+        if all <= AREA {
+            self.write(self.idle(), &copy);
+            self.place = Place::Copying(all as u64, all as u64);
+        }
+        drop(copy);
+        Ok(all <= AREA)
+    }
+
+    fn compact(&mut self, alloc: Global, call: Call) -> Result<bool, AllocError> {
+        match (call.list, call.kind, self.place) {
+            (CallList::Snapshot, CallKind::Write, Place::Rest | Place::CopySynced) => {
+                return self.write_copy(alloc);
+            }
+            (CallList::Snapshot, CallKind::Sync, Place::Copying(_, _)) => {
+                self.place = Place::CopySynced;
+            }
+            (CallList::Switch, CallKind::Write, Place::CopySynced) => {
+                self.write_selector();
+                self.place = Place::SwitchWritten;
+            }
+            (CallList::Switch, CallKind::Sync, Place::SwitchWritten) => self.place = Place::Rest,
+            _ => return Ok(false),
+        }
+        Ok(true)
+    }
+
+    fn write_selector(&mut self) {
+        let selector = byte_at(&self.content, 16).wrapping_add(1);
+        self.write(16, &[selector]);
     }
 
     fn append(&mut self, alloc: Global, kind: CallKind, ok: bool) -> Result<bool, AllocError> {
         match (kind, self.place) {
-            (CallKind::Write, Place::Rest) => return self.write_block(alloc),
+            (CallKind::Write, Place::Rest | Place::CopySynced) => return self.write_block(alloc),
             (CallKind::Write, Place::BlockSynced(to)) => {
                 let (gate, _) = self.read();
                 self.write(gate, &[1]);
@@ -298,15 +379,20 @@ impl SlowWorld {
 
     fn open_call(&mut self, kind: CallKind) -> bool {
         match (kind, self.place) {
-            (CallKind::Sync, Place::Rest | Place::Broken | Place::OpenSynced | Place::OpenRead) =>
-                self.place = Place::OpenSynced,
-            (CallKind::Sync, Place::SnapshotWritten) => self.place = Place::SnapshotSynced,
+            (
+                CallKind::Sync,
+                Place::Rest
+                | Place::Broken
+                | Place::CopySynced
+                | Place::OpenSynced
+                | Place::OpenRead,
+            ) => self.place = Place::OpenSynced,
+            (CallKind::Sync, Place::SnapshotWriting(_, _)) => self.place = Place::SnapshotSynced,
             (CallKind::Sync, Place::SelectorWritten) => self.place = Place::Opened,
             (CallKind::Read, Place::OpenSynced | Place::OpenRead) => self.place = Place::OpenRead,
             (CallKind::Write, Place::OpenRead) => self.write_snapshot(),
             (CallKind::Write, Place::SnapshotSynced) => {
-                let selector = byte_at(&self.content, 16).wrapping_add(1);
-                self.write(16, &[selector]);
+                self.write_selector();
                 self.place = Place::SelectorWritten;
             }
             _ => return false,
@@ -318,7 +404,7 @@ impl SlowWorld {
         let done = match call.list {
             CallList::Append => self.append(alloc, call.kind, call.ok)?,
             CallList::Open => self.open_call(call.kind),
-            CallList::Snapshot | CallList::Switch => false,
+            CallList::Snapshot | CallList::Switch => self.compact(alloc, call)?,
         };
         if !done {
             return Ok(false);

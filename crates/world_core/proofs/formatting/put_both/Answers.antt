@@ -1,4 +1,4 @@
-use Rattle.std.proofs.Common.{◌≡◌, ◌+◌, ◌∙◌, ℕ, List, [], ◌∷◌, ap}
+use Rattle.std.proofs.Common.{◌+◌, ◌∙◌, ℕ, List, [], ◌∷◌, ap}
 use Rattle.disk_core.specs.Images.{patched}
 use Rattle.world_core.proofs.formatting.put_both.Goals as goal
 

@@ -1,4 +1,4 @@
-use Rattle.std.proofs.Common.{◌≡◌, ◌<◌, length, refl, arith}
+use Rattle.std.proofs.Common.{◌<◌, length, refl, arith}
 use Rattle.world_core.specs.Events.{AreThere, looks}
 use Rattle.world_core.specs.Parts.{value_of}
 use Rattle.world_core.proofs.Telling.{fails_where, holds_where, seat_changes}

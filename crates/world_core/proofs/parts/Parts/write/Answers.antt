@@ -11,7 +11,7 @@ pub put-requires-clause-within : goal.put-requires-clause-within
 put-requires-clause-within c =
     let w = value_of c.args.self.now in
     let is = found_patch c.in_ok-patch.field-0 c.in-Some.patch w c.args.to c.in-Some.is c.in_ok-patch.ensures.some in
-    omega (arith, fits_there w c.requires.kept c.args.to c.in-Some.patch.at c.in-Some.patch.bytes.items is, ap (λ (l : List ℕ). length l) c.deref.ensures.value)
+    omega (arith, fits_there w c.requires.kept c.args.to c.in-Some.patch.at c.in-Some.patch.bytes.items c.requires.due is, ap (λ (l : List ℕ). length l) c.deref.ensures.value)
 
 pub returns-clause-ok : goal.returns-clause-ok
 returns-clause-ok c =

@@ -1,0 +1,12 @@
+use Rattle.std.proofs.Common.{◌∙◌, ◌-◌, ℕ, List, ap, drop, take}
+use Rattle.world_core.specs.Calls.{done_at}
+use Rattle.world_core.specs.Parts.{value_of}
+use Rattle.world_core.proofs.Patching.{rest_bytes_of, rest_is}
+use Rattle.world_core.proofs.parts.Parts.rest_patch.Goals as goal
+
+pub returns-clause-some : goal.returns-clause-some
+returns-clause-some c =
+    let w = value_of c.args.self.now in
+    let bytes = rest_bytes_of c.in_ok-bytes.field-0 c.in-Some.bytes c.args.self.now.size c.args.self.now.content.items c.in-Some.is c.in_ok-bytes.ensures.some in
+    rest_is w c.args.done c.args.all c.in_ok-patch.field-0.at c.in-Some.bytes.items c.in_ok-patch.field-0.bytes.items bytes c.in_ok-patch.ensures.at
+    (c.in_ok-patch.ensures.bytes ∙ ap (λ (l : List ℕ). take (c.args.done - done_at w.place) (drop (done_at w.place) l)) c.deref.ensures.value)
