@@ -5,7 +5,7 @@ ghost use Rattle.claim_core.specs.Steps.{claimer};
 
 use crate::ring::Ring;
 use crate::seats::{FlushSeat, SessionSeat};
-use crate::sizes::{BrokerRing, BrokerSeat};
+use crate::sizes::BrokerRing;
 use crate::steps::{claim, ready};
 use crate::views::Place;
 use command_core::{Command, Entry, Op};
@@ -166,10 +166,10 @@ fn an_entry_that_is_not_ready_holds_up_the_next(rt: HostRuntime) -> Result<(), F
 }
 
 // Appends an entry, which is taken and published.
-fn go_on(
+fn go_on<const SEATS: usize, const WINDOW: usize, const PLACES: usize>(
     alloc: Global,
-    ring: &BrokerRing<()>,
-    seat: &mut BrokerSeat<()>,
+    ring: &Ring<(), SEATS, WINDOW, PLACES>,
+    seat: &mut SessionSeat<(), WINDOW>,
     flush: &mut FlushSeat<()>,
 ) -> bool
     requires { (seat.old.ring ≡ ring.now) × (flush.old.ring ≡ ring.now) }
@@ -182,17 +182,17 @@ fn go_on(
     appended
 }
 
-// One round: an entry at each of the 256 places.
-fn go_round(
+// One round: an entry at each of the places.
+fn go_round<const SEATS: usize, const WINDOW: usize, const PLACES: usize>(
     alloc: Global,
-    ring: &BrokerRing<()>,
-    seat: &mut BrokerSeat<()>,
+    ring: &Ring<(), SEATS, WINDOW, PLACES>,
+    seat: &mut SessionSeat<(), WINDOW>,
     flush: &mut FlushSeat<()>,
 ) -> bool
     requires { (seat.old.ring ≡ ring.now) × (flush.old.ring ≡ ring.now) }
     ensures { (seat.new.ring ≡ ring.now) × (flush.new.ring ≡ ring.now) }
 {
-    for _ in 0..256 {
+    for _ in 0..PLACES {
         if !go_on(alloc, ring, seat, flush) {
             return false;
         }
@@ -200,11 +200,11 @@ fn go_round(
     true
 }
 
-// The word of the first place before and after ticket 256 is claimed, and that ticket.
-fn words_at_the_second_round(
+// The word of the first place before and after the next ticket is claimed, and that ticket.
+fn words_at_the_second_round<const SEATS: usize, const WINDOW: usize, const PLACES: usize>(
     alloc: Global,
-    ring: &BrokerRing<()>,
-    seat: &mut BrokerSeat<()>,
+    ring: &Ring<(), SEATS, WINDOW, PLACES>,
+    seat: &mut SessionSeat<(), WINDOW>,
 ) -> (u64, Option<u64>, u64)
     requires { seat.old.ring ≡ ring.now }
 {
@@ -213,15 +213,36 @@ fn words_at_the_second_round(
     (free, ticket, ring.table.shared.peek(3))
 }
 
+// Those words of a new ring, after one round of a seat.
+fn words_of_a_new_ring<const SEATS: usize, const WINDOW: usize, const PLACES: usize>(
+    alloc: Global,
+    ring: Ring<(), SEATS, WINDOW, PLACES>,
+    mut seats: Vec<SessionSeat<(), WINDOW>>,
+    mut flush: FlushSeat<()>,
+) -> Option<(u64, Option<u64>, u64)>
+    requires { All (λ seat. seat.ring ≡ ring) seats.items × (flush.ring ≡ ring) }
+{
+    let mut seat = seats.pop()?;
+    if go_round(alloc, &ring, &mut seat, &mut flush) {
+        Some(words_at_the_second_round(alloc, &ring, &mut seat))
+    } else {
+        None
+    }
+}
+
 #[test]
 fn ticket_256_lands_on_the_first_place(rt: HostRuntime) -> Result<(), Fail> {
-    let alloc = rt.alloc();
-    let (ring, mut seats, mut flush) = BrokerRing::<()>::new(alloc, 0)?;
-    let Some(mut seat) = seats.pop() else {
-        panic!(rt; "a seat is missing")
-    };
-    assert!(rt; go_round(alloc, &ring, &mut seat, &mut flush));
-    let words = words_at_the_second_round(alloc, &ring, &mut seat);
-    assert_eq!(rt; words, (768, Some(256), 769));
+    let (ring, seats, flush) = BrokerRing::<()>::new(rt.alloc(), 0)?;
+    let words = words_of_a_new_ring(rt.alloc(), ring, seats, flush);
+    assert_eq!(rt; words, Some((768, Some(256), 769)));
+    Ok(())
+}
+
+// A place is free for its first ticket t as 3 t, and ready as 3 t + 1: with four places ticket 4 takes its word from 12 to 13.
+#[test]
+fn ticket_4_of_four_places_lands_on_the_first(rt: HostRuntime) -> Result<(), Fail> {
+    let (ring, seats, flush) = SmallRing::new(rt.alloc(), 0)?;
+    let words = words_of_a_new_ring(rt.alloc(), ring, seats, flush);
+    assert_eq!(rt; words, Some((12, Some(4), 13)));
     Ok(())
 }

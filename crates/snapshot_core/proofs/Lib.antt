@@ -11,3 +11,5 @@ pub mod EntryParts
 pub mod SnapshotNames
 pub mod SnapshotStates
 pub mod SnapshotForms
+pub mod Parts
+pub mod Capped

@@ -1,3 +1,5 @@
 pub mod Snapshots
 pub mod Reading
 pub mod Worked
+pub mod Parts
+pub mod Lengths
