@@ -21,8 +21,8 @@ piece_is n h xs piece true le is less more =
     let size : length piece ≡ length (take (n - length h) xs) = ap (λ (l : List ℕ). length l) is in
     elim (cases_lt (length xs) (n - length h)) [
       | inl short ↦ (let all : piece ≡ xs = is ∙ take_all (n - length h) xs (omega (arith, short)) in
-        append_assoc h piece (0 ∷ []) ∙ ap (λ (l : List ℕ). h ++ (l ++ 0 ∷ [])) all
-        ∙ sym (take_all n (h ++ (xs ++ 0 ∷ [])) (omega (arith, short, le, length-append h (xs ++ 0 ∷ []), length-append xs (0 ∷ [])))))
+          append_assoc h piece (0 ∷ []) ∙ ap (λ (l : List ℕ). h ++ (l ++ 0 ∷ [])) all
+          ∙ sym (take_all n (h ++ (xs ++ 0 ∷ [])) (omega (arith, short, le, length-append h (xs ++ 0 ∷ []), length-append xs (0 ∷ [])))))
       | inr long ↦ absurd (let cut = length-take-le (n - length h) xs (omega (arith, long)) in omega (arith, size, cut, less refl))
     ]
 piece_is n h xs piece false le is less more =
@@ -31,7 +31,7 @@ piece_is n h xs piece false le is less more =
     elim (cases_lt (length xs) (n - length h)) [
       | inl short ↦ absurd (let all = ap (λ (l : List ℕ). length l) (take_all (n - length h) xs (omega (arith, short))) in omega (arith, size, all, more refl, short))
       | inr long ↦ (append-nil (h ++ piece) ∙ ap (λ (l : List ℕ). h ++ l) (is ∙ sym (take-append-le (n - length h) xs (0 ∷ []) (omega (arith, long))))
-        ∙ sym (take-append-add h (xs ++ 0 ∷ []) (n - length h)) ∙ ap (λ (k : ℕ). take k (h ++ (xs ++ 0 ∷ []))) again)
+          ∙ sym (take-append-add h (xs ++ 0 ∷ []) (n - length h)) ∙ ap (λ (k : ℕ). take k (h ++ (xs ++ 0 ∷ []))) again)
     ]
 
 -- what follows the first n of them

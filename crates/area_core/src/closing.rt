@@ -41,7 +41,7 @@ pub(crate) fn next_closed<P: Pieces>(
 {
     let mut out = heading(alloc, at, total)?;
     let room = PIECE - out.len();
-    let next = pieces.next(alloc, room)?;
+    let next = pieces.next(room)?;
     out.extend_from_slice(&next)?;
     close(&mut out, next.len() < room)?;
     Ok(out)

@@ -11,4 +11,4 @@ returns-clause-piece g c =
     let out : c.extend_from_slice.new.self.items ≡ h ++ c.in_ok-next.next.items = search rules in
     c.in_ok-close.ensures
     ∙ piece_cut 65536 c.len.result (65536 - c.len-room.result) h (g.P.Pieces.coming c.args.pieces.now) c.in_ok-next.next.items c.extend_from_slice.new.self.items
-      (omega (arith, length-heading c.args.at c.args.total)) piece (search rules) (ap (λ (n : ℕ). 65536 - n) room) out
+    (omega (arith, length-heading c.args.at c.args.total)) piece (search rules) (ap (λ (n : ℕ). 65536 - n) room) out

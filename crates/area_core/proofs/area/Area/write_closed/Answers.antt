@@ -24,14 +24,14 @@ pub overflow_add-at : goal.overflow_add-at
 overflow_add-at g c =
     let whole = closed (g.P.Pieces.coming c.args.pieces.now) in
     let long : length whole ≡ c.len-total.result + 9 = omega (arith, length-closed (g.P.Pieces.coming c.args.pieces.now), c.loop-at.invariant.total) in
-    let fits = piece_fits 65536 c.loop-at.at whole (closing c.loop-at.at c.len-total.result (g.P.Pieces.coming c.loop-at.pieces)) (omega arith) (c.loop-at.invariant.left c.loop-at-test.true) (omega (arith, long, c.loop-at-test.true)) in
+    let fits = piece_fits 65536 c.loop-at.at whole (closing c.loop-at.at c.len-total.result (g.P.Pieces.coming c.loop-at.pieces)) (omega arith) (c.loop-at.invariant.left (omega (arith, c.loop-at-test.true))) (omega (arith, long, c.loop-at-test.true)) in
     omega (arith, fits.1, long, c.in_ok-at.ensures.count, c.loop-at.invariant.total, c.requires.fits, c.args.self.now.most)
 
 pub loop-at-smaller : goal.loop-at-smaller
 loop-at-smaller g c =
     let whole = closed (g.P.Pieces.coming c.args.pieces.now) in
     let long : length whole ≡ c.len-total.result + 9 = omega (arith, length-closed (g.P.Pieces.coming c.args.pieces.now), c.loop-at.invariant.total) in
-    let fits = piece_fits 65536 c.loop-at.at whole (closing c.loop-at.at c.len-total.result (g.P.Pieces.coming c.loop-at.pieces)) (omega arith) (c.loop-at.invariant.left c.loop-at-test.true) (omega (arith, long, c.loop-at-test.true)) in
+    let fits = piece_fits 65536 c.loop-at.at whole (closing c.loop-at.at c.len-total.result (g.P.Pieces.coming c.loop-at.pieces)) (omega arith) (c.loop-at.invariant.left (omega (arith, c.loop-at-test.true))) (omega (arith, long, c.loop-at-test.true)) in
     omega (arith, fits.0, c.in_ok-at.ensures.count, c.loop-at-test.true)
 
 pub loop-at-preserved : goal.loop-at-preserved
@@ -45,7 +45,7 @@ loop-at-preserved g c =
     let d = g.D.Disk.content c.args.disk.now in
     let whole = closed (g.P.Pieces.coming c.args.pieces.now) in
     let stream = closing at total (g.P.Pieces.coming c.loop-at.pieces) in
-    let left : stream ≡ drop at whole = inv.left c.loop-at-test.true in
+    let left : stream ≡ drop at whole = inv.left (omega (arith, c.loop-at-test.true)) in
     let long : length whole ≡ total + 9 = omega (arith, length-closed (g.P.Pieces.coming c.args.pieces.now), inv.total) in
     let count : c.in_ok-at.field-0 ≡ length (take 65536 stream) = c.in_ok-at.ensures.count in
     let fits = piece_fits 65536 at whole stream (omega arith) left (omega (arith, long, c.loop-at-test.true)) in

@@ -22,7 +22,7 @@ returns-in_err-write_at-clause-outside g c honest =
     (untouched g.D.Disk c.args.disk.now (g.met.D.Disk.only_now c.args.disk.now) _ (λ image is. (image, is, torn_same base it.size image)))
     (c.write_at.ensures.time honest)
     (λ image is. let from = (c.write_at.ensures.images honest).only image is in
-      (from.0, from.1, torn_within base it.size (c.idle_begins.result + c.args.at) (length c.args.piece.now) from.0 image (omega (arith, c.idle_begins.ensures)) (omega (arith, c.idle_begins.ensures, c.requires.within)) from.2))
+    (from.0, from.1, torn_within base it.size (c.idle_begins.result + c.args.at) (length c.args.piece.now) from.0 image (omega (arith, c.idle_begins.ensures)) (omega (arith, c.idle_begins.ensures, c.requires.within)) from.2))
 
 pub returns-in_err-write_at-clause-torn : goal.returns-in_err-write_at-clause-torn
 returns-in_err-write_at-clause-torn g c honest =
@@ -38,7 +38,7 @@ returns-clause-outside g c honest =
     (untouched g.D.Disk c.args.disk.now (g.met.D.Disk.only_now c.args.disk.now) _ (λ image is. (image, is, torn_same base it.size image)))
     (c.write_at.ensures.time honest)
     (λ image is. let from = (c.write_at.ensures.images honest).only image is in
-      (from.0, from.1, torn_within base it.size (c.idle_begins.result + c.args.at) (length c.args.piece.now) from.0 image (omega (arith, c.idle_begins.ensures)) (omega (arith, c.idle_begins.ensures, c.requires.within)) from.2))
+    (from.0, from.1, torn_within base it.size (c.idle_begins.result + c.args.at) (length c.args.piece.now) from.0 image (omega (arith, c.idle_begins.ensures)) (omega (arith, c.idle_begins.ensures, c.requires.within)) from.2))
 
 pub returns-clause-torn : goal.returns-clause-torn
 returns-clause-torn g c honest =

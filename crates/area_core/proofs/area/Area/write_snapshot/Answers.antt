@@ -73,5 +73,5 @@ returns-clause-idle g c honest image is =
       idle = idle_moved it c.write_closed.new.self snapshot image c.write_closed.ensures.place.0 c.write_closed.ensures.place.1
           (subst (λ (l : List ℕ). IsArea it.size snapshot [] (drop base l)) (sym only)
           (idle_is it.size base base snapshot (closed snapshot) (g.D.Disk.content c.args.disk.now) refl within room refl));
-      written = c.len-size.ensures;
+      written = omega (arith, c.len-size.ensures, c.if-size-self.false, it.most, it.idle);
     }
