@@ -1,4 +1,4 @@
-use area_core::{Area, AreaFault, FormatFault, ReadFault, closed, format, header_of};
+use area_core::{Area, AreaFault, FormatFault, LentBytes, ReadFault, closed, format, header_of};
 use byteorder::{BigEndian, ByteOrder};
 use disk_core::{Call, Disk, FuseDisk, MemDisk};
 use std::alloc::{AllocError, Global};
@@ -264,11 +264,7 @@ fn overfill(rt: &impl Abort, alloc: Global, disk: &mut MemDisk) -> Result<(), Fa
     drop(old);
     let before = disk.calls().len();
     assert!(rt; area.size() == 4_096 && disk.size() == SIZE);
-    let written = area.write_snapshot(
-        alloc,
-        disk,
-        &mut LentBytes::new(alloc, &[0x5a; 4_088]),
-    );
+    let written = area.write_snapshot(alloc, disk, &mut LentBytes::new(alloc, &[0x5a; 4_088]));
     assert!(rt; matches!(written, Err(AreaFault::Full)));
     expect_broken(rt, alloc, disk, &mut area);
     drop(area);
