@@ -1,6 +1,7 @@
 pub mod Appends
 pub mod Areas
 pub mod Batches
+pub mod Closings
 pub mod Journals
 pub mod Ranges
 pub mod RecordsRead

@@ -47,6 +47,10 @@ keeps_live area images at n c is le torn snapshot blocks held =
       gate = was.gate;
     }
 
+-- what keeps the rest keeps the live area
+pub rest_live : (area : Area) (images : List ℕ → Type 0) (c : List ℕ) → KeepsRest images area c → KeepsLive images area c
+rest_live area images c torn = keeps_live area images (start area.size (other (is_odd area.selector))) area.size c refl (omega arith) torn
+
 -- a range that may be torn lies in a longer one
 widened : (at n m : ℕ) (d c : List ℕ) → Torn at n d c → n ≤ m → Torn at m d c
 widened at n m d c torn le = record { size = torn.size; before = torn.before; after = drop_after at n (at + m) d c torn (omega (arith, le)) }
@@ -59,6 +63,11 @@ pub idle_is : (size at base : ℕ) (snapshot bytes d : List ℕ) → at ≡ base
 idle_is size at base snapshot bytes d is le room are =
     fresh size snapshot (drop (length (closed snapshot)) (drop base d)) _ room
     (ap (λ (m : ℕ). drop base (patched m bytes d)) is ∙ ap (λ (l : List ℕ). drop base (patched base l d)) are ∙ patched_start base (closed snapshot) d le)
+
+-- the other area of two that are held alike
+pub idle_moved : (a b : Area) (snapshot c : List ℕ) → b.size ≡ a.size → b.selector ≡ a.selector → IsArea a.size snapshot [] (drop (start a.size (other (is_odd a.selector))) c) → IsArea b.size snapshot [] (drop (start b.size (other (is_odd b.selector))) c)
+idle_moved a b snapshot c size selector is =
+    subst (λ (k : ℕ). IsArea k snapshot [] (drop (start k (other (is_odd b.selector))) c)) (sym size) (subst (λ (k : ℕ). IsArea a.size snapshot [] (drop (start a.size (other (is_odd k))) c)) (sym selector) is)
 
 -- ---- a write of the selector
 

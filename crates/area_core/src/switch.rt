@@ -9,19 +9,21 @@ ghost use Rattle.area_core.specs.Puts.{Each};
 ghost use Rattle.area_core.specs.Steps.{IfMemory, IsCaused};
 ghost use Rattle.area_core.specs.Switches.{HasIdle, KeepsAllButSelector, KeepsBoth, KeepsLive, KeepsRest};
 
-use crate::put::{closed, put};
+use crate::pieces::Pieces;
+use crate::put::put;
 use crate::{Area, AreaFault};
 use disk_core::Disk;
 use std::alloc::Global;
 
 impl Area {
-    /// Writes a snapshot into the area that is not live. A stop at any moment leaves every other byte as it was, the live
-    /// area too.
-    pub fn write_snapshot<D: Disk>(
+    /// Writes a snapshot into the area that is not live, in pieces of 65,536 bytes, each by one call of the disk, and a sync. A stop at
+    /// any moment leaves every other byte as it was, the live area too. `Full` comes before the first call; where memory is
+    /// refused, pieces may have been written.
+    pub fn write_snapshot<D: Disk, P: Pieces>(
         &mut self,
         alloc: Global,
         disk: &mut D,
-        snapshot: &[u8],
+        snapshot: &mut P,
     ) -> Result<(), AreaFault>
         requires room { 32 + 2 * self.old.size ≤ length (D.content disk.old) }
         ensures any_moment { D.honest disk.old →
@@ -31,13 +33,12 @@ impl Area {
             LeavesOnly D.moment D.images_since disk.old disk.new
             (KeepsRest (D.images disk.old) self.old) }
         ensures idle { D.honest disk.old →
-            OnOk result (Each (D.images disk.new) (HasIdle self.new snapshot.now)) }
+            OnOk result (Each (D.images disk.new) (HasIdle self.new (P.coming snapshot.old))) }
         ensures full { IsErrOf result AreaFault.Full →
-            (self.old.size < length snapshot.now + 9) × (disk.new ≡ disk.old) }
+            (self.old.size < length (P.coming snapshot.old) + 9) × (disk.new ≡ disk.old) }
         ensures place { (self.new.size ≡ self.old.size) × (self.new.selector ≡ self.old.selector) × (self.new.gate ≡ self.old.gate) }
         ensures only { D.honest disk.old →
             OnOk result (Only (D.content disk.new) (D.images disk.new)) }
-        ensures memory { IfMemory result (disk.new ≡ disk.old) }
         ensures broken { self.old.broken ≡ true →
             IsErrOf result AreaFault.Broken × (disk.new ≡ disk.old) }
         ensures same { self.old.broken ≡ true → self.new ≡ self.old }
@@ -52,13 +53,14 @@ impl Area {
         if self.broken {
             return Err(AreaFault::Broken);
         }
-        self.broken = true;
-        let size = snapshot.len() as u64;
+        let size = snapshot.len();
         if size > self.size - 9 {
+            self.broken = true;
             return Err(AreaFault::Full);
         }
-        let bytes = closed(alloc, snapshot)?;
-        put(disk, self.idle_begins(), &bytes)?;
+        self.write_closed(alloc, disk, snapshot)?;
+        self.broken = true;
+        disk.sync()?;
         self.written = size;
         self.broken = false;
         Ok(())

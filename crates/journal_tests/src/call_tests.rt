@@ -1,4 +1,4 @@
-use area_core::{Area, AreaFault, FormatFault, ReadFault, closed, format, header_of};
+use area_core::{Area, AreaFault, FormatFault, LentBytes, ReadFault, closed, format, header_of};
 use byteorder::{BigEndian, ByteOrder};
 use disk_core::{Call, Disk, FuseDisk, MemDisk};
 use std::alloc::{AllocError, Global};
@@ -176,7 +176,7 @@ fn move_over<D: Disk>(
     snapshot: &[u8],
 ) -> Result<(), AreaFault> {
     assert!(rt; area.size() == 4_096 && disk.size() == SIZE);
-    area.write_snapshot(alloc, disk, snapshot)?;
+    area.write_snapshot(alloc, disk, &mut LentBytes::new(alloc, snapshot))?;
     assert!(rt; area.size() == 4_096 && disk.size() == SIZE);
     area.switch(disk)
 }
@@ -252,7 +252,7 @@ fn a_snapshot_goes_into_the_other_area_which_is_then_live(rt: HostRuntime) -> Re
 // Both steps are refused, and the disk is not touched.
 fn expect_broken<D: Disk>(rt: &impl Abort, alloc: Global, disk: &mut D, area: &mut Area) {
     assert!(rt; area.size() == 4_096 && disk.size() == SIZE);
-    let written = area.write_snapshot(alloc, disk, &[]);
+    let written = area.write_snapshot(alloc, disk, &mut LentBytes::new(alloc, &[]));
     assert!(rt; matches!(written, Err(AreaFault::Broken)) && area.is_broken());
     assert!(rt; area.size() == 4_096 && disk.size() == SIZE);
     let switched = area.switch(disk);
@@ -264,7 +264,7 @@ fn overfill(rt: &impl Abort, alloc: Global, disk: &mut MemDisk) -> Result<(), Fa
     drop(old);
     let before = disk.calls().len();
     assert!(rt; area.size() == 4_096 && disk.size() == SIZE);
-    let written = area.write_snapshot(alloc, disk, &[0x5a; 4_088]);
+    let written = area.write_snapshot(alloc, disk, &mut LentBytes::new(alloc, &[0x5a; 4_088]));
     assert!(rt; matches!(written, Err(AreaFault::Full)));
     expect_broken(rt, alloc, disk, &mut area);
     drop(area);

@@ -9,6 +9,7 @@ mod opening;
 mod reading;
 mod seen;
 mod size_law;
+mod snapshot;
 mod store;
 mod stored;
 mod storing;

@@ -13,26 +13,24 @@ ghost use Rattle.recover_core.specs.Sound.{IsSound};
 ghost use Rattle.recover_core.specs.Standing.{Stands, StandFor};
 ghost use Rattle.recover_core.specs.Stores.{disk_of, is_broken, opened_by, size_of, used_of};
 ghost use Rattle.recover_core.specs.Told.{IfFull, IfRead, IsCausedBy, IsOpenCaused, IsOpenTold, IsTooLongFor, IsWriteTold};
-ghost use Rattle.snapshot_core.specs.Snapshots.{Spells};
 
 use crate::OpenFault;
 use crate::reading::read_state;
+use crate::snapshot::Snapshot;
 use crate::store::Store;
 use area_core::Area;
 use broker_core::{Broker, BrokerFault};
 use disk_core::Disk;
-use snapshot_core::encode_state;
 use std::alloc::{AllocError, Global};
 
-// Ends all sessions of the broker, and answers the snapshot of what is left.
-fn restart(alloc: Global, broker: &mut Broker) -> Result<Vec<u8>, AllocError>
+// Ends all sessions of the broker.
+fn restart(alloc: Global, broker: &mut Broker) -> Result<(), AllocError>
     requires whole { broker.old.broken ≡ false }
-    ensures state { IfOk result (λ snapshot. broker.new.state ≡ restarted broker.old.state) }
-    ensures whole { IfOk result (λ snapshot. broker.new.broken ≡ false) }
-    ensures spells { IfOk result (λ snapshot. Spells snapshot.items (restarted broker.old.state)) }
+    ensures state { OnOk result (broker.new.state ≡ restarted broker.old.state) }
+    ensures whole { OnOk result (broker.new.broken ≡ false) }
 {
     match broker.restart(alloc) {
-        Ok(()) => encode_state(alloc, broker),
+        Ok(()) => Ok(()),
         Err(BrokerFault::Memory(refused)) => Err(refused),
         Err(BrokerFault::Broken) => Err(AllocError),
     }
@@ -63,8 +61,9 @@ fn write_restarted<D: Disk>(
     ensures honest { D.honest disk.old → D.honest disk.new }
     ensures was_honest { D.honest disk.new → D.honest disk.old }
 {
-    let snapshot = restart(alloc, broker)?;
-    area.write_snapshot(alloc, disk, &snapshot)?;
+    restart(alloc, broker)?;
+    let mut snapshot = Snapshot::new(alloc, broker)?;
+    area.write_snapshot(alloc, disk, &mut snapshot)?;
     area.switch(disk)?;
     Ok(())
 }

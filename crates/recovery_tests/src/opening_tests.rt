@@ -55,36 +55,33 @@ fn is_read_beside(call: &Call) -> bool {
     }
 }
 
-// A sync, reads, and then the snapshot of what is left, which goes into the other area and makes that one live.
-fn are_of_opening(calls: &[Call], at: u64, len: u64) -> bool {
-    let wanted = [
-        Call::Write { at, len },
-        Call::Sync,
-        Call::Write { at: 16, len: 1 },
-        Call::Sync,
-    ];
-    match calls.split_first() {
-        Some((Call::Sync, rest)) if rest.len() > 4 => {
-            let (reads, writes) = rest.split_at(rest.len() - 4);
-            reads.iter().all(is_read_beside) && writes == wanted.as_slice()
+// A sync, reads, and then these writes, a sync, and the other area is made the live one.
+fn are_of_opening(calls: &[Call], writes: &[Call]) -> bool {
+    let live = [Call::Sync, Call::Write { at: 16, len: 1 }, Call::Sync];
+    let Some((Call::Sync, rest)) = calls.split_first() else {
+        return false;
+    };
+    match (rest.strip_suffix(live.as_slice()), writes.len()) {
+        (Some(before), count) if before.len() > count => {
+            let (reads, pieces) = before.split_at(before.len() - count);
+            reads.iter().all(is_read_beside) && pieces == writes
         }
         _ => false,
     }
 }
 
-// Opens the journal, which writes so many bytes at that place: a snapshot with its length and a gate.
+// Opens the journal, which writes a snapshot with its length and a gate by these calls.
 fn expect_opening(
     rt: &impl Abort,
     alloc: Global,
     mut journal: MemDisk,
-    at: u64,
-    len: u64,
+    writes: &[Call],
 ) -> Result<(), Fail> {
     journal.crash(None);
     match open(alloc, journal) {
         Ok(store) => {
             let disk = store.into_disk();
-            assert!(rt; are_of_opening(disk.calls(), at, len));
+            assert!(rt; are_of_opening(disk.calls(), writes));
             Ok(())
         }
         Err((_, fault)) => Err(Fail::from(fault)),
@@ -96,9 +93,11 @@ fn expect_opening(
 #[test]
 fn opening_syncs_reads_writes_and_switches(rt: HostRuntime) -> Result<(), Fail> {
     let empty = formatted(rt.alloc())?;
-    expect_opening(&rt, rt.alloc(), empty, 4_128, 41)?;
+    let writes = [Call::Write { at: 4_128, len: 41 }];
+    expect_opening(&rt, rt.alloc(), empty, writes.as_slice())?;
     let journal = journal_of(rt.alloc(), &[&[OPEN, SEND], &[SEND], &[SEND]])?;
-    expect_opening(&rt, rt.alloc(), journal, 32, 150)
+    let writes = [Call::Write { at: 32, len: 150 }];
+    expect_opening(&rt, rt.alloc(), journal, writes.as_slice())
 }
 
 // A SEND to `/queue/q` with so long a body.
@@ -204,4 +203,25 @@ fn a_journal_with_a_snapshot_over_65_536_bytes_opens(rt: HostRuntime) -> Result<
     let is_right = opens_as(rt.alloc(), journal, wanted.as_slice())?;
     assert!(rt; is_right);
     Ok(())
+}
+
+// With its length and a gate that snapshot has 90,147 bytes, which are written by two calls into the second area.
+#[test]
+fn a_snapshot_over_65_536_bytes_is_written_in_pieces(rt: HostRuntime) -> Result<(), Fail> {
+    let record = sending(rt.alloc(), 30_000)?;
+    let sent = record.as_slice();
+    let empty = formatted_with(rt.alloc(), 262_144)?;
+    let journal = with_batches(rt.alloc(), empty, &[])?;
+    let journal = with_batches(rt.alloc(), journal, &[&[OPEN, sent], &[sent], &[sent]])?;
+    let writes = [
+        Call::Write {
+            at: 262_176,
+            len: 65_536,
+        },
+        Call::Write {
+            at: 327_712,
+            len: 24_611,
+        },
+    ];
+    expect_opening(&rt, rt.alloc(), journal, writes.as_slice())
 }

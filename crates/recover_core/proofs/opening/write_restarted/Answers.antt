@@ -1,10 +1,15 @@
-use Rattle.std.proofs.Common.{rules}
+use Rattle.std.proofs.Common.{subst}
 use Rattle.disk_core.proofs.Runs.{joined, weaker}
 use Rattle.broker_core.specs.Operations.{restarted}
+use Rattle.broker_core.specs.States.{State}
 use Rattle.snapshot_core.specs.Snapshots.{Spells}
 use Rattle.recover_core.specs.Opens.{KeepsEither}
 use Rattle.recover_core.proofs.Opens.{Written, still, then_switched, while_switched, while_written}
 use Rattle.recover_core.proofs.opening.write_restarted.Goals as goal
+
+pub returns-in_err-restart-clause-any_moment : goal.returns-in_err-restart-clause-any_moment
+returns-in_err-restart-clause-any_moment g c honest =
+    still g.D.Disk c.args.disk.now (g.met.D.Disk.only_now c.args.disk.now) c.args.area.now c.args.broker.now.state
 
 pub returns-in_err-snapshot-clause-any_moment : goal.returns-in_err-snapshot-clause-any_moment
 returns-in_err-snapshot-clause-any_moment g c honest =
@@ -23,13 +28,13 @@ returns-in_err-switch-clause-any_moment g c honest =
     let next = c.write_snapshot.new.self in
     let s = c.args.broker.now.state in
     let wrote = c.write_snapshot.ensures.any_moment honest in
-    let spells : Spells c.deref.result.now (restarted s) = search rules in
+    let spells : Spells c.in_ok-snapshot.snapshot.writer (restarted s) = subst (λ (t : State). Spells c.in_ok-snapshot.snapshot.writer t) c.in_ok-restart.ensures.state c.in_ok-snapshot.ensures in
     let written : Written first now area next s = record {
       live = λ image is. wrote.each image (g.met.D.Disk.counts_now c.write_snapshot.new.disk (g.D.Disk.moment c.args.disk.now) image wrote.later is);
       size = c.write_snapshot.ensures.place.0;
       selector = c.write_snapshot.ensures.place.1;
       gate = c.write_snapshot.ensures.place.2;
-      snapshot = c.deref.result.now;
+      snapshot = c.in_ok-snapshot.snapshot.writer;
       idle = c.in_ok-write_snapshot.ensures.idle honest;
       spells = spells;
     } in
@@ -45,13 +50,13 @@ returns-clause-any_moment g c honest =
     let next = c.write_snapshot.new.self in
     let s = c.args.broker.now.state in
     let wrote = c.write_snapshot.ensures.any_moment honest in
-    let spells : Spells c.deref.result.now (restarted s) = search rules in
+    let spells : Spells c.in_ok-snapshot.snapshot.writer (restarted s) = subst (λ (t : State). Spells c.in_ok-snapshot.snapshot.writer t) c.in_ok-restart.ensures.state c.in_ok-snapshot.ensures in
     let written : Written first now area next s = record {
       live = λ image is. wrote.each image (g.met.D.Disk.counts_now c.write_snapshot.new.disk (g.D.Disk.moment c.args.disk.now) image wrote.later is);
       size = c.write_snapshot.ensures.place.0;
       selector = c.write_snapshot.ensures.place.1;
       gate = c.write_snapshot.ensures.place.2;
-      snapshot = c.deref.result.now;
+      snapshot = c.in_ok-snapshot.snapshot.writer;
       idle = c.in_ok-write_snapshot.ensures.idle honest;
       spells = spells;
     } in
@@ -67,13 +72,13 @@ returns-clause-after g c honest =
     let next = c.write_snapshot.new.self in
     let s = c.args.broker.now.state in
     let wrote = c.write_snapshot.ensures.any_moment honest in
-    let spells : Spells c.deref.result.now (restarted s) = search rules in
+    let spells : Spells c.in_ok-snapshot.snapshot.writer (restarted s) = subst (λ (t : State). Spells c.in_ok-snapshot.snapshot.writer t) c.in_ok-restart.ensures.state c.in_ok-snapshot.ensures in
     let written : Written first now area next s = record {
       live = λ image is. wrote.each image (g.met.D.Disk.counts_now c.write_snapshot.new.disk (g.D.Disk.moment c.args.disk.now) image wrote.later is);
       size = c.write_snapshot.ensures.place.0;
       selector = c.write_snapshot.ensures.place.1;
       gate = c.write_snapshot.ensures.place.2;
-      snapshot = c.deref.result.now;
+      snapshot = c.in_ok-snapshot.snapshot.writer;
       idle = c.in_ok-write_snapshot.ensures.idle honest;
       spells = spells;
     } in

@@ -1,0 +1,47 @@
+//! The snapshot of a state whose sessions have ended, in pieces.
+
+ghost use Rattle.std.specs.Prelude.{◌≡◌, false, length, IfOk};
+ghost use Rattle.broker_core.specs.Operations.{restarted};
+ghost use Rattle.snapshot_core.specs.Snapshots.{Spells};
+
+use area_core::Pieces;
+use broker_core::Broker;
+use snapshot_core::{StateWriter, state_len};
+use std::alloc::{AllocError, Global};
+
+// The bytes of a snapshot that are still to come, and how many they are.
+#[derive(Drop)]
+pub(crate) struct Snapshot<'a> {
+    writer: StateWriter<'a>,
+    left: u64,
+    ghost counted: { left ≡ length writer },
+}
+
+impl<'a> Snapshot<'a> {
+    // That of a broker whose sessions have ended.
+    pub(crate) fn new(alloc: Global, broker: &'a Broker) -> Result<Snapshot<'a>, AllocError>
+        requires whole { broker.now.broken ≡ false }
+        requires ended { broker.now.state ≡ restarted broker.now.state }
+        ensures { IfOk result (λ snapshot. Spells snapshot.writer broker.now.state) }
+    {
+        let writer = StateWriter::new(alloc, broker)?;
+        Ok(Snapshot {
+            writer,
+            left: state_len(broker),
+        })
+    }
+}
+
+impl<'a> Pieces for Snapshot<'a> {
+    ghost coming = { λ snapshot. snapshot.writer };
+
+    fn len(&self) -> u64 {
+        self.left
+    }
+
+    fn next(&mut self, count: usize) -> Result<Vec<u8>, AllocError> {
+        let piece = self.writer.next(count)?;
+        self.left -= piece.len() as u64;
+        Ok(piece)
+    }
+}
