@@ -1,7 +1,11 @@
 //! The live area of a journal.
 
-ghost use Rattle.std.specs.Prelude.{◌≡◌, ◌+◌, ◌*◌, ◌%◌, ◌<◌, ◌≤◌, ◌^◌, ◌↔◌, IsTrue};
+ghost use Rattle.std.specs.Prelude.{◌≡◌, ◌+◌, ◌*◌, ◌%◌, ◌<◌, ◌≤◌, ◌^◌, ◌↔◌, IsTrue, length};
+ghost use Rattle.area_core.specs.Areas.{commands, records};
 ghost use Rattle.area_core.specs.Journals.{is_odd, other, start};
+
+use crate::batch::records_len;
+use command_core::Entry;
 
 /// The live area of a journal, at its first closed gate. It holds no disk.
 #[derive(Drop)]
@@ -54,6 +58,16 @@ impl Area {
     {
         let left = self.size - self.gate;
         left >= 10 && records <= left - 10
+    }
+
+    /// Whether the block of these commands fits, with the gate behind it.
+    pub fn takes<B>(&self, batch: &[Entry<B>]) -> bool
+        ensures { IsTrue result ↔ (self.now.gate + 10 + length (records (commands batch.now)) ≤ self.now.size) }
+    {
+        match records_len(batch) {
+            Some(total) => self.fits(total),
+            None => false,
+        }
     }
 
     /// Which of the two areas it is: 0 or 1.

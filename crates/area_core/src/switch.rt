@@ -37,6 +37,7 @@ impl Area {
         ensures full { IsErrOf result AreaFault.Full →
             (self.old.size < length (P.coming snapshot.old) + 9) × (disk.new ≡ disk.old) }
         ensures place { (self.new.size ≡ self.old.size) × (self.new.selector ≡ self.old.selector) × (self.new.gate ≡ self.old.gate) }
+        ensures written { OnOk result (self.new.written ≡ length (P.coming snapshot.old)) }
         ensures only { D.honest disk.old →
             OnOk result (Only (D.content disk.new) (D.images disk.new)) }
         ensures broken { self.old.broken ≡ true →
@@ -84,6 +85,7 @@ impl Area {
             Each (D.images disk.old) (HasIdle self.old next) →
             Each (D.images disk.new) (IsAt self.new next [])) }
         ensures place { self.new.size ≡ self.old.size }
+        ensures gate { OnOk result (self.new.gate ≡ self.old.written + 8) }
         ensures selector { OnOk result (self.new.selector ≡ (self.old.selector + 1) % 256) }
         ensures room { IsErrOf result AreaFault.Full → self.old.broken ≡ true }
         ensures memory { IfMemory result ⊥ }

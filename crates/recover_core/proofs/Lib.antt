@@ -6,3 +6,4 @@ pub mod Sizes
 pub mod Stores
 pub mod Sums
 pub mod Walking
+pub mod Compacts

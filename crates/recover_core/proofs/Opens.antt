@@ -47,16 +47,16 @@ same_or_other false true = inr refl
 same_or_other false false = inl refl
 
 -- whichever area is live, it has the state or its restart
-pub both_stand : (area : Area) (snapshot : List ℕ) (blocks : List (List CommandValue)) (next : List ℕ) (s : State) (c : List ℕ) → IsBoth area snapshot blocks next c → Leads snapshot blocks s → Leads next [] (restarted s) → Stands c s ⊎ Stands c (restarted s)
-both_stand area snapshot blocks next s c both old new =
+pub both_stand : (area : Area) (snapshot : List ℕ) (blocks : List (List CommandValue)) (next : List ℕ) (s t : State) (c : List ℕ) → IsBoth area snapshot blocks next c → Leads snapshot blocks s → Leads next [] t → Stands c s ⊎ Stands c t
+both_stand area snapshot blocks next s t c both old new =
     ⊎_elim
     (λ (e : is_odd both.selector ≡ is_odd area.selector). inl (stands area.size both.selector snapshot blocks c s
     (record { journal = both.journal; area = subst (λ (b : Bool). IsArea area.size snapshot blocks (drop (start area.size b) c)) (sym e) both.live }) old))
-    (λ (e : other (is_odd area.selector) ≡ is_odd both.selector). inr (stands area.size both.selector next [] c (restarted s)
+    (λ (e : other (is_odd area.selector) ≡ is_odd both.selector). inr (stands area.size both.selector next [] c t
     (record { journal = both.journal; area = subst (λ (b : Bool). IsArea area.size next [] (drop (start area.size b) c)) e both.idle }) new))
     (same_or_other (is_odd both.selector) (is_odd area.selector))
 
-moved : (a b : Area) (snapshot : List ℕ) (blocks : List (List CommandValue)) (c : List ℕ) → b.size ≡ a.size → b.selector ≡ a.selector → b.gate ≡ a.gate → IsAt a snapshot blocks c → IsAt b snapshot blocks c
+pub moved : (a b : Area) (snapshot : List ℕ) (blocks : List (List CommandValue)) (c : List ℕ) → b.size ≡ a.size → b.selector ≡ a.selector → b.gate ≡ a.gate → IsAt a snapshot blocks c → IsAt b snapshot blocks c
 moved a b snapshot blocks c size selector gate at = record {
   reads = subst (λ (k : ℕ). Reads k b.selector snapshot blocks c) (sym size) (subst (λ (k : ℕ). Reads a.size k snapshot blocks c) (sym selector) at.reads);
   gate = gate ∙ at.gate;
@@ -96,7 +96,7 @@ held_written {area = area} {next = next} w snapshot blocks each d image = moved 
 
 pub while_switched : (images now : List ℕ → Type 0) (area next : Area) (s : State) → Written images now area next s → (c : List ℕ) → KeepsBoth now next c → KeepsEither images area s c
 while_switched images now area next s w c keeps snapshot blocks each lead =
-    ∣ both_stand next snapshot blocks w.snapshot s c (keeps snapshot blocks w.snapshot (held_written w snapshot blocks each) w.idle) lead (fresh_leads s w.snapshot w.spells) ∣₁
+    ∣ both_stand next snapshot blocks w.snapshot s (restarted s) c (keeps snapshot blocks w.snapshot (held_written w snapshot blocks each) w.idle) lead (fresh_leads s w.snapshot w.spells) ∣₁
 
 pub then_switched : (images now later : List ℕ → Type 0) (area next last : Area) (s : State) → Written images now area next s
     → ((snapshot : List ℕ) (blocks : List (List CommandValue)) (new : List ℕ) → Each now (IsAt next snapshot blocks) → Each now (HasIdle next new) → Each later (IsAt last new []))

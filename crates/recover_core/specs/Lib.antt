@@ -5,3 +5,4 @@ pub mod Standing
 pub mod Stores
 pub mod Told
 pub mod Walks
+pub mod Compactions

@@ -67,11 +67,14 @@ pub record HoldsOnlySnapshot (size used : ℕ) (s : State) (image : List ℕ) : 
   pub spells : Spells snapshot s
   pub is_used : used ≡ length snapshot + 9
 
--- each image has the area that is held now, and stands for the restart of that state, of which it holds the snapshot alone
-pub record HasRestarted (images : List ℕ → Type 0) (area : Area) (s : State) : Type 0 where
+-- each image has the area that is held now, and stands for this state, of which it holds the snapshot alone
+pub record HasWritten (images : List ℕ → Type 0) (area : Area) (s : State) : Type 0 where
   pub sound : IsSound images area
-  pub stands : StandFor images (restarted s)
-  pub holds : Each images (HoldsOnlySnapshot area.size (area.gate + 1) (restarted s))
+  pub stands : StandFor images s
+  pub holds : Each images (HoldsOnlySnapshot area.size (area.gate + 1) s)
+
+abbrev pub HasRestarted : (List ℕ → Type 0) → Area → State → Type 0
+HasRestarted images area s = HasWritten images area (restarted s)
 
 -- the count passes 2^61 on the way, and the rest was left out
 pub record IsLeftOut (before : State) (commands : List CommandValue) (now : State) : Type 0 where

@@ -1,6 +1,7 @@
 -- What a store shows.
 use Rattle.std.specs.Prelude.{◌+◌, ℕ, Bool, Option}
 use Rattle.disk_core.specs.declared.disk.Disk.{Ghosts}
+use Rattle.area_core.specs.Journals.{is_odd, other, start}
 use Rattle.broker_core.specs.States.{BrokerValue}
 use Rattle.recover_core.specs.declared.store.Store.{Store}
 
@@ -15,6 +16,10 @@ size_of store = store.area.size
 -- how many bytes of the live area are used: those up to its first closed gate, and that gate
 abbrev pub used_of : {D : Type 0} {disk : Ghosts D} → Store D disk → ℕ
 used_of store = store.area.gate + 1
+
+-- where the area begins that is not live
+abbrev pub idle_of : {D : Type 0} {disk : Ghosts D} → Store D disk → ℕ
+idle_of store = start store.area.size (other (is_odd store.area.selector))
 
 -- whether a step failed
 abbrev pub is_broken : {D : Type 0} {disk : Ghosts D} → Store D disk → Bool

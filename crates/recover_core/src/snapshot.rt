@@ -1,8 +1,8 @@
-//! The snapshot of a state whose sessions have ended, in pieces.
+//! The snapshot of a state, in pieces.
 
-ghost use Rattle.std.specs.Prelude.{◌≡◌, false, length, IfOk};
+ghost use Rattle.std.specs.Prelude.{◌≡◌, ◌<◌, ◌^◌, false, length, IfOk};
 ghost use Rattle.broker_core.specs.Operations.{restarted};
-ghost use Rattle.snapshot_core.specs.Snapshots.{Spells};
+ghost use Rattle.snapshot_core.specs.Snapshots.{Spells, snapshot_of};
 
 use area_core::Pieces;
 use broker_core::Broker;
@@ -22,6 +22,21 @@ impl<'a> Snapshot<'a> {
     pub(crate) fn new(alloc: Global, broker: &'a Broker) -> Result<Snapshot<'a>, AllocError>
         requires whole { broker.now.broken ≡ false }
         requires ended { broker.now.state ≡ restarted broker.now.state }
+        ensures { IfOk result (λ snapshot. Spells snapshot.writer broker.now.state) }
+    {
+        let writer = StateWriter::new(alloc, broker)?;
+        Ok(Snapshot {
+            writer,
+            left: state_len(broker),
+        })
+    }
+
+    // That of a broker, of which four bytes count what it has, and eight the snapshot.
+    pub(crate) fn of(alloc: Global, broker: &'a Broker) -> Result<Snapshot<'a>, AllocError>
+        requires whole { broker.now.broken ≡ false }
+        requires few_sessions { length broker.now.state.sessions < 2 ^ 32 }
+        requires few_subscriptions { length broker.now.state.subscriptions < 2 ^ 32 }
+        requires counted { length (snapshot_of broker.now.state) < 2 ^ 64 }
         ensures { IfOk result (λ snapshot. Spells snapshot.writer broker.now.state) }
     {
         let writer = StateWriter::new(alloc, broker)?;
