@@ -128,11 +128,11 @@ class Worker(Loader):
         time.sleep(0.001)
 
 
-def take_all(port):
+def take_all(port, queue=QUEUE):
     """All that is in the queue, acknowledged, up to a message that is sent behind it."""
     reader = Client(port).connect()
-    reader.send("SEND", [("destination", QUEUE)], LAST_BODY)
-    reader.send("SUBSCRIBE", [("id", "r"), ("destination", QUEUE), ("ack", "client-individual")])
+    reader.send("SEND", [("destination", queue)], LAST_BODY)
+    reader.send("SUBSCRIBE", [("id", "r"), ("destination", queue), ("ack", "client-individual")])
     found = []
     while not found or found[-1] != LAST_BODY:
         frame = reader.receive()

@@ -61,12 +61,12 @@ class Broker:
 
 
 @contextlib.contextmanager
-def serving(program=PROGRAM, journal_bytes=JOURNAL_BYTES):
+def serving(program=PROGRAM, journal_bytes=JOURNAL_BYTES, kind=Broker):
     """A broker over a new journal, which is killed at the end."""
     with tempfile.TemporaryDirectory(prefix="stompd-") as folder:
         journal = os.path.join(folder, "journal")
         subprocess.run([program, "format", journal, str(journal_bytes)], check=True)
-        broker = Broker(program, journal)
+        broker = kind(program, journal)
         try:
             yield broker
         finally:

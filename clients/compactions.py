@@ -1,0 +1,233 @@
+#!/usr/bin/env python3
+"""A journal that is compacted again and again while clients talk, and kills in the midst of that. Needs strace.
+
+    python3 clients/compactions.py [PROGRAM] [--seconds N] [--kills N] [--seed N]
+
+Each client sends to a queue of its own, every fourth time a transaction, takes from it and acknowledges; so few messages are
+held, and an area of 512 KiB is full several times a second. First a server runs so for a minute: no client is cut, each receipt
+comes. Then the server is killed by SIGKILL again and again, at least every other time within a compaction, as a trace of its
+system calls says: from the begin of the first write at an area's start to the end of the sync behind the selector's write. After
+each kill it is started again over the same file, and what is there is what clients/kills.py asks for.
+"""
+
+import os
+import random
+import re
+import subprocess
+import sys
+import tempfile
+import threading
+import time
+
+import kills
+import scenario
+from stomp_client import Client
+
+# Two areas of 512 KiB behind a head of 32 bytes, whose byte 16 is the selector.
+JOURNAL_BYTES = 1_048_608
+AREA_STARTS = (32, 524_320)
+SELECTOR = 16
+TALKERS = 4
+# Groups of messages that a talker has under way, and the bytes of a body beside its name.
+UNDER_WAY = 8
+PADDING = "x" * 4_000
+# Within this many seconds after a compaction has begun a kill is aimed at it.
+AIM = 0.01
+
+WRITE = re.compile(r"pwrite64\(\d+, .*, (\d+), (\d+)(?:\)| <unfinished)")
+
+
+class Talker(kills.Loader):
+    """A client that sends to a queue of its own, takes from it, and acknowledges."""
+
+    def __init__(self, port, name, seed):
+        self.name, self.queue, self.random = name, f"/queue/{name}", random.Random(seed)
+        self.groups, self.settled, self.had = [], set(), {}
+        self.count, self.open, self.is_told_to_end = 0, {}, False
+        super().__init__(port)
+
+    def go_on(self):
+        self.client.send("SUBSCRIBE", [("id", "t"), ("destination", self.queue), ("ack", "client-individual")])
+        while self.open or not self.is_told_to_end:
+            if len(self.open) < UNDER_WAY and not self.is_told_to_end:
+                self.send_some()
+            else:
+                self.hear(self.client.receive())
+
+    def send_some(self):
+        size = self.random.randint(2, 5) if self.random.random() < 0.25 else 1
+        bodies = [f"{self.name} {self.count + place}" for place in range(size)]
+        group = kills.Group(bodies)
+        # It is kept before it is sent: of what was sent in part nothing is known.
+        self.groups.append(group)
+        self.open[bodies[0]] = (group, set(bodies))
+        self.count += size
+        within, receipt = ("transaction", bodies[0]), ("receipt", bodies[0])
+        if size == 1:
+            self.client.send("SEND", [("destination", self.queue), receipt], f"{bodies[0]} {PADDING}")
+            return
+        self.client.send("BEGIN", [within])
+        for body in bodies:
+            self.client.send("SEND", [("destination", self.queue), within], f"{body} {PADDING}")
+        self.client.send("COMMIT", [within, receipt])
+
+    def hear(self, frame):
+        if frame.command == "MESSAGE":
+            body = short(frame.body)
+            self.had[body] = self.had.get(body, 0) + 1
+            self.client.send("ACK", [("id", frame.headers["ack"]), ("receipt", f"ack {body}")])
+            return
+        assert frame.command == "RECEIPT", frame
+        told = frame.headers["receipt-id"]
+        if told.startswith("ack "):
+            self.settle(told.removeprefix("ack "))
+        else:
+            group, _ = self.open[told]
+            group.is_receipted = True
+
+    def settle(self, body):
+        self.settled.add(body)
+        for first, (group, left) in list(self.open.items()):
+            left.discard(body)
+            if not left and group.is_receipted:
+                del self.open[first]
+
+
+def short(body):
+    """A body without its padding: the talker's name, and the number of the message."""
+    return " ".join(body.split(" ")[:2])
+
+
+class Watched(scenario.Broker):
+    """A broker under strace, whose compactions are seen while they run."""
+
+    def serve(self):
+        self.folder = tempfile.TemporaryDirectory(prefix="compactions-")
+        pipe = os.path.join(self.folder.name, "trace")
+        os.mkfifo(pipe)
+        self.begun, self.count, self.runs, self.is_selected = threading.Event(), 0, False, False
+        self.watch = threading.Thread(target=self.read, args=(pipe,))
+        self.watch.start()
+        calls = ["strace", "-f", "--seccomp-bpf", "-qq", "-s", "0", "-o", pipe, "-e", "trace=pwrite64,fsync"]
+        words = [*calls, self.program, "serve", self.journal, str(self.port)]
+        self.process = subprocess.Popen(words, stdout=subprocess.PIPE, stderr=subprocess.PIPE)
+        line = self.process.stdout.readline().decode()
+        if line != f"listening {self.port}\n":
+            raise RuntimeError(f"the broker does not serve: {line!r}")
+
+    def read(self, pipe):
+        with open(pipe, encoding="ascii") as trace:
+            for line in trace:
+                self.see(line)
+
+    def see(self, line):
+        found = WRITE.search(line)
+        if found:
+            size, place = int(found.group(1)), int(found.group(2))
+            if place in AREA_STARTS and size > 1:
+                self.runs, self.is_selected = True, False
+                self.begun.set()
+            self.is_selected = self.is_selected or (place == SELECTOR and size == 1)
+        elif "fsync" in line and " = 0" in line and self.runs and self.is_selected:
+            self.runs, self.is_selected = False, False
+            self.count += 1
+
+    def server(self):
+        with open(f"/proc/{self.process.pid}/task/{self.process.pid}/children", encoding="ascii") as children:
+            return int(children.read())
+
+    def kill(self):
+        """Kills the server itself, with which strace ends, and then knows whether a compaction ran."""
+        if self.process.poll() is None:
+            os.kill(self.server(), 9)
+        self.process.wait()
+        self.watch.join()
+        self.told = self.process.stderr.read()
+        self.process.stdout.close()
+        self.process.stderr.close()
+        self.folder.cleanup()
+
+
+def begin(broker, name, chance):
+    talkers = [Talker(broker.port, f"{name}.{number}", chance.random()) for number in range(TALKERS)]
+    for one in talkers:
+        one.thread.start()
+    return talkers
+
+
+def join(talkers):
+    for one in talkers:
+        one.thread.join()
+        one.client.close()
+
+
+def found_in(port, talker):
+    return [short(body) for body in kills.take_all(port, talker.queue)]
+
+
+def under_load(broker, seconds, chance, checks):
+    """A server whose journal is full several times a second, for so long."""
+    talkers = begin(broker, "load", chance)
+    before = broker.count
+    time.sleep(seconds)
+    compactions = broker.count - before
+    for one in talkers:
+        one.is_told_to_end = True
+    join(talkers)
+    checks.same("no client is cut", [repr(one.fault) for one in talkers if one.fault], [])
+    checks.check("the broker still runs", broker.is_running(), broker.process.poll())
+    waiting = [group.bodies for one in talkers for group in one.groups if not group.is_receipted]
+    checks.same("each receipt came", waiting, [])
+    checks.check("hundreds of compactions a minute", compactions >= 3 * seconds, compactions)
+    left = [found_in(broker.port, one) for one in talkers]
+    checks.same("and nothing is left of what was acknowledged", left, [[]] * TALKERS)
+    checks.tell(f"{sum(one.count for one in talkers)} messages, {compactions} compactions in {seconds} s")
+
+
+def one_kill(broker, name, chance, aimed):
+    """Kills it under load, starts it again, and answers whether a compaction ran, and what is wrong."""
+    talkers = begin(broker, name, chance)
+    time.sleep(chance.uniform(0.02, 0.2))
+    if aimed:
+        broker.begun.clear()
+        broker.begun.wait(timeout=10)
+        time.sleep(chance.uniform(0, AIM))
+    broker.kill()
+    within = broker.runs
+    join(talkers)
+    broker.serve()
+    faults = [fault for one in talkers for fault in kills.faults_of_a_round([one], one, found_in(broker.port, one))]
+    return within, faults
+
+
+def killed(broker, words, chance, checks):
+    """The server is killed again and again, at least half of the kills within a compaction."""
+    within = count = 0
+    while count < words.kills or within < words.kills // 2:
+        runs, faults = one_kill(broker, f"kill{count}", chance, aimed=count % 4 != 0)
+        within, count = within + runs, count + 1
+        if faults:
+            checks.check(f"kill {count}", False, faults[:5])
+        if count > 5 * words.kills:
+            break
+    checks.check(f"at least {words.kills // 2} kills were within a compaction", within >= words.kills // 2, within)
+    checks.tell(f"{count} kills, {within} of them within a compaction")
+
+
+def main():
+    parser = scenario.words_of(__doc__)
+    parser.add_argument("--seconds", type=int, default=60, help="how long the load goes on before the kills")
+    parser.add_argument("--kills", type=int, default=100)
+    parser.add_argument("--seed", type=int, default=random.randrange(2**32), help="of the moments and of what is sent")
+    words = parser.parse_args()
+    print(f"seed {words.seed}", flush=True)
+    chance, checks = random.Random(words.seed), scenario.Checks()
+    with scenario.serving(words.program, JOURNAL_BYTES, Watched) as broker:
+        under_load(broker, words.seconds, chance, checks)
+        killed(broker, words, chance, checks)
+    checks.check("all that was receipted is there once, and nothing else", not checks.failed)
+    return 1 if checks.failed else 0
+
+
+if __name__ == "__main__":
+    sys.exit(main())
