@@ -6,8 +6,6 @@
 #[cfg(test)]
 mod closing_tests;
 #[cfg(test)]
-mod flusher_tests;
-#[cfg(test)]
 mod gates;
 #[cfg(test)]
 mod hubs;

@@ -1,20 +1,13 @@
-ghost use Rattle.std.specs.Prelude.{◌≡◌, ◌≤◌, ◌^◌, IfSome, IsSome, IsTrue, true, false};
-ghost use Rattle.disk_core.specs.Images.{IsImage};
-ghost use Rattle.recover_core.specs.Standing.{StandFor};
-ghost use Rattle.recover_core.specs.Stores.{disk_of, is_broken, opened_by};
+ghost use Rattle.std.specs.Prelude.{◌≡◌, IfSome, IsTrue, true, false};
 
-use crate::hubs::{HubFlusher, HubRing, HubSeat, SMALL_AREA, formatted};
-use claim_core::{NotYet, Refused, Ring};
-use command_core::{Entry, Out, connected_reply, decode};
+use crate::setups::{MemFlusher, SMALL_AREA, Setup, TestRing, TestSeat, append, open_both, set_up};
+use claim_core::{NotYet, Refused};
+use command_core::{Out, connected_reply};
 use disk_core::{Call, Disk, FuseDisk, MemDisk};
 use flush_core::{FlushFault, Flusher};
-use outbox_core::{OutSender, Silent};
-use recover_core::{Store, open};
+use outbox_core::Silent;
 use std::alloc::{AllocError, Global};
 use std::test::Fail;
-
-// A session opens.
-const OPEN: &[u8] = b"\0\0\0\0\0\0\0\0\0\x01\0";
 
 // What the two sessions send to `/queue/q` in turn: the last asks for a receipt.
 const FIRST_SEND: &[u8] = b"\0\0\0\0\0\0\0\0\0\x02\0\0\0\x08/queue/q\0\0\0\0\0\x01x";
@@ -22,100 +15,6 @@ const FIRST_SEND: &[u8] = b"\0\0\0\0\0\0\0\0\0\x02\0\0\0\x08/queue/q\0\0\0\0\0\x
 const SECOND_SEND: &[u8] = b"\0\0\0\0\0\0\0\x01\0\x02\0\0\0\x08/queue/q\0\0\0\0\0\x01y";
 
 const LAST_SEND: &[u8] = b"\0\0\0\0\0\0\0\0\x01\0\0\0\x01r\x02\0\0\0\x08/queue/q\0\0\0\0\0\x01z";
-
-// The ring before an empty journal, the seats of two sessions, and the flusher.
-#[derive(Drop)]
-struct Setup {
-    ring: HubRing,
-    first: HubSeat,
-    second: HubSeat,
-    flusher: HubFlusher,
-}
-
-// That of a journal that was just opened.
-fn begin(alloc: Global, store: Store<MemDisk>) -> Option<Setup>
-    requires whole { is_broken store ≡ false }
-    requires opened { IsSome (opened_by store) }
-    requires small { IfSome (opened_by store) (λ broker. (broker.state.count ≤ 2 ^ 61) × (broker.broken ≡ false)) }
-    requires stands { IfSome (opened_by store) (λ broker. StandFor (IsImage (disk_of store).content (disk_of store).held) broker.state) }
-    ensures ring { IfSome result (λ s. (s.first.ring ≡ s.ring) × (s.second.ring ≡ s.ring) × (s.flusher.seat.ring ≡ s.ring)) }
-    ensures settled { IfSome result (λ s. s.flusher.settled ≡ s.flusher.stored) }
-{
-    let mut store = store;
-    let broker = store.broker().unwrap();
-    match Ring::new(alloc, broker.count()) {
-        Ok((ring, mut seats, seat)) => {
-            let flusher = Flusher::new(alloc, store, broker, seat);
-            match (seats.pop(), seats.pop()) {
-                (Some(first), Some(second)) => Some(Setup {
-                    ring,
-                    first,
-                    second,
-                    flusher,
-                }),
-                _ => None,
-            }
-        }
-        Err(_) => None,
-    }
-}
-
-fn set_up(alloc: Global) -> Option<Setup>
-    ensures ring { IfSome result (λ s. (s.first.ring ≡ s.ring) × (s.second.ring ≡ s.ring) × (s.flusher.seat.ring ≡ s.ring)) }
-    ensures settled { IfSome result (λ s. s.flusher.settled ≡ s.flusher.stored) }
-{
-    match formatted(alloc, SMALL_AREA) {
-        Some(disk) => match open(alloc, disk) {
-            Ok(store) => begin(alloc, store),
-            Err(_) => None,
-        },
-        None => None,
-    }
-}
-
-fn entry(alloc: Global, record: &[u8]) -> Option<Entry<OutSender<Silent>>> {
-    match decode(alloc, record) {
-        Ok((command, _)) => Entry::new(alloc, command, None).ok(),
-        Err(_) => None,
-    }
-}
-
-// Appends the command of a record, and answers its ticket or why it was refused.
-fn append(
-    alloc: Global,
-    ring: &HubRing,
-    seat: &mut HubSeat,
-    record: &[u8],
-) -> Option<Result<u64, Refused>>
-    requires { seat.old.ring ≡ ring.now }
-    ensures { seat.new.ring ≡ ring.now }
-{
-    match entry(alloc, record) {
-        Some(entry) => match ring.append(seat, entry) {
-            Ok(ticket) => Some(Ok(ticket)),
-            Err((_, refused)) => Some(Err(refused)),
-        },
-        None => None,
-    }
-}
-
-// Both sessions open, which is a turn of its own.
-fn open_both(alloc: Global, setup: &mut Setup) -> bool
-    requires ring { (setup.old.first.ring ≡ setup.old.ring) × (setup.old.second.ring ≡ setup.old.ring) × (setup.old.flusher.seat.ring ≡ setup.old.ring) }
-    requires settled { setup.old.flusher.settled ≡ setup.old.flusher.stored }
-    ensures ring { IsTrue result → (setup.new.first.ring ≡ setup.new.ring) × (setup.new.second.ring ≡ setup.new.ring) × (setup.new.flusher.seat.ring ≡ setup.new.ring) }
-    ensures settled { IsTrue result → setup.new.flusher.settled ≡ setup.new.flusher.stored }
-{
-    let first = append(alloc, &setup.ring, &mut setup.first, OPEN);
-    let second = append(alloc, &setup.ring, &mut setup.second, OPEN);
-    if first != Some(Ok(0)) || second != Some(Ok(1)) {
-        return false;
-    }
-    let Ok(2) = setup.flusher.turn(alloc, &setup.ring) else {
-        return false;
-    };
-    setup.flusher.take_left().len() == 2
-}
 
 // They send in turn.
 fn send_three(alloc: Global, setup: &mut Setup) -> bool
@@ -134,7 +33,7 @@ fn opened(alloc: Global) -> Option<Setup>
     ensures ring { IfSome result (λ s. (s.first.ring ≡ s.ring) × (s.second.ring ≡ s.ring) × (s.flusher.seat.ring ≡ s.ring)) }
     ensures settled { IfSome result (λ s. s.flusher.settled ≡ s.flusher.stored) }
 {
-    match set_up(alloc) {
+    match set_up(alloc, SMALL_AREA) {
         Some(mut setup) => {
             if open_both(alloc, &mut setup) && send_three(alloc, &mut setup) {
                 Some(setup)
@@ -150,8 +49,8 @@ fn opened(alloc: Global) -> Option<Setup>
 // Makes so many steps: the four of a turn, and the first two of another. Answers how many commands `gather` took last.
 fn make_steps(
     alloc: Global,
-    ring: &HubRing,
-    flusher: &mut HubFlusher,
+    ring: &TestRing,
+    flusher: &mut MemFlusher,
     steps: u32,
 ) -> Result<u64, FlushFault>
     requires ring { flusher.old.seat.ring ≡ ring.now }
@@ -186,8 +85,8 @@ fn make_steps(
 // The number of an output of that command, if it may leave.
 fn leave(
     alloc: Global,
-    ring: &HubRing,
-    seat: &mut HubSeat,
+    ring: &TestRing,
+    seat: &mut TestSeat,
     number: u64,
 ) -> Option<Result<u64, NotYet>>
     requires { seat.old.ring ≡ ring.now }
@@ -317,7 +216,7 @@ fn a_second_gather_takes_more_while_a_batch_waits(rt: HostRuntime) -> Result<(),
 // Stores what the three have sent, in a step of its own or in a turn, and answers whether the disk failed.
 fn fails<D: Disk>(
     alloc: Global,
-    ring: &HubRing,
+    ring: &TestRing,
     flusher: &mut Flusher<D, Silent>,
     in_a_turn: bool,
 ) -> bool
@@ -335,7 +234,7 @@ fn fails<D: Disk>(
 }
 
 // Whether each step is refused.
-fn is_refused<D: Disk>(alloc: Global, ring: &HubRing, flusher: &mut Flusher<D, Silent>) -> bool
+fn is_refused<D: Disk>(alloc: Global, ring: &TestRing, flusher: &mut Flusher<D, Silent>) -> bool
     requires ring { flusher.old.seat.ring ≡ ring.now }
     requires broken { flusher.old.broken ≡ true }
     ensures { IsTrue result → (flusher.new.seat.ring ≡ ring.now) × (flusher.new.broken ≡ true) }

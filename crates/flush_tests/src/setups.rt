@@ -1,0 +1,134 @@
+//! Flushers over journals in memory, before whose rings two sessions have seats.
+
+ghost use Rattle.std.specs.Prelude.{◌≡◌, ◌≤◌, ◌+◌, ◌*◌, ◌^◌, IfSome, IsSome, IsTrue, false};
+ghost use Rattle.disk_core.specs.Images.{IsImage};
+ghost use Rattle.recover_core.specs.Standing.{StandFor};
+ghost use Rattle.recover_core.specs.Stores.{disk_of, is_broken, opened_by};
+
+use area_core::format;
+use claim_core::{BrokerRing, BrokerSeat, Refused, Ring};
+use command_core::{Entry, decode};
+use disk_core::MemDisk;
+use flush_core::Flusher;
+use outbox_core::{OutSender, Silent};
+use recover_core::{Store, open};
+use std::alloc::Global;
+
+pub(crate) type TestRing = BrokerRing<OutSender<Silent>>;
+
+pub(crate) type TestSeat = BrokerSeat<OutSender<Silent>>;
+
+pub(crate) type MemFlusher = Flusher<MemDisk, Silent>;
+
+/// The bytes of the smallest area.
+pub(crate) const SMALL_AREA: u64 = 4_096;
+
+// The disk of an empty journal with areas of so many bytes.
+fn formatted(alloc: Global, area_bytes: u64) -> Option<MemDisk>
+    requires { (4096 ≤ area_bytes) × (area_bytes ≤ 262144) }
+{
+    let mut disk = MemDisk::new(alloc, 32 + 2 * area_bytes).ok()?;
+    match format(alloc, &mut disk, area_bytes) {
+        Ok(()) => Some(disk),
+        Err(_) => None,
+    }
+}
+
+/// A session opens.
+pub(crate) const OPEN: &[u8] = b"\0\0\0\0\0\0\0\0\0\x01\0";
+
+/// The ring before an empty journal, the seats of two sessions, and the flusher.
+#[derive(Drop)]
+pub(crate) struct Setup {
+    pub(crate) ring: TestRing,
+    pub(crate) first: TestSeat,
+    pub(crate) second: TestSeat,
+    pub(crate) flusher: MemFlusher,
+}
+
+// That of a journal that was just opened.
+fn begin(alloc: Global, store: Store<MemDisk>) -> Option<Setup>
+    requires whole { is_broken store ≡ false }
+    requires opened { IsSome (opened_by store) }
+    requires small { IfSome (opened_by store) (λ broker. (broker.state.count ≤ 2 ^ 61) × (broker.broken ≡ false)) }
+    requires stands { IfSome (opened_by store) (λ broker. StandFor (IsImage (disk_of store).content (disk_of store).held) broker.state) }
+    ensures ring { IfSome result (λ s. (s.first.ring ≡ s.ring) × (s.second.ring ≡ s.ring) × (s.flusher.seat.ring ≡ s.ring)) }
+    ensures settled { IfSome result (λ s. s.flusher.settled ≡ s.flusher.stored) }
+{
+    let mut store = store;
+    let broker = store.broker().unwrap();
+    match Ring::new(alloc, broker.count()) {
+        Ok((ring, mut seats, seat)) => {
+            let flusher = Flusher::new(alloc, store, broker, seat);
+            match (seats.pop(), seats.pop()) {
+                (Some(first), Some(second)) => Some(Setup {
+                    ring,
+                    first,
+                    second,
+                    flusher,
+                }),
+                _ => None,
+            }
+        }
+        Err(_) => None,
+    }
+}
+
+/// That of an empty journal with areas of so many bytes.
+pub(crate) fn set_up(alloc: Global, area_bytes: u64) -> Option<Setup>
+    requires { (4096 ≤ area_bytes) × (area_bytes ≤ 262144) }
+    ensures ring { IfSome result (λ s. (s.first.ring ≡ s.ring) × (s.second.ring ≡ s.ring) × (s.flusher.seat.ring ≡ s.ring)) }
+    ensures settled { IfSome result (λ s. s.flusher.settled ≡ s.flusher.stored) }
+{
+    match formatted(alloc, area_bytes) {
+        Some(disk) => match open(alloc, disk) {
+            Ok(store) => begin(alloc, store),
+            Err(_) => None,
+        },
+        None => None,
+    }
+}
+
+fn entry(alloc: Global, record: &[u8]) -> Option<Entry<OutSender<Silent>>> {
+    match decode(alloc, record) {
+        Ok((command, _)) => Entry::new(alloc, command, None).ok(),
+        Err(_) => None,
+    }
+}
+
+/// Appends the command of a record, and answers its ticket or why it was refused.
+pub(crate) fn append(
+    alloc: Global,
+    ring: &TestRing,
+    seat: &mut TestSeat,
+    record: &[u8],
+) -> Option<Result<u64, Refused>>
+    requires { seat.old.ring ≡ ring.now }
+    ensures { seat.new.ring ≡ ring.now }
+{
+    match entry(alloc, record) {
+        Some(entry) => match ring.append(seat, entry) {
+            Ok(ticket) => Some(Ok(ticket)),
+            Err((_, refused)) => Some(Err(refused)),
+        },
+        None => None,
+    }
+}
+
+/// Both sessions open, which is a turn of its own.
+pub(crate) fn open_both(alloc: Global, setup: &mut Setup) -> bool
+    requires ring { (setup.old.first.ring ≡ setup.old.ring) × (setup.old.second.ring ≡ setup.old.ring) × (setup.old.flusher.seat.ring ≡ setup.old.ring) }
+    requires settled { setup.old.flusher.settled ≡ setup.old.flusher.stored }
+    ensures ring { IsTrue result → (setup.new.first.ring ≡ setup.new.ring) × (setup.new.second.ring ≡ setup.new.ring) × (setup.new.flusher.seat.ring ≡ setup.new.ring) }
+    ensures settled { IsTrue result → setup.new.flusher.settled ≡ setup.new.flusher.stored }
+{
+    let first = append(alloc, &setup.ring, &mut setup.first, OPEN);
+    let second = append(alloc, &setup.ring, &mut setup.second, OPEN);
+    if first != Some(Ok(0)) || second != Some(Ok(1)) {
+        return false;
+    }
+    let Ok(2) = setup.flusher.turn(alloc, &setup.ring) else {
+        return false;
+    };
+    setup.flusher.take_left().len() == 2
+}
