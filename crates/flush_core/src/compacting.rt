@@ -51,14 +51,31 @@ impl<D: Disk, B: Bell> Flusher<D, B> {
         if self.broken {
             return Err(FlushFault::Broken);
         }
+        let before = self.journal.used();
         match self.journal.compact(alloc, &self.broker) {
-            Ok(()) => Ok(()),
+            Ok(()) => {
+                let won = before.saturating_sub(self.journal.used());
+                self.won = self.won.saturating_add(won);
+                Ok(())
+            }
             Err(fault) => {
                 self.broken = true;
                 ring.stop(&mut self.seat);
                 Err(FlushFault::from(fault))
             }
         }
+    }
+
+    /// How many bytes of the live area are used: those up to its first closed gate, and that gate.
+    pub fn used(&self) -> u64
+        ensures { result ≡ self.now.used }
+    {
+        self.journal.used()
+    }
+
+    /// How many bytes all compactions together have won: it grows with each that went through and won any, in a turn too.
+    pub fn won(&self) -> u64 {
+        self.won
     }
 
     // Whether nothing is gathered, or its block fits into the live area, with the gate behind it.
