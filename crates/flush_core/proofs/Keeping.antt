@@ -238,6 +238,24 @@ module _ {D : Type 0} (honest : D → Type 0) (images : D → List ℕ → Type 
     running = λ whole. absurd (cc whole);
   })
 
+  -- the journal is compacted
+  pub compacts : (f : Flushed D) (next : D) (size used : ℕ) → f.broken ≡ false → (honest next → StandFor (images next) (state_at f.opening f.seat f.stored)) → IsFlusher honest images f
+      → IsFlusher honest images (record f { disk = next; size = size; used = used })
+  compacts f next size used whole stand kept =
+      let run = kept.running whole in
+      record {
+        begun = kept.begun;
+        marked = kept.marked;
+        settled = kept.settled;
+        stored = kept.stored;
+        opened = kept.opened;
+        sound = kept.sound;
+        each = λ h. hold_at (images next) f.opening f.seat f.stored (omega (arith, kept.marked, kept.settled)) kept.stored (stand h);
+        under = kept.under;
+        stopped = kept.stopped;
+        running = λ _. record { stands = stand; broker = run.broker; batch = run.batch; brought = run.brought; waiting = run.waiting };
+      }
+
   -- all that was taken is stored
   pub stores : (f : Flushed D) (next : D) (size used stored : ℕ) (brought : List (EntryValue SenderValue)) → stored ≡ next_ticket f.seat → f.broken ≡ false
       → (honest next → StandFor (images next) (state_taken f.opening f.seat)) → brought ≡ f.brought → IsFlusher honest images f

@@ -4,3 +4,5 @@ pub mod Sessions
 pub mod Taken
 pub mod Turns
 pub mod Room
+pub mod Compactions
+pub mod RoomWon

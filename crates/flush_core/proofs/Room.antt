@@ -1,5 +1,5 @@
 -- Where a block does not fit.
-use Rattle.std.proofs.Common.{◌≡◌, ◌≢◌, ◌<◌, ◌+◌, ℕ, List, [], Err, length, ap, subst, sym, ◌∙◌, arith}
+use Rattle.std.proofs.Common.{◌≡◌, ◌≢◌, ◌⊎◌, ◌<◌, ◌≤◌, ◌+◌, ℕ, List, [], Err, length, ap, subst, sym, ◌∙◌, arith}
 use Rattle.std.proofs.Math.Logic.{∥∥₁_prop, ∥∥₁_elim}
 use Rattle.command_core.specs.Commands.{CommandValue}
 use Rattle.command_core.specs.Entries.{EntryValue}
@@ -15,9 +15,10 @@ use Rattle.flush_core.specs.declared.faults.FlushFault.{FlushFault}
 use Rattle.flush_core.specs.declared.faults.FlushFault.TheVariants.{Device, Full, Broken, Memory}
 use Rattle.flush_core.specs.Batches.{IsBatch, from_on, state_at}
 use Rattle.flush_core.specs.Flushed.{Flushed, IsFlusher, gathered}
-use Rattle.claim_core.specs.Seats.{FlushSeatValue}
+use Rattle.claim_core.specs.Seats.{FlushSeatValue, next_ticket}
 use Rattle.flush_core.specs.Outcomes.{IsOutcome, publishing, settling, storing, taking}
-use Rattle.flush_core.specs.Room.{HasNoRoom}
+use Rattle.recover_core.specs.Compactions.{HasNoRoomFor}
+use Rattle.flush_core.specs.Room.{Fits, HasNoRoom, HasNoRoomForState, HasNoRoomLeft, IsTooLong, used_afresh}
 use Rattle.flush_core.proofs.Taken.{at_more}
 use Rattle.area_core.specs.Areas.{commands}
 
@@ -36,6 +37,21 @@ lacks_room area images content s cs reads sound stand short = ∥∥₁_elim sou
       short = omega (arith, short, at.gate);
     } ∣₁))
 
+-- and here it is too short for any snapshot of the state
+pub lacks_room_for_state : (area : Area) (images : List ℕ → Type 0) (content : List ℕ) (s : State) → images content → IsSound images area → StandFor images s
+    → HasNoRoomFor area.size s → HasNoRoomForState content s
+lacks_room_for_state area images content s reads sound stand none = ∥∥₁_elim sound ∥∥₁_prop (λ (it : Sound images area). ∥∥₁_elim (stand content reads) ∥∥₁_prop (λ (st : Standing content s).
+    let at = it.held content reads in
+    ∣ record {
+      size = area.size;
+      selector = area.selector;
+      snapshot = it.snapshot;
+      blocks = it.blocks;
+      reads = at.reads;
+      leads = leads area.size area.selector it.snapshot it.blocks content s at.reads st;
+      none = none;
+    } ∣₁))
+
 -- a step that fails leaves what was taken
 rest_stays : {D : Type 0} (old new : Flushed D) (n : ℕ) (fault : FlushFault) → IsOutcome {X = Unit {0}} old new (Err fault) → from_on old.seat n ≡ from_on new.seat n
 rest_stays old new n Device fell = sym (ap (λ s. from_on s n) fell.seat)
@@ -48,6 +64,28 @@ module _ {D : Type 0} (f g h : Flushed D) (entries : List (EntryValue SenderValu
   gathered_before : (seat : FlushSeatValue) → from_on h.seat g.stored ≡ from_on seat g.stored → from_on seat f.stored ≡ [] → gathered g ≡ []
   gathered_before seat rest none =
       ap (λ (x : Flushed D). from_on x.seat g.stored) (sym did) ∙ (rest ∙ (ap (λ (x : Flushed D). from_on seat x.stored) took ∙ none))
+
+  -- what was gathered is what was taken from there on, also where all is published
+  taken_stays : (k l : Flushed D) → k ≡ settling h → l ≡ publishing k l.boxes → gathered g ≡ from_on l.seat f.stored
+  taken_stays k l settled published =
+      let seat : from_on h.seat g.stored ≡ from_on l.seat g.stored = ap (λ (x : Flushed D). from_on x.seat g.stored) (sym settled) ∙ ap (λ (x : Flushed D). from_on x.seat g.stored) (sym published) in
+      ap (λ (x : Flushed D). from_on x.seat g.stored) (sym did) ∙ (seat ∙ ap (λ (x : Flushed D). from_on l.seat x.stored) took)
+
+  -- what is used once the turn went through is what storing left
+  pub came_behind : (k l : Flushed D) → k ≡ settling h → l ≡ publishing k l.boxes
+      → (Fits g.size g.used (gathered g) → gathered g ≢ [] → h.used ≡ g.used + 9 + length (records (gathered g)))
+      → Fits f.size f.used (from_on l.seat f.stored) → from_on l.seat f.stored ≢ [] → l.used ≡ f.used + 9 + length (records (from_on l.seat f.stored))
+  came_behind k l settled published told fits some =
+      ap (λ (x : Flushed D). x.used) published ∙ (ap (λ (x : Flushed D). x.used) settled
+      ∙ subst (λ (z : Flushed D × List CommandValue). Fits z.0.size z.0.used z.1 → z.1 ≢ [] → h.used ≡ z.0.used + 9 + length (records z.1)) (λ i. (took i, taken_stays k l settled published i)) told fits some)
+
+  pub came_afresh : (k l : Flushed D) → k ≡ settling h → l ≡ publishing k l.boxes → f.stored ≤ next_ticket f.seat
+      → (IsTooLong g.size g.used (gathered g) → gathered g ≢ [] → h.used ≡ used_afresh (state_at g.opening g.seat g.stored) + 9 + length (records (gathered g)))
+      → IsTooLong f.size f.used (from_on l.seat f.stored) → from_on l.seat f.stored ≢ [] → l.used ≡ used_afresh (state_at f.opening f.seat f.stored) + 9 + length (records (from_on l.seat f.stored))
+  came_afresh k l settled published few told long some =
+      let same : state_at g.opening g.seat g.stored ≡ state_at f.opening f.seat f.stored = ap (λ (x : Flushed D). state_at x.opening x.seat x.stored) took ∙ at_more f.opening f.seat (commands entries) f.stored few in
+      ap (λ (x : Flushed D). x.used) published ∙ (ap (λ (x : Flushed D). x.used) settled
+      ∙ subst (λ (z : Flushed D × State × List CommandValue). IsTooLong z.0.size z.0.used z.2 → z.2 ≢ [] → h.used ≡ used_afresh z.1 + 9 + length (records z.2)) (λ i. (took i, same i, taken_stays k l settled published i)) told long some)
 
   -- executing failed
   pub still_unsettled : (k : Flushed D) (fault : FlushFault) → IsOutcome {X = Unit {0}} h k (Err fault) → k.disk ≡ h.disk → from_on k.seat f.stored ≡ [] → k.disk ≡ f.disk
@@ -79,3 +117,22 @@ module _ {D : Type 0} (disk : Ghosts D) (f g h : Flushed D) (entries : List (Ent
       let there = told (subst (λ (x : Flushed D). disk.honest x.disk) (sym took) honest) in
       subst (λ (s : State). HasNoRoom (disk.content f.disk) s (from_on h.seat f.stored)) (at_more f.opening f.seat (commands entries) f.stored kept.stored)
       (subst (λ (x : Flushed D × List CommandValue). HasNoRoom (disk.content x.0.disk) (state_at x.0.opening x.0.seat x.0.stored) x.1) (λ i. (took i, gathered_stays i)) there)
+
+  -- the state is the one after what was stored before
+  before_taking : state_at g.opening g.seat g.stored ≡ state_at f.opening f.seat f.stored
+  before_taking = ap (λ (x : Flushed D). state_at x.opening x.seat x.stored) took ∙ at_more f.opening f.seat (commands entries) f.stored kept.stored
+
+  -- so where room was looked for and not found
+  pub found_none : IsTooLong g.size g.used (gathered g)
+      × ((HasNoRoomFor g.size (state_at g.opening g.seat g.stored) × (h.disk ≡ g.disk)) ⊎ IsTooLong g.size (used_afresh (state_at g.opening g.seat g.stored)) (gathered g))
+      → IsTooLong f.size f.used (from_on h.seat f.stored)
+      × ((HasNoRoomFor f.size (state_at f.opening f.seat f.stored) × (h.disk ≡ f.disk)) ⊎ IsTooLong f.size (used_afresh (state_at f.opening f.seat f.stored)) (from_on h.seat f.stored))
+  found_none told =
+      subst (λ (z : Flushed D × State × List CommandValue). IsTooLong z.0.size z.0.used z.2 × ((HasNoRoomFor z.0.size z.1 × (h.disk ≡ z.0.disk)) ⊎ IsTooLong z.0.size (used_afresh z.1) z.2))
+      (λ i. (took i, before_taking i, gathered_stays i)) told
+
+  pub has_none_left : HasNoRoomLeft (disk.content h.disk) (state_at g.opening g.seat g.stored) (gathered g) → HasNoRoomLeft (disk.content h.disk) (state_at f.opening f.seat f.stored) (from_on h.seat f.stored)
+  has_none_left told = subst (λ (z : State × List CommandValue). HasNoRoomLeft (disk.content h.disk) z.0 z.1) (λ i. (before_taking i, gathered_stays i)) told
+
+  pub of_a_batch : IsBatch (gathered g) → gathered g ≢ [] → IsBatch (from_on h.seat f.stored) × (from_on h.seat f.stored ≢ [])
+  of_a_batch batch some = (subst IsBatch gathered_stays batch, λ none. some (gathered_stays ∙ none))

@@ -1,9 +1,12 @@
 -- What calls of a flusher leave.
-use Rattle.std.specs.Prelude.{◌≡◌, ◌-◌, ◌++◌, drop, take, ℕ, List, [], true, false, Result, Ok, Err}
+use Rattle.std.specs.Prelude.{◌≡◌, ◌≢◌, ◌-◌, ◌++◌, drop, take, ℕ, List, [], true, false, Result, Ok, Err}
+use Rattle.disk_core.specs.declared.disk.Disk.{Ghosts}
 use Rattle.command_core.specs.Commands.{CommandValue}
 use Rattle.command_core.specs.Outs.{OutValue}
 use Rattle.broker_core.specs.Steps.{outs_of}
 use Rattle.area_core.specs.Areas.{commands}
+use Rattle.area_core.specs.Puts.{Each}
+use Rattle.recover_core.specs.Compactions.{HoldsItAlone}
 use Rattle.command_core.specs.Entries.{EntryValue}
 use Rattle.outbox_core.specs.Boxes.{SenderValue}
 use Rattle.boxes_core.specs.Giving.{AreGiven, Kept, unboxed, without}
@@ -11,7 +14,8 @@ use Rattle.claim_core.specs.Seats.{when_stopped, with_mark, next_ticket}
 use Rattle.flush_core.specs.declared.faults.FlushFault.{FlushFault}
 use Rattle.flush_core.specs.declared.faults.FlushFault.TheVariants.{Device, Full, Broken, Memory}
 use Rattle.flush_core.specs.Batches.{with_more, from_on, state_at, state_taken}
-use Rattle.flush_core.specs.Flushed.{Flushed, unsettled}
+use Rattle.flush_core.specs.Flushed.{Flushed, gathered, unsettled}
+use Rattle.flush_core.specs.Room.{Fits, IsTooLong, used_afresh}
 use Rattle.flush_core.specs.Sessions.{boxes_after, ended_of}
 
 -- A step has failed: the flusher is broken, its ring is stopped, and what was taken, stored, published and may be handed
@@ -39,6 +43,23 @@ taking f more = record f { seat = with_more f.seat (commands more); brought = f.
 -- all that was taken is stored, on this disk
 abbrev pub storing : {D : Type 0} → Flushed D → D → ℕ → ℕ → Flushed D
 storing f disk size used = record f { disk = disk; size = size; used = used; stored = next_ticket f.seat }
+
+-- the journal is compacted, on this disk, and so much of an area is used
+abbrev pub compacted : {D : Type 0} → Flushed D → D → ℕ → Flushed D
+compacted f disk used = record f { disk = disk; used = used }
+
+-- the journal is as it was: a step failed before, nothing is gathered, or its block fits as it is
+pub record IsLeft {D : Type 0} (old new : Flushed D) : Type 0 where
+  pub same : new ≡ old
+  pub fits : old.broken ≡ false → gathered old ≢ [] → Fits old.size old.used (gathered old)
+
+-- the block of what is gathered did not fit, so the journal was compacted
+pub record IsCompacted {D : Type 0} (disk : Ghosts D) (old new : Flushed D) : Type 0 where
+  pub whole : old.broken ≡ false
+  pub some : gathered old ≢ []
+  pub long : IsTooLong old.size old.used (gathered old)
+  pub is : new ≡ compacted old new.disk (used_afresh (state_at old.opening old.seat old.stored))
+  pub alone : disk.honest old.disk → Each (disk.images new.disk) (HoldsItAlone new.size new.used (state_at old.opening old.seat old.stored))
 
 -- the entries of what is stored and not executed
 abbrev pub stored_entries : {D : Type 0} → Flushed D → List (EntryValue SenderValue)

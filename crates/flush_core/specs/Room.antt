@@ -1,10 +1,26 @@
 -- Where a block does not fit into the journal.
-use Rattle.std.specs.Prelude.{◌<◌, ◌+◌, ℕ, List, length}
+use Rattle.std.specs.Prelude.{◌⊎◌, ◌<◌, ◌≤◌, ◌+◌, ℕ, List, length}
 use Rattle.command_core.specs.Commands.{CommandValue}
 use Rattle.area_core.specs.Areas.{front, records}
 use Rattle.area_core.specs.Journals.{Reads}
 use Rattle.broker_core.specs.States.{State}
+use Rattle.snapshot_core.specs.Snapshots.{snapshot_of}
+use Rattle.recover_core.specs.Compactions.{HasNoRoomFor}
+use Rattle.recover_core.specs.Opens.{HoldsOnlySnapshot}
 use Rattle.recover_core.specs.Standing.{Leads}
+
+-- how many bytes of an area are used where it holds a snapshot of this state alone: eight of length, the snapshot, and a gate
+abbrev pub used_afresh : State → ℕ
+used_afresh s = length (snapshot_of s) + 9
+
+-- Behind so many bytes that are used an area of that size has room for a block of these commands: eight bytes of length, the
+-- records, and the closed gate behind them.
+abbrev pub Fits : (size used : ℕ) → List CommandValue → Type 0
+Fits size used cs = used + 9 + length (records cs) ≤ size
+
+-- and here it has none
+abbrev pub IsTooLong : (size used : ℕ) → List CommandValue → Type 0
+IsTooLong size used cs = size < used + 9 + length (records cs)
 
 -- The image stands for this state, and its live area is too short for a block of these commands: a gate, eight bytes of
 -- length, the records, and the closed gate behind it.
@@ -19,3 +35,27 @@ pub record LacksRoom (image : List ℕ) (s : State) (cs : List CommandValue) : T
 
 abbrev pub HasNoRoom : List ℕ → State → List CommandValue → Type 0
 HasNoRoom image s cs = ∥ LacksRoom image s cs ∥₁
+
+-- the image stands for this state, of which no snapshot fits into an area of its journal
+pub record LacksRoomForState (image : List ℕ) (s : State) : Type 0 where
+  pub size : ℕ
+  pub selector : ℕ
+  pub snapshot : List ℕ
+  pub blocks : List (List CommandValue)
+  pub reads : Reads size selector snapshot blocks image
+  pub leads : Leads snapshot blocks s
+  pub none : HasNoRoomFor size s
+
+abbrev pub HasNoRoomForState : List ℕ → State → Type 0
+HasNoRoomForState image s = ∥ LacksRoomForState image s ∥₁
+
+-- the image holds a snapshot of this state alone, and a block of these commands does not fit behind it
+pub record LacksRoomAfresh (image : List ℕ) (s : State) (cs : List CommandValue) : Type 0 where
+  pub size : ℕ
+  pub used : ℕ
+  pub holds : HoldsOnlySnapshot size used s image
+  pub short : IsTooLong size used cs
+
+-- the journal is compacted, as far as that goes, and has no room for a block of these commands
+abbrev pub HasNoRoomLeft : List ℕ → State → List CommandValue → Type 0
+HasNoRoomLeft image s cs = ∥ LacksRoomForState image s ⊎ LacksRoomAfresh image s cs ∥₁

@@ -41,6 +41,8 @@ pub struct Flusher<D: Disk, B: Bell> {
     // The outboxes of sessions, and the outputs on their way there.
     pub(crate) outlet: Outlet<B>,
     pub(crate) broken: bool,
+    // How many bytes compactions have won.
+    pub(crate) won: u64,
 }
 
 impl<D: Disk, B: Bell> Model for Flusher<D, B> {
@@ -87,6 +89,7 @@ impl<D: Disk, B: Bell> Flusher<D, B> {
             settled: next,
             outlet: Outlet::new(alloc),
             broken,
+            won: 0,
         }
     }
 
@@ -169,6 +172,7 @@ impl<D: Disk, B: Bell> Flusher<D, B> {
             settled,
             outlet,
             broken,
+            won,
         } = self;
         Flusher {
             journal: journal.fuse(calls),
@@ -182,6 +186,7 @@ impl<D: Disk, B: Bell> Flusher<D, B> {
             settled,
             outlet,
             broken,
+            won,
         }
     }
 }

@@ -1,15 +1,16 @@
-//! One turn of the flusher.
+//! Turns of the flusher.
 
-ghost use Rattle.std.specs.Prelude.{◌≡◌, ◌≢◌, ◌<◌, ◌+◌, ◌++◌, [], List, IfOk, IsErrOf, OnErr, true, false, length};
+ghost use Rattle.std.specs.Prelude.{◌≡◌, ◌≢◌, ◌⊎◌, ◌+◌, ◌++◌, [], List, IfOk, IsErrOf, OnErr, true, false, length};
 ghost use Rattle.command_core.specs.Entries.{EntryValue};
 ghost use Rattle.outbox_core.specs.Boxes.{SenderValue};
 ghost use Rattle.area_core.specs.Areas.{records};
 ghost use Rattle.disk_core.specs.Moments.{LeavesOnly};
+ghost use Rattle.recover_core.specs.Compactions.{HasNoRoomFor};
 ghost use Rattle.recover_core.specs.Standing.{StandFor, StandsForEither};
 ghost use Rattle.flush_core.specs.Batches.{IsBatch, from_on, state_at, state_taken};
 ghost use Rattle.flush_core.specs.Faults.{IsFlushCaused};
 ghost use Rattle.flush_core.specs.Outcomes.{IsTurn, IsTurned};
-ghost use Rattle.flush_core.specs.Room.{HasNoRoom};
+ghost use Rattle.flush_core.specs.Room.{Fits, HasNoRoom, HasNoRoomLeft, IsTooLong, used_afresh};
 
 use crate::FlushFault;
 use crate::flusher::Flusher;
@@ -19,11 +20,13 @@ use outbox_core::{Bell, OutSender};
 use std::alloc::Global;
 
 impl<D: Disk, B: Bell> Flusher<D, B> {
-    /// Takes what is ready, makes it durable in one block, executes it and publishes it. Answers how many commands it took.
+    /// Takes what is ready, makes it durable in one block, executes it and publishes it. Answers how many commands it took. Where
+    /// the block of what waits to be stored doesn't fit, the journal is compacted first, and not where it does.
     ///
     /// At each moment of the call an image of the disk stands for the state after what was stored before, or after all that
-    /// is taken at the end, and for none between; after it, for the latter alone. `Full` where the block of what waits to be
-    /// stored doesn't fit, with the closed gate behind it: the disk is then as it was. So it is where nothing waits to be stored.
+    /// is taken at the end, and for none between; after it, for the latter alone. `Full` where no snapshot of the state after what
+    /// was stored before fits into an area, or the block doesn't fit behind one. Where nothing waits to be stored the disk stays
+    /// as it was.
     pub fn turn(
         &mut self,
         alloc: Global,
@@ -39,8 +42,51 @@ impl<D: Disk, B: Bell> Flusher<D, B> {
         ensures turned { IfOk result (λ count. (more : List (EntryValue SenderValue)) × (length more ≡ count) × IsTurned self.old self.new more) }
         ensures batch { IfOk result (λ count. IsBatch (from_on self.new.seat self.old.stored)) }
         ensures nothing { from_on self.new.seat self.old.stored ≡ [] → self.new.disk ≡ self.old.disk }
+        ensures behind { Fits self.old.size self.old.used (from_on self.new.seat self.old.stored) → from_on self.new.seat self.old.stored ≢ [] →
+            IfOk result (λ count. self.new.used ≡ self.old.used + 9 + length (records (from_on self.new.seat self.old.stored))) }
+        ensures afresh { IsTooLong self.old.size self.old.used (from_on self.new.seat self.old.stored) → from_on self.new.seat self.old.stored ≢ [] →
+            IfOk result (λ count. self.new.used ≡ used_afresh (state_at self.old.opening self.old.seat self.old.stored) + 9 + length (records (from_on self.new.seat self.old.stored))) }
+        ensures full { IsErrOf result FlushFault.Full → IsTooLong self.old.size self.old.used (from_on self.new.seat self.old.stored)
+            × ((HasNoRoomFor self.old.size (state_at self.old.opening self.old.seat self.old.stored) × (self.new.disk ≡ self.old.disk))
+            ⊎ IsTooLong self.old.size (used_afresh (state_at self.old.opening self.old.seat self.old.stored)) (from_on self.new.seat self.old.stored)) }
+        ensures full_batch { IsErrOf result FlushFault.Full → IsBatch (from_on self.new.seat self.old.stored) × (from_on self.new.seat self.old.stored ≢ []) }
+        ensures no_room { D.honest self.old.disk → IsErrOf result FlushFault.Full →
+            HasNoRoomLeft (D.content self.new.disk) (state_at self.old.opening self.old.seat self.old.stored) (from_on self.new.seat self.old.stored) }
+        ensures outcome { IsTurn self.old self.new result }
+        ensures stops { OnErr result ((self.new.broken ≡ true) × (self.new.seat.stopped ≡ true)) }
+        ensures cause { IsFlushCaused (D.failures self.old.disk) (D.failures self.new.disk) result }
+        ensures honest { D.honest self.old.disk → D.honest self.new.disk }
+        ensures was_honest { D.honest self.new.disk → D.honest self.old.disk }
+    {
+        if self.is_broken() {
+            return Err(FlushFault::Broken);
+        }
+        let count = self.gather(ring)?;
+        self.store(alloc, ring)?;
+        self.settle(alloc, ring)?;
+        self.publish(ring);
+        Ok(count)
+    }
+
+    /// The same of a journal that is never compacted: `Full` where the block doesn't fit behind what the live area holds, with the
+    /// closed gate behind it, and the disk is then as it was.
+    pub fn append_turn(
+        &mut self,
+        alloc: Global,
+        ring: &BrokerRing<OutSender<B>>,
+    ) -> Result<u64, FlushFault>
+        requires ring { self.old.seat.ring ≡ ring.now }
+        requires settled { self.old.broken ≡ false → self.old.settled ≡ self.old.stored }
+        ensures any_moment { D.honest self.old.disk → self.old.broken ≡ false →
+            LeavesOnly D.moment D.images_since self.old.disk self.new.disk
+            (StandsForEither (state_at self.old.opening self.old.seat self.old.stored) (state_taken self.new.opening self.new.seat)) }
+        ensures after { D.honest self.old.disk →
+            IfOk result (λ count. StandFor (D.images self.new.disk) (state_taken self.new.opening self.new.seat)) }
+        ensures turned { IfOk result (λ count. (more : List (EntryValue SenderValue)) × (length more ≡ count) × IsTurned self.old self.new more) }
+        ensures batch { IfOk result (λ count. IsBatch (from_on self.new.seat self.old.stored)) }
+        ensures nothing { from_on self.new.seat self.old.stored ≡ [] → self.new.disk ≡ self.old.disk }
         ensures full { IsErrOf result FlushFault.Full →
-            (self.old.size < self.old.used + 9 + length (records (from_on self.new.seat self.old.stored)))
+            IsTooLong self.old.size self.old.used (from_on self.new.seat self.old.stored)
             × (self.new.disk ≡ self.old.disk) × IsBatch (from_on self.new.seat self.old.stored) × (from_on self.new.seat self.old.stored ≢ []) }
         ensures no_room { D.honest self.old.disk → IsErrOf result FlushFault.Full →
             HasNoRoom (D.content self.old.disk) (state_at self.old.opening self.old.seat self.old.stored) (from_on self.new.seat self.old.stored) }
@@ -54,7 +100,7 @@ impl<D: Disk, B: Bell> Flusher<D, B> {
             return Err(FlushFault::Broken);
         }
         let count = self.gather(ring)?;
-        self.store(alloc, ring)?;
+        self.append(alloc, ring)?;
         self.settle(alloc, ring)?;
         self.publish(ring);
         Ok(count)

@@ -28,6 +28,13 @@ impl<D: Disk> Store<D> {
         self.opened.take()
     }
 
+    /// How many bytes of the live area are used: those up to its first closed gate, and that gate.
+    pub fn used(&self) -> u64
+        ensures { result ≡ used_of self.now }
+    {
+        self.area.used()
+    }
+
     /// Makes the commands of a batch durable, all or none, in one block.
     ///
     /// A stop at any moment leaves the state before, or that after all of them. `Full` where the block with the gate behind

@@ -1,10 +1,10 @@
-use Rattle.std.proofs.Common.{◌∙◌, ◌≡◌, [], Err, ap, refl, sym, true}
+use Rattle.std.proofs.Common.{◌∙◌, ◌≡◌, [], Err, ap, refl, subst, sym, true}
 use Rattle.std.proofs.lemmas.Bool.{false≢true}
 use Rattle.std.proofs.lemmas.Result.{err_from_is_err_and}
 use Rattle.flush_core.specs.declared.faults.FlushFault.{FlushFault}
 use Rattle.flush_core.specs.declared.faults.FlushFault.TheVariants.{Full}
 use Rattle.flush_core.specs.Flushed.{Flushed, gathered}
-use Rattle.flush_core.proofs.Room.{gathered_stays, had_no_room, still_published, still_unsettled, was_full}
+use Rattle.flush_core.proofs.Room.{came_afresh, came_behind, found_none, gathered_stays, has_none_left, of_a_batch, still_published, still_unsettled}
 use Rattle.flush_core.proofs.Turns.{failed_keeps, stored, turned, unstored}
 use Rattle.flush_core.proofs.flusher.Flusher.turn.Goals as goal
 
@@ -73,7 +73,12 @@ returns-in_err-store-clause-full g c is =
     let p = err_from_is_err_and c.from_residual-in_err-store.result c.from_residual-in_err-store.ensures.1 in
     let same : c.in_err-store.field-0.0 ≡ Full = cc (p.1, p.2, is) in
     let told = ap (λ (fault : FlushFault). Err fault) same in
-    was_full g.D.Disk c.args.self.now c.gather.new.self c.store.new.self took.0 _ c.is_broken.ensures.kept took.2 c.in_err-store.ensures.outcome (c.in_err-store.ensures.full told) c.in_ok-count.ensures.batch
+    found_none g.D.Disk c.args.self.now c.gather.new.self c.store.new.self took.0 _ c.is_broken.ensures.kept took.2 c.in_err-store.ensures.outcome (c.in_err-store.ensures.full told)
+
+pub returns-in_err-store-clause-full_batch : goal.returns-in_err-store-clause-full_batch
+returns-in_err-store-clause-full_batch g c is =
+    let took = c.in_ok-count.ensures.taken in
+    of_a_batch g.D.Disk c.args.self.now c.gather.new.self c.store.new.self took.0 _ c.is_broken.ensures.kept took.2 c.in_err-store.ensures.outcome c.in_ok-count.ensures.batch
     (λ none. false≢true (c.in_err-store.ensures.nothing c.in_ok-count.ensures.outcome.1 none).0)
 
 pub returns-in_err-store-clause-no_room : goal.returns-in_err-store-clause-no_room
@@ -82,7 +87,32 @@ returns-in_err-store-clause-no_room g c honest is =
     let p = err_from_is_err_and c.from_residual-in_err-store.result c.from_residual-in_err-store.ensures.1 in
     let same : c.in_err-store.field-0.0 ≡ Full = cc (p.1, p.2, is) in
     let told = ap (λ (fault : FlushFault). Err fault) same in
-    had_no_room g.D.Disk c.args.self.now c.gather.new.self c.store.new.self took.0 _ c.is_broken.ensures.kept took.2 c.in_err-store.ensures.outcome (λ h. c.in_err-store.ensures.no_room h told) honest
+    let was = subst (λ (x : Flushed g.row.D.Denot). g.D.Disk.honest x.disk) (sym took.2) honest in
+    has_none_left g.D.Disk c.args.self.now c.gather.new.self c.store.new.self took.0 _ c.is_broken.ensures.kept took.2 c.in_err-store.ensures.outcome (c.in_err-store.ensures.no_room was told)
+
+pub returns-clause-behind : goal.returns-clause-behind
+returns-clause-behind g c fits some =
+    let took = c.in_ok-count.ensures.taken in
+    came_behind c.args.self.now c.gather.new.self c.store.new.self took.0 _ _ _ took.2 c.in_ok-store.ensures.stored (λ waits. (c.store.ensures.nothing c.in_ok-count.ensures.outcome.1 waits).1)
+    c.settle.new.self c.publish.new.self c.in_ok-settle.ensures.settled c.publish.ensures.published c.in_ok-store.ensures.behind fits some
+
+pub returns-clause-afresh : goal.returns-clause-afresh
+returns-clause-afresh g c long some =
+    let took = c.in_ok-count.ensures.taken in
+    came_afresh c.args.self.now c.gather.new.self c.store.new.self took.0 _ _ _ took.2 c.in_ok-store.ensures.stored (λ waits. (c.store.ensures.nothing c.in_ok-count.ensures.outcome.1 waits).1)
+    c.settle.new.self c.publish.new.self c.in_ok-settle.ensures.settled c.publish.ensures.published c.is_broken.ensures.kept.stored c.in_ok-store.ensures.afresh long some
+
+pub returns-then-is_broken-clause-behind : goal.returns-then-is_broken-clause-behind
+returns-then-is_broken-clause-behind g c = λ fits some. tt
+
+pub returns-then-is_broken-clause-afresh : goal.returns-then-is_broken-clause-afresh
+returns-then-is_broken-clause-afresh g c = λ fits some. tt
+
+pub returns-then-is_broken-clause-full_batch : goal.returns-then-is_broken-clause-full_batch
+returns-then-is_broken-clause-full_batch g c = λ is. absurd (cc is)
+
+pub returns-clause-full_batch : goal.returns-clause-full_batch
+returns-clause-full_batch g c = λ is. absurd (cc is)
 
 pub returns-clause-full : goal.returns-clause-full
 returns-clause-full g c = λ is. absurd (cc is)
