@@ -39,22 +39,26 @@ const PRINTED: &str = "0 CONNECTED%0Aversion:1.2%0Asession:4%0Aheart-beat:0,0%0A
 open 7 1
 ";
 
-// What the script prints.
-fn printed_over(alloc: Global, disk: MemDisk) -> Result<Vec<u8>, Fail> {
-    let mut reader = SCRIPT;
+// What a script prints over a disk, and the disk as it comes back.
+fn printed_over(alloc: Global, script: &[u8], disk: MemDisk) -> Result<(MemDisk, Vec<u8>), Fail> {
+    let mut reader = script;
     let mut written = Vec::new(alloc);
     let (disk, ended) = run_script(alloc, &mut reader, &mut written, disk);
-    drop(disk);
     ended?;
-    Ok(written)
+    Ok((disk, written))
 }
 
+// The lines have left the disk with what they count and hold, which its next script opens.
 #[test]
 fn a_script_goes_on_from_what_its_disk_holds(rt: HostRuntime) -> Result<(), Fail> {
     let mut disk = MemDisk::new(rt.alloc(), DISK_BYTES)?;
     disk.write_at(0, HELD)?;
-    let written = printed_over(rt.alloc(), disk)?;
+    let (disk, written) = printed_over(rt.alloc(), SCRIPT, disk)?;
     assert_eq!(rt; str::from_utf8(written.as_slice())?, PRINTED);
+    drop(written);
+    let (disk, written) = printed_over(rt.alloc(), b"open\n", disk)?;
+    drop(disk);
+    assert_eq!(rt; str::from_utf8(written.as_slice())?, "open 7 1\n");
     drop(written);
     Ok(())
 }
