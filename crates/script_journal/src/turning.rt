@@ -39,7 +39,7 @@ fn take_all<D: Disk>(
         if left == 0 {
             break;
         }
-        let taken = flusher.turn(alloc, ring)?;
+        let taken = flusher.append_turn(alloc, ring)?;
         if taken == 0 || taken > left || !flusher.has_no_box() {
             return Err(FlushFault::Broken);
         }

@@ -12,7 +12,7 @@ loop-turn-preserved g c =
     let before = c.loop-turn.invariant in
     let turned = c.in_ok-taken.ensures.turned in
     let more = commands turned.0 in
-    (before.0 ++ more, omega (arith, before.1, turned.1, c.if-taken-left.false, length-append before.0 more, commands_count turned.0), gone_on _ _ _ before.0 more before.2 (gone_turn _ _ turned.0 before.2.idle c.in_ok-taken.ensures.outcome.1 (no_boxes c.turn.new.self.boxes (sym c.has_no_box.ensures ∙ c.if-not-has_no_box.false)) turned.2), c.in_ok-taken.ensures.cause ∙ before.3, λ honest. c.turn.ensures.honest (before.4 honest))
+    (before.0 ++ more, omega (arith, before.1, turned.1, c.if-taken-left.false, length-append before.0 more, commands_count turned.0), gone_on _ _ _ before.0 more before.2 (gone_turn _ _ turned.0 before.2.idle c.in_ok-taken.ensures.outcome.1 (no_boxes c.append_turn.new.self.boxes (sym c.has_no_box.ensures ∙ c.if-not-has_no_box.false)) turned.2), c.in_ok-taken.ensures.cause ∙ before.3, λ honest. c.append_turn.ensures.honest (before.4 honest))
 
 pub returns-in_err-taken-clause-full : goal.returns-in_err-taken-clause-full
 returns-in_err-taken-clause-full g c honest is =
@@ -21,11 +21,11 @@ returns-in_err-taken-clause-full g c honest is =
     let fault : c.in_err-taken.field-0.0 ≡ Full = cc (p.1, p.2, is) in
     let told = ap (λ (fault : FlushFault). Err fault) fault in
     let full = c.in_err-taken.ensures.full told in
-    filled c.args.flusher.now c.loop-turn.flusher c.turn.new.self before.0 _ _ before.2 (subst (λ (fault : FlushFault). IsTurn {X = ℕ} c.loop-turn.flusher c.turn.new.self (Err fault)) fault c.in_err-taken.ensures.outcome)
+    filled c.args.flusher.now c.loop-turn.flusher c.append_turn.new.self before.0 _ _ before.2 (subst (λ (fault : FlushFault). IsTurn {X = ℕ} c.loop-turn.flusher c.append_turn.new.self (Err fault)) fault c.in_err-taken.ensures.outcome)
     (ap (λ d. g.D.Disk.content d) full.1) full.2 full.3 (c.in_err-taken.ensures.no_room (before.4 honest) told)
 
 pub returns-in_err-taken-clause-fallen : goal.returns-in_err-taken-clause-fallen
 returns-in_err-taken-clause-fallen g c =
     let before = c.loop-turn.invariant in
     let p = err_from_is_err_and c.from_residual.result c.from_residual.ensures.1 in
-    rw (p.1) (failed_some_way ℕ c.args.flusher.now c.loop-turn.flusher c.turn.new.self before.0 c.in_err-taken.field-0.0 c.requires.idle before.2 c.in_err-taken.ensures.outcome)
+    rw (p.1) (failed_some_way ℕ c.args.flusher.now c.loop-turn.flusher c.append_turn.new.self before.0 c.in_err-taken.field-0.0 c.requires.idle before.2 c.in_err-taken.ensures.outcome)
