@@ -1,9 +1,10 @@
 #!/usr/bin/env python3
-"""Tries examples/rooms.html in headless Chromium, over a broker that is killed and started again.
+"""Tries examples/rooms.html in headless Chromium, over a broker that is killed and started again, and the lines of JavaScript in README.md.
 
     python3 clients/browser.py [PROGRAM] [--browser CHROMIUM]
+    python3 clients/browser.py [PROGRAM] --picture docs/rooms.png
 
-It needs Chromium (Debian: apt-get install chromium) and nothing else: it speaks to it by the DevTools protocol.
+With --picture it tries nothing, and makes the README's picture of a room. It needs Chromium (Debian: apt-get install chromium) and nothing else: it speaks to it by the DevTools protocol.
 """
 
 import base64
@@ -24,7 +25,9 @@ import urllib.parse
 import scenario
 from stomp_client import TEXT, Client, WebSocket
 
-PAGE = pathlib.Path(__file__).resolve().parent.parent / "examples" / "rooms.html"
+TOP = pathlib.Path(__file__).resolve().parent.parent
+PAGE = TOP / "examples" / "rooms.html"
+README = TOP / "README.md"
 BROWSERS = ("chromium", "chromium-browser", "google-chrome")
 SWITCHES = ["--headless=new", "--no-sandbox", "--disable-gpu", "--no-first-run", "--remote-debugging-port=0"]
 # Pages that nobody looks at are to run as those that somebody does.
@@ -139,7 +142,10 @@ class Browser:
 
     def open(self, url):
         target = self.target.call("Target.createTarget", url=url)["targetId"]
-        return Page(self.port, target)
+        page = Page(self.port, target)
+        # Until it is there, what is asked of it is asked of an empty page.
+        assert page.comes(f"document.readyState == 'complete' && location.href.startsWith({url.split('#')[0]!r})"), url
+        return page
 
     def close(self):
         self.target.call("Browser.close")
@@ -272,6 +278,58 @@ STEPS = [
 ]
 
 
+def the_readme_holds(broker, checks, browser):
+    """Its lines of JavaScript do what they say, in a page of their own."""
+    lines = README.read_text(encoding="utf-8").split("```js\n")[1].split("```")[0]
+    page = browser.open("about:blank")
+    run = f"var heard = []; console.log = frame => heard.push(frame); (0, eval)({json.dumps(lines.replace(':8080', f':{broker.port}'))}); 0"
+    page.value(run)
+    page.comes("heard.length == 3")
+    heard = page.value("heard.map(frame => frame.split('\\n')[0])")
+    checks.same("the README's lines of JavaScript hear what they say", heard, ["CONNECTED", "MESSAGE", "RECEIPT"])
+    checks.check("and the message that they have sent", page.value("heard[1].endsWith('hello\\0')"), page.value("heard"))
+    checks.same("no exception was thrown", page.exceptions, [])
+
+
+TALK = [
+    ("anna", "Who takes the release notes?"),
+    ("ben", "I do. Is the journal's page done?"),
+    ("anna", "Since this morning: every byte of it."),
+    ("ben", "Then I read that first."),
+    ("anna", "The broker was away for a moment. Did you see this line?"),
+    ("ben", "Yes, once."),
+]
+
+
+def draw_a_room(broker, checks, browser, path):
+    """Two people talk in a room, one of them while the broker is away, and work off ten jobs."""
+    pages = {name: browser.open(PAGE.as_uri() + fragment(broker, name)) for name in ("anna", "ben")}
+    for page in pages.values():
+        page.call("Emulation.setEmulatedMedia", features=[{"name": "prefers-color-scheme", "value": "light"}])
+    checks.check("both are connected", all(page.is_in("open") for page in pages.values()))
+    time.sleep(0.3)
+    pages["ben"].toggle("feed")
+    for number, (name, words) in enumerate(TALK):
+        if number == 4:
+            broker.kill()
+            checks.check("both see it gone", all(page.is_in("lost") for page in pages.values()))
+        pages[name].write("words", words)
+        if number == 4:
+            broker.serve()
+            checks.check("both are back", all(page.is_in("open") for page in pages.values()))
+        checks.check(words, pages["anna"].comes(f"document.getElementById('chat').textContent.includes({words!r})"))
+        time.sleep(0.5)
+    pages["anna"].value("document.getElementById('ten').click()")
+    for page in pages.values():
+        page.toggle("work")
+    done = "[...document.querySelectorAll('#jobs li')].filter(row => row.querySelector('[data-state=done]')).length"
+    checks.check("five jobs are done", pages["anna"].comes(f"{done} >= 5", 20))
+    checks.check("and numbers drawn", pages["anna"].comes("numbers.length > 50", 30))
+    pages["anna"].value("document.activeElement.blur(); scrollTo(0, 0)")
+    pages["anna"].look(path, 1200, 850)
+    checks.tell(f"{path} has {path.stat().st_size} bytes")
+
+
 def try_page(broker, checks, browser, server, pictures):
     anna = browser.open(PAGE.as_uri() + fragment(broker, "anna"))
     ben = browser.open(f"http://127.0.0.1:{server.server_address[1]}/{PAGE.name}" + fragment(broker, "ben"))
@@ -287,16 +345,21 @@ def try_page(broker, checks, browser, server, pictures):
 def main():
     parser = scenario.words_of(__doc__)
     parser.add_argument("--browser", default=next(filter(None, map(shutil.which, BROWSERS)), None))
+    parser.add_argument("--picture", type=pathlib.Path, metavar="PATH", help="make the README's picture, and try nothing")
     words = parser.parse_args()
     if not words.browser:
         print("browser.py needs Chromium, which is not on the path (Debian: apt-get install chromium)", file=sys.stderr)
         return 2
     checks = scenario.Checks()
-    pictures = pathlib.Path(tempfile.mkdtemp(prefix="rooms-"))
+    pictures = None if words.picture else pathlib.Path(tempfile.mkdtemp(prefix="rooms-"))
     with scenario.serving(words.program) as broker, tempfile.TemporaryDirectory(ignore_cleanup_errors=True) as folder:
         browser, server = Browser(words.browser, folder), static_server()
         try:
-            try_page(broker, checks, browser, server, pictures)
+            if words.picture:
+                draw_a_room(broker, checks, browser, words.picture)
+            else:
+                try_page(broker, checks, browser, server, pictures)
+                the_readme_holds(broker, checks, browser)
         finally:
             server.shutdown()
             browser.close()

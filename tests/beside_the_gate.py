@@ -1,6 +1,6 @@
 #!/usr/bin/env python3
-"""Runs all that stands beside the gate over the built program: what it tells and with which status, handshakes, disks that fail, traces of its
-system calls, and the clients. Its last line counts what passed, what failed, and what could not be run for want of a package.
+"""Runs all that stands beside the gate over the built program: what it tells and with which status, bin/serve, handshakes, disks that fail, traces
+of its system calls, and the clients. Its last line counts what passed, what failed, and what could not be run for want of a package.
 
     python3 tests/beside_the_gate.py [PROGRAM] [--kills N] [--only WORD]
 
@@ -22,6 +22,7 @@ DEBIAN_PYTHON = pathlib.Path("/usr/bin/python3")
 
 SCRIPTS = [
     "tests/statuses.py",
+    "tests/serve_script.py",
     "tests/trace_format.sh",
     "tests/trace_serve.py",
     "tests/failing_disk.py",

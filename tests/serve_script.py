@@ -1,0 +1,345 @@
+#!/usr/bin/env python3
+"""Tries bin/serve, the shell script that makes a journal where there is none and serves it: over the built program, and over stand-ins for it
+that stop in the midst of their work. Needs Linux and Python 3 alone; the gate does not run it.
+
+    python3 tests/serve_script.py [PROGRAM]
+
+- A first start makes the journal and serves it; a program that is missing, a port that is none and too many words are told.
+- SIGTERM ends it with status 143, SIGINT with 130, SIGHUP with 129, at whatever moment, and no server of it is left.
+- Of two first starts at once on one file one serves, the other ends since the file is locked, and neither replaces the other's journal.
+- What a killed first start has left is not taken for a journal, nor does it stand in the way of the next start.
+- A server whose journal is full is started again, by the same program; where that is full again within seconds it is not.
+- A build that fails or is broken off ends it.
+
+PROGRAM is the built program; without it, the one that bin/stompd leaves in crates/stompd/out.
+"""
+
+import contextlib
+import os
+import pathlib
+import random
+import select
+import shutil
+import signal
+import subprocess
+import sys
+import tempfile
+import time
+
+TOP = pathlib.Path(__file__).resolve().parent.parent
+PROGRAM = TOP / "crates" / "stompd" / "out" / "stompd"
+SERVE = TOP / "bin" / "serve"
+sys.path.insert(0, str(TOP / "clients"))
+sys.dont_write_bytecode = True
+
+from scenario import free_port  # noqa: E402
+from stomp_client import Client  # noqa: E402
+
+STATUSES = {signal.SIGTERM: 143, signal.SIGINT: 130, signal.SIGHUP: 129}
+LOCKED = "stompd: cannot open\n"
+SMALL_JOURNAL = "131104"
+# Signals at random moments, and pairs of first starts.
+MOMENTS, PAIRS = 40, 20
+
+
+class Checks:
+    def __init__(self, program, folder):
+        self.program, self.folder = program, folder
+        self.count = self.failed = 0
+
+    def check(self, what, holds, seen=""):
+        self.count += 1
+        if not holds:
+            self.failed += 1
+            print(f"serve_script: {what}: {seen}", file=sys.stderr)
+
+    def same(self, what, seen, wanted):
+        self.check(what, seen == wanted, f"{seen!r}, and not {wanted!r}")
+
+    def stand_in(self, text):
+        """A program that begins with these lines of shell, and goes on as the built one."""
+        path = pathlib.Path(tempfile.mkdtemp(dir=self.folder)) / "program"
+        path.write_text(f'#!/bin/sh\n{text}\nexec "{self.program}" "$@"\n', encoding="utf-8")
+        path.chmod(0o755)
+        return path
+
+
+def as_from_a_terminal():
+    """No signal is ignored, whatever this script was started by."""
+    for it in STATUSES:
+        signal.signal(it, signal.SIG_DFL)
+
+
+class Start:
+    """A run of bin/serve."""
+
+    every = []
+
+    def __init__(self, program, *words, script=SERVE):
+        environment = {**os.environ, "STOMPD": str(program)} if program else {it: os.environ[it] for it in os.environ if it != "STOMPD"}
+        how = {"stdin": subprocess.DEVNULL, "stdout": subprocess.PIPE, "stderr": subprocess.PIPE, "env": environment}
+        self.process = subprocess.Popen([script, *map(str, words)], preexec_fn=as_from_a_terminal, start_new_session=True, text=True, **how)
+        Start.every.append(self)
+
+    def listens(self, seconds=20):
+        """Whether the server says within that time that it listens."""
+        return bool(select.select([self.process.stdout], [], [], seconds)[0]) and self.process.stdout.readline().startswith("listening ")
+
+    def end(self, sent=None, seconds=20):
+        """The status, and what was told, once it has ended by itself or by that signal."""
+        if sent:
+            self.process.send_signal(sent)
+        _, told = self.process.communicate(timeout=seconds)
+        return self.process.returncode, told
+
+    def kill_all(self):
+        """Ends it and all that it has started, as a lost machine does."""
+        with contextlib.suppress(ProcessLookupError):
+            os.killpg(self.process.pid, signal.SIGKILL)
+        if self.process.returncode is None:
+            self.process.communicate()
+
+
+def running_over(file):
+    """The processes in whose words that file stands."""
+    found = []
+    for words in pathlib.Path("/proc").glob("[0-9]*/cmdline"):
+        with contextlib.suppress(OSError):
+            if str(file).encode() in words.read_bytes():
+                found.append(words.parent.name)
+    return found
+
+
+def beside(file):
+    """What stands in the file's folder under longer names."""
+    return sorted(it.name for it in file.parent.iterdir() if it.name.startswith(f"{file.name}."))
+
+
+def wait_until(holds, seconds=20):
+    end = time.monotonic() + seconds
+    while not holds():
+        assert time.monotonic() < end, "it does not come"
+        time.sleep(0.005)
+
+
+def new_file(checks):
+    return pathlib.Path(tempfile.mkdtemp(dir=checks.folder)) / "rooms.journal"
+
+
+def publish(port, body):
+    client = Client(port).connect()
+    client.publish("/queue/kept", body)
+    client.close()
+
+
+def found_in(port):
+    reader = Client(port).connect()
+    found = [frame.body for frame in reader.subscribe("r", "/queue/kept")]
+    reader.close()
+    return found
+
+
+def words_and_programs(checks):
+    file = new_file(checks)
+    for program in (file.parent / "missing", file.parent):
+        status, told = Start(program, file, free_port()).end()
+        checks.same(f"{program} as the program", (status, told), (1, f"serve: there is no program {program}\n"))
+    for words in ([file, "eighty"], [file, "80", "x"], ["--port"]):
+        status, told = Start(checks.program, *words).end()
+        checks.check(f"{words} are refused", status == 2 and told.startswith("serve: "), (status, told))
+    checks.same("and nothing is made", list(file.parent.iterdir()), [])
+    nowhere = file.parent / "none" / "rooms.journal"
+    status, told = Start(checks.program, nowhere, free_port()).end()
+    checks.check("a folder that isn't there is told", status == 1 and str(nowhere) in told, (status, told))
+
+
+def a_first_start(checks):
+    file, port = new_file(checks), free_port()
+    first = Start(checks.program, file, port)
+    checks.check("a first start serves", first.listens())
+    publish(port, "before")
+    checks.same("and ends by SIGTERM", first.end(signal.SIGTERM), (143, f"serve: made the journal {file}\n"))
+    checks.same("nothing is left beside the journal", beside(file), [])
+    inode = file.stat().st_ino
+    for sent in (signal.SIGINT, signal.SIGHUP, signal.SIGTERM):
+        again = Start(checks.program, file, port)
+        checks.check("the next start serves", again.listens())
+        checks.same(f"it ends by {sent.name}", again.end(sent), (STATUSES[sent], ""))
+        checks.same("its server is gone", running_over(file), [])
+    last = Start(checks.program, file, port)
+    checks.check("and serves again", last.listens())
+    checks.same("what was sent is there", found_in(port), ["before"])
+    checks.same("in the same file", file.stat().st_ino, inode)
+    last.kill_all()
+
+
+def signals_at_any_moment(checks):
+    file, port = new_file(checks), free_port()
+    for number in range(MOMENTS):
+        file.unlink(missing_ok=True)
+        start = Start(checks.program, file, port)
+        # By then the shell has set its traps; before, a signal ends it as any program, and it has started nothing.
+        wait_until(lambda: running_over(file))
+        time.sleep(random.uniform(0.01, 0.06))
+        sent = random.choice(list(STATUSES))
+        start.process.send_signal(sent)
+        status, _ = start.end(random.choice([None, sent]))
+        checks.check(f"{sent.name} at moment {number}", status in (STATUSES[sent], -sent), status)
+        checks.same(f"leaves no process at moment {number}", running_over(file), [])
+        if status == STATUSES[sent]:
+            checks.same(f"nor anything but a journal at moment {number}", beside(file), [])
+
+
+def signals_while_the_journal_is_made(checks):
+    slow = checks.stand_in('if [ "$1" = format ]; then : > "$2"; exec sleep 1000; fi')
+    for sent, status in STATUSES.items():
+        file = new_file(checks)
+        start = Start(slow, file, free_port())
+        wait_until(lambda: list(file.parent.glob("*/journal")))
+        checks.same(f"{sent.name} while the journal is made", start.end(sent), (status, ""))
+        checks.same("leaves nothing", list(file.parent.iterdir()), [])
+
+
+def two_first_starts(checks):
+    for number in range(PAIRS):
+        file, ports = new_file(checks), (free_port(), free_port())
+        starts = [Start(checks.program, file, port) for port in ports]
+        wait_until(file.exists)
+        inode = file.stat().st_ino
+        serving = [start.listens() for start in starts]
+        checks.same(f"one of two serves, pair {number}", sorted(serving), [False, True])
+        if sorted(serving) != [False, True]:
+            [start.kill_all() for start in starts]
+            continue
+        publish(ports[serving.index(True)], "kept")
+        loser = starts[serving.index(False)].end()
+        checks.check(f"the other tells the lock, pair {number}", loser[0] == 1 and loser[1].endswith(LOCKED), loser)
+        checks.same(f"one journal, pair {number}", (file.stat().st_ino, beside(file)), (inode, []))
+        checks.same(f"the first one ends, pair {number}", starts[serving.index(True)].end(signal.SIGTERM)[0], 143)
+        again = Start(checks.program, file, ports[0])
+        checks.check(f"it is served again, pair {number}", again.listens())
+        checks.same(f"with what was sent, pair {number}", found_in(ports[0]), ["kept"])
+        checks.same(f"and ends, pair {number}", again.end(signal.SIGTERM), (143, ""))
+
+
+def a_slow_first_start(checks):
+    """It makes its journal, and meanwhile another has made one and serves it."""
+    file, ports = new_file(checks), (free_port(), free_port())
+    go = file.parent / "go"
+    slow = Start(checks.stand_in(f'if [ "$1" = format ]; then while [ ! -e "{go}" ]; do sleep 0.02; done; fi'), file, ports[0])
+    wait_until(lambda: beside(file))
+    quick = Start(checks.program, file, ports[1])
+    checks.check("the quick one serves", quick.listens())
+    inode = file.stat().st_ino
+    publish(ports[1], "of the quick one")
+    go.touch()
+    checks.same("the slow one finds it locked", slow.end(), (1, LOCKED))
+    checks.same("and has replaced nothing", (file.stat().st_ino, beside(file)), (inode, []))
+    publish(ports[1], "and one more")
+    checks.same("the quick one ends", quick.end(signal.SIGTERM)[0], 143)
+    again = Start(checks.program, file, ports[0])
+    checks.check("its journal is served again", again.listens())
+    checks.same("with all that was sent", found_in(ports[0]), ["of the quick one", "and one more"])
+    again.kill_all()
+
+
+def a_killed_first_start(checks):
+    file, port = new_file(checks), free_port()
+    start = Start(checks.stand_in('if [ "$1" = format ]; then printf STOMPJ > "$2"; exec sleep 1000; fi'), file, port)
+    wait_until(lambda: [it for it in file.parent.glob("*/journal") if it.stat().st_size])
+    start.kill_all()
+    checks.check("it has left something, and no journal", beside(file) and not file.exists(), beside(file))
+    again = Start(checks.program, file, port)
+    checks.check("the next start makes a journal of its own", again.listens())
+    publish(port, "kept")
+    checks.same("and keeps what is sent", found_in(port), ["kept"])
+    again.kill_all()
+
+
+def a_full_journal(checks):
+    file, port = new_file(checks), free_port()
+    subprocess.run([checks.program, "format", file, SMALL_JOURNAL], check=True)
+    count = file.parent / "starts"
+    full = "echo 'stompd: J4 journal full' >&2; exit 1"
+    # The first server is full after six seconds, the second one serves until it is killed, by a word in a file.
+    program = checks.stand_in(f"""echo "$1" >> "{count}"
+case $(wc -l < "{count}") in
+    1) sleep 6; {full} ;;
+    3) {full} ;;
+    4) sleep 6; echo 'stompd: J3 device failed' >&2; exit 1 ;;
+esac""")
+    start = Start(program, file, port)
+    checks.check("it is started again where it was full", start.listens())
+    publish(port, "kept")
+    checks.same("and serves", found_in(port), ["kept"])
+    status, told = start.end(signal.SIGTERM)
+    checks.same("until it is told to end", (status, told.splitlines()[-1]), (143, "serve: starting again, which makes room"))
+    status, told = Start(program, file, port).end()
+    checks.check("where it is full at once it is not started again", status == 1 and "serve: the journal was full within 5 seconds" in told, (status, told))
+    checks.same("nor after another fault", Start(program, file, port).end(), (1, "stompd: J3 device failed\n"))
+    checks.same("and each was a server", count.read_text().split(), ["serve"] * 4)
+
+
+def builds(checks):
+    """A copy of the script stands beside a stand-in for bin/build."""
+    top, file, port = pathlib.Path(tempfile.mkdtemp(dir=checks.folder)), new_file(checks), free_port()
+    (top / "bin").mkdir()
+    (top / "crates" / "stompd" / "out").mkdir(parents=True)
+    script, build = shutil.copy2(SERVE, top / "bin"), top / "bin" / "build"
+    (top / "crates" / "stompd" / "out" / "stompd").symlink_to(checks.program)
+
+    def with_build(text):
+        build.write_text(f"#!/bin/sh\n{text}\n", encoding="utf-8")
+        build.chmod(0o755)
+        return Start(None, file, port, script=script)
+
+    checks.same("a build that fails ends it", with_build("echo 'stompd: the build of x failed' >&2; exit 1").end(), (1, "stompd: the build of x failed\n"))
+    for sent, status in STATUSES.items():
+        heard, began = file.parent / f"heard-{sent.name}", file.parent / f"began-{sent.name}"
+        start = with_build(f"trap ': > \"{heard}\"; exit 143' TERM; : > \"{began}\"; while :; do sleep 0.02; done")
+        wait_until(began.exists)
+        checks.same(f"{sent.name} while it builds", start.end(sent), (status, ""))
+        checks.check("the build is told to end, and has ended", heard.exists())
+    checks.check("no journal was made", not file.exists())
+    start = with_build("exit 0")
+    checks.check("what was built serves", start.listens())
+    checks.same("and ends", start.end(signal.SIGTERM)[0], 143)
+
+
+SCENARIOS = [
+    words_and_programs,
+    a_first_start,
+    signals_at_any_moment,
+    signals_while_the_journal_is_made,
+    two_first_starts,
+    a_slow_first_start,
+    a_killed_first_start,
+    a_full_journal,
+    builds,
+]
+
+
+def try_one(checks, scenario):
+    """Runs a scenario, and ends all that it has started. What it raises is a failed check."""
+    try:
+        scenario(checks)
+    except Exception as error:
+        checks.check(f"{scenario.__name__} runs to its end", False, repr(error))
+    finally:
+        for start in Start.every:
+            start.kill_all()
+        Start.every.clear()
+
+
+def main():
+    program = pathlib.Path(sys.argv[1] if len(sys.argv) > 1 else PROGRAM).resolve()
+    with tempfile.TemporaryDirectory(prefix="stompd-serve-") as folder:
+        checks = Checks(program, pathlib.Path(folder))
+        for scenario in SCENARIOS:
+            try_one(checks, scenario)
+    print(f"serve_script: {checks.count} checked, {checks.failed} failed")
+    return 1 if checks.failed else 0
+
+
+if __name__ == "__main__":
+    sys.exit(main())
