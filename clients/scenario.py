@@ -13,7 +13,7 @@ import traceback
 
 PROGRAM = pathlib.Path(__file__).resolve().parent.parent / "bin" / "stompd"
 
-# Two areas of 512 MiB. The file is sparse: it takes what is written. A full area would end the broker.
+# Two areas of 512 MiB. The file is sparse: it takes what is written. Most scripts see no compaction so.
 JOURNAL_BYTES = 1_073_741_856
 
 

@@ -5,7 +5,7 @@ of its system calls, and the clients. Its last line counts what passed, what fai
     python3 tests/beside_the_gate.py [PROGRAM] [--kills N] [--only WORD]
 
 PROGRAM is the built program; without it, bin/stompd builds it where that is needed. Needs Python 3; strace for the traces, Chromium and Debian's
-python3-stomp and python3-websocket for two of the clients. It takes some six minutes, and ends with status 0 only where nothing failed.
+python3-stomp and python3-websocket for two of the clients. It takes some ten minutes, and ends with status 0 only where nothing failed.
 """
 
 import argparse
@@ -36,6 +36,7 @@ SCRIPTS = [
     "clients/full_journal.py",
     "clients/browser.py",
     "clients/kills.py",
+    "clients/compactions.py",
 ]
 
 # With this status a script says that it lacks a package.
@@ -46,7 +47,7 @@ def words_for(script, program, kills):
     if script.endswith(".sh"):
         return ["sh", TOP / script, program]
     python = DEBIAN_PYTHON if script.endswith("/independent.py") and DEBIAN_PYTHON.exists() else sys.executable
-    more = ["--rounds", str(kills)] if script.endswith("/kills.py") else []
+    more = {"clients/kills.py": ["--rounds", str(kills)], "clients/compactions.py": ["--kills", str(kills)]}.get(script, [])
     return [python, TOP / script, program, *more]
 
 
