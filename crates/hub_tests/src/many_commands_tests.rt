@@ -93,18 +93,32 @@ fn append_all<R: Clock>(rt: &R, alloc: Global, ring: &HubRing, seat: &mut HubSea
     true
 }
 
-// Turns until so many commands are published.
-fn flush_to<G: Gate>(alloc: Global, ring: &HubRing, flusher: &mut HubFlusher, gate: &G, wanted: u64)
+// Turns until so many commands are published. Where that is asked for, the journal is compacted after each batch.
+fn flush_to<G: Gate>(
+    alloc: Global,
+    ring: &HubRing,
+    flusher: &mut HubFlusher,
+    gate: &G,
+    wanted: u64,
+    compacts: bool,
+)
     requires ring { flusher.old.seat.ring ≡ ring.now }
     requires settled { flusher.old.broken ≡ false → flusher.old.settled ≡ flusher.old.stored }
     ensures ring { flusher.new.seat.ring ≡ flusher.old.seat.ring }
     ensures seats { flusher.new.seat.seats ≡ flusher.old.seat.seats }
 {
+    let mut before = flusher.mark();
     for _ in 0..20_000u32 {
-        match flush_loop(alloc, ring, flusher, gate, 1) {
-            Ok(mark) if mark < wanted => {}
-            _ => return,
+        let Ok(mark) = flush_loop(alloc, ring, flusher, gate, 1) else {
+            return;
+        };
+        if compacts && before < mark && flusher.compact(alloc, ring).is_err() {
+            return;
         }
+        if wanted <= mark {
+            return;
+        }
+        before = mark;
     }
 }
 
@@ -132,6 +146,7 @@ fn work_and_flush<R: Threads + Clock + Sync>(
     alloc: Global,
     party: &mut Party,
     gate: &Pause<R>,
+    compacts: bool,
 ) -> (bool, bool)
     requires together { AreTogether party.old.hub party.old.first party.old.second party.old.flusher }
     requires settled { party.old.flusher.settled ≡ party.old.flusher.stored }
@@ -146,7 +161,7 @@ fn work_and_flush<R: Threads + Clock + Sync>(
         &mut || -> (bool, bool)
             requires { (first.now.ring ≡ ring.now) × (second.now.ring ≡ ring.now) }
         { work_both(rt, alloc, ring, first, second) },
-        &mut || flush_to(alloc, ring, flusher, gate, 2_000),
+        &mut || flush_to(alloc, ring, flusher, gate, 2_000, compacts),
     );
     rose
 }
@@ -156,10 +171,11 @@ fn run<R: Threads + Clock + Sync>(
     rt: &R,
     alloc: Global,
     gate: &Pause<R>,
+    compacts: bool,
 ) -> Option<((bool, bool), [u64; 4])> {
     match new_party(alloc, AREA) {
         Some(mut party) => {
-            let rose = work_and_flush(rt, alloc, &mut party, gate);
+            let rose = work_and_flush(rt, alloc, &mut party, gate, compacts);
             match close(alloc, party) {
                 Some(closed) => {
                     let numbers = numbers(&closed);
@@ -173,10 +189,19 @@ fn run<R: Threads + Clock + Sync>(
     }
 }
 
-#[test]
-fn two_threads_and_a_flusher_close_with_2000_commands(rt: HostRuntime) -> Result<(), Fail> {
+fn close_2000(rt: HostRuntime, compacts: bool) -> Result<(), Fail> {
     let gate = Pause { rt: rt.clone()? };
-    let closed = run(&rt, rt.alloc(), &gate);
+    let closed = run(&rt, rt.alloc(), &gate, compacts);
     assert_eq!(rt; closed, Some(((true, true), [0, 2_000, 2_000, 2_000])));
     Ok(())
+}
+
+#[test]
+fn two_threads_and_a_flusher_close_with_2000_commands(rt: HostRuntime) -> Result<(), Fail> {
+    close_2000(rt, false)
+}
+
+#[test]
+fn they_do_with_a_compaction_after_each_batch(rt: HostRuntime) -> Result<(), Fail> {
+    close_2000(rt, true)
 }
