@@ -43,7 +43,7 @@ static int by_size(const void *left, const void *right) {
     return (a > b) - (a < b);
 }
 
-// Tells the median and the 99th of a hundred of some times, in microseconds.
+// Tells the median, the 99th of a hundred and the longest of some times, in microseconds.
 static void tell_times(const char *name, double *times, long count) {
     char text[64];
     if (count == 0) {
@@ -54,6 +54,8 @@ static void tell_times(const char *name, double *times, long count) {
     tell(text, times[count / 2] * 1e6);
     snprintf(text, sizeof text, "%s_99th_us", name);
     tell(text, times[(long)(count * 0.99)] * 1e6);
+    snprintf(text, sizeof text, "%s_longest_us", name);
+    tell(text, times[count - 1] * 1e6);
 }
 
 static double measuring_from, measuring_to;

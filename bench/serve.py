@@ -20,6 +20,7 @@ from serving import Load, Server, build_load, build_slow_sync, make_journal
 AREA = 512 * MB
 HELD = 4_000
 AT_ONCE = 32
+PIECE = 65_536
 
 
 class Bench:
@@ -28,9 +29,9 @@ class Bench:
         self.load, self.slow, self.journal = load, slow, folder / "journal"
         self.plain, self.seen = folder / "syncs", folder / "seen"
 
-    def server(self, environment=None):
-        """A server over a new journal."""
-        make_journal(self.program, self.journal, AREA)
+    def server(self, environment=None, area=AREA):
+        """A server over a new journal with areas of so many bytes."""
+        make_journal(self.program, self.journal, area)
         return Server(self.program, self.journal, environment=environment)
 
     def loads(self, *words):
@@ -136,13 +137,44 @@ def starts(bench):
         tell(f"start, {text}", f"{min(times) * 1e3:,.1f}", "ms best", f", {statistics.median(times) * 1e3:,.1f} median")
 
 
+def written(bench, size):
+    """The seconds that a compaction's calls take on this disk: so many bytes in pieces, a sync, one byte, and a sync."""
+    with open(bench.plain, "wb", buffering=0) as file:
+        file.write(bytes(2 * size))
+        os.fsync(file.fileno())
+        begun = time.perf_counter()
+        for at in range(0, size, PIECE):
+            os.pwrite(file.fileno(), bytes(min(PIECE, size - at)), at)
+        os.fsync(file.fileno())
+        os.pwrite(file.fileno(), b"\1", 16)
+        os.fsync(file.fileno())
+        taken = time.perf_counter() - begun
+    bench.plain.unlink()
+    return taken
+
+
+def compactions(bench):
+    """Receipts while the journal is compacted each time that so much of it was written, with nothing held and with 4 MB."""
+    for held, areas in ((0, (1, 8, 64, 512)), (HELD, (8, 64, 512))):
+        for area in areas:
+            with bench.server(area=area * MB) as server:
+                if held:
+                    Load(bench.load, server, "send", "/queue/held", held, 1_000)
+                load = Load(bench.load, server, "receipts", 31, 8, bench.seconds)
+            often = "none" if area == 512 else f"each {area} MB"
+            more = f", {load['receipt_median_us']:,.0f} us median, {load['receipt_longest_us'] / 1e3:,.1f} ms longest"
+            tell(f"{held} held, compactions: {often}", f"{load['receipts_a_second']:,.0f}", "receipts a second", more)
+    taken = statistics.median(written(bench, 4 * MB + HELD * 40) for _ in range(9))
+    tell("4 MB in pieces, three syncs, on this disk", f"{taken * 1e3:,.1f}", "ms median")
+
+
 def idle(bench):
     with bench.server() as server:
         load = Load(bench.load, server, "idle", 32, 20)
     tell("32 idle connections, of one processor", f"{load.server_busy * 100:,.2f}", "%", f" over {load.seconds:.0f} s")
 
 
-CASES = {case.__name__: case for case in (one, many, slow, fanout, queue, latency, starts, idle)}
+CASES = {case.__name__: case for case in (one, many, slow, fanout, queue, latency, starts, compactions, idle)}
 
 
 def main():
