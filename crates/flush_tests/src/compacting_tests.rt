@@ -36,8 +36,12 @@ const SEND_FRONT: &[u8] = b"\0\0\0\0\0\0\0\0\0\x02\0\0\0\x08/queue/q\0\0";
 fn sending(alloc: Global, count: u16) -> Option<Vec<u8>> {
     match Vec::from_slice(alloc, SEND_FRONT) {
         Ok(mut record) => {
-            if record.extend_from_slice(&u32::from(count).to_be_bytes()).is_ok()
-                && record.resize(SEND_FRONT.len() + 4 + usize::from(count), b'x').is_ok()
+            if record
+                .extend_from_slice(&u32::from(count).to_be_bytes())
+                .is_ok()
+                && record
+                    .resize(SEND_FRONT.len() + 4 + usize::from(count), b'x')
+                    .is_ok()
             {
                 Some(record)
             } else {
@@ -211,7 +215,10 @@ fn stop_at_each_call(
     for turn in 0..28_u64 {
         let (passed, fill) = (turn / 4, FILLS[(turn % 4) as usize]);
         let seen = stop(alloc, messages, passed, fill, restart.as_slice());
-        assert!(rt; seen == Some((true, passed >= calls)), "{messages} messages, {passed} calls");
+        assert!(rt;
+            seen == Some((true, passed >= calls)),
+            "{messages} messages, {passed} calls"
+        );
     }
     Ok(())
 }
@@ -251,7 +258,10 @@ fn is_in_pieces(alloc: Global, messages: u32, pieces: usize) -> Option<bool> {
     let whole = (state.len() as u64).saturating_add(9);
     let calls = disk.calls().get(begun..)?;
     let (written, switched) = (calls.get(..pieces)?, calls.get(pieces..)?);
-    let is_written = written.iter().enumerate().all(|(number, call)| *call == piece(number, whole));
+    let is_written = written
+        .iter()
+        .enumerate()
+        .all(|(number, call)| *call == piece(number, whole));
     Some(is_done && is_written && switched == &SWITCH[..])
 }
 
