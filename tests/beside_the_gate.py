@@ -31,6 +31,7 @@ SCRIPTS = [
     "clients/crowd.py",
     "clients/slow_reader.py",
     "clients/waiting_queue.py",
+    "clients/unread.py",
     "clients/rubbish.py",
     "clients/independent.py",
     "clients/full_journal.py",
