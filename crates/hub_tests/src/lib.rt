@@ -6,6 +6,8 @@
 #[cfg(test)]
 mod closing_tests;
 #[cfg(test)]
+mod compacting_tests;
+#[cfg(test)]
 mod flusher_tests;
 #[cfg(test)]
 mod gates;
@@ -21,6 +23,8 @@ mod many_commands_tests;
 mod rows;
 #[cfg(test)]
 mod script_tests;
+#[cfg(test)]
+mod setups;
 #[cfg(test)]
 mod texts;
 #[cfg(test)]
