@@ -15,7 +15,7 @@ pub const CONNECT: &str = "CONNECT\naccept-version:1.2\nhost:a\n\n\0";
 
 pub const CONNECTED: &str = "CONNECTED\nversion:1.2\n";
 
-pub const SEND: &str = "SEND\ndestination:/topic/a\nreceipt:r1\n\nhi\0";
+pub const SEND: &str = "SEND\ndestination:/queue/a\nreceipt:r1\n\nhi\0";
 
 pub const RECEIPT: &str = "RECEIPT\nreceipt-id:r1\n\n\0";
 
