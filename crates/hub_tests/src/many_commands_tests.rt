@@ -189,19 +189,18 @@ fn run<R: Threads + Clock + Sync>(
     }
 }
 
-fn close_2000(rt: HostRuntime, compacts: bool) -> Result<(), Fail> {
+const ALL: Option<((bool, bool), [u64; 4])> = Some(((true, true), [0, 2_000, 2_000, 2_000]));
+
+#[test]
+fn two_threads_and_a_flusher_close_with_2000_commands(rt: HostRuntime) -> Result<(), Fail> {
     let gate = Pause { rt: rt.clone()? };
-    let closed = run(&rt, rt.alloc(), &gate, compacts);
-    assert_eq!(rt; closed, Some(((true, true), [0, 2_000, 2_000, 2_000])));
+    assert_eq!(rt; run(&rt, rt.alloc(), &gate, false), ALL);
     Ok(())
 }
 
 #[test]
-fn two_threads_and_a_flusher_close_with_2000_commands(rt: HostRuntime) -> Result<(), Fail> {
-    close_2000(rt, false)
-}
-
-#[test]
 fn they_do_with_a_compaction_after_each_batch(rt: HostRuntime) -> Result<(), Fail> {
-    close_2000(rt, true)
+    let gate = Pause { rt: rt.clone()? };
+    assert_eq!(rt; run(&rt, rt.alloc(), &gate, true), ALL);
+    Ok(())
 }
