@@ -10,9 +10,11 @@ system calls says: from the begin of the first write at an area's start to the e
 each kill it is started again over the same file, and what is there is what clients/kills.py asks for.
 """
 
+import contextlib
 import os
 import random
 import re
+import signal
 import subprocess
 import sys
 import tempfile
@@ -31,8 +33,8 @@ TALKERS = 4
 # Groups of messages that a talker has under way, and the bytes of a body beside its name.
 UNDER_WAY = 8
 PADDING = "x" * 4_000
-# Within this many seconds after a compaction has begun a kill is aimed at it.
-AIM = 0.01
+# Within this many seconds after a compaction has begun a kill comes that is aimed at it.
+AIM = 0.001
 
 WRITE = re.compile(r"pwrite64\(\d+, .*, (\d+), (\d+)(?:\)| <unfinished)")
 
@@ -105,7 +107,9 @@ class Watched(scenario.Broker):
         self.folder = tempfile.TemporaryDirectory(prefix="compactions-")
         pipe = os.path.join(self.folder.name, "trace")
         os.mkfifo(pipe)
-        self.begun, self.count, self.runs, self.is_selected = threading.Event(), 0, False, False
+        self.count, self.runs, self.is_selected = 0, False, False
+        # How long after the next begin of a compaction the server is killed, where it is aimed at; and that it was.
+        self.aim, self.is_hit = None, threading.Event()
         self.watch = threading.Thread(target=self.read, args=(pipe,))
         self.watch.start()
         calls = ["strace", "-f", "--seccomp-bpf", "-qq", "-s", "0", "-o", pipe, "-e", "trace=pwrite64,fsync"]
@@ -126,11 +130,28 @@ class Watched(scenario.Broker):
             size, place = int(found.group(1)), int(found.group(2))
             if place in AREA_STARTS and size > 1:
                 self.runs, self.is_selected = True, False
-                self.begun.set()
+                self.shoot()
             self.is_selected = self.is_selected or (place == SELECTOR and size == 1)
         elif "fsync" in line and " = 0" in line and self.runs and self.is_selected:
             self.runs, self.is_selected = False, False
             self.count += 1
+
+    def shoot(self):
+        """Kills the server, where that is wanted, from the thread that reads the trace, since a compaction takes a millisecond."""
+        if self.aim is None:
+            return
+        end = time.perf_counter() + self.aim
+        while time.perf_counter() < end:
+            pass
+        os.kill(self.target, signal.SIGKILL)
+        self.aim = None
+        self.is_hit.set()
+
+    def kill_within(self, aim):
+        """Kills the server so long after the next compaction has begun."""
+        self.target = self.server()
+        self.aim = aim
+        self.is_hit.wait(timeout=10)
 
     def server(self):
         with open(f"/proc/{self.process.pid}/task/{self.process.pid}/children", encoding="ascii") as children:
@@ -139,7 +160,8 @@ class Watched(scenario.Broker):
     def kill(self):
         """Kills the server itself, with which strace ends, and then knows whether a compaction ran."""
         if self.process.poll() is None:
-            os.kill(self.server(), 9)
+            with contextlib.suppress(ValueError):
+                os.kill(self.server(), signal.SIGKILL)
         self.process.wait()
         self.watch.join()
         self.told = self.process.stderr.read()
@@ -189,9 +211,7 @@ def one_kill(broker, name, chance, aimed):
     talkers = begin(broker, name, chance)
     time.sleep(chance.uniform(0.02, 0.2))
     if aimed:
-        broker.begun.clear()
-        broker.begun.wait(timeout=10)
-        time.sleep(chance.uniform(0, AIM))
+        broker.kill_within(chance.uniform(0, AIM))
     broker.kill()
     within = broker.runs
     join(talkers)
