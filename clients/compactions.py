@@ -160,7 +160,8 @@ class Watched(scenario.Broker):
     def kill(self):
         """Kills the server itself, with which strace ends, and then knows whether a compaction ran."""
         if self.process.poll() is None:
-            with contextlib.suppress(ValueError):
+            # One that was aimed at may be gone already.
+            with contextlib.suppress(ValueError, OSError):
                 os.kill(self.server(), signal.SIGKILL)
         self.process.wait()
         self.watch.join()
