@@ -34,7 +34,7 @@ TALKERS = 4
 UNDER_WAY = 8
 PADDING = "x" * 4_000
 # Within this many seconds after a compaction has begun a kill comes that is aimed at it.
-AIM = 0.001
+AIM = 0.0005
 
 WRITE = re.compile(r"pwrite64\(\d+, .*, (\d+), (\d+)(?:\)| <unfinished)")
 
@@ -229,7 +229,7 @@ def killed(broker, words, chance, checks):
         within, count = within + runs, count + 1
         if faults:
             checks.check(f"kill {count}", False, faults[:5])
-        if count > 5 * words.kills:
+        if count > 20 * words.kills:
             break
     checks.check(f"at least {words.kills // 2} kills were within a compaction", within >= words.kills // 2, within)
     checks.tell(f"{count} kills, {within} of them within a compaction")
