@@ -10,6 +10,7 @@ system calls says: from the begin of the first write at an area's start to the e
 each kill it is started again over the same file, and what is there is what clients/kills.py asks for.
 """
 
+import collections
 import contextlib
 import os
 import random
@@ -23,7 +24,6 @@ import time
 
 import kills
 import scenario
-from stomp_client import Client
 
 # Two areas of 512 KiB behind a head of 32 bytes, whose byte 16 is the selector.
 JOURNAL_BYTES = 1_048_608
@@ -39,44 +39,31 @@ AIM = 0.0005
 WRITE = re.compile(r"pwrite64\(\d+, .*, (\d+), (\d+)(?:\)| <unfinished)")
 
 
-class Talker(kills.Loader):
+class Talker(kills.Sender):
     """A client that sends to a queue of its own, takes from it, and acknowledges."""
 
+    padding = " " + PADDING
+
     def __init__(self, port, name, seed):
-        self.name, self.queue, self.random = name, f"/queue/{name}", random.Random(seed)
-        self.groups, self.settled, self.had = [], set(), {}
-        self.count, self.open, self.is_told_to_end = 0, {}, False
-        super().__init__(port)
+        super().__init__(port, name, None, seed)
+        self.queue = f"/queue/{name}"
+        self.settled, self.had = set(), collections.Counter()
+        # The groups that are under way, by their receipt, with the messages that are not settled.
+        self.open, self.is_told_to_end = {}, False
 
     def go_on(self):
         self.client.send("SUBSCRIBE", [("id", "t"), ("destination", self.queue), ("ack", "client-individual")])
         while self.open or not self.is_told_to_end:
             if len(self.open) < UNDER_WAY and not self.is_told_to_end:
-                self.send_some()
+                group = self.send_some()
+                self.open[group.bodies[0]] = (group, set(group.bodies))
             else:
                 self.hear(self.client.receive())
-
-    def send_some(self):
-        size = self.random.randint(2, 5) if self.random.random() < 0.25 else 1
-        bodies = [f"{self.name} {self.count + place}" for place in range(size)]
-        group = kills.Group(bodies)
-        # It is kept before it is sent: of what was sent in part nothing is known.
-        self.groups.append(group)
-        self.open[bodies[0]] = (group, set(bodies))
-        self.count += size
-        within, receipt = ("transaction", bodies[0]), ("receipt", bodies[0])
-        if size == 1:
-            self.client.send("SEND", [("destination", self.queue), receipt], f"{bodies[0]} {PADDING}")
-            return
-        self.client.send("BEGIN", [within])
-        for body in bodies:
-            self.client.send("SEND", [("destination", self.queue), within], f"{body} {PADDING}")
-        self.client.send("COMMIT", [within, receipt])
 
     def hear(self, frame):
         if frame.command == "MESSAGE":
             body = short(frame.body)
-            self.had[body] = self.had.get(body, 0) + 1
+            self.had[body] += 1
             self.client.send("ACK", [("id", frame.headers["ack"]), ("receipt", f"ack {body}")])
             return
         assert frame.command == "RECEIPT", frame

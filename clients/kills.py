@@ -63,6 +63,9 @@ class Loader:
 class Sender(Loader):
     """Keeps what it sent and what was receipted."""
 
+    # Where it sends to, and what stands behind the name of each message.
+    queue, padding = QUEUE, ""
+
     def __init__(self, port, name, most, seed):
         super().__init__(port)
         self.name, self.most = name, most
@@ -86,7 +89,7 @@ class Sender(Loader):
         self.groups.append(group)
         self.count += size
         if size == 1:
-            self.client.send("SEND", [("destination", QUEUE), ("receipt", group.bodies[0])], group.bodies[0])
+            self.client.send("SEND", [("destination", self.queue), ("receipt", group.bodies[0])], group.bodies[0] + self.padding)
         else:
             self.send_transaction(group.bodies)
         return group
@@ -95,7 +98,7 @@ class Sender(Loader):
         within = ("transaction", bodies[0])
         self.client.send("BEGIN", [within])
         for body in bodies:
-            self.client.send("SEND", [("destination", QUEUE), within], body)
+            self.client.send("SEND", [("destination", self.queue), within], body + self.padding)
         self.client.send("COMMIT", [within, ("receipt", bodies[0])])
 
     def hear_receipt(self, group):
