@@ -7,11 +7,13 @@ Each client sends to a queue of its own, every fourth time a transaction, takes 
 held, and an area of 512 KiB is full several times a second. First a server runs so for a minute: no client is cut, each receipt
 comes. Then the server is killed by SIGKILL again and again, at least every other time within a compaction, as a trace of its
 system calls says: from the begin of the first write at an area's start to the end of the sync behind the selector's write. After
-each kill it is started again over the same file, and what is there is what clients/kills.py asks for.
+each kill it is started again over the same file, and what is there is what clients/kills.py asks for. Each compaction is told in
+a line on standard error; a last server, whose standard error nobody reads, goes on all the same.
 """
 
 import collections
 import contextlib
+import fcntl
 import os
 import random
 import re
@@ -36,6 +38,7 @@ PADDING = "x" * 4_000
 # Within this many seconds after a compaction has begun a kill comes that is aimed at it.
 AIM = 0.0005
 
+COMPACTED = re.compile(r"stompd: compacted: (\d+) bytes won in (\d+) ms\n")
 WRITE = re.compile(r"pwrite64\(\d+, .*, (\d+), (\d+)(?:\)| <unfinished)")
 
 
@@ -90,6 +93,9 @@ def short(body):
 class Watched(scenario.Broker):
     """A broker under strace, whose compactions are seen while they run."""
 
+    # Whether somebody reads what it tells while it runs.
+    is_heard = True
+
     def serve(self):
         self.folder = tempfile.TemporaryDirectory(prefix="compactions-")
         pipe = os.path.join(self.folder.name, "trace")
@@ -102,9 +108,25 @@ class Watched(scenario.Broker):
         calls = ["strace", "-f", "--seccomp-bpf", "-qq", "-s", "0", "-o", pipe, "-e", "trace=pwrite64,fsync"]
         words = [*calls, self.program, "serve", self.journal, str(self.port)]
         self.process = subprocess.Popen(words, stdout=subprocess.PIPE, stderr=subprocess.PIPE)
+        # What nobody reads is soon as much as the pipe holds.
+        fcntl.fcntl(self.process.stderr, fcntl.F_SETPIPE_SZ, 4096)
+        self.words = []
+        self.listener = threading.Thread(target=self.listen)
         line = self.process.stdout.readline().decode()
         if line != f"listening {self.port}\n":
             raise RuntimeError(f"the broker does not serve: {line!r}")
+        if self.is_heard:
+            self.listener.start()
+
+    def listen(self):
+        """Hears what is told on standard error."""
+        for line in self.process.stderr:
+            self.words.append(line.decode())
+
+    def won(self):
+        """How many bytes each compaction is told to have won, and how many milliseconds its turn took."""
+        told = [COMPACTED.fullmatch(line) for line in self.words]
+        return [(int(found.group(1)), int(found.group(2))) for found in told if found]
 
     def read(self, pipe):
         with open(pipe, encoding="ascii") as trace:
@@ -152,7 +174,10 @@ class Watched(scenario.Broker):
                 os.kill(self.server(), signal.SIGKILL)
         self.process.wait()
         self.watch.join()
-        self.told = self.process.stderr.read()
+        if not self.is_heard:
+            self.listener.start()
+        self.listener.join()
+        self.told = "".join(self.words).encode()
         self.process.stdout.close()
         self.process.stderr.close()
         self.folder.cleanup()
@@ -177,6 +202,9 @@ def found_in(port, talker):
 
 def under_load(broker, seconds, chance, checks):
     """A server whose journal is full several times a second, for so long."""
+    # What its opening wrote is seen by now, and is not told.
+    time.sleep(0.5)
+    opened = broker.count
     talkers = begin(broker, "load", chance)
     before = broker.count
     time.sleep(seconds)
@@ -191,7 +219,19 @@ def under_load(broker, seconds, chance, checks):
     checks.check("hundreds of compactions a minute", compactions >= 3 * seconds, compactions)
     left = [found_in(broker.port, one) for one in talkers]
     checks.same("and nothing is left of what was acknowledged", left, [[]] * TALKERS)
+    time.sleep(1)
+    if broker.is_heard:
+        # Two thirds of an area of 512 KB at least: what is held fits into the rest.
+        told = broker.won()
+        checks.same("each compaction is told", len(told), broker.count - opened)
+        checks.check("with what it won", all(300_000 < bytes_won < 524_288 for bytes_won, _ in told), told[:5])
     checks.tell(f"{sum(one.count for one in talkers)} messages, {compactions} compactions in {seconds} s")
+
+
+class Unheard(Watched):
+    """A broker whose standard error nobody reads while it runs."""
+
+    is_heard = False
 
 
 def one_kill(broker, name, chance, aimed):
@@ -233,6 +273,8 @@ def main():
     with scenario.serving(words.program, JOURNAL_BYTES, Watched) as broker:
         under_load(broker, words.seconds, chance, checks)
         killed(broker, words, chance, checks)
+    with scenario.serving(words.program, JOURNAL_BYTES, Unheard) as broker:
+        under_load(broker, words.seconds / 4, chance, checks)
     checks.check("all that was receipted is there once, and nothing else", not checks.failed)
     return 1 if checks.failed else 0
 

@@ -1,5 +1,5 @@
 -- What a flusher keeps, from call to call.
-use Rattle.std.proofs.Common.{◌≡◌, ◌<◌, ◌≤◌, ◌+◌, ◌-◌, ◌^◌, ◌++◌, ⊎_elim, ℕ, Bool, true, false, List, [], ◌∷◌, cond, drop, length, length-append, take, refl, sym, ◌∙◌, ap, subst, arith}
+use Rattle.std.proofs.Common.{◌≡◌, ◌<◌, ◌≤◌, ◌+◌, ◌-◌, ◌^◌, ◌++◌, ⊎_elim, ℕ, Bool, true, false, List, [], ◌∷◌, cond, drop, Option, length, length-append, take, refl, sym, ◌∙◌, ap, subst, arith}
 use Rattle.std.proofs.Math.Logic.{∥∥₁_map}
 use Rattle.std.proofs.lemmas.List.{length-drop, length-take-le}
 use Rattle.frame_core.proofs.Lists.{all_append}
@@ -239,9 +239,9 @@ module _ {D : Type 0} (honest : D → Type 0) (images : D → List ℕ → Type 
   })
 
   -- the journal is compacted
-  pub compacts : (f : Flushed D) (next : D) (size used : ℕ) → f.broken ≡ false → (honest next → StandFor (images next) (state_at f.opening f.seat f.stored)) → IsFlusher honest images f
-      → IsFlusher honest images (record f { disk = next; size = size; used = used })
-  compacts f next size used whole stand kept =
+  pub compacts : (f : Flushed D) (next : D) (size used : ℕ) (won : Option ℕ) → f.broken ≡ false → (honest next → StandFor (images next) (state_at f.opening f.seat f.stored)) → IsFlusher honest images f
+      → IsFlusher honest images (record f { disk = next; size = size; used = used; won = won })
+  compacts f next size used won whole stand kept =
       let run = kept.running whole in
       record {
         begun = kept.begun;
@@ -254,6 +254,22 @@ module _ {D : Type 0} (honest : D → Type 0) (images : D → List ℕ → Type 
         under = kept.under;
         stopped = kept.stopped;
         running = λ _. record { stands = stand; broker = run.broker; batch = run.batch; brought = run.brought; waiting = run.waiting };
+      }
+
+  -- what was won is told
+  pub tells : (f : Flushed D) (won : Option ℕ) → IsFlusher honest images f → IsFlusher honest images (record f { won = won })
+  tells f won kept =
+      record {
+        begun = kept.begun;
+        marked = kept.marked;
+        settled = kept.settled;
+        stored = kept.stored;
+        opened = kept.opened;
+        sound = kept.sound;
+        each = kept.each;
+        under = kept.under;
+        stopped = kept.stopped;
+        running = λ whole. let run = kept.running whole in record { stands = run.stands; broker = run.broker; batch = run.batch; brought = run.brought; waiting = run.waiting };
       }
 
   -- all that was taken is stored

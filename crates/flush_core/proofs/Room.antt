@@ -1,5 +1,5 @@
 -- Where a block does not fit.
-use Rattle.std.proofs.Common.{◌≡◌, ◌≢◌, ◌⊎◌, ◌<◌, ◌≤◌, ◌+◌, ℕ, List, [], Err, length, ap, subst, sym, ◌∙◌, arith}
+use Rattle.std.proofs.Common.{◌≡◌, ◌≢◌, ◌⊎◌, ◌<◌, ◌≤◌, ◌+◌, ◌-◌, ℕ, List, [], Option, Some, Err, length, ap, subst, sym, ◌∙◌, arith}
 use Rattle.std.proofs.Math.Logic.{∥∥₁_prop, ∥∥₁_elim}
 use Rattle.command_core.specs.Commands.{CommandValue}
 use Rattle.command_core.specs.Entries.{EntryValue}
@@ -60,7 +60,7 @@ rest_stays {D} old new n Broken was = sym (ap (λ (f : Flushed D). from_on f.sea
 rest_stays old new n (Memory refused) fell = sym (ap (λ s. from_on s n) fell.seat)
 
 -- The disk is as it was where nothing was gathered: storing then changed nothing, and what comes behind it calls no disk.
-module _ {D : Type 0} (f g h : Flushed D) (entries : List (EntryValue SenderValue)) (next : D) (size used : ℕ) (took : g ≡ taking f entries) (did : h ≡ storing g next size used) (nothing : gathered g ≡ [] → h ≡ g) where
+module _ {D : Type 0} (f g h : Flushed D) (entries : List (EntryValue SenderValue)) (next : D) (size used : ℕ) (won : Option ℕ) (took : g ≡ taking f entries) (did : h ≡ storing g next size used won) (nothing : gathered g ≡ [] → h ≡ g) where
   gathered_before : (seat : FlushSeatValue) → from_on h.seat g.stored ≡ from_on seat g.stored → from_on seat f.stored ≡ [] → gathered g ≡ []
   gathered_before seat rest none =
       ap (λ (x : Flushed D). from_on x.seat g.stored) (sym did) ∙ (rest ∙ (ap (λ (x : Flushed D). from_on seat x.stored) took ∙ none))
@@ -71,21 +71,37 @@ module _ {D : Type 0} (f g h : Flushed D) (entries : List (EntryValue SenderValu
       let seat : from_on h.seat g.stored ≡ from_on l.seat g.stored = ap (λ (x : Flushed D). from_on x.seat g.stored) (sym settled) ∙ ap (λ (x : Flushed D). from_on x.seat g.stored) (sym published) in
       ap (λ (x : Flushed D). from_on x.seat g.stored) (sym did) ∙ (seat ∙ ap (λ (x : Flushed D). from_on l.seat x.stored) took)
 
-  -- what is used once the turn went through is what storing left
+  -- what is used and won once the turn went through is what storing left
+  same_used : (k l : Flushed D) → k ≡ settling h → l ≡ publishing k l.boxes → (l.used ≡ h.used) × (l.won ≡ h.won)
+  same_used k l settled published = (
+    ap (λ (x : Flushed D). x.used) published ∙ ap (λ (x : Flushed D). x.used) settled,
+    ap (λ (x : Flushed D). x.won) published ∙ ap (λ (x : Flushed D). x.won) settled,
+  )
+
   pub came_behind : (k l : Flushed D) → k ≡ settling h → l ≡ publishing k l.boxes
-      → (Fits g.size g.used (gathered g) → gathered g ≢ [] → h.used ≡ g.used + 9 + length (records (gathered g)))
-      → Fits f.size f.used (from_on l.seat f.stored) → from_on l.seat f.stored ≢ [] → l.used ≡ f.used + 9 + length (records (from_on l.seat f.stored))
+      → (Fits g.size g.used (gathered g) → gathered g ≢ [] → (h.used ≡ g.used + 9 + length (records (gathered g))) × (h.won ≡ g.won))
+      → Fits f.size f.used (from_on l.seat f.stored) → from_on l.seat f.stored ≢ [] → (l.used ≡ f.used + 9 + length (records (from_on l.seat f.stored))) × (l.won ≡ f.won)
   came_behind k l settled published told fits some =
-      ap (λ (x : Flushed D). x.used) published ∙ (ap (λ (x : Flushed D). x.used) settled
-      ∙ subst (λ (z : Flushed D × List CommandValue). Fits z.0.size z.0.used z.1 → z.1 ≢ [] → h.used ≡ z.0.used + 9 + length (records z.1)) (λ i. (took i, taken_stays k l settled published i)) told fits some)
+      let same = same_used k l settled published in
+      let both = subst (λ (z : Flushed D × List CommandValue). Fits z.0.size z.0.used z.1 → z.1 ≢ [] → (h.used ≡ z.0.used + 9 + length (records z.1)) × (h.won ≡ z.0.won)) (λ i. (took i, taken_stays k l settled published i)) told fits some in
+      (same.0 ∙ both.0, same.1 ∙ both.1)
 
   pub came_afresh : (k l : Flushed D) → k ≡ settling h → l ≡ publishing k l.boxes → f.stored ≤ next_ticket f.seat
-      → (IsTooLong g.size g.used (gathered g) → gathered g ≢ [] → h.used ≡ used_afresh (state_at g.opening g.seat g.stored) + 9 + length (records (gathered g)))
-      → IsTooLong f.size f.used (from_on l.seat f.stored) → from_on l.seat f.stored ≢ [] → l.used ≡ used_afresh (state_at f.opening f.seat f.stored) + 9 + length (records (from_on l.seat f.stored))
+      → (IsTooLong g.size g.used (gathered g) → gathered g ≢ []
+      → (h.used ≡ used_afresh (state_at g.opening g.seat g.stored) + 9 + length (records (gathered g))) × (h.won ≡ Some (g.used - used_afresh (state_at g.opening g.seat g.stored))))
+      → IsTooLong f.size f.used (from_on l.seat f.stored) → from_on l.seat f.stored ≢ []
+      → (l.used ≡ used_afresh (state_at f.opening f.seat f.stored) + 9 + length (records (from_on l.seat f.stored))) × (l.won ≡ Some (f.used - used_afresh (state_at f.opening f.seat f.stored)))
   came_afresh k l settled published few told long some =
-      let same : state_at g.opening g.seat g.stored ≡ state_at f.opening f.seat f.stored = ap (λ (x : Flushed D). state_at x.opening x.seat x.stored) took ∙ at_more f.opening f.seat (commands entries) f.stored few in
-      ap (λ (x : Flushed D). x.used) published ∙ (ap (λ (x : Flushed D). x.used) settled
-      ∙ subst (λ (z : Flushed D × State × List CommandValue). IsTooLong z.0.size z.0.used z.2 → z.2 ≢ [] → h.used ≡ used_afresh z.1 + 9 + length (records z.2)) (λ i. (took i, same i, taken_stays k l settled published i)) told long some)
+      let state : state_at g.opening g.seat g.stored ≡ state_at f.opening f.seat f.stored = ap (λ (x : Flushed D). state_at x.opening x.seat x.stored) took ∙ at_more f.opening f.seat (commands entries) f.stored few in
+      let same = same_used k l settled published in
+      let both = subst (λ (z : Flushed D × State × List CommandValue). IsTooLong z.0.size z.0.used z.2 → z.2 ≢ [] → (h.used ≡ used_afresh z.1 + 9 + length (records z.2)) × (h.won ≡ Some (z.0.used - used_afresh z.1))) (λ i. (took i, state i, taken_stays k l settled published i)) told long some in
+      (same.0 ∙ both.0, same.1 ∙ both.1)
+
+  -- nothing is won where nothing was gathered
+  pub none_won : (k l : Flushed D) → k ≡ settling h → l ≡ publishing k l.boxes → from_on l.seat f.stored ≡ [] → l.won ≡ f.won
+  none_won k l settled published none =
+      let seat : from_on h.seat g.stored ≡ from_on l.seat g.stored = ap (λ (x : Flushed D). from_on x.seat g.stored) (sym settled) ∙ ap (λ (x : Flushed D). from_on x.seat g.stored) (sym published) in
+      (same_used k l settled published).1 ∙ ap (λ (x : Flushed D). x.won) (nothing (gathered_before l.seat seat none) ∙ took)
 
   -- executing failed
   pub still_unsettled : (k : Flushed D) (fault : FlushFault) → IsOutcome {X = Unit {0}} h k (Err fault) → k.disk ≡ h.disk → from_on k.seat f.stored ≡ [] → k.disk ≡ f.disk

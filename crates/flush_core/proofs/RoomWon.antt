@@ -13,7 +13,7 @@ use Rattle.flush_core.specs.declared.faults.FlushFault.{FlushFault}
 use Rattle.flush_core.specs.declared.faults.FlushFault.TheVariants.{Full}
 use Rattle.flush_core.specs.Batches.{state_at, state_taken}
 use Rattle.flush_core.specs.Flushed.{Flushed, gathered}
-use Rattle.flush_core.specs.Outcomes.{Falls, IsCompacted, IsLeft, IsOutcome, compacted}
+use Rattle.flush_core.specs.Outcomes.{Falls, IsCompacted, IsLeft, IsOutcome, using}
 use Rattle.flush_core.specs.Room.{HasNoRoomForState, HasNoRoomLeft, IsTooLong, LacksRoomForState}
 
 -- no snapshot of the state fits
@@ -21,12 +21,12 @@ pub none_left : (image : List ℕ) (s : State) (cs : List CommandValue) → HasN
 none_left image s cs lacks = ∥∥₁_map lacks (λ (l : LacksRoomForState image s). inl l)
 
 module _ {D : Type 0} (disk : Ghosts D) (old mid : Flushed D) (made : IsLeft old mid ⊎ IsCompacted disk old mid) where
-  -- nothing but the disk and the bytes used has changed
-  pub all_but_disk : mid ≡ compacted old mid.disk mid.used
+  -- nothing but the disk, the bytes used and what was won has changed
+  pub all_but_disk : mid ≡ using old mid.disk mid.used mid.won
   all_but_disk =
       ⊎_elim
-      (λ (l : IsLeft old mid). l.same ∙ sym (λ i. compacted old ((l.same i).disk) ((l.same i).used)))
-      (λ (w : IsCompacted disk old mid). w.is ∙ sym (λ i. compacted old mid.disk ((w.is i).used)))
+      (λ (l : IsLeft old mid). l.same ∙ sym (λ i. using old ((l.same i).disk) ((l.same i).used) ((l.same i).won)))
+      (λ (w : IsCompacted disk old mid). w.is ∙ sym (λ i. using old mid.disk ((w.is i).used) ((w.is i).won)))
       made
 
   -- a stop within it, and within what is stored then

@@ -1,5 +1,5 @@
 -- A turn: what a stop within it leaves.
-use Rattle.std.proofs.Common.{◌≤◌, ◌-◌, ◌++◌, length, length-append, refl, ◌≡◌, inl, false, ℕ, List, Err, sym, ◌∙◌, ap, subst, arith}
+use Rattle.std.proofs.Common.{◌≤◌, ◌-◌, ◌++◌, length, length-append, refl, ◌≡◌, inl, false, ℕ, List, Option, Err, sym, ◌∙◌, ap, subst, arith}
 use Rattle.disk_core.specs.declared.disk.Disk.{Ghosts}
 use Rattle.disk_core.specs.Moments.{LeavesOnly}
 use Rattle.broker_core.specs.States.{State}
@@ -60,12 +60,12 @@ module _ {D : Type 0} (disk : Ghosts D) where
       (here honest whole)))
 
   -- a turn of the four steps
-  pub turned : (old took did left new : Flushed D) (entries : List (EntryValue SenderValue)) (next : D) (size used : ℕ) → IsFlusher disk.honest disk.images old → old.broken ≡ false → old.settled ≡ old.stored
-      → took ≡ taking old entries → did ≡ storing took next size used → left ≡ settling did → new ≡ publishing left new.boxes → AreGiven left.waiting (standing left) new.boxes → IsTurned old new entries
-  turned old took did left new entries next size used kept whole settled took_is did_is left_is new_is given =
-      let stored = storing (taking old entries) next size used in
+  pub turned : (old took did left new : Flushed D) (entries : List (EntryValue SenderValue)) (next : D) (size used : ℕ) (won : Option ℕ) → IsFlusher disk.honest disk.images old → old.broken ≡ false → old.settled ≡ old.stored
+      → took ≡ taking old entries → did ≡ storing took next size used won → left ≡ settling did → new ≡ publishing left new.boxes → AreGiven left.waiting (standing left) new.boxes → IsTurned old new entries
+  turned old took did left new entries next size used won kept whole settled took_is did_is left_is new_is given =
+      let stored = storing (taking old entries) next size used won in
       let all = settling stored in
-      let is : left ≡ all = left_is ∙ ap (λ (f : Flushed D). settling f) (did_is ∙ ap (λ (f : Flushed D). storing f next size used) took_is) in
+      let is : left ≡ all = left_is ∙ ap (λ (f : Flushed D). settling f) (did_is ∙ ap (λ (f : Flushed D). storing f next size used won) took_is) in
       let end : new ≡ publishing all new.boxes = new_is ∙ ap (λ (f : Flushed D). publishing f new.boxes) is in
       let more = commands entries in
       let seat : new.seat ≡ with_mark (with_more old.seat more) (next_ticket (with_more old.seat more)) = ap (λ (f : Flushed D). f.seat) end in

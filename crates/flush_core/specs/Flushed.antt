@@ -1,5 +1,5 @@
 -- What contracts see of a flusher, and what it keeps.
-use Rattle.std.specs.Prelude.{◌≡◌, ◌≤◌, ◌<◌, ◌+◌, ◌^◌, ℕ, List, Bool, true, false, length}
+use Rattle.std.specs.Prelude.{◌≡◌, ◌≤◌, ◌<◌, ◌+◌, ◌^◌, ℕ, List, Bool, Option, true, false, length}
 use Rattle.std.specs.List.{AllByRecursion}
 use Rattle.disk_core.specs.declared.disk.Disk.{Ghosts}
 use Rattle.command_core.specs.Commands.{CommandValue}
@@ -20,7 +20,8 @@ use Rattle.flush_core.specs.Batches.{IsBatch, between, from_on, state_at}
 -- and the mark; the state that the journal stood for when the flusher was made; the first number that is not stored, and
 -- the first that the broker has not executed; the entries that are taken and not executed; the broker; the outboxes of
 -- sessions; the sessions that ended and whose last outputs wait for the mark, and those whose last outputs are given; the
--- outputs that wait for the mark, and those under it that went to no box; and whether a step failed.
+-- outputs that wait for the mark, and those under it that went to no box; whether a step failed; and how many bytes of its
+-- area the last compaction won, where that was not asked for since.
 pub record Flushed (D : Type 0) : Type 0 where
   pub disk : D
   pub size : ℕ
@@ -37,10 +38,11 @@ pub record Flushed (D : Type 0) : Type 0 where
   pub waiting : List OutValue
   pub left : List OutValue
   pub broken : Bool
+  pub won : Option ℕ
 
-abbrev pub flushed : {D : Type 0} {disk : Ghosts D} → Store D disk → FlushSeatValue → State → ℕ → ℕ → List (EntryValue SenderValue) → BrokerValue → Kept → List ℕ → List ℕ → List OutValue → List OutValue → Bool → Flushed D
-flushed store seat opening stored settled brought broker boxes ended past waiting left broken =
-    record { disk = disk_of store; size = size_of store; used = used_of store; seat = seat; opening = opening; stored = stored; settled = settled; brought = brought; broker = broker; boxes = boxes; ended = ended; past = past; waiting = waiting; left = left; broken = broken }
+abbrev pub flushed : {D : Type 0} {disk : Ghosts D} → Store D disk → FlushSeatValue → State → ℕ → ℕ → List (EntryValue SenderValue) → BrokerValue → Kept → List ℕ → List ℕ → List OutValue → List OutValue → Bool → Option ℕ → Flushed D
+flushed store seat opening stored settled brought broker boxes ended past waiting left broken won =
+    record { disk = disk_of store; size = size_of store; used = used_of store; seat = seat; opening = opening; stored = stored; settled = settled; brought = brought; broker = broker; boxes = boxes; ended = ended; past = past; waiting = waiting; left = left; broken = broken; won = won }
 
 -- the commands that wait to be stored
 abbrev pub gathered : {D : Type 0} → Flushed D → List CommandValue
@@ -105,6 +107,7 @@ pub record IsSame {C D : Type 0} (one : Flushed C) (other : Flushed D) : Type 0 
   pub waiting : other.waiting ≡ one.waiting
   pub left : other.left ≡ one.left
   pub broken : other.broken ≡ one.broken
+  pub won : other.won ≡ one.won
 
 -- How the fields show it while no step has failed: the journal is whole, entries stand for the commands that wait to be
 -- stored and for those that wait to be executed, and there is room for the outputs that wait.

@@ -1,5 +1,5 @@
 -- What calls of a flusher leave.
-use Rattle.std.specs.Prelude.{◌≡◌, ◌≢◌, ◌-◌, ◌++◌, drop, take, ℕ, List, [], true, false, Result, Ok, Err}
+use Rattle.std.specs.Prelude.{◌≡◌, ◌≢◌, ◌-◌, ◌++◌, drop, take, ℕ, List, [], Option, Some, true, false, Result, Ok, Err}
 use Rattle.disk_core.specs.declared.disk.Disk.{Ghosts}
 use Rattle.command_core.specs.Commands.{CommandValue}
 use Rattle.command_core.specs.Outs.{OutValue}
@@ -41,12 +41,16 @@ abbrev pub taking : {D : Type 0} → Flushed D → List (EntryValue SenderValue)
 taking f more = record f { seat = with_more f.seat (commands more); brought = f.brought ++ more }
 
 -- all that was taken is stored, on this disk
-abbrev pub storing : {D : Type 0} → Flushed D → D → ℕ → ℕ → Flushed D
-storing f disk size used = record f { disk = disk; size = size; used = used; stored = next_ticket f.seat }
+abbrev pub storing : {D : Type 0} → Flushed D → D → ℕ → ℕ → Option ℕ → Flushed D
+storing f disk size used won = record f { disk = disk; size = size; used = used; stored = next_ticket f.seat; won = won }
 
--- the journal is compacted, on this disk, and so much of an area is used
+-- so much of an area is used, on this disk, and a compaction has won so much
+abbrev pub using : {D : Type 0} → Flushed D → D → ℕ → Option ℕ → Flushed D
+using f disk used won = record f { disk = disk; used = used; won = won }
+
+-- the journal is compacted, on this disk, and so much of an area is used; nothing is won where more is used than before
 abbrev pub compacted : {D : Type 0} → Flushed D → D → ℕ → Flushed D
-compacted f disk used = record f { disk = disk; used = used }
+compacted f disk used = using f disk used (Some (f.used - used))
 
 -- the journal is as it was: a step failed before, nothing is gathered, or its block fits as it is
 pub record IsLeft {D : Type 0} (old new : Flushed D) : Type 0 where

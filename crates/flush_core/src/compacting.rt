@@ -1,6 +1,6 @@
 //! Compacting the journal.
 
-ghost use Rattle.std.specs.Prelude.{◌≡◌, ◌≢◌, ◌⊎◌, [], OnErr, OnOk, IsErrOf, true, false};
+ghost use Rattle.std.specs.Prelude.{◌≡◌, ◌≢◌, ◌⊎◌, [], OnErr, OnOk, IsErrOf, None, true, false};
 ghost use Rattle.area_core.specs.Puts.{Each};
 ghost use Rattle.disk_core.specs.Moments.{LeavesOnly};
 ghost use Rattle.recover_core.specs.Compactions.{HasNoRoomFor, HoldsItAlone};
@@ -55,7 +55,7 @@ impl<D: Disk, B: Bell> Flusher<D, B> {
         match self.journal.compact(alloc, &self.broker) {
             Ok(()) => {
                 let won = before.saturating_sub(self.journal.used());
-                self.won = self.won.saturating_add(won);
+                self.won = Some(won);
                 Ok(())
             }
             Err(fault) => {
@@ -73,9 +73,13 @@ impl<D: Disk, B: Bell> Flusher<D, B> {
         self.journal.used()
     }
 
-    /// How many bytes all compactions together have won: it grows with each that went through and won any, in a turn too.
-    pub fn won(&self) -> u64 {
-        self.won
+    /// How many bytes of the live area the last compaction won, in a turn too: those used before it without those used behind it.
+    /// `None` where there was none since this was last asked for.
+    pub fn take_won(&mut self) -> Option<u64>
+        ensures won { result ≡ self.old.won }
+        ensures told { self.new ≡ record self.old { won = None } }
+    {
+        self.won.take()
     }
 
     // Whether nothing is gathered, or its block fits into the live area, with the gate behind it.

@@ -1,6 +1,6 @@
 //! The flusher, and what it keeps.
 
-ghost use Rattle.std.specs.Prelude.{◌≡◌, ◌≤◌, ◌==◌, ◌^◌, [], false, length};
+ghost use Rattle.std.specs.Prelude.{◌≡◌, ◌≤◌, ◌==◌, ◌^◌, [], None, false, length};
 ghost use Rattle.disk_core.specs.Fuse.{calls_left, fused};
 ghost use Rattle.recover_core.specs.Standing.{StandFor};
 ghost use Rattle.recover_core.specs.Stores.{disk_of, is_broken};
@@ -41,8 +41,8 @@ pub struct Flusher<D: Disk, B: Bell> {
     // The outboxes of sessions, and the outputs on their way there.
     pub(crate) outlet: Outlet<B>,
     pub(crate) broken: bool,
-    // How many bytes compactions have won.
-    pub(crate) won: u64,
+    // How many bytes the last compaction won, where that was not asked for since.
+    pub(crate) won: Option<u64>,
 }
 
 impl<D: Disk, B: Bell> Model for Flusher<D, B> {
@@ -52,9 +52,9 @@ impl<D: Disk, B: Bell> Model for Flusher<D, B> {
 
     ghost Value = { Flushed D };
 
-    ghost view = { λ a. flushed a.journal a.seat a.opening.value.state a.stored a.settled (a.done.items ++ a.batch.items) a.broker a.outlet.boxes a.outlet.ended.items a.outlet.past.items a.outlet.waiting.items a.outlet.left.items a.broken };
+    ghost view = { λ a. flushed a.journal a.seat a.opening.value.state a.stored a.settled (a.done.items ++ a.batch.items) a.broker a.outlet.boxes a.outlet.ended.items a.outlet.past.items a.outlet.waiting.items a.outlet.left.items a.broken a.won };
 
-    ghost invariant = { λ a. IsFlusher D.honest D.images (flushed a.journal a.seat a.opening.value.state a.stored a.settled (a.done.items ++ a.batch.items) a.broker a.outlet.boxes a.outlet.ended.items a.outlet.past.items a.outlet.waiting.items a.outlet.left.items a.broken)
+    ghost invariant = { λ a. IsFlusher D.honest D.images (flushed a.journal a.seat a.opening.value.state a.stored a.settled (a.done.items ++ a.batch.items) a.broker a.outlet.boxes a.outlet.ended.items a.outlet.past.items a.outlet.waiting.items a.outlet.left.items a.broken a.won)
         × (a.broken ≡ false → IsHeld a.seat a.stored a.settled (is_broken a.journal) a.batch.items a.done.items a.bytes
         (length a.outlet.left.items) (length a.outlet.waiting.items) (vec_capacity a.outlet.left))
         × (a.broken ≡ false → IsSpare (length a.outlet.spare.items) (length a.outlet.waiting.items) (vec_capacity a.outlet.spare)) };
@@ -73,7 +73,7 @@ impl<D: Disk, B: Bell> Flusher<D, B> {
         requires stands { D.honest (disk_of journal) → StandFor (D.images (disk_of journal)) broker.state }
         requires fresh { (seat.taken ≡ []) × (seat.published ≡ seat.base) }
         requires count { broker.state.count ≡ seat.base }
-        ensures { result ≡ flushed journal seat broker.state seat.base seat.base [] broker [] [] [] [] [] false }
+        ensures { result ≡ flushed journal seat broker.state seat.base seat.base [] broker [] [] [] [] [] false None }
     {
         let next = seat.next();
         let broken = broker.is_broken();
@@ -89,7 +89,7 @@ impl<D: Disk, B: Bell> Flusher<D, B> {
             settled: next,
             outlet: Outlet::new(alloc),
             broken,
-            won: 0,
+            won: None,
         }
     }
 

@@ -1,6 +1,6 @@
 //! Making the commands durable.
 
-ghost use Rattle.std.specs.Prelude.{◌≡◌, ◌≢◌, ◌⊎◌, ◌<◌, ◌+◌, [], OnErr, OnOk, IsErrOf, IsOk, true, false, length};
+ghost use Rattle.std.specs.Prelude.{◌≡◌, ◌≢◌, ◌⊎◌, ◌<◌, ◌+◌, ◌-◌, [], Some, OnErr, OnOk, IsErrOf, IsOk, true, false, length};
 ghost use Rattle.disk_core.specs.Moments.{LeavesOnly};
 ghost use Rattle.area_core.specs.Areas.{records};
 ghost use Rattle.recover_core.specs.Compactions.{HasNoRoomFor};
@@ -40,12 +40,13 @@ impl<D: Disk, B: Bell> Flusher<D, B> {
             (StandsForEither (state_at self.old.opening self.old.seat self.old.stored) (state_taken self.old.opening self.old.seat)) }
         ensures after { D.honest self.old.disk →
             OnOk result (StandFor (D.images self.new.disk) (state_taken self.old.opening self.old.seat)) }
-        ensures stored { OnOk result (self.new ≡ storing self.old self.new.disk self.new.size self.new.used) }
+        ensures stored { OnOk result (self.new ≡ storing self.old self.new.disk self.new.size self.new.used self.new.won) }
         ensures nothing { self.old.broken ≡ false → gathered self.old ≡ [] → IsOk result × (self.new ≡ self.old) }
         ensures behind { Fits self.old.size self.old.used (gathered self.old) → gathered self.old ≢ [] →
-            OnOk result (self.new.used ≡ self.old.used + 9 + length (records (gathered self.old))) }
+            OnOk result ((self.new.used ≡ self.old.used + 9 + length (records (gathered self.old))) × (self.new.won ≡ self.old.won)) }
         ensures afresh { IsTooLong self.old.size self.old.used (gathered self.old) → gathered self.old ≢ [] →
-            OnOk result (self.new.used ≡ used_afresh (state_at self.old.opening self.old.seat self.old.stored) + 9 + length (records (gathered self.old))) }
+            OnOk result ((self.new.used ≡ used_afresh (state_at self.old.opening self.old.seat self.old.stored) + 9 + length (records (gathered self.old)))
+            × (self.new.won ≡ Some (self.old.used - used_afresh (state_at self.old.opening self.old.seat self.old.stored)))) }
         ensures full { IsErrOf result FlushFault.Full → IsTooLong self.old.size self.old.used (gathered self.old)
             × ((HasNoRoomFor self.old.size (state_at self.old.opening self.old.seat self.old.stored) × (self.new.disk ≡ self.old.disk))
             ⊎ IsTooLong self.old.size (used_afresh (state_at self.old.opening self.old.seat self.old.stored)) (gathered self.old)) }
@@ -76,7 +77,7 @@ impl<D: Disk, B: Bell> Flusher<D, B> {
             (StandsForEither (state_at self.old.opening self.old.seat self.old.stored) (state_taken self.old.opening self.old.seat)) }
         ensures after { D.honest self.old.disk →
             OnOk result (StandFor (D.images self.new.disk) (state_taken self.old.opening self.old.seat)) }
-        ensures stored { OnOk result (self.new ≡ storing self.old self.new.disk self.new.size self.new.used) }
+        ensures stored { OnOk result (self.new ≡ storing self.old self.new.disk self.new.size self.new.used self.old.won) }
         ensures nothing { self.old.broken ≡ false → gathered self.old ≡ [] → IsOk result × (self.new ≡ self.old) }
         ensures used { gathered self.old ≢ [] → OnOk result (self.new.used ≡ self.old.used + 9 + length (records (gathered self.old))) }
         ensures full { IsErrOf result FlushFault.Full →

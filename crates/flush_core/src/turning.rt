@@ -1,6 +1,6 @@
 //! Turns of the flusher.
 
-ghost use Rattle.std.specs.Prelude.{◌≡◌, ◌≢◌, ◌⊎◌, ◌+◌, ◌++◌, [], List, IfOk, IsErrOf, OnErr, true, false, length};
+ghost use Rattle.std.specs.Prelude.{◌≡◌, ◌≢◌, ◌⊎◌, ◌+◌, ◌-◌, ◌++◌, [], List, Some, IfOk, IsErrOf, OnErr, true, false, length};
 ghost use Rattle.command_core.specs.Entries.{EntryValue};
 ghost use Rattle.outbox_core.specs.Boxes.{SenderValue};
 ghost use Rattle.area_core.specs.Areas.{records};
@@ -42,10 +42,12 @@ impl<D: Disk, B: Bell> Flusher<D, B> {
         ensures turned { IfOk result (λ count. (more : List (EntryValue SenderValue)) × (length more ≡ count) × IsTurned self.old self.new more) }
         ensures batch { IfOk result (λ count. IsBatch (from_on self.new.seat self.old.stored)) }
         ensures nothing { from_on self.new.seat self.old.stored ≡ [] → self.new.disk ≡ self.old.disk }
+        ensures idle { from_on self.new.seat self.old.stored ≡ [] → IfOk result (λ count. self.new.won ≡ self.old.won) }
         ensures behind { Fits self.old.size self.old.used (from_on self.new.seat self.old.stored) → from_on self.new.seat self.old.stored ≢ [] →
-            IfOk result (λ count. self.new.used ≡ self.old.used + 9 + length (records (from_on self.new.seat self.old.stored))) }
+            IfOk result (λ count. (self.new.used ≡ self.old.used + 9 + length (records (from_on self.new.seat self.old.stored))) × (self.new.won ≡ self.old.won)) }
         ensures afresh { IsTooLong self.old.size self.old.used (from_on self.new.seat self.old.stored) → from_on self.new.seat self.old.stored ≢ [] →
-            IfOk result (λ count. self.new.used ≡ used_afresh (state_at self.old.opening self.old.seat self.old.stored) + 9 + length (records (from_on self.new.seat self.old.stored))) }
+            IfOk result (λ count. (self.new.used ≡ used_afresh (state_at self.old.opening self.old.seat self.old.stored) + 9 + length (records (from_on self.new.seat self.old.stored)))
+            × (self.new.won ≡ Some (self.old.used - used_afresh (state_at self.old.opening self.old.seat self.old.stored)))) }
         ensures full { IsErrOf result FlushFault.Full → IsTooLong self.old.size self.old.used (from_on self.new.seat self.old.stored)
             × ((HasNoRoomFor self.old.size (state_at self.old.opening self.old.seat self.old.stored) × (self.new.disk ≡ self.old.disk))
             ⊎ IsTooLong self.old.size (used_afresh (state_at self.old.opening self.old.seat self.old.stored)) (from_on self.new.seat self.old.stored)) }
@@ -85,6 +87,7 @@ impl<D: Disk, B: Bell> Flusher<D, B> {
         ensures turned { IfOk result (λ count. (more : List (EntryValue SenderValue)) × (length more ≡ count) × IsTurned self.old self.new more) }
         ensures batch { IfOk result (λ count. IsBatch (from_on self.new.seat self.old.stored)) }
         ensures nothing { from_on self.new.seat self.old.stored ≡ [] → self.new.disk ≡ self.old.disk }
+        ensures uncompacted { IfOk result (λ count. self.new.won ≡ self.old.won) }
         ensures full { IsErrOf result FlushFault.Full →
             IsTooLong self.old.size self.old.used (from_on self.new.seat self.old.stored)
             × (self.new.disk ≡ self.old.disk) × IsBatch (from_on self.new.seat self.old.stored) × (from_on self.new.seat self.old.stored ≢ []) }

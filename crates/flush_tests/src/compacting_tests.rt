@@ -315,7 +315,7 @@ fn a_stop_with_any_selector_shows_the_same(rt: HostRuntime) -> Result<(), Fail> 
 }
 
 // The smallest journal, whose session opens and subscribes in one batch, and then sends so many times.
-fn accepted(alloc: Global, sends: u32) -> Option<MemDisk> {
+fn accepted(alloc: Global, sends: u32) -> Option<Setup> {
     let record = sending(alloc, 1_000)?;
     let mut setup = set_up(alloc, SMALL_AREA)?;
     let opened = append(alloc, &setup.ring, &mut setup.first, OPEN);
@@ -327,13 +327,19 @@ fn accepted(alloc: Global, sends: u32) -> Option<MemDisk> {
     if !does_often(alloc, &mut setup, record.as_slice(), sends) {
         return None;
     }
-    let Setup { flusher, .. } = setup;
-    Some(flusher.into_disk())
+    Some(setup)
 }
 
 fn shown_after(alloc: Global, sends: u32) -> Option<[u64; 5]> {
-    let mut disk = accepted(alloc, sends)?;
+    let Setup { flusher, .. } = accepted(alloc, sends)?;
+    let mut disk = flusher.into_disk();
     shown(alloc, &mut disk)
+}
+
+// What the last compaction won, asked for twice.
+fn won_after(alloc: Global, sends: u32) -> Option<[Option<u64>; 2]> {
+    let Setup { mut flusher, .. } = accepted(alloc, sends)?;
+    Some([flusher.take_won(), flusher.take_won()])
 }
 
 // Which area is live then, and how many commands were carried out.
@@ -354,6 +360,14 @@ fn a_block_that_does_not_fit_compacts_first(rt: HostRuntime) -> Result<(), Fail>
     assert!(rt; area_after(rt.alloc(), 3) == Some(1));
     assert!(rt; shown_after(rt.alloc(), 4) == Some([1, 0, 1_118, 6, 0]));
     assert!(rt; count_after(rt.alloc(), 100) == Some(102));
+    Ok(())
+}
+
+// The session's opening and subscription are 40 bytes in one block: before the fourth message 41 + 49 + 3 * 1,037 bytes are used.
+#[test]
+fn what_a_compaction_won_is_told_once(rt: HostRuntime) -> Result<(), Fail> {
+    assert!(rt; won_after(rt.alloc(), 3) == Some([None, None]));
+    assert!(rt; won_after(rt.alloc(), 4) == Some([Some(3_201 - 81), None]));
     Ok(())
 }
 

@@ -23,7 +23,7 @@ pub some_of : {X : Type 0} (o : Option X) (x : X) (P : X → Type 0) → Some x 
 some_of o x P e p = let At : Option _ → Type 0 = λ k. IfSome k P in subst At (sym e) p
 
 pub first : {D : Type 0} {disk : Ghosts D} (f : Flushed D) (store : Store D disk) (seat : FlushSeatValue) (broker : BrokerValue) (ring : TableId) (base : ℕ)
-    → f ≡ flushed store seat broker.state seat.base seat.base [] broker [] [] [] [] [] false → seat ≡ new_flushing ring base 32 → broker.broken ≡ false → IsFirst ring base f
+    → f ≡ flushed store seat broker.state seat.base seat.base [] broker [] [] [] [] [] false None → seat ≡ new_flushing ring base 32 → broker.broken ≡ false → IsFirst ring base f
 first f store seat broker ring base is seat_is whole =
     let base_is : seat.base ≡ base = ap (λ (s : FlushSeatValue). s.base) seat_is in
     let broker_is : f.broker ≡ broker = ap (λ (x : Flushed _). x.broker) is in

@@ -43,9 +43,9 @@ more f g h a b = record {
     was_whole false y e w = refl
     was_whole true y e w = let k = e refl in cc
 
--- a turn, whose outputs are then taken away
+-- a turn, whose outputs are then taken away, and which is then asked what it won
 pub turned : {D : Type 0} (honest : D → Type 0) (images : D → List ℕ → Type 0) (old mid : Flushed D) (cs : List (EntryValue SenderValue))
-    → IsFlusher honest images old → old.broken ≡ false → IsTurned old mid cs → Flushes old (record mid { left = [] })
+    → IsFlusher honest images old → old.broken ≡ false → IsTurned old mid cs → Flushes old (record mid { left = []; won = None })
 turned honest images old mid cs kept whole t =
     let At : FlushSeatValue → Type 0 = λ s. next_ticket s ≡ s.published in
     let published : mid.seat.published ≡ next_ticket (with_more old.seat (commands cs)) = ap (λ (s : FlushSeatValue). s.published) t.seat in
@@ -84,7 +84,7 @@ failed X old new Full t = falls old new t
 failed X old new (Memory refused) t = falls old new t
 
 -- the same, as a turn's clauses have it
-pub passed : {D : Type 0} (honest : D → Type 0) (images : D → List ℕ → Type 0) (old mid new : Flushed D) (cs : List (EntryValue SenderValue))
-    → IsFlusher honest images old → old.broken ≡ false → IsTurned old mid cs → new ≡ record mid { left = [] } → Flushes old new
-passed honest images old mid new cs kept whole t taken =
-    let At : Flushed _ → Type 0 = λ f. Flushes old f in subst At (sym taken) (turned honest images old mid cs kept whole t)
+pub passed : {D : Type 0} (honest : D → Type 0) (images : D → List ℕ → Type 0) (old mid dropped new : Flushed D) (cs : List (EntryValue SenderValue))
+    → IsFlusher honest images old → old.broken ≡ false → IsTurned old mid cs → dropped ≡ record mid { left = [] } → new ≡ record dropped { won = None } → Flushes old new
+passed {D} honest images old mid dropped new cs kept whole t taken told =
+    let At : Flushed _ → Type 0 = λ f. Flushes old f in subst At (sym (told ∙ ap (λ (f : Flushed D). record f { won = None }) taken)) (turned honest images old mid cs kept whole t)

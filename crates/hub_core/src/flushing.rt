@@ -1,6 +1,6 @@
 //! What the flusher's thread does.
 
-ghost use Rattle.std.specs.Prelude.{◌≡◌, [], IfOk, OnErr, true, false};
+ghost use Rattle.std.specs.Prelude.{◌≡◌, [], IfOk, None, OnErr, true, false};
 ghost use Rattle.flush_core.specs.Faults.{IsFlushCaused};
 ghost use Rattle.hub_core.specs.Flushes.{Flushes};
 
@@ -57,6 +57,7 @@ fn flush<D: Disk, B: Bell, G: Gate>(
         Ok(_) => {
             drop_left(flusher);
             tell_mark(gate, before, flusher.mark());
+            tell_compaction(gate, flusher);
             Ok(())
         }
         Err(fault) => {
@@ -77,5 +78,14 @@ fn drop_left<D: Disk, B: Bell>(flusher: &mut Flusher<D, B>)
 fn tell_mark<G: Gate>(gate: &G, before: u64, mark: u64) {
     if before < mark {
         gate.published(mark);
+    }
+}
+
+// Tells the gate of the compaction that the turn made, where it made one.
+fn tell_compaction<D: Disk, B: Bell, G: Gate>(gate: &G, flusher: &mut Flusher<D, B>)
+    ensures { flusher.new ≡ record flusher.old { won = None } }
+{
+    if let Some(won) = flusher.take_won() {
+        gate.compacted(won);
     }
 }

@@ -20,6 +20,10 @@ pub trait Gate {
     /// The flusher has published every number under this mark.
     fn published(&self, _mark: u64) {}
 
+    /// The flusher's turn has compacted the journal, whose live area had no room for what waited: it uses so many bytes less now,
+    /// without those of what waited. Said behind `published`.
+    fn compacted(&self, _won: u64) {}
+
     /// A step of the flusher has failed: no mark over the last one will be published, and the ring takes nothing more. A
     /// worker that is kept in `is_full` is to be let go: its next append is refused, and it closes its connection.
     fn stopped(&self) {}

@@ -58,6 +58,10 @@ pub record HandsOut (old new : ServerValue) (worker : WorkerValue) : Type 0 wher
 abbrev pub announced : ℕ → List ℕ
 announced port = codes "listening " ++ (decimal port ++ 10 ∷ [])
 
+-- what a server tells of a compaction: the bytes that it won, and the milliseconds of the turn that made it
+abbrev pub compaction_line : ℕ → ℕ → List ℕ
+compaction_line won millis = codes "stompd: compacted: " ++ (decimal won ++ (codes " bytes won in " ++ (decimal millis ++ (codes " ms" ++ 10 ∷ []))))
+
 -- the flusher of a server has failed, and nothing else of it has changed
 pub record IsFailed (old new : ServerValue) : Type 0 where
   pub broken : new.flusher.broken ≡ true

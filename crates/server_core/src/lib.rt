@@ -7,6 +7,7 @@ mod fault;
 mod pace;
 mod serving;
 mod socket_stream;
+mod teller;
 
 pub use doorbell::BellRope;
 pub use fault::ServeFault;

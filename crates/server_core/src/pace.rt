@@ -1,6 +1,9 @@
 //! How the threads of a server wait for one another.
 
+use crate::teller::{Compaction, Teller};
 use hub_core::Gate;
+use std::alloc::{AllocError, Global};
+use std::io::Write;
 use std::sync::Wait;
 use std::sync::atomic::{AtomicBool, AtomicU64, Ordering};
 use std::thread;
@@ -29,18 +32,29 @@ pub struct Pace<T> {
     // greater one.
     mark: AtomicU64,
     waiting: AtomicU64,
+    // When the flusher's turn began, in milliseconds of the clock.
+    began: AtomicU64,
+    teller: Teller,
 }
 
 impl<T: Wait> Pace<T> {
     /// The pace of a server whose mark is this.
-    pub(crate) fn new(rt: T, mark: u64) -> Pace<T> {
-        Pace {
+    pub(crate) fn new(alloc: Global, rt: T, mark: u64) -> Result<Pace<T>, AllocError> {
+        let teller = Teller::new(alloc)?;
+        Ok(Pace {
             rt,
             flusher: Parker::new(),
             took: AtomicBool::new(false),
             mark: AtomicU64::new(mark),
             waiting: AtomicU64::new(0),
-        }
+            began: AtomicU64::new(0),
+            teller,
+        })
+    }
+
+    /// Tells the operator of each compaction as it comes. It does not return; the flusher and the workers never wait for it.
+    pub(crate) fn tell_compactions<W: Write>(&self, writer: &mut W) {
+        self.teller.run(&self.rt, writer);
     }
 
     /// Returns once the flusher has something to do: at once where its last turn took something, since more may be ready.
@@ -92,10 +106,21 @@ impl<T: Wait> Pace<T> {
     }
 }
 
+impl<T: Wait + Clock> Pace<T> {
+    // The milliseconds of the clock; 0 where it can't be read.
+    fn millis(&self) -> u64 {
+        match self.rt.monotonic() {
+            Ok(time) => u64::try_from(time.as_millis()).unwrap_or(0),
+            Err(_) => 0,
+        }
+    }
+}
+
 impl<T: Wait + Clock> Gate for Pace<T> {
     fn pass(&self, worker: u32, _turn: u64) -> bool {
         if worker == u32::MAX {
             self.await_commands();
+            self.began.store(self.millis(), Ordering::SeqCst);
         }
         true
     }
@@ -114,6 +139,12 @@ impl<T: Wait + Clock> Gate for Pace<T> {
 
     fn published(&self, mark: u64) {
         self.raise(mark);
+    }
+
+    fn compacted(&self, won: u64) {
+        let began = self.began.load(Ordering::SeqCst);
+        let millis = self.millis().saturating_sub(began);
+        self.teller.note(&self.rt, Compaction { won, millis });
     }
 
     fn stopped(&self) {

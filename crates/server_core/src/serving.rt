@@ -269,6 +269,25 @@ where
         }
         Ok(())
     }
+
+    /// Starts the thread that tells an operator of each compaction of the journal, a line each: the bytes that it won, and the
+    /// milliseconds of the flusher's turn that made it. No other thread waits for it; where the writer takes nothing, up to 64
+    /// lines wait, and more are left out. `Threads` where the system starts no more.
+    pub fn start_teller<W: Write + Drop + Send + 'static>(
+        &self,
+        rt: &R,
+        writer: W,
+    ) -> Result<(), ServeFault> {
+        let Ok(shared) = self.shared.clone() else {
+            drop(writer);
+            return Err(ServeFault::Memory);
+        };
+        let mut writer = writer;
+        match thread::spawn(rt, move || shared.pace.tell_compactions(&mut writer)) {
+            Ok(_) => Ok(()),
+            Err(_) => Err(ServeFault::Threads),
+        }
+    }
 }
 
 impl<R: Wait + Clock + Drop> Server<R> {
@@ -415,11 +434,12 @@ fn share<R: Wait + Clone + Drop>(
 {
     let mine = rt.clone()?;
     let its = rt.clone()?;
+    let pace = Pace::new(alloc, its, mark)?;
     let shared = Shared {
         rt: mine,
         ring,
         listener,
-        pace: Pace::new(its, mark),
+        pace,
     };
     match Arc::new(alloc, shared) {
         Ok(shared) => Ok(shared),

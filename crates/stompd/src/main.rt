@@ -29,6 +29,9 @@ fn main(rt: HostRuntime) -> ExitCode {
     if let Err(fault) = server.start_workers(&rt, alloc) {
         return failed(&rt, fault);
     }
+    if let Err(fault) = server.start_teller(&rt, rt.stderr().lock()) {
+        return failed(&rt, fault);
+    }
     let mut writer = rt.stdout().lock();
     let fault = ended(alloc, server, &mut writer);
     failed(&rt, fault)

@@ -28,7 +28,7 @@ use Rattle.flush_core.proofs.flusher.Flusher.append.Goals as goal
 pub invariant_of-self : goal.invariant_of-self
 invariant_of-self g c =
     let it = c.self.inside in
-    let f = flushed it.journal it.seat it.opening.value.state it.stored it.settled (it.done.items ++ it.batch.items) it.broker it.outlet.boxes it.outlet.ended.items it.outlet.past.items it.outlet.waiting.items it.outlet.left.items it.broken in
+    let f = flushed it.journal it.seat it.opening.value.state it.stored it.settled (it.done.items ++ it.batch.items) it.broker it.outlet.boxes it.outlet.ended.items it.outlet.past.items it.outlet.waiting.items it.outlet.left.items it.broken it.won in
     let opening = it.opening.value.state in
     let kept = c.self.invariant.0 in
     let settled : it.settled ≡ it.stored = subst (λ (f : Flushed g.row.D.Denot). f.settled ≡ f.stored) (sym c.self.view_is) (c.requires.settled (ap (λ (f : Flushed g.row.D.Denot). f.broken) (sym c.self.view_is) ∙ c.if-self.false)) in
@@ -48,7 +48,7 @@ invariant_of-self g c =
 pub invariant_of-self-in-Err : goal.invariant_of-self-in-Err
 invariant_of-self-in-Err g c =
     let it = c.self.inside in
-    let f = flushed it.journal it.seat it.opening.value.state it.stored it.settled (it.done.items ++ it.batch.items) it.broker it.outlet.boxes it.outlet.ended.items it.outlet.past.items it.outlet.waiting.items it.outlet.left.items it.broken in
+    let f = flushed it.journal it.seat it.opening.value.state it.stored it.settled (it.done.items ++ it.batch.items) it.broker it.outlet.boxes it.outlet.ended.items it.outlet.past.items it.outlet.waiting.items it.outlet.left.items it.broken it.won in
     let opening = it.opening.value.state in
     let kept = c.self.invariant.0 in
     let s = state_at opening it.seat it.stored in
@@ -100,7 +100,7 @@ returns-in-Err-clause-any_moment g c =
 pub returns-then-is_empty-clause-any_moment : goal.returns-then-is_empty-clause-any_moment
 returns-then-is_empty-clause-any_moment g c =
     let it = c.self.inside in
-    let f = flushed it.journal it.seat it.opening.value.state it.stored it.settled (it.done.items ++ it.batch.items) it.broker it.outlet.boxes it.outlet.ended.items it.outlet.past.items it.outlet.waiting.items it.outlet.left.items it.broken in
+    let f = flushed it.journal it.seat it.opening.value.state it.stored it.settled (it.done.items ++ it.batch.items) it.broker it.outlet.boxes it.outlet.ended.items it.outlet.past.items it.outlet.waiting.items it.outlet.left.items it.broken it.won in
     subst (λ (f : Flushed g.row.D.Denot). g.D.Disk.honest f.disk → f.broken ≡ false → LeavesOnly g.D.Disk.moment g.D.Disk.images_since f.disk f.disk (StandsForEither (state_at f.opening f.seat f.stored) (state_taken f.opening f.seat))) c.self.view_is
     (λ h w. unstored g.D.Disk f it.journal.disk _ c.self.invariant.0 w (g.met.D.Disk.only_now it.journal.disk) refl h)
 
@@ -115,20 +115,20 @@ returns-then-is_empty-clause-after g c =
 pub returns-then-is_empty-clause-stored : goal.returns-then-is_empty-clause-stored
 returns-then-is_empty-clause-stored g c =
     let it = c.self.inside in
-    let f = flushed it.journal it.seat it.opening.value.state it.stored it.settled (it.done.items ++ it.batch.items) it.broker it.outlet.boxes it.outlet.ended.items it.outlet.past.items it.outlet.waiting.items it.outlet.left.items it.broken in
+    let f = flushed it.journal it.seat it.opening.value.state it.stored it.settled (it.done.items ++ it.batch.items) it.broker it.outlet.boxes it.outlet.ended.items it.outlet.past.items it.outlet.waiting.items it.outlet.left.items it.broken it.won in
     let zero : it.batch.len ≡ 0 = eqb-true it.batch.len 0 (sym c.is_empty.ensures ∙ c.if-is_empty.true) in
     let is = all_stored it.seat it.stored it.settled _ it.batch.items it.done.items _ _ _ _ (omega (arith, zero, it.batch.ok.0)) (omega (arith, c.self.invariant.0.begun, c.self.invariant.0.marked, c.self.invariant.0.settled)) c.self.invariant.0.stored (c.self.invariant.1 c.if-self.false) in
-    subst (λ (f : Flushed g.row.D.Denot). f ≡ storing f f.disk f.size f.used) c.self.view_is (λ i. record f { stored = is i })
+    subst (λ (f : Flushed g.row.D.Denot). f ≡ storing f f.disk f.size f.used f.won) c.self.view_is (λ i. record f { stored = is i })
 
 pub returns-in-Ok-clause-stored : goal.returns-in-Ok-clause-stored
 returns-in-Ok-clause-stored g c =
     let it = c.self.inside in
-    let f = flushed it.journal it.seat it.opening.value.state it.stored it.settled (it.done.items ++ it.batch.items) it.broker it.outlet.boxes it.outlet.ended.items it.outlet.past.items it.outlet.waiting.items it.outlet.left.items it.broken in
+    let f = flushed it.journal it.seat it.opening.value.state it.stored it.settled (it.done.items ++ it.batch.items) it.broker it.outlet.boxes it.outlet.ended.items it.outlet.past.items it.outlet.waiting.items it.outlet.left.items it.broken it.won in
     let settled : it.settled ≡ it.stored = subst (λ (f : Flushed g.row.D.Denot). f.settled ≡ f.stored) (sym c.self.view_is) (c.requires.settled (ap (λ (f : Flushed g.row.D.Denot). f.broken) (sym c.self.view_is) ∙ c.if-self.false)) in
     let same : c.swap.new.y.items ++ c.swap.new.x.items ≡ it.done.items ++ it.batch.items =
     stored_brought it.seat it.stored it.settled _ it.batch.items it.done.items _ _ _ _ _ _ (λ i. (c.swap.ensures.x_after i).items) (λ i. (c.swap.ensures.y_after i).items) settled (c.self.invariant.1 c.if-self.false) in
     (λ i. record f { disk = disk_of c.append.new.self; size = size_of c.append.new.self; used = used_of c.append.new.self; stored = c.next-self-inside.ensures.next i; brought = same i })
-    ∙ ap (λ (f : Flushed g.row.D.Denot). storing f (disk_of c.append.new.self) (size_of c.append.new.self) (used_of c.append.new.self)) c.self.view_is
+    ∙ ap (λ (f : Flushed g.row.D.Denot). storing f (disk_of c.append.new.self) (size_of c.append.new.self) (used_of c.append.new.self) f.won) c.self.view_is
 
 pub returns-in-Ok-clause-nothing : goal.returns-in-Ok-clause-nothing
 returns-in-Ok-clause-nothing g c w none =
@@ -179,7 +179,7 @@ pub returns-in-Err-clause-outcome : goal.returns-in-Err-clause-outcome
 returns-in-Err-clause-outcome g c =
     let it = c.self.inside in
     let now = c.args.self.now in
-    let new = flushed c.append.new.self c.stop.new.seat it.opening.value.state it.stored it.settled (it.done.items ++ it.batch.items) it.broker it.outlet.boxes it.outlet.ended.items it.outlet.past.items it.outlet.waiting.items it.outlet.left.items true in
+    let new = flushed c.append.new.self c.stop.new.seat it.opening.value.state it.stored it.settled (it.done.items ++ it.batch.items) it.broker it.outlet.boxes it.outlet.ended.items it.outlet.past.items it.outlet.waiting.items it.outlet.left.items true it.won in
     let whole : c.in-Err.fault ≡ area.Broken → ⊥ = λ is. absurd (cc (c.append.ensures.sound (c.in-Err.is ∙ ap (λ (fault : AreaFault). Err fault) is), (c.self.invariant.1 c.if-self.false).whole)) in
     subst (λ (fault : FlushFault). IsOutcome {X = Unit {0}} now new (Err fault)) (sym c.from.ensures)
     (fell_so c.in-Err.fault now new whole (record {

@@ -43,7 +43,7 @@ returns-clause-turned g c =
     let whole = c.in_ok-count.ensures.outcome.0 in (
       took.0,
       took.1,
-      turned g.D.Disk c.args.self.now c.gather.new.self c.append.new.self c.settle.new.self c.publish.new.self took.0 c.append.new.self.disk c.append.new.self.size c.append.new.self.used
+      turned g.D.Disk c.args.self.now c.gather.new.self c.append.new.self c.settle.new.self c.publish.new.self took.0 c.append.new.self.disk c.append.new.self.size c.append.new.self.used c.gather.new.self.won
           c.is_broken.ensures.kept whole (c.requires.settled whole) took.2 c.in_ok-append.ensures.stored c.in_ok-settle.ensures.settled c.publish.ensures.published c.publish.ensures.given,
     )
 
@@ -118,11 +118,19 @@ returns-in_err-append-clause-nothing g c none =
 pub returns-in_err-settle-clause-nothing : goal.returns-in_err-settle-clause-nothing
 returns-in_err-settle-clause-nothing g c none =
     let took = c.in_ok-count.ensures.taken in
-    still_unsettled c.args.self.now c.gather.new.self c.append.new.self took.0 _ _ _ took.2 c.in_ok-append.ensures.stored (λ waits. (c.append.ensures.nothing c.in_ok-count.ensures.outcome.1 waits).1)
+    still_unsettled c.args.self.now c.gather.new.self c.append.new.self took.0 _ _ _ _ took.2 c.in_ok-append.ensures.stored (λ waits. (c.append.ensures.nothing c.in_ok-count.ensures.outcome.1 waits).1)
     c.settle.new.self _ c.in_err-settle.ensures.outcome c.settle.ensures.untouched none
 
 pub returns-clause-nothing : goal.returns-clause-nothing
 returns-clause-nothing g c none =
     let took = c.in_ok-count.ensures.taken in
-    still_published c.args.self.now c.gather.new.self c.append.new.self took.0 _ _ _ took.2 c.in_ok-append.ensures.stored (λ waits. (c.append.ensures.nothing c.in_ok-count.ensures.outcome.1 waits).1)
+    still_published c.args.self.now c.gather.new.self c.append.new.self took.0 _ _ _ _ took.2 c.in_ok-append.ensures.stored (λ waits. (c.append.ensures.nothing c.in_ok-count.ensures.outcome.1 waits).1)
     c.settle.new.self c.publish.new.self c.in_ok-settle.ensures.settled c.settle.ensures.untouched c.publish.ensures.published none
+
+pub returns-clause-uncompacted : goal.returns-clause-uncompacted
+returns-clause-uncompacted g c =
+    let won = λ (f : Flushed g.row.D.Denot). f.won in
+    ap won c.publish.ensures.published ∙ (ap won c.in_ok-settle.ensures.settled ∙ (ap won c.in_ok-append.ensures.stored ∙ ap won c.in_ok-count.ensures.taken.2))
+
+pub returns-then-is_broken-clause-uncompacted : goal.returns-then-is_broken-clause-uncompacted
+returns-then-is_broken-clause-uncompacted g c = tt

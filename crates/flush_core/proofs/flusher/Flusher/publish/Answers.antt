@@ -28,7 +28,7 @@ give-requires-clause-left g c some =
 pub invariant_of-self : goal.invariant_of-self
 invariant_of-self g c =
     let it = c.self.inside in
-    let f = flushed it.journal it.seat it.opening.value.state it.stored it.settled (it.done.items ++ it.batch.items) it.broker it.outlet.boxes it.outlet.ended.items it.outlet.past.items it.outlet.waiting.items it.outlet.left.items it.broken in
+    let f = flushed it.journal it.seat it.opening.value.state it.stored it.settled (it.done.items ++ it.batch.items) it.broker it.outlet.boxes it.outlet.ended.items it.outlet.past.items it.outlet.waiting.items it.outlet.left.items it.broken it.won in
     let whole : it.broken ≡ false = ap (λ (f : Flushed g.row.D.Denot). f.broken) c.self.view_is ∙ c.requires.whole in
     let settled : it.settled ≡ it.stored = subst (λ (f : Flushed g.row.D.Denot). f.settled ≡ f.stored) (sym c.self.view_is) c.requires.settled in
     let waiting = ap (λ (l : List OutValue). length l) c.give.ensures.none.0 in (
@@ -42,7 +42,7 @@ invariant_of-self g c =
 pub returns-clause-published : goal.returns-clause-published
 returns-clause-published g c =
     let it = c.self.inside in
-    let f = flushed it.journal it.seat it.opening.value.state it.stored it.settled (it.done.items ++ it.batch.items) it.broker it.outlet.boxes it.outlet.ended.items it.outlet.past.items it.outlet.waiting.items it.outlet.left.items it.broken in
+    let f = flushed it.journal it.seat it.opening.value.state it.stored it.settled (it.done.items ++ it.batch.items) it.broker it.outlet.boxes it.outlet.ended.items it.outlet.past.items it.outlet.waiting.items it.outlet.left.items it.broken it.won in
     (λ i. record f { seat = c.raise.ensures i; boxes = c.give.new.self.boxes; ended = c.give.ensures.ended.0 i; past = c.give.ensures.ended.1 i; waiting = c.give.ensures.none.0 i; left = c.give.ensures.left i })
     ∙ ap (λ (f : Flushed g.row.D.Denot). publishing f c.give.new.self.boxes) c.self.view_is
 

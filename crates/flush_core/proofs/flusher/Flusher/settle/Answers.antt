@@ -17,14 +17,14 @@ use Rattle.flush_core.proofs.flusher.Flusher.settle.Goals as goal
 pub execute_all-requires-clause-count : goal.execute_all-requires-clause-count
 execute_all-requires-clause-count g c =
     let it = c.self.inside in
-    let f = flushed it.journal it.seat it.opening.value.state it.stored it.settled (it.done.items ++ it.batch.items) it.broker it.outlet.boxes it.outlet.ended.items it.outlet.past.items it.outlet.waiting.items it.outlet.left.items it.broken in
+    let f = flushed it.journal it.seat it.opening.value.state it.stored it.settled (it.done.items ++ it.batch.items) it.broker it.outlet.boxes it.outlet.ended.items it.outlet.past.items it.outlet.waiting.items it.outlet.left.items it.broken it.won in
     let held = c.self.invariant.1 c.if-self.false in
     counts g.D.Disk.honest g.D.Disk.images f it.done.items c.if-self.false c.self.invariant.0 held.done_is held.few
 
 pub invariant_of-self : goal.invariant_of-self
 invariant_of-self g c =
     let it = c.self.inside in
-    let f = flushed it.journal it.seat it.opening.value.state it.stored it.settled (it.done.items ++ it.batch.items) it.broker it.outlet.boxes it.outlet.ended.items it.outlet.past.items it.outlet.waiting.items it.outlet.left.items it.broken in
+    let f = flushed it.journal it.seat it.opening.value.state it.stored it.settled (it.done.items ++ it.batch.items) it.broker it.outlet.boxes it.outlet.ended.items it.outlet.past.items it.outlet.waiting.items it.outlet.left.items it.broken it.won in
     let held = c.self.invariant.1 c.if-self.false in
     let did = c.in-Ok.ensures in
     let now = c.execute_all.new in (
@@ -40,7 +40,7 @@ invariant_of-self g c =
 pub invariant_of-self-in-Err : goal.invariant_of-self-in-Err
 invariant_of-self-in-Err g c =
     let it = c.self.inside in
-    let f = flushed it.journal it.seat it.opening.value.state it.stored it.settled (it.done.items ++ it.batch.items) it.broker it.outlet.boxes it.outlet.ended.items it.outlet.past.items it.outlet.waiting.items it.outlet.left.items it.broken in
+    let f = flushed it.journal it.seat it.opening.value.state it.stored it.settled (it.done.items ++ it.batch.items) it.broker it.outlet.boxes it.outlet.ended.items it.outlet.past.items it.outlet.waiting.items it.outlet.left.items it.broken it.won in
     let now = c.execute_all.new in (
       fails g.D.Disk.honest g.D.Disk.images f c.stop.new.seat (now.done.items ++ it.batch.items) now.broker now.outlet.boxes now.outlet.ended.items now.outlet.past.items now.outlet.waiting.items now.outlet.left.items
           c.stop.ensures c.execute_all.ensures.left c.self.invariant.0,
@@ -51,7 +51,7 @@ invariant_of-self-in-Err g c =
 pub returns-in-Ok-clause-settled : goal.returns-in-Ok-clause-settled
 returns-in-Ok-clause-settled g c =
     let it = c.self.inside in
-    let f = flushed it.journal it.seat it.opening.value.state it.stored it.settled (it.done.items ++ it.batch.items) it.broker it.outlet.boxes it.outlet.ended.items it.outlet.past.items it.outlet.waiting.items it.outlet.left.items it.broken in
+    let f = flushed it.journal it.seat it.opening.value.state it.stored it.settled (it.done.items ++ it.batch.items) it.broker it.outlet.boxes it.outlet.ended.items it.outlet.past.items it.outlet.waiting.items it.outlet.left.items it.broken it.won in
     let kept = c.self.invariant.0 in
     let held = c.self.invariant.1 c.if-self.false in
     let did = c.in-Ok.ensures in

@@ -4,7 +4,7 @@ use Rattle.std.proofs.lemmas.Result.{err_from_is_err_and}
 use Rattle.flush_core.specs.declared.faults.FlushFault.{FlushFault}
 use Rattle.flush_core.specs.declared.faults.FlushFault.TheVariants.{Full}
 use Rattle.flush_core.specs.Flushed.{Flushed, gathered}
-use Rattle.flush_core.proofs.Room.{came_afresh, came_behind, found_none, gathered_stays, has_none_left, of_a_batch, still_published, still_unsettled}
+use Rattle.flush_core.proofs.Room.{came_afresh, came_behind, found_none, gathered_stays, has_none_left, none_won, of_a_batch, still_published, still_unsettled}
 use Rattle.flush_core.proofs.Turns.{failed_keeps, stored, turned, unstored}
 use Rattle.flush_core.proofs.flusher.Flusher.turn.Goals as goal
 
@@ -43,7 +43,7 @@ returns-clause-turned g c =
     let whole = c.in_ok-count.ensures.outcome.0 in (
       took.0,
       took.1,
-      turned g.D.Disk c.args.self.now c.gather.new.self c.store.new.self c.settle.new.self c.publish.new.self took.0 c.store.new.self.disk c.store.new.self.size c.store.new.self.used
+      turned g.D.Disk c.args.self.now c.gather.new.self c.store.new.self c.settle.new.self c.publish.new.self took.0 c.store.new.self.disk c.store.new.self.size c.store.new.self.used c.store.new.self.won
           c.is_broken.ensures.kept whole (c.requires.settled whole) took.2 c.in_ok-store.ensures.stored c.in_ok-settle.ensures.settled c.publish.ensures.published c.publish.ensures.given,
     )
 
@@ -93,13 +93,13 @@ returns-in_err-store-clause-no_room g c honest is =
 pub returns-clause-behind : goal.returns-clause-behind
 returns-clause-behind g c fits some =
     let took = c.in_ok-count.ensures.taken in
-    came_behind c.args.self.now c.gather.new.self c.store.new.self took.0 _ _ _ took.2 c.in_ok-store.ensures.stored (λ waits. (c.store.ensures.nothing c.in_ok-count.ensures.outcome.1 waits).1)
+    came_behind c.args.self.now c.gather.new.self c.store.new.self took.0 _ _ _ _ took.2 c.in_ok-store.ensures.stored (λ waits. (c.store.ensures.nothing c.in_ok-count.ensures.outcome.1 waits).1)
     c.settle.new.self c.publish.new.self c.in_ok-settle.ensures.settled c.publish.ensures.published c.in_ok-store.ensures.behind fits some
 
 pub returns-clause-afresh : goal.returns-clause-afresh
 returns-clause-afresh g c long some =
     let took = c.in_ok-count.ensures.taken in
-    came_afresh c.args.self.now c.gather.new.self c.store.new.self took.0 _ _ _ took.2 c.in_ok-store.ensures.stored (λ waits. (c.store.ensures.nothing c.in_ok-count.ensures.outcome.1 waits).1)
+    came_afresh c.args.self.now c.gather.new.self c.store.new.self took.0 _ _ _ _ took.2 c.in_ok-store.ensures.stored (λ waits. (c.store.ensures.nothing c.in_ok-count.ensures.outcome.1 waits).1)
     c.settle.new.self c.publish.new.self c.in_ok-settle.ensures.settled c.publish.ensures.published c.is_broken.ensures.kept.stored c.in_ok-store.ensures.afresh long some
 
 pub returns-then-is_broken-clause-behind : goal.returns-then-is_broken-clause-behind
@@ -148,11 +148,20 @@ returns-in_err-store-clause-nothing g c none =
 pub returns-in_err-settle-clause-nothing : goal.returns-in_err-settle-clause-nothing
 returns-in_err-settle-clause-nothing g c none =
     let took = c.in_ok-count.ensures.taken in
-    still_unsettled c.args.self.now c.gather.new.self c.store.new.self took.0 _ _ _ took.2 c.in_ok-store.ensures.stored (λ waits. (c.store.ensures.nothing c.in_ok-count.ensures.outcome.1 waits).1)
+    still_unsettled c.args.self.now c.gather.new.self c.store.new.self took.0 _ _ _ _ took.2 c.in_ok-store.ensures.stored (λ waits. (c.store.ensures.nothing c.in_ok-count.ensures.outcome.1 waits).1)
     c.settle.new.self _ c.in_err-settle.ensures.outcome c.settle.ensures.untouched none
 
 pub returns-clause-nothing : goal.returns-clause-nothing
 returns-clause-nothing g c none =
     let took = c.in_ok-count.ensures.taken in
-    still_published c.args.self.now c.gather.new.self c.store.new.self took.0 _ _ _ took.2 c.in_ok-store.ensures.stored (λ waits. (c.store.ensures.nothing c.in_ok-count.ensures.outcome.1 waits).1)
+    still_published c.args.self.now c.gather.new.self c.store.new.self took.0 _ _ _ _ took.2 c.in_ok-store.ensures.stored (λ waits. (c.store.ensures.nothing c.in_ok-count.ensures.outcome.1 waits).1)
     c.settle.new.self c.publish.new.self c.in_ok-settle.ensures.settled c.settle.ensures.untouched c.publish.ensures.published none
+
+pub returns-clause-idle : goal.returns-clause-idle
+returns-clause-idle g c none =
+    let took = c.in_ok-count.ensures.taken in
+    none_won c.args.self.now c.gather.new.self c.store.new.self took.0 _ _ _ _ took.2 c.in_ok-store.ensures.stored (λ waits. (c.store.ensures.nothing c.in_ok-count.ensures.outcome.1 waits).1)
+    c.settle.new.self c.publish.new.self c.in_ok-settle.ensures.settled c.publish.ensures.published none
+
+pub returns-then-is_broken-clause-idle : goal.returns-then-is_broken-clause-idle
+returns-then-is_broken-clause-idle g c = λ none. tt
