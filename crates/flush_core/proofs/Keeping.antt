@@ -17,7 +17,7 @@ use Rattle.flush_core.specs.Flushed.{AfterSome, AreUnder, Flushed, HoldBetween, 
 use Rattle.flush_core.specs.Outcomes.{settling, stored_entries}
 use Rattle.flush_core.specs.Sessions.{boxes_after, ended_of}
 use Rattle.outbox_core.specs.Boxes.{SenderValue}
-use Rattle.boxes_core.specs.Giving.{Kept}
+use Rattle.outbox_core.specs.Giving.{Kept}
 use Rattle.std.specs.Prelude.{filter}
 use Rattle.flush_core.proofs.Sessions.{commands_both, no_entries}
 use Rattle.std.proofs.lemmas.List.{append-nil}

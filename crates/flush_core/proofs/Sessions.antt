@@ -7,7 +7,7 @@ use Rattle.command_core.specs.Entries.{EntryValue}
 use Rattle.broker_core.specs.States.{State}
 use Rattle.broker_core.specs.Steps.{state_after, step}
 use Rattle.outbox_core.specs.Boxes.{SenderValue}
-use Rattle.boxes_core.specs.Giving.{Kept}
+use Rattle.outbox_core.specs.Giving.{Kept}
 use Rattle.flush_core.specs.Sessions.{boxes_after, ended_by, ended_of, opened}
 
 pub ended_commands : (xs : List CommandValue) (s : State) (c : CommandValue) → ended_of s (xs ++ c ∷ []) ≡ ended_of s xs ++ ended_by (state_after s xs) c

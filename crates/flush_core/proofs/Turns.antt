@@ -15,7 +15,7 @@ use Rattle.flush_core.specs.Batches.{from_on, state_at, state_taken, with_more}
 use Rattle.flush_core.specs.Flushed.{Flushed, IsFlusher, unsettled}
 use Rattle.flush_core.specs.Outcomes.{Falls, IsOutcome, IsTurned, publishing, settling, standing, stored_entries, storing, taking, turned_boxes, turned_outs}
 use Rattle.flush_core.specs.Sessions.{boxes_after, ended_of}
-use Rattle.boxes_core.specs.Giving.{AreGiven, Kept, unboxed, without}
+use Rattle.outbox_core.specs.Giving.{AreGiven, Kept, unboxed, without}
 use Rattle.command_core.specs.Commands.{CommandValue}
 use Rattle.command_core.specs.Outs.{OutValue}
 use Rattle.std.proofs.lemmas.List.{length-drop, take_all}

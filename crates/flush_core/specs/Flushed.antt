@@ -6,7 +6,7 @@ use Rattle.command_core.specs.Commands.{CommandValue}
 use Rattle.command_core.specs.Entries.{EntryValue}
 use Rattle.command_core.specs.Outs.{OutValue}
 use Rattle.outbox_core.specs.Boxes.{SenderValue}
-use Rattle.boxes_core.specs.Giving.{Kept}
+use Rattle.outbox_core.specs.Giving.{Kept}
 use Rattle.area_core.specs.Areas.{commands, records}
 use Rattle.broker_core.specs.Sound.{IsSound}
 use Rattle.broker_core.specs.States.{State, BrokerValue}

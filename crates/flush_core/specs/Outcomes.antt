@@ -9,7 +9,7 @@ use Rattle.area_core.specs.Puts.{Each}
 use Rattle.recover_core.specs.Compactions.{HoldsItAlone}
 use Rattle.command_core.specs.Entries.{EntryValue}
 use Rattle.outbox_core.specs.Boxes.{SenderValue}
-use Rattle.boxes_core.specs.Giving.{AreGiven, Kept, unboxed, without}
+use Rattle.outbox_core.specs.Giving.{AreGiven, Kept, unboxed, without}
 use Rattle.claim_core.specs.Seats.{when_stopped, with_mark, next_ticket}
 use Rattle.flush_core.specs.declared.faults.FlushFault.{FlushFault}
 use Rattle.flush_core.specs.declared.faults.FlushFault.TheVariants.{Device, Full, Broken, Memory}

@@ -5,7 +5,7 @@ use Rattle.command_core.specs.Entries.{EntryValue}
 use Rattle.broker_state.specs.States.{State, is_open}
 use Rattle.broker_state.specs.Steps.{is_opening, step}
 use Rattle.outbox_core.specs.Boxes.{SenderValue}
-use Rattle.boxes_core.specs.Giving.{Kept, with_box}
+use Rattle.outbox_core.specs.Giving.{Kept, with_box}
 
 -- a box is kept where one is brought
 abbrev pub with_brought : Kept → ℕ → Option SenderValue → Kept

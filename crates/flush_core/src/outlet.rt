@@ -1,13 +1,12 @@
 //! Where outputs go.
 
 ghost use Rattle.std.specs.Prelude.{◌≡◌, ◌<◌, ◌≤◌, ◌+◌, ◌++◌, [], OnOk, length, vec_capacity};
-ghost use Rattle.boxes_core.specs.Giving.{AreGiven, unboxed, without};
+ghost use Rattle.outbox_core.specs.Giving.{AreGiven, unboxed, without};
 ghost use Rattle.flush_core.specs.Flushed.{AreUnder};
 
-use boxes_core::Boxes;
 use claim_core::FlushSeat;
 use command_core::Out;
-use outbox_core::{Bell, OutSender};
+use outbox_core::{Bell, Boxes, OutSender};
 use std::alloc::{AllocError, Global};
 use std::mem::{replace, swap};
 

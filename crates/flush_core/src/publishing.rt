@@ -2,7 +2,7 @@
 
 ghost use Rattle.std.specs.Prelude.{◌≡◌, ◌≤◌, [], false};
 ghost use Rattle.recover_core.specs.Standing.{StandFor};
-ghost use Rattle.boxes_core.specs.Giving.{AreGiven};
+ghost use Rattle.outbox_core.specs.Giving.{AreGiven};
 ghost use Rattle.flush_core.specs.Batches.{state_at};
 ghost use Rattle.flush_core.specs.Flushed.{AreUnder};
 ghost use Rattle.flush_core.specs.Outcomes.{publishing, standing};

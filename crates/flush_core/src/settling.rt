@@ -11,12 +11,11 @@ ghost use Rattle.flush_core.specs.Sessions.{boxes_after, ended_by, ended_of, ope
 use crate::FlushFault;
 use crate::flusher::Flusher;
 use crate::outlet::Outlet;
-use boxes_core::Boxes;
 use broker_core::Broker;
 use claim_core::BrokerRing;
 use command_core::{Command, Entry, Op, Out};
 use disk_core::Disk;
-use outbox_core::{Bell, OutSender};
+use outbox_core::{Bell, Boxes, OutSender};
 use std::alloc::{AllocError, Global};
 use std::mem::replace;
 

@@ -1,1 +1,3 @@
 pub mod Prefixes
+pub mod Gifts
+pub mod Sessions

@@ -1,3 +1,4 @@
 pub mod Boxes
 pub mod Ends
 pub mod Takes
+pub mod Giving

@@ -7,7 +7,7 @@ use Rattle.command_core.specs.Entries.{EntryValue}
 use Rattle.command_core.specs.Outs.{OutValue}
 use Rattle.area_core.specs.Areas.{commands}
 use Rattle.outbox_core.specs.Boxes.{SenderValue}
-use Rattle.boxes_core.specs.Giving.{AreGiven, GivesTo, Kept, box_of, to_session, unboxed}
+use Rattle.outbox_core.specs.Giving.{AreGiven, GivesTo, Kept, box_of, to_session, unboxed}
 use Rattle.broker_core.specs.States.{State, BrokerValue}
 use Rattle.broker_core.specs.Steps.{outs, outs_of, state_after, step}
 use Rattle.claim_core.specs.Seats.{FlushSeatValue, SessionSeatValue, flushing, next_ticket, with_mark}

@@ -1,5 +1,5 @@
 use Rattle.std.proofs.Common.{◌∙◌, ap, List, ℕ}
-use Rattle.boxes_core.specs.Giving.{without}
+use Rattle.outbox_core.specs.Giving.{without}
 use Rattle.flush_core.proofs.outlet.let_past_go.Goals as goal
 
 pub returns-clause-boxes : goal.returns-clause-boxes

@@ -1,6 +1,6 @@
 use Rattle.std.proofs.Common.{arith, ap, length, sym, subst, ◌∙◌, ◌++◌, ◌≡◌, List, false}
 use Rattle.std.specs.Prelude.{is_none}
-use Rattle.boxes_core.specs.Giving.{AreGiven, box_of}
+use Rattle.outbox_core.specs.Giving.{AreGiven, box_of}
 use Rattle.claim_core.specs.Seats.{FlushSeatValue}
 use Rattle.command_core.specs.Outs.{OutValue}
 use Rattle.recover_core.specs.Standing.{StandFor}

@@ -1,6 +1,6 @@
 use Rattle.std.proofs.Common.{arith, ap, length, subst, ◌∙◌, ◌++◌, List}
-use Rattle.boxes_core.specs.Giving.{AreGiven, Kept, unboxed}
-use Rattle.boxes_core.proofs.Gifts.{left_few}
+use Rattle.outbox_core.specs.Giving.{AreGiven, Kept, unboxed}
+use Rattle.outbox_core.proofs.Gifts.{left_few}
 use Rattle.command_core.specs.Outs.{OutValue}
 use Rattle.flush_core.proofs.outlet.Outlet.give.Goals as goal
 

@@ -1,8 +1,8 @@
 use Rattle.std.proofs.Common.{◌+◌, ℕ, List, ap, sym, ◌∙◌}
 use Rattle.std.specs.Prelude.{drop}
 use Rattle.std.proofs.lemmas.List.{drop_more}
-use Rattle.boxes_core.specs.Giving.{Kept, without}
-use Rattle.boxes_core.proofs.boxes.Boxes.let_go.Goals as goal
+use Rattle.outbox_core.specs.Giving.{Kept, without}
+use Rattle.outbox_core.proofs.boxes.Boxes.let_go.Goals as goal
 
 pub loop-session-preserved : goal.loop-session-preserved
 loop-session-preserved g c =

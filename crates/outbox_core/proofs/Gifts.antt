@@ -6,7 +6,7 @@ use Rattle.std.proofs.Math.Seq.{take-append-add}
 use Rattle.std.proofs.lemmas.List.Elements.{filter-append}
 use Rattle.command_core.specs.Outs.{OutValue}
 use Rattle.outbox_core.specs.Boxes.{CutsOff, SenderValue, when_cut, with_given}
-use Rattle.boxes_core.specs.Giving.{AreGiven, GivesTo, IsGiven, Kept, box_of, to_session, unboxed, with_all}
+use Rattle.outbox_core.specs.Giving.{AreGiven, GivesTo, IsGiven, Kept, box_of, to_session, unboxed, with_all}
 
 -- a box that is cut stays as it is
 same_cut : (s : SenderValue) → s.cut ≡ true → when_cut s ≡ s

@@ -1,10 +1,11 @@
 //! Boxes by session.
 
 ghost use Rattle.std.specs.Prelude.{◌≡◌, ◌==◌, ◌+◌, ◌<◌, ◌≤◌, [], ◌∷◌, ◌++◌, OnOk, OnErr, length, vec_capacity};
-ghost use Rattle.boxes_core.specs.Giving.{AreGiven, unboxed, with_box, without};
+ghost use Rattle.outbox_core.specs.Giving.{AreGiven, unboxed, with_box, without};
 
+use crate::bell::Bell;
+use crate::sender::OutSender;
 use command_core::Out;
-use outbox_core::{Bell, OutSender};
 use std::alloc::{AllocError, Global};
 use std::collections::BTreeMap;
 use std::marker::Model;
@@ -16,7 +17,7 @@ pub struct Boxes<B: Bell> {
 }
 
 impl<B: Bell> Model for Boxes<B> {
-    ghost use Rattle.boxes_core.specs.Giving.{Kept};
+    ghost use Rattle.outbox_core.specs.Giving.{Kept};
 
     ghost Value = { Kept };
 

@@ -1,5 +1,5 @@
 use Rattle.std.proofs.Common.{rules}
-use Rattle.boxes_core.proofs.boxes.Boxes.keep.Goals as goal
+use Rattle.outbox_core.proofs.boxes.Boxes.keep.Goals as goal
 
 pub returns-clause-kept : goal.returns-clause-kept
 returns-clause-kept g c = search rules

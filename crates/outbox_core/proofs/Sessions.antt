@@ -9,8 +9,8 @@ use Rattle.std.specs.Prelude.{nat_lt}
 use Rattle.std.proofs.lemmas.Bool.{eqb-true}
 use Rattle.command_core.specs.Outs.{OutValue}
 use Rattle.outbox_core.specs.Boxes.{SenderValue}
-use Rattle.boxes_core.specs.Giving.{AreGiven, GivesTo, IsGiven, Kept, box_of}
-use Rattle.boxes_core.proofs.Gifts.{gives_none}
+use Rattle.outbox_core.specs.Giving.{AreGiven, GivesTo, IsGiven, Kept, box_of}
+use Rattle.outbox_core.proofs.Gifts.{gives_none}
 
 at_same : (x y : ℕ) → x ≡ y → is_at (nat_cmp x) y ≡ true
 at_same x y is = ap (λ (o : Ordering). is_eq o) (sym (nat_cmp_is x y Equal is))

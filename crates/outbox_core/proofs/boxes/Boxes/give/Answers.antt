@@ -1,10 +1,10 @@
 use Rattle.std.proofs.Common.{rules, ◌≡◌, ℕ, [], ◌∷◌, Some, None, cond, sym, subst}
 use Rattle.std.specs.BTreeMap.{is_at}
 use Rattle.std.specs.Ordering.{nat_cmp}
-use Rattle.boxes_core.specs.Giving.{AreGiven, Kept, box_of}
-use Rattle.boxes_core.proofs.Gifts.{answered}
-use Rattle.boxes_core.proofs.Sessions.{box_given, none_given}
-use Rattle.boxes_core.proofs.boxes.Boxes.give.Goals as goal
+use Rattle.outbox_core.specs.Giving.{AreGiven, Kept, box_of}
+use Rattle.outbox_core.proofs.Gifts.{answered}
+use Rattle.outbox_core.proofs.Sessions.{box_given, none_given}
+use Rattle.outbox_core.proofs.boxes.Boxes.give.Goals as goal
 
 pub returns-in_default-clause-given : goal.returns-in_default-clause-given
 returns-in_default-clause-given g c =

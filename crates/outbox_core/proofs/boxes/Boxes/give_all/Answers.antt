@@ -1,9 +1,9 @@
 use Rattle.std.proofs.Common.{rules, ◌∷◌, [], arith, ap, length, length-append, append-nil, refl, sym, ◌∙◌}
 use Rattle.std.proofs.lemmas.Iterator.Consumers.{YieldsList-turn}
 use Rattle.std.proofs.lemmas.Iterator.Adapters.{YieldsList-from_vec}
-use Rattle.boxes_core.specs.Giving.{unboxed}
-use Rattle.boxes_core.proofs.Gifts.{are_more, are_none, left_few, left_more}
-use Rattle.boxes_core.proofs.boxes.Boxes.give_all.Goals as goal
+use Rattle.outbox_core.specs.Giving.{unboxed}
+use Rattle.outbox_core.proofs.Gifts.{are_more, are_none, left_few, left_more}
+use Rattle.outbox_core.proofs.boxes.Boxes.give_all.Goals as goal
 
 pub loop-out-init : goal.loop-out-init
 loop-out-init g c = record { given = are_none c.args.self.now; left = sym (append-nil _); room = refl }
