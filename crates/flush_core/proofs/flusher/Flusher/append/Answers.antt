@@ -1,5 +1,5 @@
-use Rattle.std.proofs.Common.{eqb-true, rules, Result, Err, true, ◌+◌, arith, ap, ◌++◌, subst, sym, refl, length, [], ◌<◌, ◌∙◌, ◌≡◌, List, false}
-use Rattle.std.proofs.lemmas.Bool.{false≢true}
+use Rattle.std.proofs.Common.{eqb-true, Result, Err, true, ◌+◌, arith, ap, ◌++◌, subst, sym, refl, length, [], ◌<◌, ◌∙◌, ◌≡◌, List, false}
+use Rattle.std.proofs.lemmas.Bool.{eqb-false, false≢true}
 use Rattle.disk_core.specs.Moments.{LeavesOnly}
 use Rattle.area_core.specs.Areas.{commands, records}
 use Rattle.area_core.specs.Steps.{IfMemory as IfAreaMemory, IsCaused}
@@ -133,16 +133,16 @@ returns-in-Ok-clause-stored g c =
 pub returns-in-Ok-clause-nothing : goal.returns-in-Ok-clause-nothing
 returns-in-Ok-clause-nothing g c w none =
     let it = c.self.inside in
-    let some : 0 < it.batch.len = search rules in
     let empty : from_on it.seat it.stored ≡ [] = subst (λ (f : Flushed g.row.D.Denot). gathered f ≡ []) (sym c.self.view_is) none in
-    absurd (omega (arith, some, it.batch.ok.0, length_commands it.batch.items, ap (λ (l : List CommandValue). length l) (c.self.invariant.1 c.if-self.false).batch_is, ap (λ (l : List CommandValue). length l) empty))
+    let zero : it.batch.len ≡ 0 = omega (arith, it.batch.ok.0, length_commands it.batch.items, ap (λ (l : List CommandValue). length l) (c.self.invariant.1 c.if-self.false).batch_is, ap (λ (l : List CommandValue). length l) empty) in
+    absurd (eqb-false it.batch.len 0 (sym c.is_empty.ensures ∙ c.if-is_empty.false) zero)
 
 pub returns-in-Err-clause-nothing : goal.returns-in-Err-clause-nothing
 returns-in-Err-clause-nothing g c w none =
     let it = c.self.inside in
-    let some : 0 < it.batch.len = search rules in
     let empty : from_on it.seat it.stored ≡ [] = subst (λ (f : Flushed g.row.D.Denot). gathered f ≡ []) (sym c.self.view_is) none in
-    absurd (omega (arith, some, it.batch.ok.0, length_commands it.batch.items, ap (λ (l : List CommandValue). length l) (c.self.invariant.1 c.if-self.false).batch_is, ap (λ (l : List CommandValue). length l) empty))
+    let zero : it.batch.len ≡ 0 = omega (arith, it.batch.ok.0, length_commands it.batch.items, ap (λ (l : List CommandValue). length l) (c.self.invariant.1 c.if-self.false).batch_is, ap (λ (l : List CommandValue). length l) empty) in
+    absurd (eqb-false it.batch.len 0 (sym c.is_empty.ensures ∙ c.if-is_empty.false) zero)
 
 pub returns-in-Err-clause-full : goal.returns-in-Err-clause-full
 returns-in-Err-clause-full g c is =
