@@ -1,5 +1,5 @@
 -- How turns of the flusher follow one another.
-use Rattle.std.proofs.Common.{◌≡◌, ◌++◌, ℕ, List, [], Bool, true, false, Err, refl, sym, ap, ◌∙◌, append_assoc, append-nil, arith, length-append, subst}
+use Rattle.std.proofs.Common.{◌≡◌, ◌++◌, ℕ, List, [], None, Bool, true, false, Err, refl, sym, ap, ◌∙◌, append_assoc, append-nil, arith, length-append, subst}
 use Rattle.command_core.specs.Entries.{EntryValue}
 use Rattle.outbox_core.specs.Boxes.{SenderValue}
 use Rattle.area_core.specs.Areas.{commands}
