@@ -2,7 +2,6 @@
 
 use crate::teller::{Compaction, Teller};
 use hub_core::Gate;
-use std::alloc::{AllocError, Global};
 use std::io::Write;
 use std::sync::Wait;
 use std::sync::atomic::{AtomicBool, AtomicU64, Ordering};
@@ -38,10 +37,9 @@ pub struct Pace<T> {
 }
 
 impl<T: Wait> Pace<T> {
-    /// The pace of a server whose mark is this.
-    pub(crate) fn new(alloc: Global, rt: T, mark: u64) -> Result<Pace<T>, AllocError> {
-        let teller = Teller::new(alloc)?;
-        Ok(Pace {
+    /// The pace of a server whose mark is this, and which tells so of compactions.
+    pub(crate) fn new(rt: T, mark: u64, teller: Teller) -> Pace<T> {
+        Pace {
             rt,
             flusher: Parker::new(),
             took: AtomicBool::new(false),
@@ -49,7 +47,7 @@ impl<T: Wait> Pace<T> {
             waiting: AtomicU64::new(0),
             began: AtomicU64::new(0),
             teller,
-        })
+        }
     }
 
     /// Tells the operator of each compaction as it comes. It does not return; the flusher and the workers never wait for it.

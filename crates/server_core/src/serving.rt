@@ -10,6 +10,7 @@ use crate::doorbell::BellRope;
 use crate::fault::ServeFault;
 use crate::pace::Pace;
 use crate::socket_stream::SocketStream;
+use crate::teller::Teller;
 use claim_core::{BrokerRing, BrokerSeat, SEATS};
 use disk_core::FileDisk;
 use flush_core::{FlushFault, Flusher};
@@ -432,9 +433,10 @@ fn share<R: Wait + Clone + Drop>(
 ) -> Result<Arc<Shared<R>>, ServeFault>
     ensures { IfOk result (λ shared. (arc_value shared).ring ≡ ring) }
 {
+    let teller = Teller::new(alloc)?;
     let mine = rt.clone()?;
     let its = rt.clone()?;
-    let pace = Pace::new(alloc, its, mark)?;
+    let pace = Pace::new(its, mark, teller);
     let shared = Shared {
         rt: mine,
         ring,
