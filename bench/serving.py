@@ -39,7 +39,7 @@ def build_slow_sync(folder):
 def make_journal(program, path, area):
     """A new journal with areas of so many bytes."""
     pathlib.Path(path).unlink(missing_ok=True)
-    subprocess.run([program, "format", path, str(HEADER + 2 * area)], check=True)
+    subprocess.run([program, "format", "--sparse", path, str(HEADER + 2 * area)], check=True)
 
 
 def shown(program, path):

@@ -65,7 +65,7 @@ def serving(program=PROGRAM, journal_bytes=JOURNAL_BYTES, kind=Broker):
     """A broker over a new journal, which is killed at the end."""
     with tempfile.TemporaryDirectory(prefix="stompd-") as folder:
         journal = os.path.join(folder, "journal")
-        subprocess.run([program, "format", journal, str(journal_bytes)], check=True)
+        subprocess.run([program, "format", "--sparse", journal, str(journal_bytes)], check=True)
         broker = kind(program, journal)
         try:
             yield broker

@@ -29,12 +29,24 @@ def refusal(broker, destination):
     return frame.headers.get("message"), code
 
 
+def told(broker, command):
+    return subprocess.run([broker.program, command, broker.journal], stdout=subprocess.PIPE, check=True, text=True).stdout
+
+
 def held(broker):
     """What `show` says of the journal, once the server is stopped."""
     broker.kill()
-    shown = subprocess.run([broker.program, "show", broker.journal], stdout=subprocess.PIPE, check=True, text=True).stdout
+    shown = told(broker, "show")
     broker.serve()
     return int(shown.split("held ")[1])
+
+
+def places(broker):
+    """What `held` says beside the running server: the totals, and how many messages wait where."""
+    messages, held_bytes, *lines = told(broker, "held").splitlines()
+    lots = [line.split(" ", 2) for line in lines]
+    totals = int(messages.removeprefix("messages ").removesuffix(" of 4096")), int(held_bytes.removeprefix("bytes ").removesuffix(" of 16777216"))
+    return totals, [(int(count), int(size), place) for count, size, place in lots]
 
 
 def fill(broker, destination):
@@ -43,7 +55,12 @@ def fill(broker, destination):
     sender.disconnect()
 
 
-def all_is_refused(broker, checks, destination):
+def size_of(destination, texts):
+    """What messages with no headers count for: their destination and their text."""
+    return sum(len(destination) + len(text) for text in texts)
+
+
+def all_is_refused(broker, checks, destination, place):
     checks.same("one more is refused, and its connection closed", refusal(broker, destination), (NO_ROOM, 1002))
     checks.same("and so is one to another queue", refusal(broker, "/queue/another"), (NO_ROOM, 1002))
     listener = Client(broker.port).connect()
@@ -51,13 +68,15 @@ def all_is_refused(broker, checks, destination):
     checks.same("and one to a topic that somebody listens to", refusal(broker, "/topic/heard"), (NO_ROOM, 1002))
     listener.close()
     checks.same("but none to a topic that nobody listens to", refusal(broker, "/topic/silent"), (None, None))
-    checks.same("the journal's `held` tells it", held(broker), MOST)
+    size = size_of(destination, [f"{number}" for number in range(MOST)])
+    checks.same("`held` tells where they wait, beside the server", places(broker), ((MOST, size), [(MOST, size, place)]))
+    checks.same("and so does the line `held` of `show`, once it is stopped", held(broker), MOST)
 
 
 def an_unread_queue(broker, checks):
     """4,096 messages in a queue that nobody reads"""
     fill(broker, "/queue/left")
-    all_is_refused(broker, checks, "/queue/left")
+    all_is_refused(broker, checks, "/queue/left", "queue /queue/left")
     reader = Client(broker.port).connect()
     waiting, bodies = reader.subscribe("r", "/queue/left", "client-individual"), []
     while len(bodies) < MOST:
@@ -70,6 +89,31 @@ def an_unread_queue(broker, checks):
     checks.same("and a message has room", refusal(broker, "/topic/t"), (None, None))
 
 
+def many_places(broker, checks):
+    """messages in some queues and under a durable name: where most wait stands first, and what a client has and has not acknowledged counts"""
+    client, _ = subscribe_durably(broker)
+    client.disconnect()
+    sender = Client(broker.port).connect()
+    sender.publish_all("/queue/few", ["x"] * 3)
+    sender.publish_all("/queue/many", ["yy"] * 40)
+    sender.publish_all("/topic/news", ["zzz"] * 20)
+    reader = Client(broker.port).connect()
+    reader.subscribe("r", "/queue/few", "client-individual")
+    expected = [(40, 40 * 13, "queue /queue/many"), (20, 20 * 14, "durable client-id:away activemq.subscriptionName:n"), (3, 3 * 11, "queue /queue/few")]
+    totals = 63, 40 * 13 + 20 * 14 + 3 * 11
+    checks.same("`held` tells so, beside the server", places(broker), (totals, expected))
+    for subscriber, destination in ((reader, None), (sender, "/queue/many")):
+        if destination:
+            subscriber.subscribe("m", destination, "auto")
+        subscriber.disconnect()
+    checks.same("what was handed out and acknowledged is gone", places(broker)[1], expected[1:])
+    client = Client(broker.port).connect("away")
+    client.send("UNSUBSCRIBE", [("activemq.subscriptionName", "n")])
+    client.subscribe("f", "/queue/few", "auto")
+    client.disconnect()
+    checks.same("and nothing is held at the end", places(broker), ((0, 0), []))
+
+
 def subscribe_durably(broker):
     client = Client(broker.port).connect("away")
     waiting = client.subscribe("d", "/topic/news", "client-individual", [("activemq.subscriptionName", "n")])
@@ -80,7 +124,7 @@ def an_abandoned_name(broker, checks):
     """4,096 messages for a durable subscription whose client does not come back"""
     subscribe_durably(broker)[0].disconnect()
     fill(broker, "/topic/news")
-    all_is_refused(broker, checks, "/topic/news")
+    all_is_refused(broker, checks, "/topic/news", "durable client-id:away activemq.subscriptionName:n")
     client, waiting = subscribe_durably(broker)
     for number in range(100):
         frame = waiting.pop(0) if waiting else client.receive()
@@ -96,4 +140,4 @@ def an_abandoned_name(broker, checks):
 
 
 if __name__ == "__main__":
-    sys.exit(scenario.run(__doc__, [an_unread_queue, an_abandoned_name]))
+    sys.exit(scenario.run(__doc__, [an_unread_queue, an_abandoned_name, many_places]))

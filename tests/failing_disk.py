@@ -5,7 +5,8 @@ Python 3 alone; the gate does not run it.
 
     python3 tests/failing_disk.py [PROGRAM]
 
-- Where a write or a sync of `stompd format` fails, it ends with status 1 and one line, and the file is gone again.
+- Where a write or a sync of `stompd format` fails, it ends with status 1 and one line, and the file is gone again. Where the
+  file system has no room for its zeros, the line says so.
 - Where a read of `stompd show` fails, it is `J3 device failed`, and nothing is printed.
 - Where a write or a sync of `stompd serve` fails while it opens its journal, it ends with `J3 device failed` and does not
   say that it listens.
@@ -20,11 +21,13 @@ PROGRAM is the built program; without it, the one that bin/stompd leaves in crat
 import contextlib
 import os
 import pathlib
+import re
 import shutil
 import signal
 import subprocess
 import sys
 import tempfile
+import time
 
 TOP = pathlib.Path(__file__).resolve().parent.parent
 PROGRAM = TOP / "crates" / "stompd" / "out" / "stompd"
@@ -38,6 +41,7 @@ from stomp_client import Client  # noqa: E402
 SMALLEST = "8224"
 DEVICE_FAILED = "stompd: J3 device failed\n"
 CANNOT_OPEN = "stompd: cannot open\n"
+NO_SPACE = "stompd: no space left for the file\n"
 
 
 class Checks:
@@ -70,14 +74,54 @@ def run(words):
 
 
 def formatting(checks):
-    """A new file is sized, synced, and synced with its folder; then front and header are written, and synced."""
+    """A new file is sized, synced, and synced with its folder; its zeros are written, and synced, unless it is to be sparse; then
+    front and header are written, and synced."""
     cases = [("ftruncate", 1, CANNOT_OPEN), ("fsync", 1, CANNOT_OPEN), ("fsync", 2, CANNOT_OPEN)]
-    cases += [("pwrite64", 1, DEVICE_FAILED), ("pwrite64", 2, DEVICE_FAILED), ("fsync", 3, DEVICE_FAILED)]
-    for call, number, text in cases:
-        what, path = f"format without {call} {number}", checks.path("made")
-        checks.same(what, run(checks.words(call, number, "format", path, SMALLEST)), (1, "", text))
-        checks.was_injected(what)
-        checks.same(f"{what}: the file is there", os.path.exists(path), False)
+    cases += [("pwrite64", 1, DEVICE_FAILED), ("pwrite64", 2, DEVICE_FAILED)]
+    for option, further in (((), [("fsync", 3, DEVICE_FAILED), ("fsync", 4, DEVICE_FAILED)]), (("--sparse",), [("fsync", 3, DEVICE_FAILED)])):
+        for call, number, text in cases + further:
+            what, path = f"format {option} without {call} {number}", checks.path("made")
+            checks.same(what, run(checks.words(call, number, "format", *option, path, SMALLEST)), (1, "", text))
+            checks.was_injected(what)
+            checks.same(f"{what}: the file is there", os.path.exists(path), False)
+
+
+def filling(checks):
+    """Of a file of 1 MiB and some bytes, 16 whole pieces of zeros are written and a last one. The first has no room, or the ninth."""
+    size = 1_048_576 + 32
+    for error, text in (("ENOSPC", NO_SPACE), ("EDQUOT", NO_SPACE), ("EIO", DEVICE_FAILED)):
+        for number in (1, 9, 17):
+            what, path = f"format with {error} at piece {number}", checks.path("filled")
+            fault = f"inject=write:error={error}:when={number}"
+            words = ["strace", "-f", "-o", checks.path("trace"), "-P", path, "-e", "trace=write", "-e", fault, checks.program]
+            checks.same(what, run([*words, "format", path, str(size)]), (1, "", text))
+            checks.was_injected(what)
+            checks.same(f"{what}: the file is there", os.path.exists(path), False)
+    path = checks.path("filled")
+    checks.same("a format with room", run([checks.program, "format", path, str(size)]), (0, "", ""))
+    checks.same("its room is there", os.stat(path).st_blocks * 512 >= size, True)
+    sparse = checks.path("sparse")
+    checks.same("a sparse format", run([checks.program, "format", "--sparse", sparse, str(size)]), (0, "", ""))
+    checks.same("has the same bytes", pathlib.Path(sparse).read_bytes() == pathlib.Path(path).read_bytes(), True)
+    checks.same("and takes less room", os.stat(sparse).st_blocks < os.stat(path).st_blocks, True)
+
+
+def progress(checks):
+    """A file of 64 MiB is told of while its zeros are written, a line a second at most, and a smaller one is not."""
+    lines = []
+    for size in (67_108_864, 67_108_863):
+        path = checks.path(f"large-{size}")
+        fault = "inject=write:delay_enter=20000"
+        words = ["strace", "-f", "-o", checks.path("trace"), "-P", path, "-e", "trace=write", "-e", fault, checks.program]
+        start = time.monotonic()
+        status, output, errors = run([*words, "format", path, str(size)])
+        seconds = time.monotonic() - start
+        checks.same(f"format of {size} bytes, slowly", (status, output), (0, ""))
+        lines.append(errors.splitlines())
+        fits = all(re.fullmatch(r"stompd: [0-9]+ of 64 MiB are written", line) for line in lines[-1])
+        checks.same(f"{size} bytes: what is told", fits and len(lines[-1]) <= seconds, True)
+        os.remove(path)
+    checks.same("the large one is told of, the smaller is not", (len(lines[0]) > 2, lines[1]), (True, []))
 
 
 def make(checks, name):
@@ -184,7 +228,7 @@ def main():
         sys.exit(2)
     with tempfile.TemporaryDirectory() as name:
         checks = Checks(str(program), pathlib.Path(name).resolve())
-        for part in (formatting, showing, opening, storing, asleep):
+        for part in (formatting, filling, progress, showing, opening, storing, asleep):
             part(checks)
     if checks.failed:
         sys.exit(f"failing_disk: {checks.failed} of {checks.count} are wrong")

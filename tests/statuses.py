@@ -18,7 +18,7 @@ import tempfile
 
 PROGRAM = pathlib.Path(__file__).resolve().parent.parent / "crates" / "stompd" / "out" / "stompd"
 
-# What may be written: just this text, some text that is not ours to say, or nothing.
+# What may be written: just this text, some text that is not ours to say, or nothing. Of None nothing is looked at.
 SOME = object()
 NOTHING = ""
 
@@ -28,6 +28,7 @@ def told(text):
 
 
 CANNOT_OPEN = told("cannot open")
+VERSION = "stompd 0.1.0\n"
 # Areas of 4,096 bytes.
 SMALLEST = 8_224
 
@@ -47,7 +48,7 @@ class Checks:
         """Runs the program, and compares its status and its two outputs."""
         done = subprocess.run([self.program, *words], input=given, stdout=sink, stderr=subprocess.PIPE, timeout=60)
         wrote, said = (text.decode(errors="replace") if text else "" for text in (done.stdout, done.stderr))
-        fits = all(bool(seen) if wanted is SOME else seen == wanted for seen, wanted in ((wrote, output), (said, errors)))
+        fits = all(bool(seen) if wanted is SOME else wanted is None or seen == wanted for seen, wanted in ((wrote, output), (said, errors)))
         self.expect(f"{words} at {given[-40:]}", fits and done.returncode == status, (done.returncode, wrote, said))
 
 
@@ -174,6 +175,11 @@ def formats(checks, folder):
     checks.run(["format", zeros, f"000{SMALLEST}"], 0, NOTHING, NOTHING)
     checks.expect("leading zeros count for nothing", pathlib.Path(zeros).read_bytes() == made)
     checks.run(["format", odd, str(SMALLEST + 1)], 0, NOTHING, NOTHING)
+    sparse, behind = str(folder / "sparse"), str(folder / "--sparse")
+    checks.run(["format", "--sparse", sparse, str(SMALLEST)], 0, NOTHING, NOTHING)
+    checks.expect("a sparse journal has the same bytes", pathlib.Path(sparse).read_bytes() == made)
+    checks.run(["format", "--", behind, str(SMALLEST)], 0, NOTHING, NOTHING)
+    checks.expect("behind -- a word is a file", pathlib.Path(behind).read_bytes() == made)
     checks.expect("a byte over is there, and no area has it", pathlib.Path(odd).read_bytes() == made + b"\0")
 
 
@@ -206,13 +212,16 @@ def shows(checks, folder):
     before = (folder / "journal").read_bytes()
     checks.run(["show", str(folder / "journal")], 0, shown, NOTHING)
     checks.expect("show writes nothing into the file", (folder / "journal").read_bytes() == before)
-    with open("/dev/full", "wb") as full:
-        checks.run(["show", str(folder / "journal")], 1, NOTHING, told("input or output failed"), sink=full)
-    checks.run(["show", str(folder / "missing")], 1, NOTHING, CANNOT_OPEN)
-    checks.run(["show", str(folder)], 1, NOTHING, CANNOT_OPEN)
-    for path, data, text in broken(folder):
-        checks.run(["show", str(path)], 1, NOTHING, text)
-        checks.expect(f"{path.name} is left as it was", path.read_bytes() == data)
+    checks.run(["held", str(folder / "journal")], 0, "messages 0 of 4096\nbytes 0 of 16777216\n", NOTHING)
+    checks.expect("held writes nothing into the file", (folder / "journal").read_bytes() == before)
+    for command in ("show", "held"):
+        with open("/dev/full", "wb") as full:
+            checks.run([command, str(folder / "journal")], 1, NOTHING, told("input or output failed"), sink=full)
+        checks.run([command, str(folder / "missing")], 1, NOTHING, CANNOT_OPEN)
+        checks.run([command, str(folder)], 1, NOTHING, CANNOT_OPEN)
+        for path, data, text in broken(folder):
+            checks.run([command, str(path)], 1, NOTHING, text)
+            checks.expect(f"{path.name} is left as it was", path.read_bytes() == data)
 
 
 def serves(checks, folder):
@@ -243,6 +252,12 @@ def serves(checks, folder):
 
 def words(checks, folder):
     journal = str(folder / "journal")
+    checks.run(["--version"], 0, VERSION, NOTHING)
+    checks.run(["--version"], 1, NOTHING, told("input or output failed"), sink=open("/dev/full", "wb"))
+    for bad in (["--version", "show", journal], ["held"], ["held", journal, "x"], ["format", "--sparse", journal]):
+        checks.run(bad, 2, NOTHING, None)
+    for bad in (["serve", journal, "80", "--origin"], ["show", "--origin", "null", journal], ["show", "--sparse", journal]):
+        checks.run(bad, 2, NOTHING, SOME)
     none = ([], ["flash"], ["--flash"], ["script", "x"], ["show"], ["show", journal, "x"], ["format", journal], ["format", journal, "1", "2"])
     for bad in (*none, ["serve", journal], ["serve", journal, "80", "x"], ["--help"], ["show", "--help"]):
         checks.run(bad, 2, NOTHING, SOME)

@@ -17,6 +17,8 @@ pub struct Doorbell {
     rung: AtomicBool,
     // Whether an outbox was to have a rope to it, which it is once its client has opened a session.
     wanted: AtomicBool,
+    // Whether the worker has begun to close the connection.
+    closing: AtomicBool,
 }
 
 impl Doorbell {
@@ -27,6 +29,7 @@ impl Doorbell {
             asleep: AtomicBool::new(false),
             rung: AtomicBool::new(false),
             wanted: AtomicBool::new(false),
+            closing: AtomicBool::new(false),
         })
     }
 
@@ -57,6 +60,11 @@ impl Doorbell {
     pub(crate) fn has_session(&self) -> bool {
         self.wanted.load(Ordering::SeqCst)
     }
+
+    /// Whether the worker has begun to close the connection.
+    pub(crate) fn is_closing(&self) -> bool {
+        self.closing.load(Ordering::SeqCst)
+    }
 }
 
 /// What rings a doorbell from afar: the outbox of a worker's session has one.
@@ -67,6 +75,16 @@ impl BellRope {
     /// One that rings that doorbell. No memory is taken.
     pub(crate) fn new(bell: Arc<Doorbell>) -> BellRope {
         BellRope(bell)
+    }
+
+    /// Another rope to the same doorbell.
+    pub(crate) fn another(&self) -> Result<BellRope, AllocError> {
+        Ok(BellRope(self.0.clone()?))
+    }
+
+    /// Says that the worker begins to close the connection: its reads have a common deadline from then on.
+    pub(crate) fn begin_closing(&self) {
+        self.0.closing.store(true, Ordering::SeqCst);
     }
 }
 

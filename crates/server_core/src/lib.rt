@@ -6,6 +6,7 @@ mod doorbell;
 mod fault;
 mod pace;
 mod serving;
+mod socket_link;
 mod socket_stream;
 mod teller;
 

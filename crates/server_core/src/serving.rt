@@ -9,6 +9,7 @@ ghost use Rattle.server_core.specs.declared.fault.ServeFault.TheVariants.{Output
 use crate::doorbell::BellRope;
 use crate::fault::ServeFault;
 use crate::pace::Pace;
+use crate::socket_link::SocketLink;
 use crate::socket_stream::SocketStream;
 use crate::teller::Teller;
 use claim_core::{BrokerRing, BrokerSeat, SEATS};
@@ -41,12 +42,19 @@ const REST: u64 = 20;
 /// How many milliseconds the workers have, once nothing more is acknowledged, to tell their clients that the broker stops.
 const FAREWELL: u64 = 1_000;
 
+/// Where clients come in, and the origins whose pages are served: all, where none is named.
+#[derive(Drop)]
+pub struct Door {
+    listener: TcpListener,
+    origins: Vec<Vec<u8>>,
+}
+
 /// What the threads of a server share.
 #[derive(Drop)]
 pub struct Shared<R> {
     rt: R,
     ring: ServerRing,
-    listener: TcpListener,
+    door: Door,
     pace: Pace<R>,
 }
 
@@ -95,14 +103,24 @@ impl<R> Server<R>
 where
     R: Files<File = File> + Net<Listener = TcpListener, Stream = TcpStream> + Wait + Clone + Drop,
 {
-    /// Opens the journal in a file, and the port at 127.0.0.1. `CannotOpen` where the file or the port can't be opened, or where
-    /// another server has the file, of which nothing is read then; `Opening` where the journal is refused.
-    pub fn open(alloc: Global, rt: &R, path: &str, port: u16) -> Result<Server<R>, ServeFault>
+    /// Opens the journal in a file, and the port at 127.0.0.1. Pages of these origins are served alone; where none is named, all
+    /// are. `CannotOpen` where the file or the port can't be opened, or where another server has the file, of which nothing is
+    /// read then; `Opening` where the journal is refused.
+    pub fn open(
+        alloc: Global,
+        rt: &R,
+        path: &str,
+        port: u16,
+        origins: Vec<Vec<u8>>,
+    ) -> Result<Server<R>, ServeFault>
         ensures { IfOk result (IsOpened port) }
     {
         match lock_of(rt, path) {
-            Some(lock) => Server::locked(alloc, rt, path, port, lock),
-            None => Err(ServeFault::CannotOpen),
+            Some(lock) => Server::locked(alloc, rt, path, port, origins, lock),
+            None => {
+                drop(origins);
+                Err(ServeFault::CannotOpen)
+            }
         }
     }
 
@@ -112,12 +130,13 @@ where
         rt: &R,
         path: &str,
         port: u16,
+        origins: Vec<Vec<u8>>,
         lock: File,
     ) -> Result<Server<R>, ServeFault>
         ensures { IfOk result (IsOpened port) }
     {
         match open_hub(alloc, rt, path) {
-            Ok(hub) => match Server::over(alloc, rt, hub, port) {
+            Ok(hub) => match Server::over(alloc, rt, hub, port, origins) {
                 Ok(server) => Ok(server.keeping(lock)),
                 Err(fault) => {
                     drop(lock);
@@ -125,6 +144,7 @@ where
                 }
             },
             Err(fault) => {
+                drop(origins);
                 drop(lock);
                 Err(fault)
             }
@@ -132,14 +152,24 @@ where
     }
 
     // A server over a hub that was just opened.
-    fn over(alloc: Global, rt: &R, hub: ServerHub, port: u16) -> Result<Server<R>, ServeFault>
+    fn over(
+        alloc: Global,
+        rt: &R,
+        hub: ServerHub,
+        port: u16,
+        origins: Vec<Vec<u8>>,
+    ) -> Result<Server<R>, ServeFault>
         requires whole { IsNewHub hub }
         ensures { IfOk result (IsOpened port) }
     {
         match TcpListener::bind(rt, ("127.0.0.1", port)) {
-            Ok(listener) => Server::listening(alloc, rt, hub, listener, port),
+            Ok(listener) => {
+                let door = Door { listener, origins };
+                Server::listening(alloc, rt, hub, door, port)
+            }
             Err(refused) => {
                 drop(refused);
+                drop(origins);
                 drop(hub);
                 Err(ServeFault::CannotOpen)
             }
@@ -153,7 +183,7 @@ impl<R: Wait + Clone + Drop> Server<R> {
         alloc: Global,
         rt: &R,
         hub: ServerHub,
-        listener: TcpListener,
+        door: Door,
         port: u16,
     ) -> Result<Server<R>, ServeFault>
         requires whole { IsNewHub hub }
@@ -166,19 +196,19 @@ impl<R: Wait + Clone + Drop> Server<R> {
             Err(fault) => {
                 drop(seats);
                 drop(hub);
-                drop(listener);
+                drop(door);
                 return Err(fault);
             }
         }
         match hub.flusher() {
             Some(flusher) => {
                 let ring = hub.into_ring();
-                Server::flushing(alloc, rt, ring, listener, port, seats, flusher)
+                Server::flushing(alloc, rt, ring, door, port, seats, flusher)
             }
             None => {
                 drop(seats);
                 drop(hub);
-                drop(listener);
+                drop(door);
                 Err(ServeFault::CannotOpen)
             }
         }
@@ -189,7 +219,7 @@ impl<R: Wait + Clone + Drop> Server<R> {
         alloc: Global,
         rt: &R,
         ring: ServerRing,
-        listener: TcpListener,
+        door: Door,
         port: u16,
         seats: Vec<ServerSeat>,
         flusher: ServerFlusher,
@@ -200,7 +230,7 @@ impl<R: Wait + Clone + Drop> Server<R> {
         requires fresh { flusher.seat.taken ≡ [] }
         ensures { IfOk result (IsOpened port) }
     {
-        match share(alloc, rt, ring, listener, flusher.mark()) {
+        match share(alloc, rt, ring, door, flusher.mark()) {
             Ok(shared) => Ok(Server {
                 shared,
                 port,
@@ -328,7 +358,7 @@ impl<R: Net + Wait + Clock + Clone + Drop> Worker<R> {
     pub fn run(self, alloc: Global) {
         let Worker { shared, mut seat } = self;
         for _connection in shared.rt.forever() {
-            match shared.listener.accept() {
+            match shared.door.listener.accept() {
                 Ok((socket, _)) => serve_one(alloc, &shared, &mut seat, socket),
                 Err(_) => thread::sleep(&shared.rt, Duration::from_millis(REST)),
             }
@@ -428,7 +458,7 @@ fn share<R: Wait + Clone + Drop>(
     alloc: Global,
     rt: &R,
     ring: ServerRing,
-    listener: TcpListener,
+    door: Door,
     mark: u64,
 ) -> Result<Arc<Shared<R>>, ServeFault>
     ensures { IfOk result (λ shared. (arc_value shared).ring ≡ ring) }
@@ -440,7 +470,7 @@ fn share<R: Wait + Clone + Drop>(
     let shared = Shared {
         rt: mine,
         ring,
-        listener,
+        door,
         pace,
     };
     match Arc::new(alloc, shared) {
@@ -468,7 +498,7 @@ fn flush<R: Wait + Clock + Drop>(
     unreachable!()
 }
 
-// Serves one connection to its end. One whose handshake fails is dropped.
+// Serves one connection to its end. One whose handshake is refused is dropped, once it was told why.
 fn serve_one<R: Net + Wait + Clock + Clone + Drop>(
     alloc: Global,
     shared: &Shared<R>,
@@ -481,7 +511,10 @@ fn serve_one<R: Net + Wait + Clock + Clone + Drop>(
     let Ok((stream, rope)) = stream_of(alloc, &shared.rt, socket) else {
         return;
     };
-    let Ok(mut link) = WsLink::accept(alloc, stream) else {
+    let Ok(link) = WsLink::accept(alloc, stream, shared.door.origins.as_slice()) else {
+        return;
+    };
+    let Ok(mut link) = SocketLink::new(link, &rope) else {
         return;
     };
     let ring = &shared.ring;

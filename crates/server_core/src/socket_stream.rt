@@ -9,7 +9,7 @@ use std::io::{ErrorKind, Read, Write};
 use std::rt::Net;
 use std::sync::Arc;
 use std::time::{Clock, Duration, Instant};
-use std::{io, net};
+use std::{io, mem, net};
 
 /// How many seconds a read waits at most, before it says that there is nothing. A client has that long between two parts
 /// of its handshake. Nothing else waits for this to end: a doorbell ends the wait where there is something to send.
@@ -21,6 +21,9 @@ pub const LONGEST_GREETING: u64 = 60;
 
 /// For how many seconds a client may take nothing of what is written, before its connection is given up.
 pub const LONGEST_WRITE: u64 = 10;
+
+/// For how many seconds a client's close is waited for, once its connection is being closed.
+pub const LONGEST_CLOSE: u64 = 10;
 
 const SOCKET: Token = Token(0);
 
@@ -47,9 +50,11 @@ fn waits(
 /// A connected socket, with what its worker waits by.
 ///
 /// A read waits until the socket has bytes or has ended, the doorbell was rung, or the time is up; in the last two cases it
-/// fails with `WouldBlock`. A write waits until the socket takes bytes, for a bounded time; then it fails with `TimedOut`.
-/// Where no session was opened for too long, a read fails with `ConnectionAborted`: so a client that says nothing, or never
-/// comes to an end with it, holds its worker for a bounded time.
+/// fails with `WouldBlock`. Behind a read that gave bytes the doorbell is looked at before the socket: a client that sends
+/// without end keeps its worker from nothing. A write waits until the socket takes bytes, for a bounded time; then it fails
+/// with `TimedOut`. Where no session was opened for too long, a read fails with `ConnectionAborted`: so a client that says
+/// nothing, or never comes to an end with it, holds its worker for a bounded time. Once the connection is being closed, a read
+/// fails with `TimedOut` where the time for that is over, whatever the client sends.
 #[derive(Drop)]
 pub struct SocketStream<T> {
     socket: TcpStream,
@@ -58,9 +63,16 @@ pub struct SocketStream<T> {
     bell: Arc<Doorbell>,
     clock: T,
     since: Instant,
+    // Whether the last read gave bytes.
+    gave: bool,
+    // When the first read came of a connection that is being closed.
+    closing: Option<Instant>,
 }
 
 impl<T: Net + Clock + Drop> SocketStream<T> {
+    ghost use Rattle.std.specs.Prelude.{IfOk};
+    ghost use Rattle.std.specs.Counts.{IsPrefixLen};
+
     /// The stream of a socket that was just accepted. What is written leaves at once (no delay by Nagle's algorithm).
     pub fn new(alloc: Global, rt: T, socket: net::TcpStream) -> io::Result<SocketStream<T>> {
         socket.set_nodelay(true)?;
@@ -76,6 +88,8 @@ impl<T: Net + Clock + Drop> SocketStream<T> {
                 bell,
                 clock: rt,
                 since,
+                gave: false,
+                closing: None,
             }),
             Err(error) => Err(error),
         }
@@ -98,13 +112,31 @@ impl<T: Net + Clock + Drop> SocketStream<T> {
         }
     }
 
-    // Waits until the socket may have bytes or has ended, the doorbell was rung, or the time is up. That the socket takes
-    // bytes, which it does from its beginning, ends no wait for a read.
-    fn wait_to_read(&mut self) -> io::Result<()> {
+    // For how long a read may wait now. Fails where the client is given up.
+    fn patience(&mut self) -> io::Result<Duration> {
+        if !self.bell.is_closing() {
+            self.check_greeting()?;
+            return Ok(Duration::from_secs(LONGEST_READ));
+        }
+        let begun = match self.closing {
+            Some(begun) => begun,
+            None => Instant::now(&self.clock)?,
+        };
+        self.closing = Some(begun);
+        let waited = begun.elapsed(&self.clock)?;
+        match Duration::from_secs(LONGEST_CLOSE).checked_sub(waited) {
+            Some(left) => Ok(left),
+            None => Err(io::Error::from(ErrorKind::TimedOut)),
+        }
+    }
+
+    // Waits until the socket may have bytes or has ended, the doorbell was rung, or so much time has passed. That the socket
+    // takes bytes, which it does from its beginning, ends no wait for a read.
+    fn wait_to_read(&mut self, longest: Duration) -> io::Result<()> {
         let start = Instant::now(&self.clock)?;
         for _event in 0..u64::MAX {
             let waited = start.elapsed(&self.clock)?;
-            let Some(left) = Duration::from_secs(LONGEST_READ).checked_sub(waited) else {
+            let Some(left) = longest.checked_sub(waited) else {
                 break;
             };
             self.poll.poll(&mut self.events, Some(left))?;
@@ -113,6 +145,15 @@ impl<T: Net + Clock + Drop> SocketStream<T> {
             }
         }
         Ok(())
+    }
+
+    // Reads what there is.
+    fn read_now(&mut self, buf: &mut [u8]) -> io::Result<usize>
+        ensures { IfOk result (λ count. IsPrefixLen count buf.new) }
+    {
+        let outcome = self.socket.read(buf);
+        self.gave = outcome.is_ok();
+        outcome
     }
 
     // Waits until the socket takes bytes again, or the time is up.
@@ -134,20 +175,23 @@ impl<T: Net + Clock + Drop> SocketStream<T> {
 
 impl<T: Net + Clock + Drop> Read for SocketStream<T> {
     fn read(&mut self, buf: &mut [u8]) -> io::Result<usize> {
-        self.check_greeting()?;
-        match self.socket.read(buf) {
+        let longest = self.patience()?;
+        if mem::take(&mut self.gave) && self.bell.wakes_up() {
+            return Err(io::Error::from(ErrorKind::WouldBlock));
+        }
+        match self.read_now(buf) {
             Err(error) if error.kind() == ErrorKind::WouldBlock => {}
             outcome => return outcome,
         }
         if self.bell.falls_asleep() {
-            self.wait_to_read()?;
+            self.wait_to_read(longest)?;
         }
         if self.bell.wakes_up() {
             // Bytes that came too are read by the next call. Else a part of a message would have the worker wait for the
             // rest, and not look.
             return Err(io::Error::from(ErrorKind::WouldBlock));
         }
-        self.socket.read(buf)
+        self.read_now(buf)
     }
 }
 

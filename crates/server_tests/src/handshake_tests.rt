@@ -88,7 +88,7 @@ where
         + Sync
         + 'static,
 {
-    match Server::open(alloc, rt, path, PORT) {
+    match Server::open(alloc, rt, path, PORT, Vec::new(alloc)) {
         Ok(mut server) => {
             let started = server.start_workers(rt, alloc).is_ok();
             let ended = matches!(server.run(alloc, &mut Failing), ServeFault::Output);

@@ -16,7 +16,7 @@ fn fault_at<R>(rt: &R, alloc: Global, path: &str, port: u16) -> Option<ServeFaul
 where
     R: Files<File = File> + Net<Listener = TcpListener, Stream = TcpStream> + Wait + Clone + Drop,
 {
-    match Server::open(alloc, rt, path, port) {
+    match Server::open(alloc, rt, path, port, Vec::new(alloc)) {
         Ok(server) => {
             drop(server);
             None
@@ -37,7 +37,7 @@ fn second_fault<R>(rt: &R, alloc: Global, path: &str) -> Option<ServeFault>
 where
     R: Files<File = File> + Net<Listener = TcpListener, Stream = TcpStream> + Wait + Clone + Drop,
 {
-    match Server::open(alloc, rt, path, PORT) {
+    match Server::open(alloc, rt, path, PORT, Vec::new(alloc)) {
         Ok(first) => {
             let fault = fault_at(rt, alloc, path, PORT + 4);
             drop(first);
@@ -95,7 +95,7 @@ fn reached<R>(rt: &R, alloc: Global, path: &str) -> Option<(bool, bool)>
 where
     R: Files<File = File> + Net<Listener = TcpListener, Stream = TcpStream> + Wait + Clone + Drop,
 {
-    match Server::open(alloc, rt, path, PORT + 8) {
+    match Server::open(alloc, rt, path, PORT + 8, Vec::new(alloc)) {
         Ok(server) => {
             let here = TcpStream::connect(rt, ("127.0.0.1", PORT + 8)).is_ok();
             let there = TcpStream::connect(rt, ("127.0.0.2", PORT + 8)).is_ok();

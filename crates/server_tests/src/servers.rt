@@ -27,7 +27,7 @@ where
     if !make_journal(rt, alloc, path) {
         return None;
     }
-    Server::open(alloc, rt, path, port).ok()
+    Server::open(alloc, rt, path, port, Vec::new(alloc)).ok()
 }
 
 /// Runs the server until the journal is full, and ends it. Whether it was that.

@@ -19,10 +19,13 @@ fn main(rt: HostRuntime) -> ExitCode {
         Ok(words) => words,
         Err(status) => return ExitCode::from(status),
     };
-    let Some((file, port)) = served(alloc, words.as_slice()) else {
+    let Some((file, port, origins)) = served(alloc, words.as_slice()) else {
         return ExitCode::from(run_tool(&rt, words.as_slice()));
     };
-    let mut server = match Server::open(alloc, &rt, file, port) {
+    let Ok(origins) = owned(alloc, &origins) else {
+        return failed(&rt, ServeFault::Memory);
+    };
+    let mut server = match Server::open(alloc, &rt, file, port, origins) {
         Ok(server) => server,
         Err(fault) => return failed(&rt, fault),
     };
@@ -54,20 +57,45 @@ fn collected(rt: &HostRuntime) -> io::Result<Vec<String>> {
     Ok(env::args(rt)?.collect(rt.alloc())?)
 }
 
-/// The file and the port of the server that the words ask for, where that is what they ask for.
-fn served(alloc: Global, words: &[String]) -> Option<(&str, u16)> {
+/// The file, the port and the origins of the server that the words ask for, where that is what they ask for.
+fn served(alloc: Global, words: &[String]) -> Option<(&str, u16, Vec<&[u8]>)> {
     match subcommand_of(alloc, words) {
-        Ok(Subcommand::Serve { file, port }) => Some((file, port)),
+        Ok(
+            Subcommand::Serve {
+                file,
+                port,
+                origins,
+            },
+        ) => Some((file, port, origins)),
         _ => None,
     }
+}
+
+/// The origins, as the server's threads have them.
+fn owned(alloc: Global, origins: &[&[u8]]) -> Result<Vec<Vec<u8>>, AllocError> {
+    let mut owned = Vec::new(alloc);
+    for origin in origins {
+        owned.push(origin.to_vec(alloc)?)?;
+    }
+    Ok(owned)
 }
 
 /// What the words ask for that is no server, and the status.
 fn run_tool(rt: &HostRuntime, words: &[String]) -> u8 {
     let mut reader = rt.stdin().lock();
     let mut writer = rt.stdout().lock();
-    let mut errors = rt.stderr().lock();
-    tool(rt, rt.alloc(), words, &mut reader, &mut writer, &mut errors).status
+    let (mut errors, mut progress) = (rt.stderr(), rt.stderr());
+    let alloc = rt.alloc();
+    tool(
+        rt,
+        alloc,
+        words,
+        &mut reader,
+        &mut writer,
+        &mut errors,
+        &mut progress,
+    )
+    .status
 }
 
 /// Runs a server to its end, and answers why that came.

@@ -1,60 +1,97 @@
 -- Words that ask for nothing that the program does.
-use Rattle.std.proofs.Common.{◌≡◌, ◌≢◌, ◌≤◌, ◌<◌, ◌^◌, List, [], ◌∷◌, ℕ, ap, arith, codes, eq-eqb, false, nat_eq, refl, slice_index, subst}
-use Rattle.tool_core.proofs.Words.{give_same}
-use Rattle.tool_core.specs.CommandLines.{AskForNothing, Give, GiveNo, IsNumber, Name}
-use Rattle.tool_core.specs.declared.command_line.Subcommand.TheVariants.{Script, Format, Show, Serve}
+use Rattle.std.proofs.Common.{◌≡◌, ◌≢◌, ◌∙◌, ◌≤◌, ◌<◌, ◌^◌, List, [], ◌∷◌, ℕ, ap, arith, bytes_eq, codes, false, length, refl, subst, sym, true}
+use Rattle.tool_core.specs.CommandLines.{AreFileAndNumber, AskFor, AskForNothing, AskNothingWith, AskWith, IsNumber, Words, given_by}
+use Rattle.tool_core.specs.declared.command_line.Subcommand.{Subcommand}
+use Rattle.tool_core.specs.declared.command_line.Subcommand.TheVariants.{Script, Version, Format, Show, Held, Serve}
 
--- the text means no size of a file, and no port
-abbrev pub IsNoSize : List ℕ → Type 0
-IsNoSize text = (n : ℕ) → IsNumber text n → 2 ^ 64 ≤ n
+same_test : (a b : List ℕ) → a ≡ b → bytes_eq a b ≡ bytes_eq b b
+same_test a b e = ap (λ x. bytes_eq x b) e
 
-abbrev pub IsNoPort : List ℕ → Type 0
-IsNoPort text = (n : ℕ) → IsNumber text n → 0 < n → 2 ^ 16 ≤ n
+-- two names that are not the same
+apart : (a b : List ℕ) → bytes_eq b b ≡ true → bytes_eq a b ≡ false → a ≢ b
+apart a b same off e = let t = same_test a b e in absurd (cc (t, same, off))
 
--- of each two arguments that the words give, this holds of the second
-abbrev pub Second : (List ℕ → Type 0) → List (List ℕ) → Type 0
-Second P rest = (file text : List ℕ) → Give rest (file ∷ text ∷ []) → P text
+-- no file and number are among the arguments that mean one
+abbrev pub NoNumber : (ℕ → Type 0) → List (List ℕ) → Type 0
+NoNumber P arguments = (file : List ℕ) (n : ℕ) → AreFileAndNumber arguments file n → P n → ⊥
 
-pub no_second : (P : List ℕ → Type 0) (rest : List (List ℕ)) → GiveNo 2 rest → Second P rest
-no_second P rest lacks file text gives = absurd (lacks (file ∷ text ∷ []) gives refl)
+pub no_script : (given : Words) → given.arguments ≢ [] → AskNothingWith (codes "script") given
+no_script given some Script asked = some asked.1
+no_script given some Version asked = apart (codes "script") (codes "--version") refl refl asked.0
+no_script given some (Format file bytes is_sparse) asked = apart (codes "script") (codes "format") refl refl asked.0
+no_script given some (Show file) asked = apart (codes "script") (codes "show") refl refl asked.0
+no_script given some (Held file) asked = apart (codes "script") (codes "held") refl refl asked.0
+no_script given some (Serve file port origins) asked = apart (codes "script") (codes "serve") refl refl asked.0
 
-pub the_second : (P : List ℕ → Type 0) (rest : List (List ℕ)) (a b : List ℕ) → Give rest (a ∷ b ∷ []) → P b → Second P rest
-the_second P rest a b gives holds file text too =
-    let e = give_same rest (a ∷ b ∷ []) (file ∷ text ∷ []) gives too in
-    let s : b ≡ text = cc in subst P s holds
+pub no_version : (given : Words) → given.arguments ≢ [] → AskNothingWith (codes "--version") given
+no_version given some Script asked = apart (codes "--version") (codes "script") refl refl asked.0
+no_version given some Version asked = some asked.1
+no_version given some (Format file bytes is_sparse) asked = apart (codes "--version") (codes "format") refl refl asked.0
+no_version given some (Show file) asked = apart (codes "--version") (codes "show") refl refl asked.0
+no_version given some (Held file) asked = apart (codes "--version") (codes "held") refl refl asked.0
+no_version given some (Serve file port origins) asked = apart (codes "--version") (codes "serve") refl refl asked.0
 
--- a name and its arguments stand behind the program's name alone
-named_so : (program name : List ℕ) (rest : List (List ℕ)) (word : List ℕ) (arguments : List (List ℕ)) → Name (program ∷ name ∷ rest) word arguments → (name ≡ word) × Give rest arguments
-named_so program name rest word arguments asks =
-    let e : program ∷ name ∷ rest ≡ asks.0 ∷ word ∷ asks.1 = asks.2 in
-    let n : name ≡ word = cc in
-    let r : asks.1 ≡ rest = cc in (n, subst (λ ws. Give ws arguments) r asks.3)
+pub no_format : (given : Words) → NoNumber (λ n. n < 2 ^ 64) given.arguments → AskNothingWith (codes "format") given
+no_format given none Script asked = apart (codes "format") (codes "script") refl refl asked.0
+no_format given none Version asked = apart (codes "format") (codes "--version") refl refl asked.0
+no_format given none (Format file bytes is_sparse) asked = none file.now bytes asked.1 asked.2
+no_format given none (Show file) asked = apart (codes "format") (codes "show") refl refl asked.0
+no_format given none (Held file) asked = apart (codes "format") (codes "held") refl refl asked.0
+no_format given none (Serve file port origins) asked = apart (codes "format") (codes "serve") refl refl asked.0
 
--- Words ask for nothing where their name and what stands behind it are no form of the program's: each subcommand says what would
--- be missing if the name were its own.
-pub nothing : (name : List ℕ) (rest : List (List ℕ)) → (name ≡ codes "script" → GiveNo 0 rest) → (name ≡ codes "format" → Second IsNoSize rest)
-    → (name ≡ codes "show" → GiveNo 1 rest) → (name ≡ codes "serve" → Second IsNoPort rest) → (program : List ℕ) → AskForNothing (program ∷ name ∷ rest)
-nothing name rest script format show serve program Script asked = let n = named_so program name rest _ _ asked in script n.0 [] n.1 refl
-nothing name rest script format show serve program (Format file bytes) asked =
-    let n = named_so program name rest _ _ asked.1 in
-    let large = format n.0 file.now asked.0 n.1 bytes asked.2 in omega (arith, large, asked.3)
-nothing name rest script format show serve program (Show file) asked = let n = named_so program name rest _ _ asked in show n.0 (file.now ∷ []) n.1 refl
-nothing name rest script format show serve program (Serve file port) asked =
-    let n = named_so program name rest _ _ asked.1 in
-    let large = serve n.0 file.now asked.0 n.1 port asked.2 asked.3 in omega (arith, large, asked.4)
+not_one : (arguments : List (List ℕ)) (file : List ℕ) → length arguments ≢ 1 → arguments ≡ file ∷ [] → ⊥
+not_one arguments file other is = other (ap length is)
 
--- words are not the same whose second letters differ, as those of any two subcommands do
-apart : (a b : List ℕ) → nat_eq (slice_index a 1) (slice_index b 1) ≡ false → a ≢ b
-apart a b off e = let on = eq-eqb (slice_index a 1) (slice_index b 1) (ap (λ w. slice_index w 1) e) in absurd (cc (off, on))
+pub no_show : (given : Words) → length given.arguments ≢ 1 → AskNothingWith (codes "show") given
+no_show given other Script asked = apart (codes "show") (codes "script") refl refl asked.0
+no_show given other Version asked = apart (codes "show") (codes "--version") refl refl asked.0
+no_show given other (Format file bytes is_sparse) asked = apart (codes "show") (codes "format") refl refl asked.0
+no_show given other (Show file) asked = not_one given.arguments file.now other asked.1
+no_show given other (Held file) asked = apart (codes "show") (codes "held") refl refl asked.0
+no_show given other (Serve file port origins) asked = apart (codes "show") (codes "serve") refl refl asked.0
 
-pub no_script : (rest : List (List ℕ)) → GiveNo 0 rest → (program : List ℕ) → AskForNothing (program ∷ codes "script" ∷ rest)
-no_script rest lacks = nothing (codes "script") rest (λ e. lacks) (λ e. absurd (apart (codes "script") (codes "format") refl e)) (λ e. absurd (apart (codes "script") (codes "show") refl e)) (λ e. absurd (apart (codes "script") (codes "serve") refl e))
+pub no_held : (given : Words) → length given.arguments ≢ 1 → AskNothingWith (codes "held") given
+no_held given other Script asked = apart (codes "held") (codes "script") refl refl asked.0
+no_held given other Version asked = apart (codes "held") (codes "--version") refl refl asked.0
+no_held given other (Format file bytes is_sparse) asked = apart (codes "held") (codes "format") refl refl asked.0
+no_held given other (Show file) asked = apart (codes "held") (codes "show") refl refl asked.0
+no_held given other (Held file) asked = not_one given.arguments file.now other asked.1
+no_held given other (Serve file port origins) asked = apart (codes "held") (codes "serve") refl refl asked.0
 
-pub no_format : (rest : List (List ℕ)) → Second IsNoSize rest → (program : List ℕ) → AskForNothing (program ∷ codes "format" ∷ rest)
-no_format rest lacks = nothing (codes "format") rest (λ e. absurd (apart (codes "format") (codes "script") refl e)) (λ e. lacks) (λ e. absurd (apart (codes "format") (codes "show") refl e)) (λ e. absurd (apart (codes "format") (codes "serve") refl e))
+pub no_serve : (given : Words) → ((file : List ℕ) (port : ℕ) → AreFileAndNumber given.arguments file port → 0 < port → port < 2 ^ 16 → ⊥) → AskNothingWith (codes "serve") given
+no_serve given none Script asked = apart (codes "serve") (codes "script") refl refl asked.0
+no_serve given none Version asked = apart (codes "serve") (codes "--version") refl refl asked.0
+no_serve given none (Format file bytes is_sparse) asked = apart (codes "serve") (codes "format") refl refl asked.0
+no_serve given none (Show file) asked = apart (codes "serve") (codes "show") refl refl asked.0
+no_serve given none (Held file) asked = apart (codes "serve") (codes "held") refl refl asked.0
+no_serve given none (Serve file port origins) asked = none file.now port asked.1 asked.2 asked.3
 
-pub no_show : (rest : List (List ℕ)) → GiveNo 1 rest → (program : List ℕ) → AskForNothing (program ∷ codes "show" ∷ rest)
-no_show rest lacks = nothing (codes "show") rest (λ e. absurd (apart (codes "show") (codes "script") refl e)) (λ e. absurd (apart (codes "show") (codes "format") refl e)) (λ e. lacks) (λ e. absurd (apart (codes "show") (codes "serve") refl e))
+-- a word that names no subcommand asks for nothing
+pub no_name : (name : List ℕ) (given : Words) → name ≢ codes "script" → name ≢ codes "--version" → name ≢ codes "format" → name ≢ codes "show" → name ≢ codes "held" → name ≢ codes "serve" → AskNothingWith name given
+no_name name given s v f w h p Script asked = s asked.0
+no_name name given s v f w h p Version asked = v asked.0
+no_name name given s v f w h p (Format file bytes is_sparse) asked = f asked.0
+no_name name given s v f w h p (Show file) asked = w asked.0
+no_name name given s v f w h p (Held file) asked = h asked.0
+no_name name given s v f w h p (Serve file port origins) asked = p asked.0
 
-pub no_serve : (rest : List (List ℕ)) → Second IsNoPort rest → (program : List ℕ) → AskForNothing (program ∷ codes "serve" ∷ rest)
-no_serve rest lacks = nothing (codes "serve") rest (λ e. absurd (apart (codes "serve") (codes "script") refl e)) (λ e. absurd (apart (codes "serve") (codes "format") refl e)) (λ e. absurd (apart (codes "serve") (codes "show") refl e)) (λ e. lacks)
+-- nothing is asked for by words of which that is so behind the program's name
+pub nothing_named : (words rest : List (List ℕ)) (program name : List ℕ) → words ≡ program ∷ name ∷ rest → AskNothingWith name (given_by rest) → AskForNothing words
+nothing_named words rest program name are none asked found =
+    let e : program ∷ name ∷ rest ≡ found.0 ∷ found.1 ∷ found.2 = sym are ∙ found.3 in
+    let n : found.1 ≡ name = cc in
+    let r : found.2 ≡ rest = cc in none asked (subst (λ x. AskWith x (given_by rest) asked) n (subst (λ ws. AskWith found.1 (given_by ws) asked) r found.4))
+
+-- nor by fewer words than two
+pub too_few : (words : List (List ℕ)) → length words < 2 → AskForNothing words
+too_few words few asked found = let l = ap length found.3 in omega (arith, l, few)
+
+-- arguments that are not two are no file and number
+pub not_two : (P : ℕ → Type 0) (arguments : List (List ℕ)) → length arguments ≢ 2 → NoNumber P arguments
+not_two P arguments other file n are p = other (ap length are.1)
+
+-- a number is the only one that the second of two arguments means
+pub no_other : (P : ℕ → Type 0) (arguments : List (List ℕ)) (file text : List ℕ) → arguments ≡ file ∷ text ∷ [] → ((n : ℕ) → IsNumber text n → P n → ⊥) → NoNumber P arguments
+no_other P arguments file text are none other n found p =
+    let e : file ∷ text ∷ [] ≡ other ∷ found.0 ∷ [] = sym are ∙ found.1 in
+    let t : found.0 ≡ text = cc in none n (subst (λ x. IsNumber x n) t found.2) p

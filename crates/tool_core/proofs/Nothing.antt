@@ -12,7 +12,10 @@ use Rattle.engine_core.specs.declared.fault.ScriptFault.TheVariants as scripts
 use Rattle.disk_core.specs.Memory.{Memory}
 use Rattle.engine_core.proofs.Performing.{restart_is}
 use Rattle.engine_core.specs.Runs.{IsToldAtOnce, Stops, StopsOver}
-use Rattle.tool_core.specs.Failures.{RunsToEnd, IsAtOnce, IsBeforehand, StopsBy, Tells}
+use Rattle.tool_core.specs.CommandLines.{AskFor}
+use Rattle.tool_core.specs.Failures.{RunsToEnd, IsAtOnce, IsBeforehand, IsDone, StopsBy, Tells, version_line}
+use Rattle.tool_core.specs.declared.command_line.Subcommand.{Subcommand}
+use Rattle.tool_core.specs.declared.command_line.Subcommand.TheVariants.{Version}
 use Rattle.tool_core.specs.declared.program.Failure.{Failure}
 use Rattle.tool_core.specs.declared.program.Failure.TheVariants.{CommandLine, Number, Script, Format, File, Server}
 
@@ -90,3 +93,9 @@ on_ok_is P (Err e) a is so = cc
 pub if_err_is : {A B : Type 0} (P : B → Type 0) (r : Result A B) (e : B) → r ≡ Err e → IfErr r P → P e
 if_err_is P (Ok a) e is so = cc
 if_err_is P (Err d) e is so = let same : d ≡ e = cc in subst P same so
+
+-- the version was written, which the words ask for
+pub version_done : {E : Type 0} (r : Result (Unit {0}) E) (words : List (List ℕ)) (asked : Subcommand) (unread before after : Option (List ℕ)) → AskFor words asked → asked ≡ Version
+    → OnOk r (Appends before after version_line) → OnOk r (IsDone words unread unread before after)
+version_done (Ok u) words asked unread before after asks is written = (Version, subst (AskFor words) is asks, (refl, written))
+version_done (Err e) words asked unread before after asks is written = tt

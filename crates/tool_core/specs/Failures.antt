@@ -15,6 +15,7 @@ use Rattle.engine_core.specs.declared.fault.ScriptFault.{ScriptFault}
 use Rattle.engine_core.specs.declared.fault.ScriptFault.TheVariants.{Opening}
 use Rattle.engine_core.specs.declared.fault.ScriptFault.TheVariants as scripts
 use Rattle.disk_core.specs.Memory.{Memory}
+use Rattle.journal_files.specs.Held.{ShowsHeld}
 use Rattle.journal_files.specs.JournalFiles.{Shows}
 use Rattle.journal_files.specs.declared.journal_files.ShowFault.TheVariants as shows
 use Rattle.tool_core.specs.CommandLines.{AskFor}
@@ -39,13 +40,19 @@ pub record RunsToEnd (unread left before after : Option (List ℕ)) : Type 0 whe
 abbrev pub Untouched : Option (List ℕ) → Option (List ℕ) → Option (List ℕ) → Option (List ℕ) → Type 0
 Untouched unread left before after = (left ≡ unread) × (after ≡ before)
 
--- A subcommand is done: a script was read to its end, and what it prints is written; a file has bytes enough for a journal; what
--- a journal shows is written. A server is never done. That a file is made, and which file is shown, no contract can see.
+-- the program, and its version
+abbrev pub version_line : List ℕ
+version_line = codes "stompd 0.1.0\n"
+
+-- A subcommand is done: a script was read to its end, and what it prints is written; the version is written; a file has bytes
+-- enough for a journal; what a journal shows, or holds, is written. A server is never done. That a file is made, and which file is shown, no contract can see.
 abbrev pub IsDoneAs : Subcommand → Option (List ℕ) → Option (List ℕ) → Option (List ℕ) → Option (List ℕ) → Type 0
 IsDoneAs asks.Script unread left before after = RunsToEnd unread left before after
-IsDoneAs (asks.Format file bytes) unread left before after = (8224 ≤ bytes) × Untouched unread left before after
+IsDoneAs asks.Version unread left before after = (left ≡ unread) × Appends before after version_line
+IsDoneAs (asks.Format file bytes is_sparse) unread left before after = (8224 ≤ bytes) × Untouched unread left before after
 IsDoneAs (asks.Show file) unread left before after = (left ≡ unread) × Shows before after
-IsDoneAs (asks.Serve file port) unread left before after = ⊥
+IsDoneAs (asks.Held file) unread left before after = (left ≡ unread) × ShowsHeld before after
+IsDoneAs (asks.Serve file port origins) unread left before after = ⊥
 
 -- what the words ask for is done
 abbrev pub IsDone : List (List ℕ) → Option (List ℕ) → Option (List ℕ) → Option (List ℕ) → Option (List ℕ) → Type 0
@@ -115,6 +122,7 @@ IsTooShort _ = ⊥
 -- what is told of a journal file that was not made, or not shown
 abbrev pub file_text : FileFault → List ℕ
 file_text files.CannotOpen = codes "cannot open"
+file_text files.NoSpace = codes "no space left for the file"
 file_text (files.Format fault) = format_text fault
 file_text (files.Show (shows.Read fault)) = open_fault_text fault
 file_text (files.Show shows.Output) = codes "input or output failed"

@@ -1,11 +1,12 @@
 //! What the words of a command line ask for.
 
-ghost use Rattle.std.specs.Prelude.{◌≡◌, ◌<◌, ◌≤◌, ◌^◌, ◌∷◌, ◌↔◌, [], List, ℕ, IfNone, IfOk, IfSome, IsErrOf, IsTrue, OnErr, codes, length, true, map, Ok};
-ghost use Rattle.tool_core.specs.CommandLines.{AskFor, AskForNothing, AsksForScript, Give, GiveNo, IsNumber};
-ghost use Rattle.tool_core.specs.declared.command_line.Subcommand.TheVariants.{Script};
+ghost use Rattle.std.specs.Prelude.{◌≡◌, ◌≢◌, ◌<◌, ◌≤◌, ◌^◌, ◌∷◌, ◌↔◌, [], List, ℕ, IfNone, IfOk, IfSome, IsErrOf, IsNone, IsTrue, codes, length, true, map, Ok};
+ghost use Rattle.tool_core.specs.CommandLines.{AreFileAndNumber, AskFor, AskForAlone, AskForNothing, AskNothingWith, AskWith, AsksForScript, IsNumber, words_of};
+ghost use Rattle.tool_core.specs.declared.command_line.Subcommand.TheVariants.{Script, Version};
 
+use crate::given::{Given, given_by};
 use clap::{Arg, ArgAction, ArgMatches, Command, Error};
-use std::alloc::Global;
+use std::alloc::{AllocError, Global};
 use std::convert::AsStr;
 
 /// A subcommand that the program has.
@@ -13,12 +14,28 @@ use std::convert::AsStr;
 pub enum Subcommand<'a> {
     /// Runs a script from standard input.
     Script,
-    /// Makes a file of so many bytes with an empty journal.
-    Format { file: &'a str, bytes: u64 },
+    /// Says which version the program is of.
+    Version,
+    /// Makes a file of so many bytes with an empty journal. Its room is taken on the device, unless it is to be sparse.
+    Format {
+        file: &'a str,
+        bytes: u64,
+        is_sparse: bool,
+    },
     /// Shows what the journal in a file shows of itself.
-    Show { file: &'a str },
-    /// Serves the broker of the journal in a file at a port.
-    Serve { file: &'a str, port: u16 },
+    Show {
+        file: &'a str,
+    },
+    /// Shows which queues and durable names of the journal in a file hold messages.
+    Held {
+        file: &'a str,
+    },
+    /// Serves the broker of the journal in a file at a port, to pages of these origins, or of all where none is named.
+    Serve {
+        file: &'a str,
+        port: u16,
+        origins: Vec<&'a [u8]>,
+    },
 }
 
 /// Why the words ask for nothing that the program does.
@@ -39,79 +56,136 @@ pub fn subcommand_of<'a, S: AsStr>(alloc: Global, words: &'a [S]) -> Result<Subc
     ensures ok { IfOk result (AskFor (map S.text words.now)) }
     ensures number { IsErrOf result Refused.Number → (asked : Subcommand) → AskFor (map S.text words.now) asked → ⊥ }
 {
-    // The words of a script have nothing to parse, and take no memory.
-    if is_script(words) {
+    // These words have nothing to parse, and take no memory.
+    if is_alone(words, "script") {
         return Ok(Subcommand::Script);
+    }
+    if is_alone(words, "--version") {
+        return Ok(Subcommand::Version);
     }
     match matches_of(alloc, words) {
         Ok(matches) => {
             drop(matches);
-            asked_of(words)
+            asked_of(alloc, words)
         }
         Err(error) => Err(Refused::Words(error)),
     }
 }
 
-/// Whether the words are the program's name and `script`.
-fn is_script<S: AsStr>(words: &[S]) -> bool
-    ensures asked { AsksForScript (map S.text words.now) → result ≡ true }
-    ensures found { result ≡ true → AsksForScript (map S.text words.now) }
+/// Whether the words are the program's name and this one.
+fn is_alone<S: AsStr>(words: &[S], wanted: &str) -> bool
+    ensures asked { AskForAlone wanted.now (map S.text words.now) → result ≡ true }
+    ensures found { result ≡ true → AskForAlone wanted.now (map S.text words.now) }
 {
     match words {
-        [_, word] => is_script_word(word.as_str()),
+        [_, word] => is_word(word.as_str(), wanted),
         _ => false,
     }
 }
 
-fn is_script_word(word: &str) -> bool
-    ensures { IsTrue result ↔ (word.now ≡ codes "script") }
+fn is_word(word: &str, wanted: &str) -> bool
+    ensures { IsTrue result ↔ (word.now ≡ wanted.now) }
 {
-    word == "script"
+    word == wanted
 }
 
 /// What the words mean to the program's commands.
 fn matches_of<'a, S: AsStr>(alloc: Global, words: &'a [S]) -> Result<ArgMatches<'a>, Error> {
-    let file = Arg::new(alloc, "FILE")
-        .required(true)
-        .action(ArgAction::Set);
-    let bytes = Arg::new(alloc, "BYTES")
-        .required(true)
-        .action(ArgAction::Set);
-    let format = Command::new(alloc, "format").arg(file)?.arg(bytes)?;
-    let shown = Arg::new(alloc, "FILE")
-        .required(true)
-        .action(ArgAction::Set);
-    let show = Command::new(alloc, "show").arg(shown)?;
-    let served = Arg::new(alloc, "FILE")
-        .required(true)
-        .action(ArgAction::Set);
-    let port = Arg::new(alloc, "PORT")
-        .required(true)
-        .action(ArgAction::Set);
-    let serve = Command::new(alloc, "serve").arg(served)?.arg(port)?;
     let command = Command::new(alloc, "stompd")
+        .about("A STOMP 1.2 broker over WebSocket, whose receipts say what is on disk")
         .subcommand_required(true)
-        .subcommand(Command::new(alloc, "script"))?
-        .subcommand(format)?
-        .subcommand(show)?
-        .subcommand(serve)?;
+        .arg(version_flag(alloc))?
+        .subcommand(format_command(alloc)?)?
+        .subcommand(file_command(
+            alloc,
+            "show",
+            "Shows what a journal is and holds, in five lines",
+        )?)?
+        .subcommand(file_command(
+            alloc,
+            "held",
+            "Shows which queues and durable subscriptions hold messages, most first",
+        )?)?
+        .subcommand(serve_command(alloc)?)?
+        .subcommand(Command::new(alloc, "script").about(
+            "Reads what connections say from standard input, prints what they hear",
+        ))?;
     command.try_get_matches_from(words)
 }
 
+// It is found before clap looks; here the help names it.
+fn version_flag<'a>(alloc: Global) -> Arg<'a> {
+    Arg::new(alloc, "version")
+        .long("version")
+        .help("Prints the version")
+        .action(ArgAction::SetTrue)
+}
+
+fn file_argument<'a>(alloc: Global) -> Arg<'a> {
+    Arg::new(alloc, "FILE")
+        .required(true)
+        .help("The journal's file")
+        .action(ArgAction::Set)
+}
+
+fn file_command<'a>(
+    alloc: Global,
+    name: &'a str,
+    about: &'a str,
+) -> Result<Command<'a>, AllocError> {
+    Command::new(alloc, name)
+        .about(about)
+        .arg(file_argument(alloc))
+}
+
+fn format_command<'a>(alloc: Global) -> Result<Command<'a>, AllocError> {
+    let bytes = Arg::new(alloc, "BYTES")
+        .required(true)
+        .help("Its size, 8224 at least; each of its two areas has half of it")
+        .action(ArgAction::Set);
+    let sparse = Arg::new(alloc, "sparse")
+        .long("sparse")
+        .help("Takes no room on the disk yet: the file takes it as it fills")
+        .action(ArgAction::SetTrue);
+    Command::new(alloc, "format")
+        .about("Makes a journal, with all of its room on the disk")
+        .arg(file_argument(alloc))?
+        .arg(bytes)?
+        .arg(sparse)
+}
+
+fn serve_command<'a>(alloc: Global) -> Result<Command<'a>, AllocError> {
+    let port = Arg::new(alloc, "PORT")
+        .required(true)
+        .help("From 1 to 65535")
+        .action(ArgAction::Set);
+    let origin = Arg::new(alloc, "ORIGIN")
+        .long("origin")
+        .help(
+            "Serves pages of this origin, as http://localhost:8000, and of no other that is not named too",
+        )
+        .action(ArgAction::Append);
+    Command::new(alloc, "serve")
+        .about("Serves a journal at ws://127.0.0.1:PORT")
+        .arg(file_argument(alloc))?
+        .arg(port)?
+        .arg(origin)
+}
+
 /// The subcommand that words ask for which `clap` takes.
-fn asked_of<'a, S: AsStr>(words: &'a [S]) -> Result<Subcommand<'a>, Refused>
+fn asked_of<'a, S: AsStr>(alloc: Global, words: &'a [S]) -> Result<Subcommand<'a>, Refused>
     ensures ok { IfOk result (AskFor (map S.text words.now)) }
-    ensures number { OnErr result (AskForNothing (map S.text words.now)) }
+    ensures number { IsErrOf result Refused.Number → AskForNothing (map S.text words.now) }
 {
     let Some((name, rest)) = named(words) else {
         return Err(Refused::Number);
     };
-    match name {
-        "script" => script_asked(rest),
-        "format" => format_asked(rest),
-        "show" => show_asked(rest),
-        "serve" => serve_asked(rest),
-        _ => Err(Refused::Number),
+    match given_by(alloc, rest) {
+        Ok(given) => match asked_with(name, given) {
+            Some(asked) => Ok(asked),
+            None => Err(Refused::Number),
+        },
+        Err(refused) => Err(Refused::Words(Error::from(refused))),
     }
 }
 
@@ -126,120 +200,133 @@ fn named<'a, S: AsStr>(words: &'a [S]) -> Option<(&'a str, &'a [S])>
     Some((words[1].as_str(), &words[2..]))
 }
 
-fn script_asked<'a, S: AsStr>(rest: &'a [S]) -> Result<Subcommand<'a>, Refused>
-    ensures ok { IfOk result (λ asked. (program : List ℕ) → AskFor (program ∷ codes "script" ∷ map S.text rest.now) asked) }
-    ensures number { OnErr result ((program : List ℕ) → AskForNothing (program ∷ codes "script" ∷ map S.text rest.now)) }
+/// What this word and what those behind it give ask for.
+fn asked_with<'a>(name: &str, given: Given<'a>) -> Option<Subcommand<'a>>
+    ensures some { IfSome result (AskWith name.now (words_of given.entry)) }
+    ensures none { IsNone result → AskNothingWith name.now (words_of given.entry) }
 {
-    match rest {
-        [] => Ok(Subcommand::Script),
-        [word] => {
-            if is_dashes(word.as_str()) {
-                Ok(Subcommand::Script)
-            } else {
-                Err(Refused::Number)
-            }
-        }
-        _ => Err(Refused::Number),
+    if name == "serve" {
+        return serve_asked(given);
     }
-}
-
-fn format_asked<'a, S: AsStr>(rest: &'a [S]) -> Result<Subcommand<'a>, Refused>
-    ensures ok { IfOk result (λ asked. (program : List ℕ) → AskFor (program ∷ codes "format" ∷ map S.text rest.now) asked) }
-    ensures number { OnErr result ((program : List ℕ) → AskForNothing (program ∷ codes "format" ∷ map S.text rest.now)) }
-{
-    let Some((file, text)) = two_given(rest) else {
-        return Err(Refused::Number);
-    };
-    match number_of(text) {
-        Some(bytes) => Ok(Subcommand::Format { file, bytes }),
-        None => Err(Refused::Number),
-    }
-}
-
-fn show_asked<'a, S: AsStr>(rest: &'a [S]) -> Result<Subcommand<'a>, Refused>
-    ensures ok { IfOk result (λ asked. (program : List ℕ) → AskFor (program ∷ codes "show" ∷ map S.text rest.now) asked) }
-    ensures number { OnErr result ((program : List ℕ) → AskForNothing (program ∷ codes "show" ∷ map S.text rest.now)) }
-{
-    match one_given(rest) {
-        Some(file) => Ok(Subcommand::Show { file }),
-        None => Err(Refused::Number),
-    }
-}
-
-fn serve_asked<'a, S: AsStr>(rest: &'a [S]) -> Result<Subcommand<'a>, Refused>
-    ensures ok { IfOk result (λ asked. (program : List ℕ) → AskFor (program ∷ codes "serve" ∷ map S.text rest.now) asked) }
-    ensures number { OnErr result ((program : List ℕ) → AskForNothing (program ∷ codes "serve" ∷ map S.text rest.now)) }
-{
-    let Some((file, text)) = two_given(rest) else {
-        return Err(Refused::Number);
-    };
-    match port_of(text) {
-        Some(port) => Ok(Subcommand::Serve { file, port }),
-        None => Err(Refused::Number),
-    }
-}
-
-/// The one argument that words give.
-fn one_given<'a, S: AsStr>(words: &'a [S]) -> Option<&'a str>
-    ensures some { IfSome result (λ one. Give (map S.text words.now) (one.now ∷ [])) }
-    ensures none { IfNone result (GiveNo 1 (map S.text words.now)) }
-{
-    match words {
-        [one] => {
-            let one = one.as_str();
-            if is_dashes(one) { None } else { Some(one) }
-        }
-        [one, two] => {
-            let (one, two) = (one.as_str(), two.as_str());
-            if is_dashes(one) {
-                Some(two)
-            } else if is_dashes(two) {
-                Some(one)
-            } else {
-                None
-            }
-        }
+    let asked = match name {
+        "script" => script_asked(&given),
+        "--version" => version_asked(&given),
+        "format" => format_asked(&given),
+        "show" => show_asked(&given),
+        "held" => held_asked(&given),
         _ => None,
+    };
+    drop(given);
+    asked
+}
+
+fn script_asked<'a>(given: &Given<'_>) -> Option<Subcommand<'a>>
+    ensures some { IfSome result (AskWith (codes "script") (words_of given.now)) }
+    ensures none { IsNone result → AskNothingWith (codes "script") (words_of given.now) }
+{
+    if given.arguments.is_empty() {
+        Some(Subcommand::Script)
+    } else {
+        None
     }
 }
 
-/// The two arguments that words give.
-fn two_given<'a, S: AsStr>(words: &'a [S]) -> Option<(&'a str, &'a str)>
-    ensures some { IfSome result (λ two. Give (map S.text words.now) (two.0.now ∷ two.1.now ∷ [])) }
-    ensures none { IfNone result (GiveNo 2 (map S.text words.now)) }
+fn version_asked<'a>(given: &Given<'_>) -> Option<Subcommand<'a>>
+    ensures some { IfSome result (AskWith (codes "--version") (words_of given.now)) }
+    ensures none { IsNone result → AskNothingWith (codes "--version") (words_of given.now) }
 {
-    match words {
-        [one, two] => {
-            let (one, two) = (one.as_str(), two.as_str());
-            if is_dashes(one) {
-                None
-            } else if is_dashes(two) {
-                None
-            } else {
-                Some((one, two))
-            }
-        }
-        [one, two, three] => {
-            let (one, two, three) = (one.as_str(), two.as_str(), three.as_str());
-            if is_dashes(one) {
-                Some((two, three))
-            } else if is_dashes(two) {
-                Some((one, three))
-            } else if is_dashes(three) {
-                Some((one, two))
-            } else {
-                None
-            }
-        }
-        _ => None,
+    if given.arguments.is_empty() {
+        Some(Subcommand::Version)
+    } else {
+        None
     }
 }
 
-/// Whether it is the word behind which no word is an option.
-fn is_dashes(word: &str) -> bool
-    ensures { IsTrue result ↔ (word.now ≡ codes "--") }
+fn format_asked<'a>(given: &Given<'a>) -> Option<Subcommand<'a>>
+    ensures some { IfSome result (AskWith (codes "format") (words_of given.now)) }
+    ensures none { IsNone result → AskNothingWith (codes "format") (words_of given.now) }
 {
-    word == "--"
+    let (file, text) = two_in(&given.arguments)?;
+    let bytes = number_of(text)?;
+    Some(Subcommand::Format {
+        file,
+        bytes,
+        is_sparse: given.is_sparse,
+    })
+}
+
+fn show_asked<'a>(given: &Given<'a>) -> Option<Subcommand<'a>>
+    ensures some { IfSome result (AskWith (codes "show") (words_of given.now)) }
+    ensures none { IsNone result → AskNothingWith (codes "show") (words_of given.now) }
+{
+    let file = one_in(&given.arguments)?;
+    Some(Subcommand::Show { file })
+}
+
+fn held_asked<'a>(given: &Given<'a>) -> Option<Subcommand<'a>>
+    ensures some { IfSome result (AskWith (codes "held") (words_of given.now)) }
+    ensures none { IsNone result → AskNothingWith (codes "held") (words_of given.now) }
+{
+    let file = one_in(&given.arguments)?;
+    Some(Subcommand::Held { file })
+}
+
+fn serve_asked<'a>(given: Given<'a>) -> Option<Subcommand<'a>>
+    ensures some { IfSome result (AskWith (codes "serve") (words_of given.entry)) }
+    ensures none { IsNone result → AskNothingWith (codes "serve") (words_of given.entry) }
+{
+    match file_and_port(&given.arguments) {
+        Some((file, port)) => {
+            let Given {
+                arguments,
+                origins,
+                is_sparse: _,
+            } = given;
+            drop(arguments);
+            Some(Subcommand::Serve {
+                file,
+                port,
+                origins,
+            })
+        }
+        None => {
+            drop(given);
+            None
+        }
+    }
+}
+
+fn file_and_port<'a>(arguments: &[&'a str]) -> Option<(&'a str, u16)>
+    ensures some { IfSome result (λ it. AreFileAndNumber (map (λ word. word.now) arguments.now) it.0.now it.1 × (0 < it.1) × (it.1 < 2 ^ 16)) }
+    ensures none { IsNone result → (file : List ℕ) (port : ℕ) → AreFileAndNumber (map (λ word. word.now) arguments.now) file port → 0 < port → port < 2 ^ 16 → ⊥ }
+{
+    let (file, text) = two_in(arguments)?;
+    let port = port_of(text)?;
+    Some((file, port))
+}
+
+/// The one argument.
+fn one_in<'a>(arguments: &[&'a str]) -> Option<&'a str>
+    ensures some { IfSome result (λ one. map (λ word. word.now) arguments.now ≡ one.now ∷ []) }
+    ensures none { IsNone result → length arguments.now ≢ 1 }
+{
+    if arguments.len() == 1 {
+        Some(arguments[0])
+    } else {
+        None
+    }
+}
+
+/// The two arguments.
+fn two_in<'a>(arguments: &[&'a str]) -> Option<(&'a str, &'a str)>
+    ensures some { IfSome result (λ two. map (λ word. word.now) arguments.now ≡ two.0.now ∷ two.1.now ∷ []) }
+    ensures none { IsNone result → length arguments.now ≢ 2 }
+{
+    if arguments.len() == 2 {
+        Some((arguments[0], arguments[1]))
+    } else {
+        None
+    }
 }
 
 /// The port that a text of decimal digits means: from 1 to 65,535.

@@ -3,6 +3,8 @@
 #![tactic(auto)]
 
 mod command_line;
+mod given;
+mod making;
 mod program;
 mod telling;
 

@@ -1,19 +1,22 @@
 //! The program as a function of its words and streams.
 
-ghost use Rattle.std.specs.Prelude.{◌≡◌, ◌≢◌, ◌<◌, ◌≤◌, IfErr, IfOk, OnOk, map};
+ghost use Rattle.std.specs.Prelude.{◌≡◌, ◌≢◌, ◌≤◌, IfErr, IfOk, OnOk, map};
+ghost use Rattle.std.specs.Io.KnownBytes.{Appends};
 ghost use Rattle.broker_core.specs.States.{empty_state};
 ghost use Rattle.recover_core.specs.Standing.{Stands};
+ghost use Rattle.journal_files.specs.Held.{ShowsHeld};
 ghost use Rattle.journal_files.specs.JournalFiles.{Shows};
 ghost use Rattle.tool_core.specs.CommandLines.{AsksForScript};
-ghost use Rattle.tool_core.specs.Failures.{IsDone, RunsToEnd, StopsBy, IsBeforehand, IsOfScript, IsTold, IsTooShort, Tells, status_of};
+ghost use Rattle.tool_core.specs.Failures.{IsDone, RunsToEnd, StopsBy, IsBeforehand, IsOfScript, IsTold, Tells, status_of, version_line};
 
 use crate::command_line::{Refused, Subcommand, subcommand_of};
+use crate::making::make_journal;
 use crate::telling::end_by;
 use area_core::{FormatFault, format};
 use clap::error::ErrorKind;
 use disk_core::{FileDisk, MemDisk};
 use engine_core::{ScriptFault, run_script};
-use journal_files::{ShowFault, area_in, show};
+use journal_files::{ShowFault, show, show_held};
 use server_core::ServeFault;
 use std::alloc::{AllocError, Global};
 use std::convert::AsStr;
@@ -21,6 +24,7 @@ use std::fs::File;
 use std::io;
 use std::io::{Read, Write};
 use std::rt::Files;
+use std::time::Clock;
 
 /// The status where the program did what it was asked for.
 pub const DONE: u8 = 0;
@@ -42,6 +46,8 @@ const HEADER: u64 = 32;
 pub enum FileFault {
     /// The file could not be made or opened, or it is there already and was to be made.
     CannotOpen,
+    /// The file system has no room for all of the file. It is not there.
+    NoSpace,
     /// It would be too small for a journal, or no journal was written into it.
     Format(FormatFault),
     /// It was not shown.
@@ -88,14 +94,15 @@ pub struct Ended {
 }
 
 /// Does what the words ask for, of which the first is the program's name, unless that is a server; answers how it ended. A fault
-/// and a bad command line are told on `errors`.
-pub fn tool<T: Files<File = File>, S: AsStr, R: Read, W: Write, E: Write>(
+/// and a bad command line are told on `errors`; how far the making of a large file is, on `progress`.
+pub fn tool<T: Files<File = File> + Clock, S: AsStr, R: Read, W: Write, E: Write, P: Write>(
     rt: &T,
     alloc: Global,
     words: &[S],
     reader: &mut R,
     writer: &mut W,
     errors: &mut E,
+    progress: &mut P,
 ) -> Ended
     ensures status { result.status ≤ 2 }
     // What the words ask for is done, and there is nothing to tell.
@@ -113,7 +120,7 @@ pub fn tool<T: Files<File = File>, S: AsStr, R: Read, W: Write, E: Write>(
         × StopsBy failure (R.remaining reader.old) (R.remaining reader.new) (W.contents writer.old) (W.contents writer.new)
         × OnOk result.told (IsTold failure (E.contents errors.old) (E.contents errors.new)) }
 {
-    match run(rt, alloc, words, reader, writer) {
+    match run(rt, alloc, words, reader, writer, progress) {
         Ok(()) => Ended {
             status: DONE,
             told: Ok(()),
@@ -126,12 +133,13 @@ pub fn tool<T: Files<File = File>, S: AsStr, R: Read, W: Write, E: Write>(
 ///
 /// On a bad command line nothing is read or written. Where the script stops, what was written is what the lines before
 /// the fault print, unless it is the writer that failed.
-pub fn run<T: Files<File = File>, S: AsStr, R: Read, W: Write>(
+pub fn run<T: Files<File = File> + Clock, S: AsStr, R: Read, W: Write, P: Write>(
     rt: &T,
     alloc: Global,
     words: &[S],
     reader: &mut R,
     writer: &mut W,
+    progress: &mut P,
 ) -> Result<(), Failure>
     ensures ok { OnOk result (IsDone (map S.text words.now) (R.remaining reader.old) (R.remaining reader.new) (W.contents writer.old) (W.contents writer.new)) }
     ensures script_ok { AsksForScript (map S.text words.now)
@@ -143,11 +151,22 @@ pub fn run<T: Files<File = File>, S: AsStr, R: Read, W: Write>(
 {
     match subcommand_of(alloc, words) {
         Ok(Subcommand::Script) => script(alloc, reader, writer),
-        Ok(Subcommand::Format { file, bytes }) => match format_file(alloc, rt, file, bytes) {
+        Ok(Subcommand::Version) => version(writer),
+        Ok(
+            Subcommand::Format {
+                file,
+                bytes,
+                is_sparse,
+            },
+        ) => match make_journal(alloc, rt, file, bytes, is_sparse, progress) {
             Ok(()) => Ok(()),
             Err(fault) => Err(Failure::File(fault)),
         },
         Ok(Subcommand::Show { file }) => match show_file(alloc, rt, file, writer) {
+            Ok(()) => Ok(()),
+            Err(fault) => Err(Failure::File(fault)),
+        },
+        Ok(Subcommand::Held { file }) => match held_file(alloc, rt, file, writer) {
             Ok(()) => Ok(()),
             Err(fault) => Err(Failure::File(fault)),
         },
@@ -158,30 +177,14 @@ pub fn run<T: Files<File = File>, S: AsStr, R: Read, W: Write>(
     }
 }
 
-// Makes a file of so many bytes with an empty journal, whose areas share what the header leaves. A file that would be too small
-// is not made, and one that is there stays as it is. Where the journal is not written, the file is removed again.
-fn format_file<R: Files<File = File>>(
-    alloc: Global,
-    rt: &R,
-    path: &str,
-    bytes: u64,
-) -> Result<(), FileFault>
-    ensures ok { OnOk result (8224 ≤ bytes) }
-    ensures small { bytes < 8224 → IsTooShort result }
-    ensures large { 8224 ≤ bytes → IsTooShort result → ⊥ }
+// Writes which version the program is of.
+fn version<W: Write>(writer: &mut W) -> Result<(), Failure>
+    ensures ok { OnOk result (Appends (W.contents writer.old) (W.contents writer.new) version_line) }
+    ensures err { IfErr result (λ failure. failure ≡ Failure.File (FileFault.Show ShowFault.Output)) }
 {
-    let Some(area) = area_in(bytes) else {
-        return Err(FileFault::Format(FormatFault::TooSmall));
-    };
-    let Ok(mut disk) = FileDisk::create(rt, path, bytes) else {
-        return Err(FileFault::CannotOpen);
-    };
-    match format(alloc, &mut disk, area) {
+    match writer.write_all(b"stompd 0.1.0\n") {
         Ok(()) => Ok(()),
-        Err(fault) => {
-            let _removed = std::fs::remove_file(rt, path);
-            Err(FileFault::Format(fault))
-        }
+        Err(_) => Err(Failure::File(FileFault::Show(ShowFault::Output))),
     }
 }
 
@@ -199,6 +202,25 @@ fn show_file<R: Files<File = File>, W: Write>(
         return Err(FileFault::CannotOpen);
     };
     match show(alloc, &mut disk, writer) {
+        Ok(()) => Ok(()),
+        Err(fault) => Err(FileFault::Show(fault)),
+    }
+}
+
+// Writes which queues and durable names of the journal in a file hold messages. The file stays as it is.
+fn held_file<R: Files<File = File>, W: Write>(
+    alloc: Global,
+    rt: &R,
+    path: &str,
+    writer: &mut W,
+) -> Result<(), FileFault>
+    ensures ok { OnOk result (ShowsHeld (W.contents writer.old) (W.contents writer.new)) }
+    ensures err { IfErr result (λ fault. fault ≢ FileFault.Show ShowFault.Output → writer.new ≡ writer.old) }
+{
+    let Ok(mut disk) = FileDisk::open(rt, path) else {
+        return Err(FileFault::CannotOpen);
+    };
+    match show_held(alloc, &mut disk, writer) {
         Ok(()) => Ok(()),
         Err(fault) => Err(FileFault::Show(fault)),
     }

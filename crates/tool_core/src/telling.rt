@@ -70,6 +70,7 @@ fn tell_file<E: Write>(fault: &FileFault, errors: &mut E) -> io::Result<()>
 {
     match fault {
         FileFault::CannotOpen => writeln!(errors, "stompd: cannot open"),
+        FileFault::NoSpace => writeln!(errors, "stompd: no space left for the file"),
         FileFault::Format(fault) => writeln!(errors, "stompd: {}", format_text(fault)),
         FileFault::Show(ShowFault::Read(fault)) => tell_opening(fault, errors),
         FileFault::Show(ShowFault::Output) => writeln!(errors, "stompd: input or output failed"),

@@ -3,6 +3,7 @@ use std::alloc::Global;
 use std::fs::File;
 use std::process::Abort;
 use std::rt::Files;
+use std::time::Clock;
 use std::test::Fail;
 
 const CON_0: &str = "0 CONNECT%0Aaccept-version:1.2~";
@@ -137,7 +138,7 @@ fn a_durable_subscriber_finds_its_messages_after_a_crash(rt: HostRuntime) -> Res
 
 // After the script `crash` with its calls and fill, and `open`, print this; what came before was printed too.
 fn expect_opened<'a>(
-    rt: &(impl Abort + Files<File = File>),
+    rt: &(impl Abort + Files<File = File> + Clock),
     alloc: Global,
     script: &'a str,
     crash: (&'a str, &'a str),
@@ -237,7 +238,7 @@ fn a_flush_of_two_batches_prints_all_in_order(rt: HostRuntime) -> Result<(), Fai
 }
 
 fn expect_calls(
-    rt: &(impl Abort + Files<File = File>),
+    rt: &(impl Abort + Files<File = File> + Clock),
     alloc: Global,
     script: Parts<'_>,
     calls: &str,
@@ -271,7 +272,7 @@ const NEXT_SEND: &str = "%00\n0 SEND%0Adestination:/queue/q%0A%0A";
 // A CONNECT, whose record has 11 bytes, and five messages, whose records have 28 bytes and their bodies: the first five
 // records have 196,638 bytes and the fourth body.
 fn expect_long(
-    rt: &(impl Abort + Files<File = File>),
+    rt: &(impl Abort + Files<File = File> + Clock),
     alloc: Global,
     fourth: usize,
     calls: &str,
@@ -353,7 +354,7 @@ const NO_LINES: [&str; 15] = [
 // more, and that of a message 37 and its body, the closed gate behind it counted and the one before it not. Behind 15 messages
 // of 65,536 bytes there are 64,920 bytes left.
 fn expect_last(
-    rt: &(impl Abort + Files<File = File>),
+    rt: &(impl Abort + Files<File = File> + Clock),
     alloc: Global,
     body: usize,
     fits: bool,
@@ -397,7 +398,7 @@ fn a_journal_that_is_full_ends_the_script(rt: HostRuntime) -> Result<(), Fail> {
 
 // A CONNECT, 23 messages and an end.
 fn expect_full(
-    rt: &(impl Abort + Files<File = File>),
+    rt: &(impl Abort + Files<File = File> + Clock),
     alloc: Global,
     end: &str,
     told: &str,

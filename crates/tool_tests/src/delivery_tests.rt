@@ -3,6 +3,7 @@ use std::alloc::Global;
 use std::fs::File;
 use std::process::Abort;
 use std::rt::Files;
+use std::time::Clock;
 use std::test::Fail;
 
 const SQ: &str = "SEND%0Adestination:/queue/q%0A%0Ax%00";
@@ -314,7 +315,7 @@ fn push_all(
 
 // What each connection is answered, and what is opened then.
 fn expect_all(
-    rt: &(impl Abort + Files<File = File>),
+    rt: &(impl Abort + Files<File = File> + Clock),
     alloc: Global,
     script: &str,
 ) -> Result<(), Fail> {

@@ -5,12 +5,13 @@ use std::fs;
 use std::fs::File;
 use std::process::Abort;
 use std::rt::Files;
+use std::time::Clock;
 use std::test::Fail;
 
 const JOURNAL: &str = "stompd_journal_file";
 
 fn expect_format(
-    rt: &(impl Abort + Files<File = File>),
+    rt: &(impl Abort + Files<File = File> + Clock),
     alloc: Global,
     bytes: &str,
     status: u8,
@@ -26,7 +27,7 @@ fn expect_format(
 }
 
 fn expect_show(
-    rt: &(impl Abort + Files<File = File>),
+    rt: &(impl Abort + Files<File = File> + Clock),
     alloc: Global,
     status: u8,
     printed: &str,
@@ -61,7 +62,7 @@ const SERVERS: [&[&str]; 6] = [
 
 // Each of these asks for what fails with this text.
 fn expect_failures(
-    rt: &(impl Abort + Files<File = File>),
+    rt: &(impl Abort + Files<File = File> + Clock),
     alloc: Global,
     all: &[&[&str]],
     told: &str,
@@ -73,7 +74,7 @@ fn expect_failures(
 }
 
 // Writes a file with the journal of a disk of 8,224 bytes that holds commands.
-fn write_held(rt: &impl Files<File = File>, alloc: Global) -> Result<(), Fail> {
+fn write_held(rt: &impl Files<File = File> + Clock, alloc: Global) -> Result<(), Fail> {
     let mut bytes = Vec::from_slice(alloc, HELD)?;
     bytes.extend_from_slice(&[0; 8_033])?;
     fs::write(rt, JOURNAL, bytes.as_slice())?;
@@ -130,7 +131,7 @@ fn front_of(alloc: Global, area_length: u64) -> Result<Vec<u8>, Fail> {
 }
 
 fn expect_made(
-    rt: &(impl Abort + Files<File = File> + Alloc<A = Global>),
+    rt: &(impl Abort + Files<File = File> + Clock + Alloc<A = Global>),
     alloc: Global,
     bytes: &str,
     length: usize,

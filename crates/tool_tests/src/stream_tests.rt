@@ -7,6 +7,7 @@ use std::io;
 use std::io::{ErrorKind, Read, Write};
 use std::process::Abort;
 use std::rt::Files;
+use std::time::Clock;
 use std::test::Fail;
 use tool_core::tool;
 
@@ -98,18 +99,22 @@ const SCRIPT: &[u8] =
 
 // Runs a script over these streams.
 fn status_of(
-    rt: &(impl Abort + Files<File = File>),
+    rt: &(impl Abort + Files<File = File> + Clock),
     alloc: Global,
     reader: &mut impl Read,
     writer: &mut impl Write,
     errors: &mut impl Write,
 ) -> u8 {
-    tool(rt, alloc, &["stompd", "script"], reader, writer, errors).status
+    let mut progress = Vec::new(alloc);
+    let words = ["stompd", "script"];
+    let ended = tool(rt, alloc, &words, reader, writer, errors, &mut progress);
+    drop(progress);
+    ended.status
 }
 
 const STREAM_FAILED: &str = "stompd: input or output failed\n";
 
-fn expect_no_reading(rt: &(impl Abort + Files<File = File>), alloc: Global) -> Result<(), Fail> {
+fn expect_no_reading(rt: &(impl Abort + Files<File = File> + Clock), alloc: Global) -> Result<(), Fail> {
     let mut written = Vec::new(alloc);
     let mut told = Vec::new(alloc);
     let status = status_of(rt, alloc, &mut Failing, &mut written, &mut told);
@@ -120,7 +125,7 @@ fn expect_no_reading(rt: &(impl Abort + Files<File = File>), alloc: Global) -> R
     same
 }
 
-fn expect_no_writing(rt: &(impl Abort + Files<File = File>), alloc: Global) -> Result<(), Fail> {
+fn expect_no_writing(rt: &(impl Abort + Files<File = File> + Clock), alloc: Global) -> Result<(), Fail> {
     let mut script = SCRIPT;
     let mut told = Vec::new(alloc);
     let status = status_of(rt, alloc, &mut script, &mut Failing, &mut told);
@@ -143,7 +148,7 @@ fn a_stream_that_fails_is_told(rt: HostRuntime) -> Result<(), Fail> {
 
 // Runs a script that comes a byte at a time, and whose output is taken so.
 fn expect_trickled(
-    rt: &(impl Abort + Files<File = File>),
+    rt: &(impl Abort + Files<File = File> + Clock),
     alloc: Global,
     script: &[u8],
     printed: &str,

@@ -2,6 +2,7 @@ use std::alloc::Global;
 use std::fs::File;
 use std::process::Abort;
 use std::rt::Files;
+use std::time::Clock;
 use std::test::Fail;
 use tool_core::tool;
 
@@ -21,7 +22,7 @@ const LONGEST_LINE: usize = 1_048_576;
 
 /// Runs the program on the words and the text; the status and what is printed and told are these then.
 pub fn expect_of(
-    rt: &(impl Abort + Files<File = File>),
+    rt: &(impl Abort + Files<File = File> + Clock),
     alloc: Global,
     words: &[&str],
     text: &[u8],
@@ -30,7 +31,10 @@ pub fn expect_of(
     let mut reader = text;
     let mut written = Vec::new(alloc);
     let mut told = Vec::new(alloc);
-    let status = tool(rt, alloc, words, &mut reader, &mut written, &mut told).status;
+    let mut progress = Vec::new(alloc);
+    let ended = tool(rt, alloc, words, &mut reader, &mut written, &mut told, &mut progress);
+    let status = ended.status;
+    drop(progress);
     let same = compare(rt, status, written.as_slice(), told.as_slice(), wanted);
     drop(told);
     drop(written);
@@ -54,7 +58,7 @@ pub fn compare(
 
 /// Runs a script, whose status and what it prints and tells are these then.
 pub fn expect(
-    rt: &(impl Abort + Files<File = File>),
+    rt: &(impl Abort + Files<File = File> + Clock),
     alloc: Global,
     script: &[u8],
     status: u8,
@@ -96,7 +100,7 @@ pub fn text_of_parts(alloc: Global, parts: Parts<'_>) -> Result<String, Fail> {
 
 /// Runs a script in parts, whose status and what it prints and tells are these then.
 pub fn expect_parts(
-    rt: &(impl Abort + Files<File = File>),
+    rt: &(impl Abort + Files<File = File> + Clock),
     alloc: Global,
     script: Parts<'_>,
     status: u8,
@@ -110,7 +114,7 @@ pub fn expect_parts(
 }
 
 fn expect_printed(
-    rt: &(impl Abort + Files<File = File>),
+    rt: &(impl Abort + Files<File = File> + Clock),
     alloc: Global,
     script: &[u8],
     status: u8,
@@ -173,7 +177,7 @@ fn by_bytes(alloc: Global, script: &str) -> Result<String, Fail> {
 
 /// The script as it stands, and with one byte a line.
 pub fn expect_whole_and_by_bytes(
-    rt: &(impl Abort + Files<File = File>),
+    rt: &(impl Abort + Files<File = File> + Clock),
     alloc: Global,
     script: &str,
     printed: &str,
@@ -201,7 +205,7 @@ pub fn text_of(alloc: Global, lines: &[&str]) -> Result<String, Fail> {
 
 /// The script as it stands, and with one byte a line, prints these lines.
 fn expect_printed_lines(
-    rt: &(impl Abort + Files<File = File>),
+    rt: &(impl Abort + Files<File = File> + Clock),
     alloc: Global,
     script: &str,
     printed: &[&str],
@@ -214,7 +218,7 @@ fn expect_printed_lines(
 
 /// The script of these lines as it stands, and with one byte a line.
 pub fn expect_lines(
-    rt: &(impl Abort + Files<File = File>),
+    rt: &(impl Abort + Files<File = File> + Clock),
     alloc: Global,
     script: &[&str],
     printed: &[&str],
@@ -242,7 +246,7 @@ fn push_between(text: &mut String, first: &str, frames: &[&str], last: &str) -> 
 
 /// Frames of connection 0 after a CONNECT, and a flush: CONNECTED comes first, and all goes to connection 0.
 pub fn expect_frames(
-    rt: &(impl Abort + Files<File = File>),
+    rt: &(impl Abort + Files<File = File> + Clock),
     alloc: Global,
     frames: &[&str],
     printed: &[&str],
@@ -254,7 +258,7 @@ pub fn expect_frames(
 }
 
 fn expect_answers(
-    rt: &(impl Abort + Files<File = File>),
+    rt: &(impl Abort + Files<File = File> + Clock),
     alloc: Global,
     script: &str,
     printed: &[&str],
@@ -385,11 +389,14 @@ fn a_line_has_at_most_1048576_bytes(rt: HostRuntime) -> Result<(), Fail> {
 }
 
 // Runs the program on words that ask for nothing: nothing is read or printed, and something is told.
-fn is_refused(rt: &(impl Abort + Files<File = File>), alloc: Global, words: &[&str]) -> bool {
+fn is_refused(rt: &(impl Abort + Files<File = File> + Clock), alloc: Global, words: &[&str]) -> bool {
     let mut reader = b"flush\n".as_slice();
     let mut written = Vec::new(alloc);
     let mut told = Vec::new(alloc);
-    let status = tool(rt, alloc, words, &mut reader, &mut written, &mut told).status;
+    let mut progress = Vec::new(alloc);
+    let ended = tool(rt, alloc, words, &mut reader, &mut written, &mut told, &mut progress);
+    let status = ended.status;
+    drop(progress);
     let is_silent = written.is_empty() && !told.is_empty();
     drop(told);
     drop(written);

@@ -1,4 +1,6 @@
 pub mod Closing
+pub mod Fields
+pub mod Handshakes
 pub mod Limits
 pub mod Links
 pub mod Memory

@@ -1,5 +1,5 @@
 -- Which subprotocol a handshake answers.
-use Rattle.std.specs.Prelude.{List, [], ◌∷◌, ℕ, Bool, ◌==◌, ◌&&◌, ◌||◌, if◌then◌else◌, codes, drop, nat_eq}
+use Rattle.std.specs.Prelude.{List, [], ◌∷◌, ℕ, Bool, ◌==◌, ◌&&◌, ◌||◌, cond, if◌then◌else◌, codes, drop, length, nat_eq}
 use Rattle.std.specs.List.{list_any, list_all, slice_split, starts_with}
 use Rattle.ws_core.specs.declared.offers.Choice.{Choice}
 use Rattle.ws_core.specs.declared.offers.Choice.TheVariants.{Stomp, Nothing, Refuse}
@@ -22,10 +22,9 @@ abbrev pub is_stomp : List ℕ → Bool
 is_stomp item = starts_with nat_eq (without_blanks item) (codes "v12.stomp") && list_all is_blank (drop 9 (without_blanks item))
 
 -- an offer with `v12.stomp` among its items (RFC 6455, sections 4.1 and 11.3.4)
-abbrev pub has_stomp : List ℕ → Bool
+unfoldable pub has_stomp : List ℕ → Bool
 has_stomp offer = list_any is_stomp (items_of offer)
 
 -- the answer to all offers of a request: `v12.stomp` where one has it, nothing where there is none
 abbrev pub choice_of : List (List ℕ) → Choice
-choice_of [] = Nothing
-choice_of (offer ∷ offers) = if list_any has_stomp (offer ∷ offers) then Stomp else Refuse
+choice_of offers = cond (list_any has_stomp offers) Stomp (cond (length offers == 0) Nothing Refuse)

@@ -1,11 +1,8 @@
 //! Which subprotocol a handshake answers.
 
-ghost use Rattle.std.specs.Prelude.{◌≡◌, ◌==◌, ◌||◌, map, codes};
+ghost use Rattle.std.specs.Prelude.{◌≡◌, ◌==◌, ◌||◌};
 ghost use Rattle.std.specs.List.{list_all};
-ghost use Rattle.http_header.specs.HeaderMap.{get_all};
-ghost use Rattle.ws_core.specs.Offers.{choice_of, has_stomp, is_stomp, is_blank, without_blanks};
-
-use http::HeaderMap;
+ghost use Rattle.ws_core.specs.Offers.{has_stomp, is_stomp, is_blank, without_blanks};
 
 /// What a handshake answers to the subprotocols that the client offers.
 #[derive(Clone, Copy)]
@@ -18,28 +15,8 @@ pub enum Choice {
     Refuse,
 }
 
-/// The answer to a request with these headers. Each `Sec-WebSocket-Protocol` is a list with commas, and several are one
-/// list (RFC 6455, section 11.3.4). No memory is taken.
-pub fn choose(headers: &HeaderMap) -> Choice
-    ensures { result ≡ choice_of (map (λ value. value.bytes)
-        (get_all headers.now (codes "sec-websocket-protocol"))) }
-{
-    let mut some_offer = false;
-    for offer in headers.get_all("sec-websocket-protocol") {
-        if has_stomp(offer.as_bytes()) {
-            return Choice::Stomp;
-        }
-        some_offer = true;
-    }
-    if some_offer {
-        Choice::Refuse
-    } else {
-        Choice::Nothing
-    }
-}
-
 // Whether an item of the list is `v12.stomp`.
-fn has_stomp(offer: &[u8]) -> bool
+pub fn has_stomp(offer: &[u8]) -> bool
     ensures { result ≡ has_stomp offer.now }
 {
     offer.split(|byte| *byte == b',').any(|item| is_stomp(item))

@@ -52,23 +52,26 @@ fn limits() -> WebSocketConfig
 }
 
 impl<S: Read + Write + Drop> WsLink<S> {
-    ghost use Rattle.std.specs.Prelude.{◌≡◌, ◌≢◌, IfOk, OnOk, IfErr, true};
+    ghost use Rattle.std.specs.Prelude.{◌≡◌, ◌≢◌, IfOk, OnOk, IfErr, map, true};
     ghost use Rattle.tungstenite.specs.declared.error.Error.TheVariants.{OutOfMemory};
+    ghost use Rattle.ws_core.specs.Handshakes.{IsAccepted};
     ghost use Rattle.ws_core.specs.Links.{IsReady};
     ghost use Rattle.ws_core.specs.Sending.{Sends, Refuses};
     ghost use Rattle.frame_core.specs.Writable.{Writable};
     ghost use Rattle.frame_core.specs.Written.{written};
 
     /// Reads a client's handshake and answers it (RFC 6455, section 4.2), whatever path it asks for. The subprotocol is
-    /// `v12.stomp` where the client offers it, and none where it offers none. Everyone else is refused with status 400.
+    /// `v12.stomp` where the client offers it, and none where it offers none. A browser's page, which sends its origin, is served
+    /// where that is among these, or where none is named. Everyone else is told why not, by a response with a status.
     ///
     /// `Gone` where the client is refused, the stream fails, or its reads would block: give it a time limit, not none.
-    /// A head may have 65,536 bytes, and from the 65th read on at least 128 bytes a read; beyond that the stream is
-    /// given up, so a client that never ends its head costs no more than that.
-    pub fn accept(alloc: Global, stream: S) -> Result<WsLink<S>, LinkFault>
-        ensures { IfOk result IsReady }
+    /// A head may have 65,536 bytes and 124 fields, and from the 65th read on at least 128 bytes a read; beyond that the
+    /// stream is given up, so a client that never ends its head costs no more than that.
+    pub fn accept(alloc: Global, stream: S, origins: &[Vec<u8>]) -> Result<WsLink<S>, LinkFault>
+        ensures ready { IfOk result IsReady }
+        ensures accepted { IfOk result (λ link. IsAccepted S.remaining S.contents (map (λ origin. origin.items) origins.now) stream link.socket.stream) }
     {
-        let mut socket = shake_hands(alloc, stream)?;
+        let mut socket = shake_hands(alloc, stream, origins)?;
         socket.set_config(limits());
         Ok(WsLink {
             socket,

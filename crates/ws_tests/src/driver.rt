@@ -104,7 +104,7 @@ fn act(
 /// closed link; a send and an end show k, or m and g for their faults. Behind it stands what was written.
 pub fn run(alloc: Global, wire: &Wire, acts: &[Do]) -> Result<Vec<u8>, Fail> {
     let mut shown = Vec::new(alloc);
-    let mut link = WsLink::accept(alloc, wire)?;
+    let mut link = WsLink::accept(alloc, wire, &[])?;
     wire.move_output(&mut shown)?;
     shown.clear();
     for one in acts {

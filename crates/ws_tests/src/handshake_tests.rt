@@ -9,8 +9,13 @@ const ACCEPT: &str = "sec-websocket-accept: s3pPLMBiTxaQ9kYGzzhZRbK+xOo=";
 
 // What is written to a client with this request, and whether it is accepted.
 fn answered(alloc: Global, request: &str) -> Result<(bool, String), Fail> {
+    answered_for(alloc, request, &[])
+}
+
+// The same where pages of these origins are served alone.
+fn answered_for(alloc: Global, request: &str, origins: &[Vec<u8>]) -> Result<(bool, String), Fail> {
     let wire = Wire::new(alloc, request.as_bytes(), b"", usize::MAX)?;
-    let accepted = WsLink::accept(alloc, &wire).is_ok();
+    let accepted = WsLink::accept(alloc, &wire, origins).is_ok();
     let mut answer = Vec::new(alloc);
     wire.move_output(&mut answer)?;
     Ok((accepted, String::from_utf8(answer)?))
@@ -82,25 +87,88 @@ fn an_offer_of_subprotocols_is_answered(rt: HostRuntime) -> Result<(), Fail> {
     Ok(())
 }
 
-// What stands in the place of what, so that the request is no handshake.
-const SPOILED: &[(&str, &str)] = &[
-    ("GET /chat", "POST /chat"),
-    ("HTTP/1.1", "HTTP/1.0"),
-    ("Upgrade: websocket\r\n", ""),
-    ("Connection: Upgrade", "Connection: close"),
-    ("Version: 13", "Version: 8"),
-    ("dGhlIHNhbXBsZSBub25jZQ==", "dGhl"),
-    ("GET", "\u{0}"),
-    ("\r\n\r\n", "\r\n"),
-    ("\r\n\r\n", "\r\n\r\nmore"),
+// What stands in the place of what, so that the request is no handshake, and what its answer begins with: 405 names the methods
+// that are allowed (RFC 9110, section 15.5.6), 426 what to upgrade to (section 15.5.22), and RFC 6455, section 4.4, the version.
+const SPOILED: &[(&str, &str, &str)] = &[
+    ("GET /chat", "POST /chat", "HTTP/1.1 405 "),
+    ("HTTP/1.1", "HTTP/1.0", "HTTP/1.1 426 "),
+    ("Upgrade: websocket\r\n", "", "HTTP/1.1 426 "),
+    ("Connection: Upgrade", "Connection: close", "HTTP/1.1 426 "),
+    ("Version: 13", "Version: 8", "HTTP/1.1 426 "),
+    ("dGhlIHNhbXBsZSBub25jZQ==", "dGhl", "HTTP/1.1 400 "),
+    ("Sec-WebSocket-Key:", "X-Key:", "HTTP/1.1 400 "),
+    ("Host:", "X-Host:", "HTTP/1.1 400 "),
+    ("Host:", "Host: a\r\nHost:", "HTTP/1.1 400 "),
+    (
+        "Upgrade: websocket\r\n",
+        "Upgrade: websocket\r\nTransfer-Encoding: chunked\r\n",
+        "HTTP/1.1 400 ",
+    ),
+    ("GET", "\u{0}", "HTTP/1.1 400 "),
+    ("\r\n\r\n", "\r\n\r\nmore", "HTTP/1.1 400 "),
+    // Half of a head is answered by nothing.
+    ("\r\n\r\n", "\r\n", ""),
+];
+
+// Whether a refusal has the fields that belong to its status, and a text of the length that it names.
+fn is_refusal(answer: &str) -> bool {
+    let Some((head, body)) = answer.split_once("\r\n\r\n") else {
+        return answer.is_empty();
+    };
+    let named = !answer.starts_with("HTTP/1.1 405 ") || head.contains("\r\nAllow: GET\r\n");
+    let upgraded = !answer.starts_with("HTTP/1.1 426 ")
+        || head.contains("\r\nUpgrade: websocket\r\n")
+            && head.contains("\r\nSec-WebSocket-Version: 13\r\n");
+    let length = head.rsplit_once("\r\nContent-Length: ");
+    let counted =
+        matches!(length, Some((_, text)) if text.parse::<usize>().ok() == Some(body.len()));
+    named && upgraded && counted && !body.is_empty() && head.contains("\r\nConnection: close")
+}
+
+#[test]
+fn what_is_no_handshake_is_told_why(rt: HostRuntime) -> Result<(), Fail> {
+    for (old, new, status) in SPOILED {
+        let request = REQUEST.replace(rt.alloc(), *old, *new)?;
+        let (is_accepted, answer) = answered(rt.alloc(), request.as_str())?;
+        let answer = answer.as_str();
+        assert!(rt;
+            !is_accepted && answer.starts_with(*status),
+            "{new}: {answer}"
+        );
+        assert!(rt; is_refusal(answer), "{answer}");
+    }
+    Ok(())
+}
+
+// Header lines, and whether they are accepted where pages of `http://a.example` and of `null` are served alone.
+const ORIGINS: &[(&str, bool)] = &[
+    ("", true),
+    ("Origin: http://a.example\r\n", true),
+    ("origin:null\r\n", true),
+    ("Origin: http://a.example:8080\r\n", false),
+    ("Origin: https://a.example\r\n", false),
+    (
+        "Origin: http://a.example\r\nOrigin: http://b.example\r\n",
+        false,
+    ),
+    ("Origin: \r\n", false),
 ];
 
 #[test]
-fn what_is_no_handshake_is_refused(rt: HostRuntime) -> Result<(), Fail> {
-    for (old, new) in SPOILED {
-        let request = REQUEST.replace(rt.alloc(), *old, *new)?;
-        let (is_accepted, answer) = answered(rt.alloc(), request.as_str())?;
-        assert!(rt; !is_accepted && !answer.as_str().contains(" 101 "), "{new}");
+fn pages_of_other_origins_are_told_403(rt: HostRuntime) -> Result<(), Fail> {
+    let alloc = rt.alloc();
+    let mut served = Vec::new(alloc);
+    served.push(b"http://a.example".to_vec(alloc)?)?;
+    served.push(b"null".to_vec(alloc)?)?;
+    for (lines, accepts) in ORIGINS {
+        let request = REQUEST.replace(alloc, "Origin: http://example.com\r\n", *lines)?;
+        let (all, _) = answered(alloc, request.as_str())?;
+        let (is_accepted, answer) = answered_for(alloc, request.as_str(), served.as_slice())?;
+        assert!(rt; all && is_accepted == *accepts, "{lines}");
+        assert!(rt;
+            *accepts || answer.as_str().starts_with("HTTP/1.1 403 "),
+            "{lines}"
+        );
     }
     Ok(())
 }
@@ -109,7 +177,7 @@ fn what_is_no_handshake_is_refused(rt: HostRuntime) -> Result<(), Fail> {
 fn bytes_read(alloc: Global, step: usize) -> Result<Option<usize>, Fail> {
     let endless = vec![in alloc; b'a'; 1_000_000]?;
     let wire = Wire::new(alloc, b"", endless.as_slice(), step)?;
-    if WsLink::accept(alloc, &wire).is_ok() {
+    if WsLink::accept(alloc, &wire, &[]).is_ok() {
         return Ok(None);
     }
     Ok(Some(wire.read_so_far()))

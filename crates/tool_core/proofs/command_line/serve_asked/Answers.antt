@@ -1,12 +1,9 @@
-use Rattle.std.proofs.Common.{map}
-use Rattle.tool_core.proofs.Asking.{IsNoPort, no_second, no_serve, the_second}
+use Rattle.std.proofs.Common.{◌≡◌, ◌<◌, ◌^◌, List, ℕ, ap, map, refl, subst, sym}
+use Rattle.tool_core.specs.CommandLines.{AreFileAndNumber, words_of}
+use Rattle.tool_core.proofs.Asking.{no_serve}
 use Rattle.tool_core.proofs.command_line.serve_asked.Goals as goal
 
-pub returns-in_default-clause-number : goal.returns-in_default-clause-number
-returns-in_default-clause-number g c =
-    let rest = map g.S.AsStr.text c.args.rest.now in no_serve rest (no_second IsNoPort rest c.in_default.ensures.none)
-
-pub returns-in-None-clause-number : goal.returns-in-None-clause-number
-returns-in-None-clause-number g c =
-    let rest = map g.S.AsStr.text c.args.rest.now in
-    no_serve rest (the_second IsNoPort rest c.in-Some.file.now c.in-Some.text.now c.in-Some.ensures.some c.in-None.ensures.none)
+pub returns-in-None-clause-none : goal.returns-in-None-clause-none
+returns-in-None-clause-none c e =
+    no_serve (words_of c.args.given)
+    (λ file port are. c.in-None.ensures.none refl file port (subst (λ words. AreFileAndNumber (map (λ word. word.now) words) file port) (sym c.deref.ensures.value) are))

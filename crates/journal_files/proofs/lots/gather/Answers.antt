@@ -1,0 +1,16 @@
+use Rattle.std.proofs.Common.{◌∙◌, ◌++◌, ◌-◌, ◌^◌, ap, map, rules}
+use Rattle.std.proofs.lemmas.List.Sorted.{IsNonDecreasingBy-from_sort_by_key}
+use Rattle.journal_files.specs.declared.lots.Lot.{Lot}
+use Rattle.journal_files.specs.Held.{names_waiting, queues_waiting, waits_of}
+use Rattle.journal_files.proofs.Gathered.{are_lots, on_ok}
+use Rattle.journal_files.proofs.lots.gather.Goals as goal
+
+pub returns : goal.returns
+returns c =
+    let found = c.add_queues.new.lots.items in
+    on_ok c.sort_by_key.result _ _ c.sort_by_key.ensures.sorted
+    (λ sorted. are_lots c.args.shared.now c.args.lots.now.items c.add_names.new.lots.items found c.sort_by_key.new.self.items c.requires
+    (c.in_ok-add_names.ensures ∙ ap (λ lines. map waits_of c.args.lots.now.items ++ names_waiting lines) c.names.ensures)
+    (c.in_ok-add_queues.ensures ∙ ap (λ lines. map waits_of c.add_names.new.lots.items ++ queues_waiting lines) c.queues.ensures)
+    c.sort_by_key.ensures.permutation
+    (IsNonDecreasingBy-from_sort_by_key (λ (lot : Lot). 2 ^ 64 - 1 - lot.messages) c.sort_by_key.new.self.items sorted (λ a r f' k. search rules)))

@@ -1,0 +1,107 @@
+//! Which queues and durable names of a journal hold messages.
+
+ghost use Rattle.std.specs.Prelude.{◌≡◌, ◌≢◌, IfErr, IfOk, OnOk, false};
+ghost use Rattle.std.specs.Io.KnownBytes.{Appends};
+ghost use Rattle.std.specs.List.{flat_map};
+ghost use Rattle.area_core.specs.Reading.{Quiet};
+ghost use Rattle.broker_state.specs.Operations.{restarted};
+ghost use Rattle.journal_files.specs.Held.{AreLotsOf, ShowsHeld, ShowsHeldIn, ShowsHeldOf, held_text, line_of, totals_text};
+
+use crate::journal_files::ShowFault;
+use crate::lots::{Lot, lots_of};
+use area_core::ReadFault;
+use broker_core::{Broker, Held};
+use disk_core::Disk;
+use recover_core::{OpenFault, stored_broker};
+use std::alloc::{AllocError, Global};
+use std::io;
+use std::io::Write;
+
+/// Writes what the journal of a disk holds: the totals beside their limits, and then a line for each queue and durable name for
+/// which messages wait, most first: how many messages, how many bytes, and which it is. The disk is only read.
+///
+/// The totals are those that count against the limits, with what listeners of topics still have to be sent. The lines are as they
+/// would be once all sessions had ended: what a client has not acknowledged stands in its line. Where the disk is not read as a
+/// journal, or memory is refused, nothing is written.
+pub fn show_held<D: Disk, W: Write>(
+    alloc: Global,
+    disk: &mut D,
+    writer: &mut W,
+) -> Result<(), ShowFault>
+    ensures shown { D.honest disk.old → OnOk result (ShowsHeldIn (D.content disk.old) (W.contents writer.old) (W.contents writer.new)) }
+    ensures shows { OnOk result (ShowsHeld (W.contents writer.old) (W.contents writer.new)) }
+    ensures err { IfErr result (λ fault. fault ≢ ShowFault.Output → writer.new ≡ writer.old) }
+    ensures quiet { D.honest disk.old → Quiet D.Disk disk.old disk.new }
+{
+    match stored_broker(alloc, disk) {
+        Ok(broker) => show_broker(alloc, broker, writer),
+        Err(fault) => Err(ShowFault::Read(fault)),
+    }
+}
+
+// Writes what a broker holds, which is let go then.
+fn show_broker<W: Write>(alloc: Global, broker: Broker, writer: &mut W) -> Result<(), ShowFault>
+    requires { broker.broken ≡ false }
+    ensures shown { OnOk result (ShowsHeldOf broker.state (W.contents writer.old) (W.contents writer.new)) }
+    ensures err { IfErr result (λ fault. fault ≢ ShowFault.Output → writer.new ≡ writer.old) }
+{
+    let mut broker = broker;
+    let held = broker.held();
+    let gathered = gather(alloc, &mut broker);
+    drop(broker);
+    match gathered {
+        Ok(lots) => {
+            let written = write(held, &lots, writer);
+            drop(lots);
+            match written {
+                Ok(()) => Ok(()),
+                Err(_) => Err(ShowFault::Output),
+            }
+        }
+        Err(refused) => Err(ShowFault::Read(OpenFault::Read(ReadFault::Memory(refused)))),
+    }
+}
+
+// Ends all sessions, and says what waits then.
+fn gather(alloc: Global, broker: &mut Broker) -> Result<Vec<Lot>, AllocError>
+    requires { broker.old.broken ≡ false }
+    ensures { IfOk result (λ lots. AreLotsOf (restarted broker.old.state).shared lots.items) }
+{
+    match broker.restart(alloc) {
+        Ok(()) => lots_of(alloc, broker.shared()),
+        Err(_) => Err(AllocError),
+    }
+}
+
+// Writes the totals and the lots.
+fn write<W: Write>(held: Held, lots: &[Lot], writer: &mut W) -> io::Result<()>
+    ensures { OnOk result (Appends (W.contents writer.old) (W.contents writer.new) (held_text held.messages held.bytes lots.now)) }
+{
+    write_totals(held, writer)?;
+    write_lots(lots, writer)
+}
+
+fn write_totals<W: Write>(held: Held, writer: &mut W) -> io::Result<()>
+    ensures { OnOk result (Appends (W.contents writer.old) (W.contents writer.new) (totals_text held.messages held.bytes)) }
+{
+    writeln!(
+        writer,
+        "messages {} of 4096\nbytes {} of 16777216",
+        held.messages, held.bytes
+    )
+}
+
+fn write_lots<W: Write>(lots: &[Lot], writer: &mut W) -> io::Result<()>
+    ensures { OnOk result (Appends (W.contents writer.old) (W.contents writer.new) (flat_map line_of lots.now)) }
+{
+    for lot in lots {
+        write_lot(lot, writer)?;
+    }
+    Ok(())
+}
+
+fn write_lot<W: Write>(lot: &Lot, writer: &mut W) -> io::Result<()>
+    ensures { OnOk result (Appends (W.contents writer.old) (W.contents writer.new) (line_of lot.now)) }
+{
+    writeln!(writer, "{} {} {}", lot.messages, lot.bytes, lot.place)
+}

@@ -1,0 +1,114 @@
+//! What the words behind a subcommand give: its arguments, and its options.
+
+ghost use Rattle.std.specs.Prelude.{◌≡◌, ◌∷◌, [], List, ℕ, IfOk, IfSome, IsNone, OnOk, bytes_eq, codes, drop, false, map, nat_eq, true};
+ghost use Rattle.std.specs.List.{starts_with};
+ghost use Rattle.tool_core.specs.CommandLines.{given_by, given_from, joined, words_of};
+
+use std::alloc::{AllocError, Global};
+use std::convert::AsStr;
+
+/// What a word is, by those before it.
+#[derive(Clone, Copy)]
+pub enum Place {
+    /// An option, or an argument.
+    Free,
+    /// The origin that belongs to the option before it.
+    Value,
+    /// An argument, whatever it is: it stands behind `--`.
+    Behind,
+}
+
+/// The arguments, the origins, and whether a file is to be sparse.
+#[derive(Drop)]
+pub struct Given<'a> {
+    pub arguments: Vec<&'a str>,
+    pub origins: Vec<&'a [u8]>,
+    pub is_sparse: bool,
+}
+
+/// What these words give.
+pub fn given_by<'a, S: AsStr>(alloc: Global, words: &'a [S]) -> Result<Given<'a>, AllocError>
+    ensures { IfOk result (λ given. words_of given ≡ given_by (map S.text words.now)) }
+{
+    let mut given = Given {
+        arguments: Vec::new(alloc),
+        origins: Vec::new(alloc),
+        is_sparse: false,
+    };
+    match given.take_all(words) {
+        Ok(()) => Ok(given),
+        Err(refused) => {
+            drop(given);
+            Err(refused)
+        }
+    }
+}
+
+impl<'a> Given<'a> {
+    fn take_all<S: AsStr>(&mut self, words: &'a [S]) -> Result<(), AllocError>
+        ensures { OnOk result (joined (words_of self.old) (given_by (map S.text words.now)) ≡ joined (words_of self.new) (given_by [])) }
+    {
+        let mut place = Place::Free;
+        for word in words {
+            place = self.take(place, word.as_str())?;
+        }
+        Ok(())
+    }
+
+    // Takes a word, and says what the next one is.
+    fn take(&mut self, place: Place, word: &'a str) -> Result<Place, AllocError>
+        ensures { IfOk result (λ next. (words : List (List ℕ)) → joined (words_of self.new) (given_from next words) ≡ joined (words_of self.old) (given_from place (word.now ∷ words))) }
+    {
+        match place {
+            Place::Behind => {
+                self.arguments.push(word)?;
+                Ok(Place::Behind)
+            }
+            Place::Value => {
+                self.origins.push(word.as_bytes())?;
+                Ok(Place::Free)
+            }
+            Place::Free => self.take_free(word),
+        }
+    }
+
+    fn take_free(&mut self, word: &'a str) -> Result<Place, AllocError>
+        ensures { IfOk result (λ next. (words : List (List ℕ)) → joined (words_of self.new) (given_from next words) ≡ joined (words_of self.old) (given_from Place.Free (word.now ∷ words))) }
+    {
+        if is_same(word, "--") {
+            return Ok(Place::Behind);
+        }
+        if is_same(word, "--origin") {
+            return Ok(Place::Value);
+        }
+        if is_same(word, "--sparse") {
+            self.is_sparse = true;
+            return Ok(Place::Free);
+        }
+        match origin_in(word) {
+            Some(origin) => self.origins.push(origin)?,
+            None => self.arguments.push(word)?,
+        }
+        Ok(Place::Free)
+    }
+}
+
+// The origin of a word `--origin=ORIGIN`.
+fn origin_in(word: &str) -> Option<&[u8]>
+    ensures some { IfSome result (λ origin. (starts_with nat_eq word.now (codes "--origin=") ≡ true) × (origin.now ≡ drop 9 word.now)) }
+    ensures none { IsNone result → starts_with nat_eq word.now (codes "--origin=") ≡ false }
+{
+    let bytes = word.as_bytes();
+    if bytes.starts_with(b"--origin=") {
+        Some(&bytes[9..])
+    } else {
+        None
+    }
+}
+
+/// Whether these are the same.
+pub fn is_same(one: &str, other: &str) -> bool
+    ensures { result ≡ bytes_eq one.now other.now }
+{
+    one == other
+}

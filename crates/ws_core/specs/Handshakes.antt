@@ -1,0 +1,133 @@
+-- What a client that asks for a WebSocket is answered (RFC 6455, section 4.2).
+use Rattle.std.specs.Prelude.{◌≡◌, ◌⊎◌, ◌<◌, ◌==◌, ◌||◌, ◌++◌, [], ℕ, List, Bool, true, false, Option, Result, Ok, Err, cond, codes, length, map, not, bytes_eq}
+use Rattle.std.specs.Fmt.{decimal}
+use Rattle.std.specs.Io.KnownBytes.{Appends, Consumes}
+use Rattle.std.specs.List.{list_all, list_any}
+use Rattle.httparse.specs.Grammar.{RequestHead, ReadsRequest, NeverHasRequest}
+use Rattle.httparse.specs.Spans.{RequestExceeds, name_and_value}
+use Rattle.websocket.specs.Handshake.{Answers, requested_key}
+use Rattle.websocket.specs.Headers.{Fields, crlf, field_line}
+use Rattle.websocket.specs.declared.handshake.failure.HandshakeError.{HandshakeError}
+use Rattle.websocket.specs.declared.handshake.failure.HandshakeError.TheVariants.{WrongHttpMethod, WrongHttpVersion, MissingConnectionUpgradeHeader, MissingUpgradeWebSocketHeader, MissingSecWebSocketVersionHeader}
+use Rattle.ws_core.specs.declared.answer.Answer.{Answer}
+use Rattle.ws_core.specs.declared.answer.Answer.TheVariants.{Accept, Refuse}
+use Rattle.ws_core.specs.declared.offers.Choice.{Choice}
+use Rattle.ws_core.specs.declared.offers.Choice.TheVariants as choices
+use Rattle.ws_core.specs.declared.refusal.Refusal.{Refusal}
+use Rattle.ws_core.specs.declared.refusal.Refusal.TheVariants.{Malformed, Foreign, Method, NoUpgrade, Version, TooLarge}
+use Rattle.ws_core.specs.Fields.{values}
+use Rattle.ws_core.specs.Offers.{choice_of}
+
+-- each Origin of the request is one of those that are served (section 4.2.2; RFC 6454, section 7); where none is named, all are
+abbrev pub is_let_in : List (List ℕ) → Fields → Bool
+is_let_in origins fields =
+    length origins == 0 || list_all (λ origin. list_any (λ served. bytes_eq served origin) origins) (values fields (codes "Origin"))
+
+-- it has another number of Hosts than one (RFC 9112, section 3.2), or says that a body follows in pieces
+abbrev pub is_malformed : Fields → Bool
+is_malformed fields = not (length (values fields (codes "Host")) == 1) || not (length (values fields (codes "Transfer-Encoding")) == 0)
+
+-- The refusal that says what the request lacks: another method than GET; no Upgrade to a WebSocket, to which HTTP/1.0 has none
+-- (RFC 9110, section 7.8); another version than 13; or a key that is missing or is none.
+abbrev pub refusal_of : HandshakeError → Refusal
+refusal_of WrongHttpMethod = Method
+refusal_of WrongHttpVersion = NoUpgrade
+refusal_of MissingConnectionUpgradeHeader = NoUpgrade
+refusal_of MissingUpgradeWebSocketHeader = NoUpgrade
+refusal_of MissingSecWebSocketVersionHeader = Version
+refusal_of _ = Malformed
+
+-- who offers other subprotocols alone is refused
+abbrev pub admitted : List ℕ → Choice → Answer
+admitted accept_key choices.Stomp = Accept accept_key true
+admitted accept_key choices.Nothing = Accept accept_key false
+admitted accept_key choices.Refuse = Refuse Malformed
+
+-- the answer where the request's key is answered so, or lacks that
+abbrev pub answer_by : List (List ℕ) → Fields → Result (List ℕ) HandshakeError → Answer
+answer_by origins fields (Err lacking) = Refuse (refusal_of lacking)
+answer_by origins fields (Ok accept_key) =
+    cond (is_let_in origins fields) (admitted accept_key (choice_of (values fields (codes "Sec-WebSocket-Protocol")))) (Refuse Foreign)
+
+-- The answer to a request with this method, minor version of HTTP and fields: what is malformed is told first, then what makes it
+-- none for a WebSocket (section 4.2.1), then the origin, and last the subprotocols.
+abbrev pub IsAnswer : List (List ℕ) → List ℕ → ℕ → Fields → Answer → Type 0
+IsAnswer origins method minor fields answer =
+    (asked : Result (List ℕ) HandshakeError) × Answers asked (requested_key method minor fields)
+    × (answer ≡ cond (is_malformed fields) (Refuse Malformed) (answer_by origins fields asked))
+
+-- nobody is accepted who sends more before it was (section 4.1)
+abbrev pub as_refusal : Answer → Answer
+as_refusal (Accept accept_key has_stomp) = Refuse Malformed
+as_refusal (Refuse refusal) = Refuse refusal
+
+-- the bytes begin with a whole head, behind which these stand, and that is answered so
+pub record IsHead (origins : List (List ℕ)) (bytes : List ℕ) (answer : Answer) : Type 0 where
+  pub head : RequestHead
+  pub more : List ℕ
+  pub reads : ReadsRequest bytes head more
+  pub given : Answer
+  pub answered : IsAnswer origins head.method head.minor (map name_and_value head.fields) given
+  pub is : answer ≡ cond (length more == 0) given (as_refusal given)
+
+-- a head of more bytes or fields than are read
+abbrev pub IsTooLarge : List ℕ → Type 0
+IsTooLarge bytes = (65536 < length bytes) ⊎ RequestExceeds 124 bytes
+
+-- what is answered to these bytes of a client
+abbrev pub IsAnswerTo : List (List ℕ) → List ℕ → Answer → Type 0
+IsAnswerTo origins bytes answer =
+    IsHead origins bytes answer ⊎ ((answer ≡ Refuse Malformed) × NeverHasRequest bytes) ⊎ ((answer ≡ Refuse TooLarge) × IsTooLarge bytes)
+
+-- the status of a refusal, and its reason (RFC 9110, section 15.5; RFC 6585, section 5)
+abbrev pub status_line : Refusal → List ℕ
+status_line Malformed = codes "400 Bad Request"
+status_line Foreign = codes "403 Forbidden"
+status_line Method = codes "405 Method Not Allowed"
+status_line NoUpgrade = codes "426 Upgrade Required"
+status_line Version = codes "426 Upgrade Required"
+status_line TooLarge = codes "431 Request Header Fields Too Large"
+
+-- What it has to say beside that: the methods that are allowed, or what to upgrade to, and by which version (RFC 9110, sections
+-- 15.5.6 and 15.5.22; RFC 6455, section 4.4). The connection is closed behind it.
+abbrev pub further_fields : Refusal → List ℕ
+further_fields Malformed = codes "Connection: close\r\n"
+further_fields Foreign = codes "Connection: close\r\n"
+further_fields Method = codes "Connection: close\r\nAllow: GET\r\n"
+further_fields NoUpgrade = codes "Connection: close, Upgrade\r\nUpgrade: websocket\r\nSec-WebSocket-Version: 13\r\n"
+further_fields Version = codes "Connection: close, Upgrade\r\nUpgrade: websocket\r\nSec-WebSocket-Version: 13\r\n"
+further_fields TooLarge = codes "Connection: close\r\n"
+
+-- its text
+abbrev pub body_of : Refusal → List ℕ
+body_of Malformed = codes "This is no request for a WebSocket as it should be.\n"
+body_of Foreign = codes "This server does not serve pages of your origin.\n"
+body_of Method = codes "A WebSocket is asked for by GET.\n"
+body_of NoUpgrade = codes "This is a server for WebSockets alone: connect with ws:// in place of http://.\n"
+body_of Version = codes "This server speaks version 13 of WebSocket alone.\n"
+body_of TooLarge = codes "The head of this request is too large.\n"
+
+-- the whole response
+abbrev pub refusal_bytes : Refusal → List ℕ
+refusal_bytes refusal =
+    codes "HTTP/1.1 " ++ (status_line refusal ++ (codes "\r\n" ++ (further_fields refusal
+    ++ (codes "Content-Type: text/plain\r\nContent-Length: " ++ (decimal (length (body_of refusal)) ++ (codes "\r\n\r\n" ++ body_of refusal))))))
+
+-- the response that says that the WebSocket is there (RFC 6455, section 4.2.2), with the subprotocol where the client offers it
+abbrev pub accepting : List ℕ → Bool → List ℕ
+accepting accept_key has_stomp =
+    codes "HTTP/1.1 101 Switching Protocols" ++ crlf
+    ++ field_line (codes "connection") (codes "Upgrade")
+    ++ field_line (codes "upgrade") (codes "websocket")
+    ++ field_line (codes "sec-websocket-accept") accept_key
+    ++ cond has_stomp (field_line (codes "sec-websocket-protocol") (codes "v12.stomp")) [] ++ crlf
+
+-- The stream gave a whole head that is to be accepted, and nothing behind it; then the response that says so was written.
+pub record IsAccepted {S : Type 0} (remaining contents : S → Option (List ℕ)) (origins : List (List ℕ)) (old new : S) : Type 0 where
+  pub between : S
+  pub bytes : List ℕ
+  pub accept_key : List ℕ
+  pub has_stomp : Bool
+  pub read : Consumes (remaining old) (remaining between) bytes
+  pub head : IsHead origins bytes (Accept accept_key has_stomp)
+  pub written : Appends (contents between) (contents new) (accepting accept_key has_stomp)

@@ -1,0 +1,98 @@
+//! Why a client gets no WebSocket, and what it is told.
+
+ghost use Rattle.std.specs.Prelude.{◌≡◌, IfOk, string_bytes};
+ghost use Rattle.ws_core.specs.Handshakes.{body_of, further_fields, refusal_bytes, refusal_of, status_line};
+
+use std::alloc::{AllocError, Global};
+use websocket::handshake::HandshakeError;
+
+/// Why a client is refused that asks for a WebSocket, or for something else.
+#[derive(Clone, Copy)]
+pub enum Refusal {
+    /// 400: its head is none, it has no Host or two, no key or none of 16 bytes, it says that a body follows in pieces, or it
+    /// offers other subprotocols alone.
+    Malformed,
+    /// 403: it comes from a page of an origin that is not served.
+    Foreign,
+    /// 405: it asks by another method than GET.
+    Method,
+    /// 426: it asks for no WebSocket.
+    NoUpgrade,
+    /// 426: it asks for another version of WebSocket than 13.
+    Version,
+    /// 431: its head has more than 65,536 bytes or 124 fields.
+    TooLarge,
+}
+
+impl Refusal {
+    /// What the client is told: a response of HTTP/1.1 with a short text, behind which the connection is closed.
+    pub fn response(self, alloc: Global) -> Result<String, AllocError>
+        ensures { IfOk result (λ text. string_bytes text ≡ refusal_bytes self) }
+    {
+        let (status, fields, body) = (self.status_line(), self.further_fields(), self.body());
+        let size = body.len();
+        format!(in alloc;
+            "HTTP/1.1 {status}\r\n{fields}Content-Type: text/plain\r\nContent-Length: {size}\r\n\r\n{body}"
+        )
+    }
+
+    fn status_line(self) -> &'static str
+        ensures { result.now ≡ status_line self }
+    {
+        match self {
+            Refusal::Malformed => "400 Bad Request",
+            Refusal::Foreign => "403 Forbidden",
+            Refusal::Method => "405 Method Not Allowed",
+            Refusal::NoUpgrade => "426 Upgrade Required",
+            Refusal::Version => "426 Upgrade Required",
+            Refusal::TooLarge => "431 Request Header Fields Too Large",
+        }
+    }
+
+    // The fields that say how to go on.
+    fn further_fields(self) -> &'static str
+        ensures { result.now ≡ further_fields self }
+    {
+        match self {
+            Refusal::Malformed => "Connection: close\r\n",
+            Refusal::Foreign => "Connection: close\r\n",
+            Refusal::Method => "Connection: close\r\nAllow: GET\r\n",
+            Refusal::NoUpgrade => {
+                "Connection: close, Upgrade\r\nUpgrade: websocket\r\nSec-WebSocket-Version: 13\r\n"
+            }
+            Refusal::Version => {
+                "Connection: close, Upgrade\r\nUpgrade: websocket\r\nSec-WebSocket-Version: 13\r\n"
+            }
+            Refusal::TooLarge => "Connection: close\r\n",
+        }
+    }
+
+    fn body(self) -> &'static str
+        ensures { result.now ≡ body_of self }
+    {
+        match self {
+            Refusal::Malformed => "This is no request for a WebSocket as it should be.\n",
+            Refusal::Foreign => "This server does not serve pages of your origin.\n",
+            Refusal::Method => "A WebSocket is asked for by GET.\n",
+            Refusal::NoUpgrade => {
+                "This is a server for WebSockets alone: connect with ws:// in place of http://.\n"
+            }
+            Refusal::Version => "This server speaks version 13 of WebSocket alone.\n",
+            Refusal::TooLarge => "The head of this request is too large.\n",
+        }
+    }
+}
+
+// The refusal that says what a request lacks.
+pub fn refusal_of(lacking: HandshakeError) -> Refusal
+    ensures { result ≡ refusal_of lacking }
+{
+    match lacking {
+        HandshakeError::WrongHttpMethod => Refusal::Method,
+        HandshakeError::WrongHttpVersion
+        | HandshakeError::MissingConnectionUpgradeHeader
+        | HandshakeError::MissingUpgradeWebSocketHeader => Refusal::NoUpgrade,
+        HandshakeError::MissingSecWebSocketVersionHeader => Refusal::Version,
+        _ => Refusal::Malformed,
+    }
+}
