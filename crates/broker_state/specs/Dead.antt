@@ -1,0 +1,63 @@
+use Rattle.std.specs.Prelude.{◌+◌, ◌*◌, ◌||◌, List, [], ◌∷◌, ℕ, Bool, Option, Some, None, Result, Ok, Err, codes, fold, if◌then◌else◌}
+use Rattle.std.specs.Str.{bytes_eq}
+use Rattle.command_core.specs.declared.fault.Fault.{Fault}
+use Rattle.command_core.specs.declared.fault.Fault.TheVariants.{NoRoom}
+use Rattle.line_core.specs.declared.message.Message.{Message}
+use Rattle.line_core.specs.Flights.{settled}
+use Rattle.broker_state.specs.declared.nack_rule.NackRule.{NackRule}
+use Rattle.broker_state.specs.declared.nack_rule.NackRule.TheVariants.{Drops, Keeps}
+use Rattle.broker_state.specs.declared.subscription.Subscription.{Subscription}
+use Rattle.broker_state.specs.Lists.{picked}
+use Rattle.broker_state.specs.Operations.{acknowledged, awaits, fanned_out, is_within, message_of}
+use Rattle.broker_state.specs.States.{State}
+use Rattle.broker_state.specs.Waiting.{is_own}
+
+-- What a NACK does with the messages that it settles (STOMP 1.2, "NACK").
+
+-- the queue of the messages that were refused
+abbrev pub dead_queue : List ℕ
+dead_queue = codes "/queue/dead"
+
+-- a refused message of a subscription is dropped where that is a plain one of a topic, or where it was refused before
+abbrev pub is_dropped : Subscription → Message → Bool
+is_dropped sub m = is_own sub || bytes_eq m.sending.destination dead_queue
+
+-- a refused message as it goes to the queue of those, with its headers and body as they were
+abbrev pub refused : ℕ → ℕ → Message → Message
+refused command place m = message_of command place (record m.sending { destination = dead_queue })
+
+-- Of settled messages, each that isn't dropped, as it goes to the queue of refused ones: all are counted, from that place
+-- on, those too that are dropped.
+abbrev pub refused_from : (Message → Bool) → ℕ → ℕ → List (ℕ × Message) → List Message
+refused_from drops command place [] = []
+refused_from drops command place (delivery ∷ deliveries) =
+    let others = refused_from drops command (place + 1) deliveries in
+    if drops delivery.1 then others else refused command place delivery.1 ∷ others
+
+-- The place of the first message that is settled by a NACK, of that place among the members of its command: the places
+-- under 64 are those of SENDs, and each NACK has 16, as many as a subscription has unacknowledged messages at most.
+abbrev pub first_place : ℕ → ℕ
+first_place member = 64 + 16 * member
+
+-- the messages that a NACK of that place among the members of its command keeps
+abbrev pub kept_of : State → ℕ → ℕ → Option (Subscription × List Subscription) → List Message
+kept_of s member delivery None = []
+kept_of s member delivery (Some p) =
+    refused_from (is_dropped p.0) s.count (first_place member) (settled p.0.mode delivery p.0.unacknowledged)
+
+abbrev pub kept_by_nack : State → ℕ → ℕ → ℕ → List Message
+kept_by_nack s session member delivery = kept_of s member delivery (picked (awaits session delivery) s.subscriptions)
+
+-- a state with more messages, each in its lines, where they find room
+abbrev pub with_room : State → Result State Fault
+with_room s = if is_within s then Ok s else Err NoRoom
+
+abbrev pub fanned_out_from : List Message → Result State Fault → Result State Fault
+fanned_out_from messages (Ok s) = with_room (fold fanned_out s messages)
+fanned_out_from messages (Err fault) = Err fault
+
+-- A NACK settles what an ACK would settle. What it keeps goes to the queue of refused messages, and it is refused where
+-- they find no room there once all have gone.
+abbrev pub nacked : NackRule → State → ℕ → ℕ → ℕ → Result State Fault
+nacked Drops s session member delivery = acknowledged s session delivery
+nacked Keeps s session member delivery = fanned_out_from (kept_by_nack s session member delivery) (acknowledged s session delivery)
