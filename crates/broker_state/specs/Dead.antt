@@ -18,9 +18,10 @@ use Rattle.broker_state.specs.Waiting.{is_own}
 abbrev pub dead_queue : List ℕ
 dead_queue = codes "/queue/dead"
 
--- a refused message of a subscription is dropped where that is a plain one of a topic, or where it was refused before
-abbrev pub is_dropped : Subscription → Message → Bool
-is_dropped sub m = is_own sub || bytes_eq m.sending.destination dead_queue
+-- A refused message is dropped where its subscription has a line of its own, which is a plain one of a topic, or where it
+-- was refused before.
+abbrev pub is_dropped : Bool → Message → Bool
+is_dropped own m = own || bytes_eq m.sending.destination dead_queue
 
 -- a refused message as it goes to the queue of those, with its headers and body as they were
 abbrev pub refused : ℕ → ℕ → Message → Message
@@ -43,7 +44,7 @@ first_place member = 64 + 16 * member
 abbrev pub kept_of : State → ℕ → ℕ → Option (Subscription × List Subscription) → List Message
 kept_of s member delivery None = []
 kept_of s member delivery (Some p) =
-    refused_from (is_dropped p.0) s.count (first_place member) (settled p.0.mode delivery p.0.unacknowledged)
+    refused_from (is_dropped (is_own p.0)) s.count (first_place member) (settled p.0.mode delivery p.0.unacknowledged)
 
 abbrev pub kept_by_nack : State → ℕ → ℕ → ℕ → List Message
 kept_by_nack s session member delivery = kept_of s member delivery (picked (awaits session delivery) s.subscriptions)

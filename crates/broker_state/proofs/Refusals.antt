@@ -1,0 +1,98 @@
+use Rattle.std.proofs.Common.{◌≡◌, ◌≤◌, ◌+◌, ◌&&◌, List, [], ◌∷◌, ℕ, Bool, true, false, Option, Some, None, Result, Ok, Err, cond, fold, length, nat_le, refl, sym, ap, ◌∙◌, arith, if◌then◌else◌}
+use Rattle.std.specs.List.{AllByRecursion, list_any, sum_by}
+use Rattle.std.proofs.lemmas.List.Sums.{sum_by-cons}
+use Rattle.command_core.specs.declared.fault.Fault.{Fault}
+use Rattle.command_core.specs.declared.fault.Fault.TheVariants.{NoRoom, UnknownAcknowledgement}
+use Rattle.line_core.specs.declared.message.Message.{Message}
+use Rattle.line_core.specs.Flights.{settled}
+use Rattle.broker_state.specs.declared.nack_rule.NackRule.TheVariants as rule
+use Rattle.broker_state.specs.declared.subscription.Subscription.{Subscription}
+use Rattle.broker_state.specs.Dead.{dead_queue, fanned_out_from, first_place, is_dropped, kept_by_nack, kept_of, nacked, refused, refused_from, with_room}
+use Rattle.broker_state.specs.Lists.{picked, with_first}
+use Rattle.broker_state.specs.Names.{text_cmp}
+use Rattle.broker_state.specs.Operations.{acknowledged, awaits, fanned_out, is_within, settled_by}
+use Rattle.broker_state.specs.States.{State}
+use Rattle.broker_state.specs.Waiting.{Lines, is_own, weight_of_lines, with_message}
+use Rattle.broker_state.proofs.KeyedLines.{IsRising, rising-with_message, weight-with_message}
+use Rattle.broker_state.proofs.Keys.{same_texts, texts_total}
+
+-- What a NACK keeps goes into the line of the queue of refused messages.
+
+-- the lines of queues with more messages in that one
+abbrev pub with_refused : List Message → Lines (List ℕ) → Lines (List ℕ)
+with_refused messages lines = fold (λ more m. with_message text_cmp dead_queue m more) lines messages
+
+-- a state with more messages in that line
+abbrev pub in_dead : List Message → State → State
+in_dead messages s = record s { shared = record s.shared { queues = with_refused messages s.shared.queues } }
+
+-- of settled messages, those that are kept
+module _ (drops : Message → Bool) (command : ℕ) where
+  abbrev kept : ℕ → List (ℕ × Message) → List Message
+  kept place deliveries = refused_from drops command place deliveries
+
+  -- each goes to the queue of refused messages
+  pub all_in_dead : (place : ℕ) (deliveries : List (ℕ × Message)) (s : State) → fold fanned_out s (kept place deliveries) ≡ in_dead (kept place deliveries) s
+  all_in_dead place [] s = refl
+  all_in_dead place (d ∷ deliveries) s = by (drops d.1)
+    where
+      by : (b : Bool) → fold fanned_out s (if b then kept (place + 1) deliveries else refused command place d.1 ∷ kept (place + 1) deliveries) ≡ in_dead (if b then kept (place + 1) deliveries else refused command place d.1 ∷ kept (place + 1) deliveries) s
+      by true = all_in_dead (place + 1) deliveries s
+      by false = all_in_dead (place + 1) deliveries (fanned_out s (refused command place d.1))
+
+  -- what holds of each that is refused holds of all that are kept
+  pub all_kept : (P : Message → Type 0) → ((place : ℕ) (m : Message) → P (refused command place m)) → (place : ℕ) (deliveries : List (ℕ × Message)) → AllByRecursion P (kept place deliveries)
+  all_kept P has place [] = tt
+  all_kept P has place (d ∷ deliveries) = by (drops d.1)
+    where
+      by : (b : Bool) → AllByRecursion P (if b then kept (place + 1) deliveries else refused command place d.1 ∷ kept (place + 1) deliveries)
+      by true = all_kept P has (place + 1) deliveries
+      by false = (has place d.1, all_kept P has (place + 1) deliveries)
+
+  -- a sum over those that are kept is one over all, where the others count for nothing
+  module _ (f : Message → ℕ) (g : Message → ℕ) (alike : (place : ℕ) (m : Message) → f (refused command place m) ≡ g m) where
+    abbrev part : ℕ × Message → ℕ
+    part d = if drops d.1 then 0 else g d.1
+
+    pub sum_kept : (place : ℕ) (deliveries : List (ℕ × Message)) → sum_by f (kept place deliveries) ≡ sum_by part deliveries
+    sum_kept place [] = refl
+    sum_kept place (d ∷ deliveries) = omega (arith, by (drops d.1), sum_by-cons part d deliveries)
+      where
+        by : (b : Bool) → sum_by f (if b then kept (place + 1) deliveries else refused command place d.1 ∷ kept (place + 1) deliveries) ≡ (if b then 0 else g d.1) + sum_by part deliveries
+        by true = omega (arith, sum_kept (place + 1) deliveries)
+        by false = omega (arith, sum_kept (place + 1) deliveries, alike place d.1, sum_by-cons f (refused command place d.1) (kept (place + 1) deliveries))
+
+-- the lines stay in order, and weigh what the messages do more
+pub weight-with_refused : (weight : Message → ℕ) (messages : List Message) (lines : Lines (List ℕ)) → IsRising text_cmp texts_total lines → IsRising text_cmp texts_total (with_refused messages lines) × (weight_of_lines weight (with_refused messages lines) ≡ weight_of_lines weight lines + sum_by weight messages)
+weight-with_refused weight [] lines rising = (rising, omega arith)
+weight-with_refused weight (m ∷ messages) lines rising =
+    let rest = weight-with_refused weight messages (with_message text_cmp dead_queue m lines) (rising-with_message text_cmp texts_total dead_queue m lines rising) in
+    (rest.0, omega (arith, rest.1, weight-with_message text_cmp texts_total same_texts weight dead_queue m lines rising, sum_by-cons weight m messages))
+
+-- A NACK that keeps, by what it finds.
+module _ (s : State) (session member delivery : ℕ) where
+  -- the state once the delivery is acknowledged
+  abbrev pub let_go : State
+  let_go = record s { subscriptions = with_first (awaits session delivery) (settled_by delivery) s.subscriptions }
+
+  -- the messages that a subscription's NACK keeps
+  abbrev pub kept_from : Subscription → List Message
+  kept_from sub = refused_from (is_dropped (is_own sub)) s.count (first_place member) (settled sub.mode delivery sub.unacknowledged)
+
+  -- the state once they are kept
+  abbrev pub kept_in : Subscription → State
+  kept_in sub = in_dead (kept_from sub) let_go
+
+  pub nacked_some : (sub : Subscription) (others : List Subscription) → picked (awaits session delivery) s.subscriptions ≡ Some (sub, others) → list_any (awaits session delivery) s.subscriptions ≡ true → nacked rule.Keeps s session member delivery ≡ with_room (kept_in sub)
+  nacked_some sub others is some =
+      ap (λ b. fanned_out_from (kept_by_nack s session member delivery) (if b then Ok let_go else Err UnknownAcknowledgement)) some
+      ∙ ap (λ o. with_room (fold fanned_out let_go (kept_of s member delivery o))) is
+      ∙ ap with_room (all_in_dead (is_dropped (is_own sub)) s.count (first_place member) (settled sub.mode delivery sub.unacknowledged) let_go)
+
+  pub nacked_none : list_any (awaits session delivery) s.subscriptions ≡ false → nacked rule.Keeps s session member delivery ≡ Err UnknownAcknowledgement
+  nacked_none none =
+      ap (λ b. fanned_out_from (kept_by_nack s session member delivery) (if b then Ok let_go else Err UnknownAcknowledgement)) none
+
+-- a state with room, by whether there is
+pub with_room_by : (s : State) (b : Bool) → is_within s ≡ b → with_room s ≡ cond b (Ok s) (Err NoRoom)
+with_room_by s b is = ap (λ t. cond t (Ok s) (Err NoRoom)) is
