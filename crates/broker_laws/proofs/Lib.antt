@@ -1,6 +1,8 @@
 pub mod CommandLists
 pub mod SharedOrder
 pub mod Deliveries
+pub mod Meters
+pub mod Limited
 pub mod Conserved
 pub mod Heard
 pub mod Standing

@@ -1,4 +1,4 @@
-use Rattle.std.specs.Prelude.{◌+◌, List, [], ◌∷◌, ℕ, Option, Some, None, Result, Ok, Err}
+use Rattle.std.specs.Prelude.{◌+◌, ◌≤◌, List, [], ◌∷◌, ℕ, Option, Some, None, Result, Ok, Err, length}
 use Rattle.command_core.specs.declared.command.Op.{Op}
 use Rattle.command_core.specs.declared.command.Op.TheVariants.{Send, Subscribe, Unsubscribe, Ack, Nack, Commit, End}
 use Rattle.command_core.specs.declared.fault.Fault.{Fault}
@@ -22,6 +22,11 @@ abbrev pub committed : NackRule → State → ℕ → ℕ → List Member → Re
 committed rule s session place [] = Ok s
 committed rule s session place (m ∷ ms) =
     elim (applied rule s session place m) as (λ r. Result State Fault) [ Ok t ↦ committed rule t session (place + 1) ms | Err fault ↦ Err fault ]
+
+-- a transaction has at most 64 members
+abbrev pub HasFewMembers : Op → Type 0
+HasFewMembers (Commit members) = length members ≤ 64
+HasFewMembers _ = Unit {0}
 
 -- what an operation of an open session leaves, or why it is refused
 abbrev pub executed : NackRule → State → ℕ → Op → Result State Fault

@@ -11,7 +11,7 @@ use Rattle.command_core.specs.Outs.{OutValue}
 use Rattle.command_core.specs.Replies.{connected, receipt_frame, error_frame}
 use Rattle.broker_state.specs.declared.nack_rule.NackRule.{NackRule}
 use Rattle.broker_state.specs.declared.nack_rule.NackRule.TheVariants.{Drops, Keeps}
-use Rattle.broker_state.specs.Executing.{executed}
+use Rattle.broker_state.specs.Executing.{HasFewMembers, executed}
 use Rattle.broker_state.specs.States.{State, is_open}
 use Rattle.broker_state.specs.HandOut.{Settling, settled}
 use Rattle.broker_state.specs.Operations.{ended, opened, restarted}
@@ -110,6 +110,11 @@ outs_of = outs_of_by Keeps
 pub data Event : Type 0 where
   a_command : NackRule → CommandValue → Event
   a_restart : Event
+
+-- an event is one that can befall it: a transaction has at most 64 members
+abbrev pub MayBefall : Event → Type 0
+MayBefall (a_command rule c) = HasFewMembers c.op
+MayBefall a_restart = Unit {0}
 
 -- the state after one of them
 abbrev pub state_after_one : State → Event → State
