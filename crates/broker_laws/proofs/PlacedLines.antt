@@ -16,7 +16,7 @@ use Rattle.line_core.specs.Flights.{settled, settles}
 use Rattle.line_core.specs.Lines.{inserted}
 use Rattle.line_core.proofs.Inserted.{all_inserted}
 use Rattle.broker_state.specs.declared.subscription.Subscription.{Subscription}
-use Rattle.broker_state.specs.Dead.{dead_queue, first_place, is_dropped}
+use Rattle.broker_state.specs.Dead.{dead_queue, first_place, is_dropped, with_refused}
 use Rattle.broker_state.specs.HandOut.{can_take, delivered, handed, is_auto}
 use Rattle.broker_state.specs.Lists.{is_none, picked, with_first}
 use Rattle.broker_state.specs.Names.{AreSame, Name, name_cmp, text_cmp}
@@ -29,7 +29,7 @@ use Rattle.broker_state.proofs.Keys.{name_itself, names_total, same_names, same_
 use Rattle.broker_state.proofs.Lookups.{is_equal, lookup_inserted, lookup_removed, none_found, other_way}
 use Rattle.broker_laws.proofs.Ordered.{IsOrdered}
 use Rattle.broker_laws.proofs.Picked.{all_picked, all_with_first}
-use Rattle.broker_state.proofs.Refusals.{all_kept, kept_from, kept_in, with_refused}
+use Rattle.broker_state.proofs.Refusals.{all_kept, kept_from, kept_in}
 use Rattle.broker_state.proofs.Sendings.{fanned_out_by}
 use Rattle.broker_state.proofs.SortedEntries.{all_removed}
 use Rattle.broker_laws.proofs.Walk.{Keeps, KeepsFrom}

@@ -9,7 +9,7 @@ use Rattle.line_core.specs.Flights.{settled}
 use Rattle.line_core.proofs.Flights.{sum_by-settled}
 use Rattle.line_core.proofs.Inserted.{sum_by-inserted}
 use Rattle.broker_state.specs.declared.subscription.Subscription.{Subscription}
-use Rattle.broker_state.specs.Dead.{dead_queue, is_dropped}
+use Rattle.broker_state.specs.Dead.{dead_queue, is_dropped, with_refused}
 use Rattle.broker_state.specs.HandOut.{can_take, delivered, handed, is_auto}
 use Rattle.broker_state.specs.Kept.{takes_from}
 use Rattle.broker_state.specs.Lists.{picked, with_first}
@@ -25,7 +25,7 @@ use Rattle.broker_laws.proofs.LineWeights.{flying, name_back, name_copied, name_
 use Rattle.broker_laws.proofs.Meters.{IsMetered, settles_few}
 use Rattle.broker_laws.proofs.Ordered.{IsOrdered}
 use Rattle.broker_laws.proofs.Picked.{all_picked, all_with_first}
-use Rattle.broker_state.proofs.Refusals.{kept_from, kept_in, let_go, with_refused}
+use Rattle.broker_state.proofs.Refusals.{kept_from, kept_in, let_go}
 use Rattle.broker_state.proofs.Sendings.{fanned_out_by}
 use Rattle.broker_state.proofs.Served.{flight_more}
 use Rattle.broker_laws.proofs.Walk.{Keeps, KeepsFrom}

@@ -7,38 +7,21 @@ use Rattle.line_core.specs.declared.message.Message.{Message}
 use Rattle.line_core.specs.Flights.{settled}
 use Rattle.broker_state.specs.declared.nack_rule.NackRule.TheVariants as rule
 use Rattle.broker_state.specs.declared.subscription.Subscription.{Subscription}
-use Rattle.broker_state.specs.Dead.{dead_queue, fanned_out_from, first_place, is_dropped, kept_by_nack, kept_of, nacked, refused, refused_from, with_room}
+use Rattle.broker_state.specs.Dead.{dead_queue, first_place, is_dropped, keeping, keeping_from, kept_by_nack, kept_of, nacked, refused, refused_from, with_refused, with_room}
 use Rattle.broker_state.specs.Lists.{picked, with_first}
 use Rattle.broker_state.specs.Names.{text_cmp}
-use Rattle.broker_state.specs.Operations.{acknowledged, awaits, fanned_out, is_within, settled_by}
+use Rattle.broker_state.specs.Operations.{acknowledged, awaits, is_within, settled_by}
 use Rattle.broker_state.specs.States.{State}
 use Rattle.broker_state.specs.Waiting.{Lines, is_own, weight_of_lines, with_message}
 use Rattle.broker_state.proofs.KeyedLines.{IsRising, rising-with_message, weight-with_message}
 use Rattle.broker_state.proofs.Keys.{same_texts, texts_total}
 
--- What a NACK keeps goes into the line of the queue of refused messages.
-
--- the lines of queues with more messages in that one
-abbrev pub with_refused : List Message → Lines (List ℕ) → Lines (List ℕ)
-with_refused messages lines = fold (λ more m. with_message text_cmp dead_queue m more) lines messages
-
--- a state with more messages in that line
-abbrev pub in_dead : List Message → State → State
-in_dead messages s = record s { shared = record s.shared { queues = with_refused messages s.shared.queues } }
+-- What a NACK keeps, and its line.
 
 -- of settled messages, those that are kept
 module _ (drops : Message → Bool) (command : ℕ) where
   abbrev kept : ℕ → List (ℕ × Message) → List Message
   kept place deliveries = refused_from drops command place deliveries
-
-  -- each goes to the queue of refused messages
-  pub all_in_dead : (place : ℕ) (deliveries : List (ℕ × Message)) (s : State) → fold fanned_out s (kept place deliveries) ≡ in_dead (kept place deliveries) s
-  all_in_dead place [] s = refl
-  all_in_dead place (d ∷ deliveries) s = by (drops d.1)
-    where
-      by : (b : Bool) → fold fanned_out s (if b then kept (place + 1) deliveries else refused command place d.1 ∷ kept (place + 1) deliveries) ≡ in_dead (if b then kept (place + 1) deliveries else refused command place d.1 ∷ kept (place + 1) deliveries) s
-      by true = all_in_dead (place + 1) deliveries s
-      by false = all_in_dead (place + 1) deliveries (fanned_out s (refused command place d.1))
 
   -- what holds of each that is refused holds of all that are kept
   pub all_kept : (P : Message → Type 0) → ((place : ℕ) (m : Message) → P (refused command place m)) → (place : ℕ) (deliveries : List (ℕ × Message)) → AllByRecursion P (kept place deliveries)
@@ -81,17 +64,16 @@ module _ (s : State) (session member delivery : ℕ) where
 
   -- the state once they are kept
   abbrev pub kept_in : Subscription → State
-  kept_in sub = in_dead (kept_from sub) let_go
+  kept_in sub = keeping (kept_from sub) let_go
 
   pub nacked_some : (sub : Subscription) (others : List Subscription) → picked (awaits session delivery) s.subscriptions ≡ Some (sub, others) → list_any (awaits session delivery) s.subscriptions ≡ true → nacked rule.Keeps s session member delivery ≡ with_room (kept_in sub)
   nacked_some sub others is some =
-      ap (λ b. fanned_out_from (kept_by_nack s session member delivery) (if b then Ok let_go else Err UnknownAcknowledgement)) some
-      ∙ ap (λ o. with_room (fold fanned_out let_go (kept_of s member delivery o))) is
-      ∙ ap with_room (all_in_dead (is_dropped (is_own sub)) s.count (first_place member) (settled sub.mode delivery sub.unacknowledged) let_go)
+      ap (λ b. keeping_from (kept_by_nack s session member delivery) (if b then Ok let_go else Err UnknownAcknowledgement)) some
+      ∙ ap (λ o. with_room (keeping (kept_of s member delivery o) let_go)) is
 
   pub nacked_none : list_any (awaits session delivery) s.subscriptions ≡ false → nacked rule.Keeps s session member delivery ≡ Err UnknownAcknowledgement
   nacked_none none =
-      ap (λ b. fanned_out_from (kept_by_nack s session member delivery) (if b then Ok let_go else Err UnknownAcknowledgement)) none
+      ap (λ b. keeping_from (kept_by_nack s session member delivery) (if b then Ok let_go else Err UnknownAcknowledgement)) none
 
 -- a state with room, by whether there is
 pub with_room_by : (s : State) (b : Bool) → is_within s ≡ b → with_room s ≡ cond b (Ok s) (Err NoRoom)

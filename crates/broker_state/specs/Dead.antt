@@ -8,9 +8,10 @@ use Rattle.broker_state.specs.declared.nack_rule.NackRule.{NackRule}
 use Rattle.broker_state.specs.declared.nack_rule.NackRule.TheVariants.{Drops, Keeps}
 use Rattle.broker_state.specs.declared.subscription.Subscription.{Subscription}
 use Rattle.broker_state.specs.Lists.{picked}
-use Rattle.broker_state.specs.Operations.{acknowledged, awaits, fanned_out, is_within, message_of}
+use Rattle.broker_state.specs.Names.{text_cmp}
+use Rattle.broker_state.specs.Operations.{acknowledged, awaits, is_within, message_of}
 use Rattle.broker_state.specs.States.{State}
-use Rattle.broker_state.specs.Waiting.{is_own}
+use Rattle.broker_state.specs.Waiting.{Lines, is_own, with_message}
 
 -- What a NACK does with the messages that it settles (STOMP 1.2, "NACK").
 
@@ -49,16 +50,25 @@ kept_of s member delivery (Some p) =
 abbrev pub kept_by_nack : State → ℕ → ℕ → ℕ → List Message
 kept_by_nack s session member delivery = kept_of s member delivery (picked (awaits session delivery) s.subscriptions)
 
--- a state with more messages, each in its lines, where they find room
+-- the lines of queues with more messages in that of refused ones, each at its place by number
+abbrev pub with_refused : List Message → Lines (List ℕ) → Lines (List ℕ)
+with_refused messages lines = fold (λ more m. with_message text_cmp dead_queue m more) lines messages
+
+-- a state that keeps such messages
+abbrev pub keeping : List Message → State → State
+keeping messages s = record s { shared = record s.shared { queues = with_refused messages s.shared.queues } }
+
+-- a state, where what it holds is within the limits
 abbrev pub with_room : State → Result State Fault
 with_room s = if is_within s then Ok s else Err NoRoom
 
-abbrev pub fanned_out_from : List Message → Result State Fault → Result State Fault
-fanned_out_from messages (Ok s) = with_room (fold fanned_out s messages)
-fanned_out_from messages (Err fault) = Err fault
+-- what an ACK leaves, with what a NACK keeps
+abbrev pub keeping_from : List Message → Result State Fault → Result State Fault
+keeping_from messages (Ok s) = with_room (keeping messages s)
+keeping_from messages (Err fault) = Err fault
 
--- A NACK settles what an ACK would settle. What it keeps goes to the queue of refused messages, and it is refused where
--- they find no room there once all have gone.
+-- A NACK settles what an ACK would settle. What it keeps then stands in the queue of refused messages, and it is refused
+-- where all of that finds no room.
 abbrev pub nacked : NackRule → State → ℕ → ℕ → ℕ → Result State Fault
 nacked Drops s session member delivery = acknowledged s session delivery
-nacked Keeps s session member delivery = fanned_out_from (kept_by_nack s session member delivery) (acknowledged s session delivery)
+nacked Keeps s session member delivery = keeping_from (kept_by_nack s session member delivery) (acknowledged s session delivery)
