@@ -11,10 +11,12 @@ use Rattle.broker_state.specs.Dead.{dead_queue, first_place, is_dropped, keeping
 use Rattle.broker_state.specs.Lists.{picked, with_first}
 use Rattle.broker_state.specs.Names.{text_cmp}
 use Rattle.broker_state.specs.Operations.{acknowledged, awaits, is_within, settled_by}
-use Rattle.broker_state.specs.States.{State}
+use Rattle.broker_state.specs.States.{State, weight_of, weight_of_subscription}
 use Rattle.broker_state.specs.Waiting.{Lines, is_own, weight_of_lines, with_message}
+use Rattle.broker_state.proofs.Firsts.{sum_first}
 use Rattle.broker_state.proofs.KeyedLines.{IsRising, rising-with_message, weight-with_message}
 use Rattle.broker_state.proofs.Keys.{same_texts, texts_total}
+use Rattle.broker_state.proofs.Weights.{weight-settled_by}
 
 -- What a NACK keeps, and its line.
 
@@ -74,6 +76,20 @@ module _ (s : State) (session member delivery : ℕ) where
   pub nacked_none : list_any (awaits session delivery) s.subscriptions ≡ false → nacked rule.Keeps s session member delivery ≡ Err UnknownAcknowledgement
   nacked_none none =
       ap (λ b. keeping_from (kept_by_nack s session member delivery) (if b then Ok let_go else Err UnknownAcknowledgement)) none
+
+-- What is held then: what was settled has gone, and what is kept has come.
+module _ (weight : Message → ℕ) (s : State) (session member delivery : ℕ) (sub : Subscription) (others : List Subscription) (is : picked (awaits session delivery) s.subscriptions ≡ Some (sub, others)) where
+  -- what is settled of a subscription
+  abbrev pub gone : ℕ
+  gone = sum_by (λ (d : ℕ × Message). weight d.1) (settled sub.mode delivery sub.unacknowledged)
+
+  pub weight-let_go : weight_of weight (let_go s session member delivery) + gone ≡ weight_of weight s
+  weight-let_go =
+      omega (arith, sum_first (awaits session delivery) (settled_by delivery) (weight_of_subscription weight) s.subscriptions sub others is, weight-settled_by weight delivery sub)
+
+  pub weight-kept_in : IsRising text_cmp texts_total s.shared.queues → weight_of weight (kept_in s session member delivery sub) + gone ≡ weight_of weight s + sum_by weight (kept_from s session member delivery sub)
+  weight-kept_in rising =
+      omega (arith, weight-let_go, (weight-with_refused weight (kept_from s session member delivery sub) s.shared.queues rising).1)
 
 -- a state with room, by whether there is
 pub with_room_by : (s : State) (b : Bool) → is_within s ≡ b → with_room s ≡ cond b (Ok s) (Err NoRoom)
