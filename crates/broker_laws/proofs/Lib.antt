@@ -23,4 +23,5 @@ pub mod SingleCopies
 pub mod PlacedLines
 pub mod StateLines
 pub mod SoundSteps
+pub mod NothingLost
 pub mod EndsInTurn

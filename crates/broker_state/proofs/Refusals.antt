@@ -68,10 +68,13 @@ module _ (s : State) (session member delivery : ℕ) where
   abbrev pub kept_in : Subscription → State
   kept_in sub = keeping (kept_from sub) let_go
 
+  pub nacked_any : list_any (awaits session delivery) s.subscriptions ≡ true → nacked rule.Keeps s session member delivery ≡ with_room (keeping (kept_by_nack s session member delivery) let_go)
+  nacked_any some =
+      ap (λ b. keeping_from (kept_by_nack s session member delivery) (if b then Ok let_go else Err UnknownAcknowledgement)) some
+
   pub nacked_some : (sub : Subscription) (others : List Subscription) → picked (awaits session delivery) s.subscriptions ≡ Some (sub, others) → list_any (awaits session delivery) s.subscriptions ≡ true → nacked rule.Keeps s session member delivery ≡ with_room (kept_in sub)
   nacked_some sub others is some =
-      ap (λ b. keeping_from (kept_by_nack s session member delivery) (if b then Ok let_go else Err UnknownAcknowledgement)) some
-      ∙ ap (λ o. with_room (keeping (kept_of s member delivery o) let_go)) is
+      nacked_any some ∙ ap (λ o. with_room (keeping (kept_of s member delivery o) let_go)) is
 
   pub nacked_none : list_any (awaits session delivery) s.subscriptions ≡ false → nacked rule.Keeps s session member delivery ≡ Err UnknownAcknowledgement
   nacked_none none =

@@ -1,17 +1,17 @@
-use Rattle.std.specs.Prelude.{◌+◌, ◌*◌, ◌||◌, List, [], ◌∷◌, ℕ, Bool, Option, Some, None, Result, Ok, Err, codes, fold, if◌then◌else◌}
+use Rattle.std.specs.Prelude.{◌≡◌, ◌+◌, ◌*◌, ◌||◌, ◌⊎◌, List, [], ◌∷◌, ℕ, Bool, true, false, Option, Some, None, Result, Ok, Err, codes, fold, if◌then◌else◌}
 use Rattle.std.specs.Str.{bytes_eq}
 use Rattle.command_core.specs.declared.fault.Fault.{Fault}
 use Rattle.command_core.specs.declared.fault.Fault.TheVariants.{NoRoom}
 use Rattle.line_core.specs.declared.message.Message.{Message}
-use Rattle.line_core.specs.Flights.{settled}
+use Rattle.line_core.specs.Flights.{settled, settles}
 use Rattle.broker_state.specs.declared.nack_rule.NackRule.{NackRule}
 use Rattle.broker_state.specs.declared.nack_rule.NackRule.TheVariants.{Drops, Keeps}
 use Rattle.broker_state.specs.declared.subscription.Subscription.{Subscription}
-use Rattle.broker_state.specs.Lists.{picked}
+use Rattle.broker_state.specs.Lists.{IsAmong, picked}
 use Rattle.broker_state.specs.Names.{text_cmp}
 use Rattle.broker_state.specs.Operations.{acknowledged, awaits, is_within, message_of}
 use Rattle.broker_state.specs.States.{State}
-use Rattle.broker_state.specs.Waiting.{Lines, is_own, with_message}
+use Rattle.broker_state.specs.Waiting.{Lines, is_own, line_at, with_message}
 
 -- What a NACK does with the messages that it settles (STOMP 1.2, "NACK").
 
@@ -72,3 +72,10 @@ keeping_from messages (Err fault) = Err fault
 abbrev pub nacked : NackRule → State → ℕ → ℕ → ℕ → Result State Fault
 nacked Drops s session member delivery = acknowledged s session delivery
 nacked Keeps s session member delivery = keeping_from (kept_by_nack s session member delivery) (acknowledged s session delivery)
+
+-- What a NACK of a delivery makes of another one of its subscription: it settles it not, or the rule drops its message, or that
+-- stands in the queue of refused messages with its headers and body.
+abbrev pub IsStill : State → State → ℕ → Subscription → ℕ × Message → Type 0
+IsStill s t delivery sub d =
+    (settles sub.mode delivery d.0 ≡ false) ⊎ (is_dropped (is_own sub) d.1 ≡ true)
+    ⊎ ((place : ℕ) × IsAmong (refused s.count place d.1) (line_at text_cmp dead_queue t.shared.queues))
