@@ -123,7 +123,7 @@ fn kept_of(settled: &[(u64, PrecheckSize)]) -> u64
 {
     let mut kept = 0;
     for (_, size) in settled {
-        if size.refused.is_some() {
+        if let Some(_there) = size.refused {
             kept += 1;
         }
     }

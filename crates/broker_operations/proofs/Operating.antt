@@ -5,13 +5,12 @@ use Rattle.std.specs.Map.{remove_entry}
 use Rattle.std.specs.Ordering.{nat_cmp}
 use Rattle.std.proofs.lemmas.Option.{none-some, same_Some, slice_get_within}
 use Rattle.record_core.specs.declared.ack_mode.AckMode.{AckMode}
-use Rattle.command_core.specs.declared.command.Op.TheVariants.{Unsubscribe}
 use Rattle.command_core.specs.declared.fault.Fault.{Fault}
 use Rattle.command_core.specs.declared.fault.Fault.TheVariants.{DurableSubscription, SubscriptionIdInUse, UnknownSubscription, UnknownAcknowledgement, TooManyEntries}
 use Rattle.broker_state.specs.declared.subscription.Subscription.{Subscription}
 use Rattle.broker_state.specs.Lists.{changed, with_first}
 use Rattle.broker_state.specs.Names.{Name}
-use Rattle.broker_state.specs.Operations.{acknowledged, awaits, begun_for, executed, client_of, ended, ended_one, forgotten, given_up, is_named, is_of, name_for, or_same, settled_by, subscribed, topic_of, unsubscribed, uses, without, without_named}
+use Rattle.broker_state.specs.Operations.{acknowledged, awaits, begun_for, client_of, ended, ended_one, forgotten, given_up, is_named, is_of, name_for, or_same, settled_by, subscribed, topic_of, unsubscribed, unsubscribed_by, uses, without, without_named}
 use Rattle.broker_state.specs.Parts.{IsFirst, IsGivenAt, NonePass, but_at, without_at}
 use Rattle.broker_state.specs.States.{State}
 use Rattle.broker_state.specs.Waiting.{Shared, returned}
@@ -142,11 +141,11 @@ given_up_at s place within known used name found in_use =
     given_up_is (without_at s place) name known used (ap (λ d. is_some (topic_of name d)) (left_at s place within).1 ∙ found) (ap (list_any (uses name)) (left_at s place within).0 ∙ in_use)
 
 -- an UNSUBSCRIBE by id alone
-pub ended_nowhere : (s : State) (session : ℕ) (id : Option (List ℕ)) → IsGivenAt session id s.subscriptions None → executed s session (Unsubscribe id None) ≡ Err UnknownSubscription
+pub ended_nowhere : (s : State) (session : ℕ) (id : Option (List ℕ)) → IsGivenAt session id s.subscriptions None → unsubscribed_by s session id None ≡ Err UnknownSubscription
 ended_nowhere s session None given = refl
 ended_nowhere s session (Some id) none = unsubscribed_none s session id none
 
-pub ended_somewhere : (s t : State) (session : ℕ) (id : Option (List ℕ)) (at : ℕ) → IsGivenAt session id s.subscriptions (Some at) → ((sub : Subscription) → slice_get s.subscriptions at ≡ Some sub → t ≡ without s sub (remove s.subscriptions at)) → executed s session (Unsubscribe id None) ≡ Ok t
+pub ended_somewhere : (s t : State) (session : ℕ) (id : Option (List ℕ)) (at : ℕ) → IsGivenAt session id s.subscriptions (Some at) → ((sub : Subscription) → slice_get s.subscriptions at ≡ Some sub → t ≡ without s sub (remove s.subscriptions at)) → unsubscribed_by s session id None ≡ Ok t
 ended_somewhere s t session None at given ended = absurd cc
 ended_somewhere s t session (Some id) at first ended = unsubscribed_first s session id t at first ended
 

@@ -1,13 +1,12 @@
-use Rattle.std.specs.Prelude.{◌+◌, ◌≤◌, List, [], ◌∷◌, ℕ, Option, Some, None, Result, Ok, Err, length}
+use Rattle.std.specs.Prelude.{◌+◌, ◌≤◌, List, [], ◌∷◌, ℕ, Result, Ok, Err, length}
 use Rattle.command_core.specs.declared.command.Op.{Op}
 use Rattle.command_core.specs.declared.command.Op.TheVariants.{Send, Subscribe, Unsubscribe, Ack, Nack, Commit, End}
 use Rattle.command_core.specs.declared.fault.Fault.{Fault}
-use Rattle.command_core.specs.declared.fault.Fault.TheVariants.{UnknownSubscription}
 use Rattle.command_core.specs.declared.member.Member.{Member}
 use Rattle.command_core.specs.declared.member.Member.TheVariants as members
 use Rattle.broker_state.specs.declared.nack_rule.NackRule.{NackRule}
 use Rattle.broker_state.specs.Dead.{nacked}
-use Rattle.broker_state.specs.Operations.{acknowledged, client_of, ended, given_up_for, sent, subscribed, unsubscribed, without_named}
+use Rattle.broker_state.specs.Operations.{acknowledged, ended, sent, subscribed, unsubscribed_by}
 use Rattle.broker_state.specs.States.{State}
 
 -- a member of a transaction, at that place among them, or the same on its own, which has the place 0
@@ -32,9 +31,7 @@ HasFewMembers _ = Unit {0}
 abbrev pub executed : NackRule → State → ℕ → Op → Result State Fault
 executed rule s session (Send sending) = sent s 0 sending
 executed rule s session (Subscribe id destination mode durable) = subscribed s session id destination mode durable
-executed rule s session (Unsubscribe id (Some name)) = given_up_for (without_named s session id) (client_of s session) name
-executed rule s session (Unsubscribe (Some id) None) = unsubscribed s session id
-executed rule s session (Unsubscribe None None) = Err UnknownSubscription
+executed rule s session (Unsubscribe id durable) = unsubscribed_by s session id durable
 executed rule s session (Ack delivery) = acknowledged s session delivery
 executed rule s session (Nack delivery) = nacked rule s session 0 delivery
 executed rule s session (Commit members) = committed rule s session 0 members

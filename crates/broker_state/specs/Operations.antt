@@ -162,6 +162,12 @@ abbrev pub given_up_for : State → Option (List ℕ) → List ℕ → Result St
 given_up_for s None name = Err NoClientId
 given_up_for s (Some client) name = given_up s (client, name)
 
+-- an UNSUBSCRIBE by durable name, after the end of the subscription of that id where one is given, or by id alone
+abbrev pub unsubscribed_by : State → ℕ → Option (List ℕ) → Option (List ℕ) → Result State Fault
+unsubscribed_by s session id (Some name) = given_up_for (without_named s session id) (client_of s session) name
+unsubscribed_by s session (Some id) None = unsubscribed s session id
+unsubscribed_by s session None None = Err UnknownSubscription
+
 -- the subscription is one of that session, and has the delivery of that number unacknowledged
 abbrev pub awaits : ℕ → ℕ → Subscription → Bool
 awaits session delivery sub = is_of session sub && has_delivery delivery sub.unacknowledged
