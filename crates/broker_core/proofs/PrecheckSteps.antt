@@ -1,6 +1,6 @@
 use Rattle.std.proofs.Common.{◌≡◌, ◌≤◌, ◌+◌, ◌*◌, ◌&&◌, List, ℕ, Bool, true, false, Some, Result, Ok, Err, OnOk, cond, length, nat_le, refl, sym, ap, ◌∙◌, subst, arith}
 use Rattle.std.specs.List.{list_any, sum_by}
-use Rattle.std.proofs.lemmas.Bool.{and_parts}
+use Rattle.std.proofs.lemmas.Bool.{and_parts, le-leb}
 use Rattle.std.proofs.lemmas.Bool.Decides.{nat_tests}
 use Rattle.command_core.specs.declared.fault.Fault.{Fault}
 use Rattle.command_core.specs.declared.fault.Fault.TheVariants.{NoRoom, UnknownAcknowledgement}
@@ -26,7 +26,7 @@ use Rattle.broker_core.specs.Prechecks.{Leads, StandsFor, bytes_in, deliveries_i
 use Rattle.broker_core.proofs.Flights.{any_flight, copies-after, copies-copied, few_bytes, few_deliveries, first_flight, flights-copied, kept-mapped, kept_bytes-mapped, length-mapped, picked_flight, sum_by-mapped}
 use Rattle.broker_operations.specs.Refusals.{bytes_there}
 use Rattle.broker_state.proofs.Firsts.{picked_some}
-use Rattle.broker_state.proofs.Refusals.{kept_from, kept_in as kept_state, let_go, nacked_none, nacked_some, sum_kept, weight-kept_in, weight-let_go, weight-with_refused, with_room_by}
+use Rattle.broker_state.proofs.Refusals.{fewer, kept_from, kept_in as kept_state, let_go, nacked_by, nacked_none, sum_kept, weight-kept_in, weight-let_go, weight-with_refused}
 use Rattle.broker_state.proofs.Weights.{ones}
 use Rattle.broker_state.proofs.Sendings.{names-fanned_out, queues-fanned_out, room_by, sent_by, fanned_out_by, weight-fanned_out}
 
@@ -169,21 +169,18 @@ module _ (session : ℕ) (durables : List (Name × List ℕ)) (subs : List Subsc
         after_bytes =
             omega (arith, held, stands.bytes, weight-kept_in bytes s session place delivery sub one.1.0 one.1.1 stands.queues, gone_bytes, sum_kept (is_dropped (is_own sub)) s.count bytes bytes_there (λ at m. refl) (first_place place) gone, ap kept_bytes_in out_is, kept_bytes-mapped (is_own sub) gone)
 
-        refused_by : (fewer : kept_in out ≤ length out) (b : Bool) → nat_le (mid_bytes + kept_bytes_in out) 16777216 ≡ b → nacked Keeps s session place delivery ≡ cond b (Ok after) (Err NoRoom)
-        refused_by fewer b is =
-            let few : nat_le (held_messages after) 4096 ≡ true = le-leb (held_messages after) 4096 (omega (arith, after_messages, fewer, messages, stands.few)) in
-            nacked_some s session place delivery sub one.1.0 one.1.1 (found_by true some)
-            ∙ with_room_by after b (ap (λ c. c && nat_le (held_bytes after) 16777216) few ∙ ap (λ n. nat_le n 16777216) after_bytes ∙ is)
+        refused_by : (b : Bool) → nat_le (mid_bytes + kept_bytes_in out) 16777216 ≡ b → nacked Keeps s session place delivery ≡ cond b (Ok after) (Err NoRoom)
+        refused_by b is =
+            nacked_by s session place delivery sub one.1.0 one.1.1 (found_by true some) stands.queues (omega (arith, stands.messages, stands.few)) (mid_bytes + kept_bytes_in out) (omega (arith, after_bytes, weight-kept_in bytes s session place delivery sub one.1.0 one.1.1 stands.queues)) b is
 
-        pub refuse_full : kept_in out ≤ length out → nat_le (mid_bytes + kept_bytes_in out) 16777216 ≡ false → Leads session durables subs new (Err NoRoom) (nacked Keeps s session place delivery)
-        refuse_full fewer full =
-            subst (Leads session durables subs new (Err NoRoom)) (sym (refused_by fewer false full)) refl
+        pub refuse_full : nat_le (mid_bytes + kept_bytes_in out) 16777216 ≡ false → Leads session durables subs new (Err NoRoom) (nacked Keeps s session place delivery)
+        refuse_full full = subst (Leads session durables subs new (Err NoRoom)) (sym (refused_by false full)) refl
 
-        kept_stands : kept_in out ≤ length out → mid_bytes + kept_bytes_in out ≤ 16777216 → new.held.messages ≡ mid_messages + kept_in out → new.held.bytes ≡ mid_bytes + kept_bytes_in out → StandsFor session durables subs new after
-        kept_stands fewer fits now_messages now_bytes = record {
+        kept_stands : mid_bytes + kept_bytes_in out ≤ 16777216 → new.held.messages ≡ mid_messages + kept_in out → new.held.bytes ≡ mid_bytes + kept_bytes_in out → StandsFor session durables subs new after
+        kept_stands fits now_messages now_bytes = record {
           messages = omega (arith, now_messages, after_messages);
           bytes = omega (arith, now_bytes, after_bytes);
-          few = omega (arith, now_messages, fewer, messages, stands.few);
+          few = omega (arith, now_messages, after_messages, fewer s session place delivery sub one.1.0 one.1.1 (found_by true some) stands.queues (omega (arith, stands.messages, stands.few)), stands.messages, stands.few);
           small = omega (arith, now_bytes, fits);
           flights = left_flights;
           names = stands.names;
@@ -192,6 +189,6 @@ module _ (session : ℕ) (durables : List (Name × List ℕ)) (subs : List Subsc
         }
 
         -- and so is a refusal
-        pub refuse_some : kept_in out ≤ length out → mid_bytes + kept_bytes_in out ≤ 16777216 → new.held.messages ≡ mid_messages + kept_in out → new.held.bytes ≡ mid_bytes + kept_bytes_in out → Leads session durables subs new (Ok tt) (nacked Keeps s session place delivery)
-        refuse_some fewer fits now_messages now_bytes =
-            subst (Leads session durables subs new (Ok tt)) (sym (refused_by fewer true (le-leb (mid_bytes + kept_bytes_in out) 16777216 fits))) (kept_stands fewer fits now_messages now_bytes)
+        pub refuse_some : mid_bytes + kept_bytes_in out ≤ 16777216 → new.held.messages ≡ mid_messages + kept_in out → new.held.bytes ≡ mid_bytes + kept_bytes_in out → Leads session durables subs new (Ok tt) (nacked Keeps s session place delivery)
+        refuse_some fits now_messages now_bytes =
+            subst (Leads session durables subs new (Ok tt)) (sym (refused_by true (le-leb (mid_bytes + kept_bytes_in out) 16777216 fits))) (kept_stands fits now_messages now_bytes)

@@ -112,7 +112,7 @@ module _ (mode : AckMode) (delivery : ℕ) (drops : Message → Bool) (command :
   each_left place (d ∷ flight) comes =
       by (settles mode delivery d.0) refl (drops d.1) refl comes (λ at more. each_left at flight more)
     where
-      abbrev rest : ℕ → List Message
+      rest : ℕ → List Message
       rest at = refused_from drops command at (settled mode delivery flight)
 
       by : (b : Bool) → settles mode delivery d.0 ≡ b → (e : Bool) → drops d.1 ≡ e → ((n : Message) → IsAmong n (refused_from drops command place (cond b (d ∷ settled mode delivery flight) (settled mode delivery flight))) → IsAmong n line) → ((at : ℕ) → ((n : Message) → IsAmong n (rest at) → IsAmong n line) → AllByRecursion IsLeft flight) → AllByRecursion IsLeft (d ∷ flight)

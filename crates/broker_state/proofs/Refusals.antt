@@ -1,5 +1,6 @@
 use Rattle.std.proofs.Common.{◌≡◌, ◌≤◌, ◌+◌, ◌&&◌, List, [], ◌∷◌, ℕ, Bool, true, false, Option, Some, None, Result, Ok, Err, cond, fold, length, nat_le, refl, sym, ap, ◌∙◌, arith, if◌then◌else◌}
 use Rattle.std.specs.List.{AllByRecursion, list_any, sum_by}
+use Rattle.std.proofs.lemmas.Bool.{le-leb}
 use Rattle.std.proofs.lemmas.List.Sums.{sum_by-cons}
 use Rattle.command_core.specs.declared.fault.Fault.{Fault}
 use Rattle.command_core.specs.declared.fault.Fault.TheVariants.{NoRoom, UnknownAcknowledgement}
@@ -11,7 +12,7 @@ use Rattle.broker_state.specs.Dead.{dead_queue, first_place, is_dropped, keeping
 use Rattle.broker_state.specs.Lists.{picked, with_first}
 use Rattle.broker_state.specs.Names.{text_cmp}
 use Rattle.broker_state.specs.Operations.{acknowledged, awaits, is_within, settled_by}
-use Rattle.broker_state.specs.States.{State, weight_of, weight_of_subscription}
+use Rattle.broker_state.specs.States.{State, bytes, held_bytes, held_messages, one, weight_of, weight_of_subscription}
 use Rattle.broker_state.specs.Waiting.{Lines, is_own, weight_of_lines, with_message}
 use Rattle.broker_state.proofs.Firsts.{sum_first}
 use Rattle.broker_state.proofs.KeyedLines.{IsRising, rising-with_message, weight-with_message}
@@ -94,6 +95,31 @@ module _ (weight : Message → ℕ) (s : State) (session member delivery : ℕ) 
   weight-kept_in rising =
       omega (arith, weight-let_go, (weight-with_refused weight (kept_from s session member delivery sub) s.shared.queues rising).1)
 
--- a state with room, by whether there is
-pub with_room_by : (s : State) (b : Bool) → is_within s ≡ b → with_room s ≡ cond b (Ok s) (Err NoRoom)
-with_room_by s b is = ap (λ t. cond t (Ok s) (Err NoRoom)) is
+-- what is kept is no more than what was settled
+kept_ones : (drops : Message → Bool) (deliveries : List (ℕ × Message)) → sum_by (λ (d : ℕ × Message). if drops d.1 then 0 else 1) deliveries ≤ sum_by (λ (d : ℕ × Message). one d.1) deliveries
+kept_ones drops [] = omega arith
+kept_ones drops (d ∷ deliveries) =
+    omega (arith, kept_ones drops deliveries, by (drops d.1), sum_by-cons (λ (x : ℕ × Message). if drops x.1 then 0 else 1) d deliveries, sum_by-cons (λ (x : ℕ × Message). one x.1) d deliveries)
+  where
+    by : (b : Bool) → (if b then 0 else 1) ≤ 1
+    by true = omega arith
+    by false = omega arith
+
+-- A NACK that keeps, by whether the bytes find room that are held then.
+module _ (s : State) (session member delivery : ℕ) (sub : Subscription) (others : List Subscription) (is : picked (awaits session delivery) s.subscriptions ≡ Some (sub, others)) (some : list_any (awaits session delivery) s.subscriptions ≡ true) (rising : IsRising text_cmp texts_total s.shared.queues) (few : held_messages s ≤ 4096) where
+  abbrev after : State
+  after = kept_in s session member delivery sub
+
+  pub fewer : held_messages after ≤ held_messages s
+  fewer =
+      let settled_now = settled sub.mode delivery sub.unacknowledged in
+      let drops = is_dropped (is_own sub) in
+      omega (arith, weight-kept_in one s session member delivery sub others is rising, sum_kept drops s.count one (λ m. 1) (λ at m. refl) (first_place member) settled_now, kept_ones drops settled_now)
+
+  pub nacked_by : (sum : ℕ) → sum + gone bytes s session member delivery sub others is ≡ held_bytes s + sum_by bytes (kept_from s session member delivery sub) → (b : Bool) → nat_le sum 16777216 ≡ b → nacked rule.Keeps s session member delivery ≡ cond b (Ok after) (Err NoRoom)
+  nacked_by sum counted b room =
+      let few_then : nat_le (held_messages after) 4096 ≡ true = le-leb (held_messages after) 4096 (omega (arith, fewer, few)) in
+      let bytes_then : held_bytes after ≡ sum = omega (arith, counted, weight-kept_in bytes s session member delivery sub others is rising) in
+      nacked_some s session member delivery sub others is some
+      ∙ ap (λ c. cond (c && nat_le (held_bytes after) 16777216) (Ok after) (Err NoRoom)) few_then
+      ∙ ap (λ n. cond (nat_le n 16777216) (Ok after) (Err NoRoom)) bytes_then ∙ ap (λ c. cond c (Ok after) (Err NoRoom)) room

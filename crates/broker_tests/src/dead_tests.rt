@@ -1,4 +1,4 @@
-use crate::tests::{Event, Part, answers_all, command_of, execute, header_text};
+use crate::tests::{Event, Part, Rows, answers_all, answers_rows, command_of, execute};
 use broker_core::Broker;
 use command_core::{AckMode, Command, Dest, Op, Out, Sending};
 use frame_core::{Bytes, Headers};
@@ -176,47 +176,140 @@ fn a_transaction_that_is_refused_refuses_no_message(rt: HostRuntime) -> Result<(
     answers_all(rt.alloc(), &rows)
 }
 
-/// Sends `x`, so many times, there, with the header `kind:late`.
-fn send_sized(
-    alloc: Global,
-    broker: &mut Broker,
-    to: &str,
-    bytes: usize,
-) -> Result<Vec<Out>, Fail> {
+/// Sends so many bytes to `/queue/q`.
+fn send_sized(alloc: Global, broker: &mut Broker, bytes: usize) -> Result<(), Fail> {
     if broker.count() >= 10_000 || bytes > 65_536 {
         return Err(Fail::from("too many commands or bytes"));
     }
-    let destination = Dest::read(alloc, to)?;
+    let destination = Dest::read(alloc, "/queue/q")?;
     let body = Bytes::new(vec![in alloc; b'x'; bytes]?);
     let sending = Sending::new(destination, Headers::new(Vec::new(alloc)), body);
-    Ok(broker.step(alloc, Command::new(0, Op::Send(sending), None))?)
+    let _outs = broker.step(alloc, Command::new(0, Op::Send(sending), None))?;
+    Ok(())
 }
 
-/// All headers and the body of an output.
-fn whole(alloc: Global, out: &Out) -> Result<String, Fail> {
+/// 256 messages wait in `/queue/q`, with so many bytes less than may be held, and a session listens to it. A message has the
+/// 8 bytes of its destination, and three more in `/queue/dead`.
+fn fill(alloc: Global, broker: &mut Broker, less: usize) -> Result<(), Fail> {
+    if less > 63_488 {
+        return Err(Fail::from("more than the last message has"));
+    }
+    let _connected = execute(alloc, broker, &Event::Connect)?;
+    for _ in 0..255 {
+        send_sized(alloc, broker, 65_536)?;
+    }
+    send_sized(alloc, broker, 63_488 - less)?;
+    let listens = Event::Subscribe(0, "s", "/queue/q", AckMode::ClientIndividual);
+    let _messages = execute(alloc, broker, &listens)?;
+    if broker.held().bytes != 16_777_216 - less as u64 {
+        return Err(Fail::from("other bytes are held"));
+    }
+    Ok(())
+}
+
+fn filled_answers(
+    alloc: Global,
+    broker: &mut Broker,
+    less: usize,
+    rows: Rows<'_>,
+) -> Result<(), Fail> {
+    fill(alloc, broker, less)?;
+    answers_rows(alloc, broker, rows)
+}
+
+/// Has a new broker that is so full answer so.
+fn answers_filled(alloc: Global, less: usize, rows: Rows<'_>) -> Result<(), Fail> {
+    let mut broker = Broker::new(alloc);
+    let ended = filled_answers(alloc, &mut broker, less, rows);
+    drop(broker);
+    ended
+}
+
+const FULL: &str = "0 ERROR E12 no room for the message ; 256 held";
+
+#[test]
+fn a_refusal_that_finds_no_room_is_refused(rt: HostRuntime) -> Result<(), Fail> {
+    let nack = [Event::Nack(0, 0)];
+    let full: [(&[Event<'_>], &str); 1] = [(&nack, FULL)];
+    answers_filled(rt.alloc(), 2, &full)?;
+    let fits: [(&[Event<'_>], &str); 2] = [(&nack, "256 held"), (&[Event::Nack(0, 1)], FULL)];
+    answers_filled(rt.alloc(), 3, &fits)
+}
+
+#[test]
+fn room_in_a_transaction_is_looked_for_in_the_place_of_the_refusal(
+    rt: HostRuntime,
+) -> Result<(), Fail> {
+    let late = [Part::Nacks(0), Part::Acks(1)];
+    let refused: [(&[Event<'_>], &str); 1] = [(&[Event::Together(0, &late)], FULL)];
+    answers_filled(rt.alloc(), 0, &refused)?;
+    let early = [Part::Acks(1), Part::Nacks(0)];
+    let done: [(&[Event<'_>], &str); 1] = [(&[Event::Together(0, &early)], "255 held")];
+    answers_filled(rt.alloc(), 0, &done)
+}
+
+/// Carries all out by the rule of version 1, and tells how many messages are held.
+fn held_by_old_rule(
+    alloc: Global,
+    broker: &mut Broker,
+    events: &[Event<'_>],
+) -> Result<u64, Fail> {
+    for event in events {
+        let command = command_of(alloc, event)?;
+        if broker.count() >= 10_000 {
+            return Err(Fail::from("too many commands"));
+        }
+        let _outs = broker.step_v1(alloc, command)?;
+    }
+    Ok(broker.held().messages)
+}
+
+#[test]
+fn by_the_old_rule_a_refusal_drops_the_message(rt: HostRuntime) -> Result<(), Fail> {
+    let mut broker = Broker::new(rt.alloc());
+    let before = held_by_old_rule(rt.alloc(), &mut broker, &ONE_DELIVERY);
+    let plain = held_by_old_rule(rt.alloc(), &mut broker, &[Event::Nack(0, 0)]);
+    let parts = [Part::Sends("/queue/q"), Part::Nacks(1)];
+    let again = [Event::Send(0, "/queue/q"), Event::Together(0, &parts)];
+    let together = held_by_old_rule(rt.alloc(), &mut broker, &again);
+    drop(broker);
+    assert_eq!(rt; (before?, plain?, together?), (1, 0, 1));
+    Ok(())
+}
+
+/// All headers and the bytes of the body of the first of some outputs.
+fn whole(alloc: Global, outs: &[Out]) -> Result<String, Fail> {
+    let [out, ..] = outs else {
+        return Err(Fail::from("no output"));
+    };
     let frame = out.frame();
     let mut told = String::from_str(alloc, frame.verb.name())?;
     for (name, value) in frame.headers.as_slice() {
         let (name, value) = (name.as_str(), value.as_str());
         told.push_str(format!(in alloc; " {name}:{value}")?.as_str())?;
     }
-    let bytes = frame.body.len();
-    told.push_str(format!(in alloc; " {bytes}")?.as_str())?;
+    for byte in frame.body.as_slice() {
+        told.push_str(format!(in alloc; " {byte}")?.as_str())?;
+    }
     Ok(told)
 }
 
-/// Carries all out, and gives the first output of the last one.
-fn first_output(
-    alloc: Global,
-    broker: &mut Broker,
-    events: &[Event<'_>],
-) -> Result<String, Fail> {
-    let mut told = String::new(alloc);
-    for event in events {
-        let outs = execute(alloc, broker, event)?;
-        if let Some(out) = outs.as_slice().first() {
-            told = whole(alloc, out)?;
-        }
+fn dead_message(alloc: Global, broker: &mut Broker) -> Result<String, Fail> {
+    for event in &ONE_DELIVERY {
+        let _outs = execute(alloc, broker, event)?;
     }
-    Ok(told)
+    let _refused = execute(alloc, broker, &Event::Nack(0, 0))?;
+    let listens = Event::Subscribe(0, "d", "/queue/dead", AckMode::Auto);
+    let outs = execute(alloc, broker, &listens)?;
+    whole(alloc, outs.as_slice())
+}
+
+#[test]
+fn a_dead_message_says_where_it_is_and_has_its_body(rt: HostRuntime) -> Result<(), Fail> {
+    let mut broker = Broker::new(rt.alloc());
+    let told = dead_message(rt.alloc(), &mut broker);
+    drop(broker);
+    let expected = "MESSAGE subscription:d message-id:3.64 destination:/queue/dead content-length:2 104 105";
+    assert_eq!(rt; told?.as_str(), expected);
+    Ok(())
 }
