@@ -124,7 +124,7 @@ module _ (session : ℕ) (durables : List (Name × List ℕ)) (subs : List Subsc
 
       out_is : out ≡ mapped (sized (is_own sub)) gone
       out_is =
-          let found = picked_flight session delivery s.subscriptions sub one.1.0 one.1.1 in
+          let found = picked_flight session delivery s.subscriptions sub one.1 one.2 in
           given (flight_of sub) found.0 (ap (picked (has delivery)) stands.flights ∙ found.1) ∙ settled-mapped (sized (is_own sub)) sub.mode delivery sub.unacknowledged
 
       gone_messages : sum_by (λ (d : ℕ × Message). one_message d.1) gone ≡ length out
@@ -141,8 +141,8 @@ module _ (session : ℕ) (durables : List (Name × List ℕ)) (subs : List Subsc
       module _ (messages : new.held.messages + length out ≡ old.held.messages) (held : new.held.bytes + sum_by (λ item. item.1.bytes) out ≡ old.held.bytes) where
         settled_stands : StandsFor session durables subs new (let_go s session 0 delivery)
         settled_stands = record {
-          messages = omega (arith, messages, stands.messages, weight-let_go one_message s session 0 delivery sub one.1.0 one.1.1, gone_messages);
-          bytes = omega (arith, held, stands.bytes, weight-let_go bytes s session 0 delivery sub one.1.0 one.1.1, gone_bytes);
+          messages = omega (arith, messages, stands.messages, weight-let_go one_message s session 0 delivery sub one.1 one.2, gone_messages);
+          bytes = omega (arith, held, stands.bytes, weight-let_go bytes s session 0 delivery sub one.1 one.2, gone_bytes);
           few = omega (arith, messages, stands.few);
           small = omega (arith, held, stands.small);
           flights = left_flights;
@@ -163,15 +163,15 @@ module _ (session : ℕ) (durables : List (Name × List ℕ)) (subs : List Subsc
 
         after_messages : held_messages after ≡ mid_messages + kept_in out
         after_messages =
-            omega (arith, messages, stands.messages, weight-kept_in one_message s session place delivery sub one.1.0 one.1.1 stands.queues, gone_messages, sum_kept (is_dropped (is_own sub)) s.count one_message (λ m. 1) (λ at m. refl) (first_place place) gone, ap kept_in out_is, kept-mapped (is_own sub) gone)
+            omega (arith, messages, stands.messages, weight-kept_in one_message s session place delivery sub one.1 one.2 stands.queues, gone_messages, sum_kept (is_dropped (is_own sub)) s.count one_message (λ m. 1) (λ at m. refl) (first_place place) gone, ap kept_in out_is, kept-mapped (is_own sub) gone)
 
         after_bytes : held_bytes after ≡ mid_bytes + kept_bytes_in out
         after_bytes =
-            omega (arith, held, stands.bytes, weight-kept_in bytes s session place delivery sub one.1.0 one.1.1 stands.queues, gone_bytes, sum_kept (is_dropped (is_own sub)) s.count bytes bytes_there (λ at m. refl) (first_place place) gone, ap kept_bytes_in out_is, kept_bytes-mapped (is_own sub) gone)
+            omega (arith, held, stands.bytes, weight-kept_in bytes s session place delivery sub one.1 one.2 stands.queues, gone_bytes, sum_kept (is_dropped (is_own sub)) s.count bytes bytes_there (λ at m. refl) (first_place place) gone, ap kept_bytes_in out_is, kept_bytes-mapped (is_own sub) gone)
 
         refused_by : (b : Bool) → nat_le (mid_bytes + kept_bytes_in out) 16777216 ≡ b → nacked Keeps s session place delivery ≡ cond b (Ok after) (Err NoRoom)
         refused_by b is =
-            nacked_by s session place delivery sub one.1.0 one.1.1 (found_by true some) stands.queues (omega (arith, stands.messages, stands.few)) (mid_bytes + kept_bytes_in out) (omega (arith, after_bytes, weight-kept_in bytes s session place delivery sub one.1.0 one.1.1 stands.queues)) b is
+            nacked_by s session place delivery sub one.1 one.2 (found_by true some) stands.queues (omega (arith, stands.messages, stands.few)) (mid_bytes + kept_bytes_in out) (omega (arith, after_bytes, weight-kept_in bytes s session place delivery sub one.1 one.2 stands.queues)) b is
 
         pub refuse_full : nat_le (mid_bytes + kept_bytes_in out) 16777216 ≡ false → Leads session durables subs new (Err NoRoom) (nacked Keeps s session place delivery)
         refuse_full full = subst (Leads session durables subs new (Err NoRoom)) (sym (refused_by false full)) refl
@@ -180,7 +180,7 @@ module _ (session : ℕ) (durables : List (Name × List ℕ)) (subs : List Subsc
         kept_stands fits now_messages now_bytes = record {
           messages = omega (arith, now_messages, after_messages);
           bytes = omega (arith, now_bytes, after_bytes);
-          few = omega (arith, now_messages, after_messages, fewer s session place delivery sub one.1.0 one.1.1 (found_by true some) stands.queues (omega (arith, stands.messages, stands.few)), stands.messages, stands.few);
+          few = omega (arith, now_messages, after_messages, fewer s session place delivery sub one.1 one.2 (found_by true some) stands.queues (omega (arith, stands.messages, stands.few)), stands.messages, stands.few);
           small = omega (arith, now_bytes, fits);
           flights = left_flights;
           names = stands.names;

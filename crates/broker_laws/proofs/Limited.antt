@@ -51,4 +51,4 @@ module _ (s : State) (order : IsInOrder s) (limited : HasSubscriptions s) where
       let known = beside_from (IsOrdered s.count) (λ place. HasSubscriptions) (ordered_from s.count) (limits_from s.count) in
       let all = beside_from (IsLimited s.count) (λ place t. place ≤ 64 → Rule place t) known keeps in
       let after = led_keeps (λ place t. IsLimited s.count t × (place ≤ 64 → Rule place t)) all rule s c.session c.op order.opened ((ordered_first s order, limited), λ none. now) in
-      (after.0, after.1.1.1 (omega (arith, after.1.0, few_places c.op few)))
+      (after.0, after.2.1 (omega (arith, after.1, few_places c.op few)))

@@ -68,17 +68,14 @@ module _ (weight : Message → ℕ) (command at : ℕ) (few : (m : Message) → 
 
     one_at_most : (place : ℕ) (deliveries : List (ℕ × Message)) → kept place deliveries ≤ 1
     one_at_most place [] = omega arith
-    one_at_most place (d ∷ deliveries) = by (cases_lt at place)
+    one_at_most place (d ∷ deliveries) =
+        by (cases_lt place at) (one_at_most (place + 1) deliveries)
       where
-        by : (at < place) ⊎ (place ≤ at) → kept place (d ∷ deliveries) ≤ 1
-        by (inl past) = omega (arith, none_behind place past (d ∷ deliveries))
-        by (inr here) = now (cases_lt place at)
-          where
-            now : (place < at) ⊎ (at ≤ place) → kept place (d ∷ deliveries) ≤ 1
-            now (inl later) =
-                omega (arith, one_kept (drops d.1) place d deliveries, other_kept place d.1 (λ same. omega (arith, same, later)), one_at_most (place + 1) deliveries)
-            now (inr same) =
-                omega (arith, one_kept (drops d.1) place d deliveries, few (refused command place d.1), none_behind (place + 1) (omega (arith, same)) deliveries)
+        by : (place < at) ⊎ (at ≤ place) → kept (place + 1) deliveries ≤ 1 → kept place (d ∷ deliveries) ≤ 1
+        by (inl later) rest =
+            omega (arith, rest, one_kept (drops d.1) place d deliveries, other_kept place d.1 (λ same. omega (arith, same, later)))
+        by (inr past) rest =
+            omega (arith, one_kept (drops d.1) place d deliveries, few (refused command place d.1), none_behind (place + 1) (omega (arith, past)) deliveries)
 
   -- one is left up to the member that may send it, and none behind it
   abbrev left_of_sends : ℕ → ℕ
@@ -125,22 +122,23 @@ module _ (weight : Message → ℕ) (command at : ℕ) (few : (m : Message) → 
       by (inl early) = record { left = left_of_sends; first = omega arith; metered = sends early }
       by (inr late) = record { left = left_of_refusals; first = omega (arith, late); metered = refusals late }
 
+nothing_kept : (weight : Message → ℕ) (command : ℕ) → ((place : ℕ) (sending : SendingValue) → weight (message_of command place sending) ≡ 0) → (drops : Message → Bool) (place : ℕ) (deliveries : List (ℕ × Message)) → sum_by weight (refused_from drops command place deliveries) ≡ 0
+nothing_kept weight command none drops place [] = refl
+nothing_kept weight command none drops place (d ∷ deliveries) =
+    by (drops d.1) (nothing_kept weight command none drops (place + 1) deliveries)
+  where
+    by : (b : Bool) → sum_by weight (refused_from drops command (place + 1) deliveries) ≡ 0 → sum_by weight (if b then refused_from drops command (place + 1) deliveries else refused command place d.1 ∷ refused_from drops command (place + 1) deliveries) ≡ 0
+    by true rest = rest
+    by false rest =
+        omega (arith, rest, none place (record d.1.sending { destination = dead_queue }), sum_by-cons weight (refused command place d.1) (refused_from drops command (place + 1) deliveries))
+
 -- what none of a command's messages weighs
 pub none_metered : (weight : Message → ℕ) (command : ℕ) → ((place : ℕ) (sending : SendingValue) → weight (message_of command place sending) ≡ 0) → IsMetered weight command (λ place. 0)
 none_metered weight command none = record {
   falls = λ place. omega arith;
   new = λ place sending early. omega (arith, none place sending);
-  refused = λ place drops deliveries short. omega (arith, nothing_kept drops (first_place place) deliveries);
+  refused = λ place drops deliveries short. omega (arith, nothing_kept weight command none drops (first_place place) deliveries);
 }
-  where
-    nothing_kept : (drops : Message → Bool) (place : ℕ) (deliveries : List (ℕ × Message)) → sum_by weight (refused_from drops command place deliveries) ≡ 0
-    nothing_kept drops place [] = refl
-    nothing_kept drops place (d ∷ deliveries) = by (drops d.1)
-      where
-        by : (b : Bool) → sum_by weight (if b then refused_from drops command (place + 1) deliveries else refused command place d.1 ∷ refused_from drops command (place + 1) deliveries) ≡ 0
-        by true = nothing_kept drops (place + 1) deliveries
-        by false =
-            omega (arith, none place (record d.1.sending { destination = dead_queue }), nothing_kept drops (place + 1) deliveries, sum_by-cons weight (refused command place d.1) (refused_from drops command (place + 1) deliveries))
 
 -- a subscription has at most 16 unacknowledged messages, and so a NACK settles no more
 few_settled : (sub : Subscription) (delivery most : ℕ) → most ≤ 16 → length sub.unacknowledged ≤ most → length (settled sub.mode delivery sub.unacknowledged) ≤ 16

@@ -75,11 +75,11 @@ put_in m (x ∷ line) =
 stays_in : (n m : Message) (line : List Message) → IsAmong n line → IsAmong n (inserted m line)
 stays_in n m [] among = absurd among
 stays_in n m (x ∷ line) among =
-    elim (is_lt (by_number m.number x.number)) as (λ b. IsAmong n (cond b (m ∷ x ∷ line) (x ∷ inserted m line))) [ true ↦ inr among | false ↦ behind among ]
+    elim (is_lt (by_number m.number x.number)) as (λ b. IsAmong n (cond b (m ∷ x ∷ line) (x ∷ inserted m line))) [ true ↦ inr among | false ↦ behind (λ rest. stays_in n m line rest) among ]
   where
-    behind : IsAmong n (x ∷ line) → IsAmong n (x ∷ inserted m line)
-    behind (inl same) = inl same
-    behind (inr rest) = inr (stays_in n m line rest)
+    behind : (IsAmong n line → IsAmong n (inserted m line)) → IsAmong n (x ∷ line) → IsAmong n (x ∷ inserted m line)
+    behind stays (inl same) = inl same
+    behind stays (inr rest) = inr (stays rest)
 
 -- the line of refused messages with one more
 one_more : (m : Message) (lines : Lines (List ℕ)) → line_at text_cmp dead_queue (with_message text_cmp dead_queue m lines) ≡ inserted m (line_at text_cmp dead_queue lines)

@@ -134,7 +134,7 @@ module _ (s : State) (order : IsInOrder s) where
   pub led_in_order : (Rule : ℕ → State → Type 0) → KeepsFrom (IsOrdered s.count) Rule → (rule : NackRule) (c : CommandValue) → Rule 0 s → (place : ℕ) × IsOrdered s.count (led_to rule s c.session c.op).state × Rule place (led_to rule s c.session c.op).state
   led_in_order Rule keeps rule c now =
       let after = led_keeps (λ place t. IsOrdered s.count t × Rule place t) (beside_from (IsOrdered s.count) Rule (ordered_from s.count) keeps) rule s c.session c.op order.opened (ordered_first s order, now) in
-      (after.0, after.1.1.0, after.1.1.1)
+      (after.0, after.2.0, after.2.1)
 
   pub restarted_keeps_in_order : (Rule : State → Type 0) → Keeps (IsOrdered s.count) Rule → Rule s → Rule (restarted s)
   restarted_keeps_in_order Rule keeps now =
@@ -148,7 +148,7 @@ empty_in_order = record { sessions = tt; opened = tt; durables = tt; names = tt;
 -- a step keeps the state in order
 pub step_in_order : (rule : NackRule) (s : State) (c : CommandValue) → IsInOrder s → IsInOrder (step_by rule s c)
 step_in_order rule s c order =
-    let now = (led_keeps (λ place. IsOrdered s.count) (ordered_from s.count) rule s c.session c.op order.opened (ordered_first s order)).1.1 in
+    let now = (led_keeps (λ place. IsOrdered s.count) (ordered_from s.count) rule s c.session c.op order.opened (ordered_first s order)).2 in
     record { sessions = now.sessions; opened = now.opened; durables = now.durables; names = now.order.names; queues = now.order.queues }
 
 -- and so does a restart
@@ -161,7 +161,7 @@ restarted_in_order s order =
 -- what an operation does leaves the order and the count
 pub done_ordered : (rule : NackRule) (s : State) (c : CommandValue) → IsInOrder s → IsOrdered s.count (done rule s c.session c.op)
 done_ordered rule s c order =
-    (done_keeps (λ place. IsOrdered s.count) (ordered_from s.count) rule s c.session c.op order.opened (ordered_first s order)).1.1
+    (done_keeps (λ place. IsOrdered s.count) (ordered_from s.count) rule s c.session c.op order.opened (ordered_first s order)).2
 
 pub done_count : (rule : NackRule) (s : State) (c : CommandValue) → IsInOrder s → (done rule s c.session c.op).count ≡ s.count
 done_count rule s c order = (done_ordered rule s c order).count

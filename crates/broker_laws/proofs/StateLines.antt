@@ -219,7 +219,7 @@ step_lines rule s c few order limited names numbers now =
     let named = beside_from (IsOrdered s.count) (λ place. HasNames) (ordered_from s.count) (names_from s.count) in
     let all = beside_from (IsNamed s.count) (λ place. IsPlaced) named (placed_from s.count) in
     let after = led_keeps (λ place t. IsNamed s.count t × IsPlaced t) all rule s c.session c.op order.opened ((ordered_first s order, names), placed_of s now) in
-    let led = lines_of (led_to rule s c.session c.op).state after.1.1.1 (λ number. single_led number rule s c few order limited numbers now) in
+    let led = lines_of (led_to rule s c.session c.op).state after.2.1 (λ number. single_led number rule s c few order limited numbers now) in
     record { queues = led.queues; names = led.names; to = led.to; own = led.own; once_in_queues = led.once_in_queues; once_under_names = led.once_under_names; once_of_own = led.once_of_own }
 
 pub restarted_lines : (s : State) → IsInOrder s → HasNames s → HasLines s → HasLines (restarted s)

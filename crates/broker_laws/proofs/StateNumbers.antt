@@ -17,7 +17,7 @@ empty_numbers = record { messages = tt; deliveries = tt; most = omega arith; onc
 
 pub step_keeps_numbers : (rule : NackRule) (s : State) (c : CommandValue) → IsInOrder s → HasNumbers s → HasNumbers (step_by rule s c)
 step_keeps_numbers rule s c order now =
-    let led = (led_keeps (λ place. HasDeliveries) deliveries_kept_from rule s c.session c.op order.opened (deliveries_of s now)).1.1 in
+    let led = (led_keeps (λ place. HasDeliveries) deliveries_kept_from rule s c.session c.op order.opened (deliveries_of s now)).2 in
     record { messages = step_numbers rule s c order now.messages; deliveries = led.under; most = led.most; once = led.once }
 
 pub restarted_numbers : (s : State) → IsInOrder s → HasNumbers s → HasNumbers (restarted s)

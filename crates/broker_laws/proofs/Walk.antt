@@ -284,7 +284,7 @@ module _ (Rule : ℕ → State → Type 0) (keeps : KeepsFrom Anything Rule) whe
   UpTo most s = (place : ℕ) × (place ≤ most) × Rule place s
 
   further : (most more : ℕ) → most ≤ more → (r : Result State Fault) → Gives (UpTo most) r → Gives (UpTo more) r
-  further most more less (Ok t) now = (now.0, omega (arith, now.1.0, less), now.1.1)
+  further most more less (Ok t) now = (now.0, omega (arith, now.1, less), now.2)
   further most more less (Err fault) now = tt
 
   at_first : (most : ℕ) (r : Result State Fault) → Gives (Rule 0) r → Gives (UpTo most) r
@@ -364,7 +364,8 @@ module _ (Rule : ℕ → State → Type 0) (keeps : KeepsFrom Anything Rule) whe
         at_next (acknowledged s session delivery) (settled_next s session 0 delivery now)
     executed_keeps s session (Nack delivery) of_open now =
         at_next (nacked rule s session 0 delivery) (nacked_keeps rule s session 0 delivery now)
-    executed_keeps s session (Commit ms) of_open now = committed_keeps s session 0 ms now
+    executed_keeps s session (Commit ms) of_open now =
+        further (0 + length ms) (length ms) (omega arith) (committed rule s session 0 ms) (committed_keeps s session 0 ms now)
     executed_keeps s session Note of_open now = (0, omega arith, now)
     executed_keeps s session (End end) of_open now =
         (0, omega arith, ended_keeps (Rule 0) (keeps.changes 0) s session now)
@@ -402,5 +403,5 @@ module _ (Rule : ℕ → State → Type 0) (keeps : KeepsFrom Anything Rule) whe
         by : (b : Bool) → UpTo (places_of op) (if b then settled (done rule s session op) else record { state = s; outs = [] }).state
         by true =
             let after = done_keeps s session op earlier now in
-            (after.0, after.1.0, settled_keeps (Rule after.0) (keeps.changes after.0) (done rule s session op) after.1.1)
+            (after.0, after.1, settled_keeps (Rule after.0) (keeps.changes after.0) (done rule s session op) after.2)
         by false = (0, omega arith, now)

@@ -53,7 +53,7 @@ picked_some {X} p (z ∷ zs) some = by (p z) refl some (λ rest. picked_some p z
     by true is some tails = (z, zs, ap (λ b. if b then Some (z, zs) else option_map {U = X × List X} (λ (q : X × List X). (q.0, z ∷ q.1)) (picked p zs)) is)
     by false is some tails =
         let t = tails some in
-        (t.0, z ∷ t.1.0, ap (λ b. if b then Some (z, zs) else option_map {U = X × List X} (λ (q : X × List X). (q.0, z ∷ q.1)) (picked p zs)) is ∙ ap (option_map {U = X × List X} (λ (q : X × List X). (q.0, z ∷ q.1))) t.1.1)
+        (t.0, z ∷ t.1, ap (λ b. if b then Some (z, zs) else option_map {U = X × List X} (λ (q : X × List X). (q.0, z ∷ q.1)) (picked p zs)) is ∙ ap (option_map {U = X × List X} (λ (q : X × List X). (q.0, z ∷ q.1))) t.2)
 
 -- a sum once the one that is picked is changed
 pub sum_first : {X : Type 0} (p : X → Bool) (g : X → X) (f : X → ℕ) (xs : List X) (x : X) (ys : List X) → picked p xs ≡ Some (x, ys) → sum_by f (with_first p g xs) + f x ≡ sum_by f xs + f (g x)

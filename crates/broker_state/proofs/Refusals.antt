@@ -29,11 +29,11 @@ module _ (drops : Message → Bool) (command : ℕ) where
   -- what holds of each that is refused holds of all that are kept
   pub all_kept : (P : Message → Type 0) → ((place : ℕ) (m : Message) → P (refused command place m)) → (place : ℕ) (deliveries : List (ℕ × Message)) → AllByRecursion P (kept place deliveries)
   all_kept P has place [] = tt
-  all_kept P has place (d ∷ deliveries) = by (drops d.1)
+  all_kept P has place (d ∷ deliveries) = by (drops d.1) (all_kept P has (place + 1) deliveries)
     where
-      by : (b : Bool) → AllByRecursion P (if b then kept (place + 1) deliveries else refused command place d.1 ∷ kept (place + 1) deliveries)
-      by true = all_kept P has (place + 1) deliveries
-      by false = (has place d.1, all_kept P has (place + 1) deliveries)
+      by : (b : Bool) → AllByRecursion P (kept (place + 1) deliveries) → AllByRecursion P (if b then kept (place + 1) deliveries else refused command place d.1 ∷ kept (place + 1) deliveries)
+      by true others = others
+      by false others = (has place d.1, others)
 
   -- a sum over those that are kept is one over all, where the others count for nothing
   module _ (f : Message → ℕ) (g : Message → ℕ) (alike : (place : ℕ) (m : Message) → f (refused command place m) ≡ g m) where
@@ -42,11 +42,13 @@ module _ (drops : Message → Bool) (command : ℕ) where
 
     pub sum_kept : (place : ℕ) (deliveries : List (ℕ × Message)) → sum_by f (kept place deliveries) ≡ sum_by part deliveries
     sum_kept place [] = refl
-    sum_kept place (d ∷ deliveries) = omega (arith, by (drops d.1), sum_by-cons part d deliveries)
+    sum_kept place (d ∷ deliveries) =
+        omega (arith, by (drops d.1), sum_kept (place + 1) deliveries, sum_by-cons part d deliveries)
       where
-        by : (b : Bool) → sum_by f (if b then kept (place + 1) deliveries else refused command place d.1 ∷ kept (place + 1) deliveries) ≡ (if b then 0 else g d.1) + sum_by part deliveries
-        by true = omega (arith, sum_kept (place + 1) deliveries)
-        by false = omega (arith, sum_kept (place + 1) deliveries, alike place d.1, sum_by-cons f (refused command place d.1) (kept (place + 1) deliveries))
+        by : (b : Bool) → sum_by f (if b then kept (place + 1) deliveries else refused command place d.1 ∷ kept (place + 1) deliveries) ≡ (if b then 0 else g d.1) + sum_by f (kept (place + 1) deliveries)
+        by true = omega arith
+        by false =
+            omega (arith, alike place d.1, sum_by-cons f (refused command place d.1) (kept (place + 1) deliveries))
 
 -- the lines stay in order, and weigh what the messages do more
 pub weight-with_refused : (weight : Message → ℕ) (messages : List Message) (lines : Lines (List ℕ)) → IsRising text_cmp texts_total lines → IsRising text_cmp texts_total (with_refused messages lines) × (weight_of_lines weight (with_refused messages lines) ≡ weight_of_lines weight lines + sum_by weight messages)
