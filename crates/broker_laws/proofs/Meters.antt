@@ -40,7 +40,7 @@ pub record IsMetered (weight : Message → ℕ) (number : ℕ) (left : ℕ → �
 -- What weighs nothing when it is sent, and weighs one at most in one place: a command sends it there once.
 module _ (weight : Message → ℕ) (command at : ℕ) (few : (m : Message) → weight m ≤ 1) (other : (place : ℕ) (sending : SendingValue) → at ≢ place → weight (message_of command place sending) ≡ 0) where
   other_kept : (place : ℕ) (m : Message) → at ≢ place → weight (refused command place m) ≡ 0
-  other_kept place m no = other place (record m.sending { destination = dead_queue }) no
+  other_kept place m differs = other place (record m.sending { destination = dead_queue }) differs
 
   module _ (drops : Message → Bool) where
     abbrev kept : ℕ → List (ℕ × Message) → ℕ

@@ -59,7 +59,7 @@ others_stay to other (m ∷ messages) lines =
   where
     differs : (b : Bool) → is_eq (text_cmp to dead_queue) ≡ b → is_eq (text_cmp to dead_queue) ≡ false
     differs true same = absurd (other (same_texts to dead_queue (is_equal (text_cmp to dead_queue) same)))
-    differs false no = no
+    differs false other_text = other_text
 
 pub queues_stay : (s t : State) (session member delivery : ℕ) (to : List ℕ) → nacked rule.Keeps s session member delivery ≡ Ok t → to ≢ dead_queue → line_at text_cmp to t.shared.queues ≡ line_at text_cmp to s.shared.queues
 queues_stay s t session member delivery to is other =
@@ -116,11 +116,11 @@ module _ (mode : AckMode) (delivery : ℕ) (drops : Message → Bool) (command :
       rest at = refused_from drops command at (settled mode delivery flight)
 
       by : (b : Bool) → settles mode delivery d.0 ≡ b → (e : Bool) → drops d.1 ≡ e → ((n : Message) → IsAmong n (refused_from drops command place (cond b (d ∷ settled mode delivery flight) (settled mode delivery flight))) → IsAmong n line) → ((at : ℕ) → ((n : Message) → IsAmong n (rest at) → IsAmong n line) → AllByRecursion IsLeft flight) → AllByRecursion IsLeft (d ∷ flight)
-      by false no e dropped comes more = (inl no, more place comes)
-      by true yes true dropped comes more =
+      by false unsettled e dropped comes more = (inl unsettled, more place comes)
+      by true settling true dropped comes more =
           (inr (inl dropped), more (place + 1) (λ n among. comes n (subst (λ c. IsAmong n (cond c (rest (place + 1)) (refused command place d.1 ∷ rest (place + 1)))) (sym dropped) among)))
-      by true yes false kept comes more =
-          let through : (n : Message) → IsAmong n (refused command place d.1 ∷ rest (place + 1)) → IsAmong n line = λ n among. comes n (subst (λ c. IsAmong n (cond c (rest (place + 1)) (refused command place d.1 ∷ rest (place + 1)))) (sym kept) among) in
+      by true settling false stays comes more =
+          let through : (n : Message) → IsAmong n (refused command place d.1 ∷ rest (place + 1)) → IsAmong n line = λ n among. comes n (subst (λ c. IsAmong n (cond c (rest (place + 1)) (refused command place d.1 ∷ rest (place + 1)))) (sym stays) among) in
           (inr (inr (place, through (refused command place d.1) (inl refl))), more (place + 1) (λ n among. through n (inr among)))
 
 -- what is kept is that of the subscription that is found
