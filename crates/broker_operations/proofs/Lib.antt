@@ -1,2 +1,2 @@
 pub mod Operating
-pub mod Refusing
+pub mod SettledSums

@@ -4,6 +4,7 @@ use Rattle.std.specs.List.{list_any, sum_by}
 use Rattle.std.specs.List.Sorted.{IsStrictlySortedBy}
 use Rattle.std.specs.Map.{keys_of, remove_entry}
 use Rattle.std.specs.Ordering.{nat_cmp}
+use Rattle.std.proofs.lemmas.Bool.{leb-true}
 use Rattle.std.proofs.lemmas.Option.{none-some, same_Some, slice_get_within}
 use Rattle.record_core.specs.declared.ack_mode.AckMode.{AckMode}
 use Rattle.command_core.specs.declared.fault.Fault.{Fault}
@@ -12,7 +13,7 @@ use Rattle.line_core.specs.declared.message.Message.{Message}
 use Rattle.line_core.specs.Flights.{settled}
 use Rattle.broker_state.specs.declared.subscription.Subscription.{Subscription}
 use Rattle.broker_state.specs.declared.nack_rule.NackRule.TheVariants as rule
-use Rattle.broker_state.specs.Dead.{first_place, is_dropped, nacked, with_refused}
+use Rattle.broker_state.specs.Dead.{first_place, is_dropped, nacked, refused_from, with_refused}
 use Rattle.broker_state.specs.Lists.{changed, picked, with_first}
 use Rattle.broker_state.specs.Names.{Name, text_cmp}
 use Rattle.broker_state.specs.Operations.{acknowledged, awaits, begun_for, client_of, ended, ended_one, forgotten, given_up, is_named, is_of, name_for, or_same, settled_by, subscribed, topic_of, unsubscribed, unsubscribed_by, uses, without, without_named}
@@ -214,6 +215,24 @@ module _ (s : State) (session member delivery : ℕ) where
       pub nack_fewer : held_messages (kept_in s session member delivery sub) ≤ held_messages s
       nack_fewer =
           fewer s session member delivery sub (remove s.subscriptions at) is_picked (any_first (awaits session delivery) s.subscriptions at first) rising few
+
+      -- what is counted then
+      pub nack_counts : (own : Bool) (items : List (ℕ × Message)) (old_messages old_bytes mid_messages mid_bytes messages held : ℕ) → own ≡ is_own sub → items ≡ gone_of → old_messages ≡ held_messages s → old_bytes ≡ held_bytes s → mid_messages + sum_by (λ (d : ℕ × Message). one d.1) items ≡ old_messages → mid_bytes + sum_by (λ (d : ℕ × Message). bytes d.1) items ≡ old_bytes → messages ≡ mid_messages + all_kept own items → held ≡ mid_bytes + all_kept_bytes own items → (messages ≡ held_messages (kept_in s session member delivery sub)) × (held ≡ held_bytes (kept_in s session member delivery sub))
+      nack_counts own items old_messages old_bytes mid_messages mid_bytes messages held own_is given was was_bytes less less_bytes more more_bytes = (
+        omega (arith, nack_messages, was, less, more, ap (sum_by (λ (d : ℕ × Message). one d.1)) given, ap (all_kept own) given, ap (λ b. all_kept b gone_of) own_is),
+        omega (arith, nack_bytes, was_bytes, less_bytes, more_bytes, ap (sum_by (λ (d : ℕ × Message). bytes d.1)) given, ap (all_kept_bytes own) given, ap (λ b. all_kept_bytes b gone_of) own_is),
+      )
+
+    -- which is not too much
+    pub nack_small : (own : Bool) (items : List (ℕ × Message)) (old_bytes mid_bytes : ℕ) → own ≡ is_own sub → items ≡ gone_of → mid_bytes + sum_by (λ (d : ℕ × Message). bytes d.1) items ≡ old_bytes → nat_le (old_bytes - sum_by (λ (d : ℕ × Message). bytes d.1) gone_of + all_kept_bytes (is_own sub) gone_of) 16777216 ≡ true → mid_bytes + all_kept_bytes own items ≤ 16777216
+    nack_small own items old_bytes mid_bytes own_is given less room =
+        omega (arith, leb-true (old_bytes - sum_by (λ (d : ℕ × Message). bytes d.1) gone_of + all_kept_bytes (is_own sub) gone_of) 16777216 room, less, ap (sum_by (λ (d : ℕ × Message). bytes d.1)) given, ap (all_kept_bytes own) given, ap (λ b. all_kept_bytes b gone_of) own_is)
+
+    -- what has come
+    pub nack_lines : (own : Bool) (items : List (ℕ × Message)) (shared : Shared) → own ≡ is_own sub → items ≡ gone_of → shared ≡ record s.shared { queues = with_refused (refused_from (is_dropped own) s.count (first_place member) items) s.shared.queues } → shared ≡ record s.shared { queues = with_refused (kept_from s session member delivery sub) s.shared.queues }
+    nack_lines own items shared own_is given came =
+        came ∙ ap (λ l. record s.shared { queues = with_refused (refused_from (is_dropped own) s.count (first_place member) l) s.shared.queues }) given
+        ∙ ap (λ b. record s.shared { queues = with_refused (refused_from (is_dropped b) s.count (first_place member) gone_of) s.shared.queues }) own_is
 
     -- the state then
     pub nack_state : (subs : List Subscription) (shared : Shared) → subs ≡ changed at (settled_by delivery) s.subscriptions → shared ≡ record s.shared { queues = with_refused (kept_from s session member delivery sub) s.shared.queues } → record s { shared = shared; subscriptions = subs } ≡ kept_in s session member delivery sub

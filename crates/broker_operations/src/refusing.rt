@@ -1,6 +1,6 @@
 //! Deliveries are refused.
 
-ghost use Rattle.std.specs.Prelude.{◌≡◌, ◌+◌, ◌-◌, ◌<◌, ◌≤◌, ◌^◌, IfOk, IsErr, OnOk, length, nat_le};
+ghost use Rattle.std.specs.Prelude.{◌≡◌, ◌+◌, ◌-◌, ◌<◌, ◌≤◌, ◌^◌, IfOk, IsErr, OnOk, if◌then◌else◌, length, nat_le};
 ghost use Rattle.std.specs.List.{sum_by};
 ghost use Rattle.line_core.specs.Flights.{settled};
 ghost use Rattle.line_core.specs.Messages.{size_of};
@@ -8,8 +8,9 @@ ghost use Rattle.broker_state.specs.declared.nack_rule.NackRule.TheVariants.{Kee
 ghost use Rattle.broker_state.specs.Dead.{dead_queue, is_dropped, nacked, refused, refused_from, with_refused};
 ghost use Rattle.broker_state.specs.Parts.{leaving};
 ghost use Rattle.broker_state.specs.States.{bytes};
-ghost use Rattle.broker_state.specs.Waiting.{is_own};
-ghost use Rattle.broker_operations.specs.Refusals.{all_kept, all_kept_bytes, kept_bytes};
+ghost use Rattle.broker_state.specs.Names.{text_cmp};
+ghost use Rattle.broker_state.specs.Waiting.{is_own, with_message};
+ghost use Rattle.broker_operations.specs.Refusals.{all_kept, all_kept_bytes, kept_bytes, kept_one};
 
 use crate::acknowledging::find_awaiting;
 use crate::shared_lines::SharedLines;
@@ -95,7 +96,7 @@ fn kept_bytes(own: bool, message: &Message) -> u64
 fn bytes_to_keep(own: bool, mode: AckMode, delivery: u64, deliveries: &[(u64, Message)]) -> u64
     requires { length deliveries.now ≤ 4096 }
     ensures bytes { result ≡ all_kept_bytes own (settled mode delivery deliveries.now) }
-    ensures small { result < 2 ^ 34 }
+    ensures small { result < 2 ^ 35 }
 {
     let mut bytes = 0;
     for (number, message) in deliveries {
@@ -108,6 +109,7 @@ fn bytes_to_keep(own: bool, mode: AckMode, delivery: u64, deliveries: &[(u64, Me
 
 /// Whether what the NACK of a delivery keeps finds room, once all that it settles has gone.
 fn finds_room(held: &Held, sub: &Subscription, delivery: u64) -> bool
+    requires small { held.now.bytes ≤ 16777216 }
     requires few { length sub.now.unacknowledged ≤ 4096 }
     requires part { sum_by (λ delivery. bytes delivery.1) (settled sub.now.mode delivery sub.now.unacknowledged) ≤ held.now.bytes }
     ensures { result ≡ nat_le (held.now.bytes
@@ -118,6 +120,31 @@ fn finds_room(held: &Held, sub: &Subscription, delivery: u64) -> bool
     let gone = settled_bytes(sub.mode, delivery, deliveries);
     let kept = bytes_to_keep(sub.has_own_line(), sub.mode, delivery, deliveries);
     held.bytes - gone + kept <= MOST_BYTES
+}
+
+/// A settled message goes to the queue of refused ones, under that number, and is held there, unless it is dropped. Where
+/// memory is refused, the line of that queue may be gone.
+fn keep_one(
+    alloc: Global,
+    shared: &mut SharedLines,
+    held: &mut Held,
+    own: bool,
+    number: MessageNumber,
+    message: Message,
+) -> Result<(), AllocError>
+    requires few { held.old.messages + kept_one own message ≤ 4096 }
+    requires small { held.old.bytes + kept_bytes own message ≤ 16777216 }
+    ensures lines { OnOk result (shared.new ≡ record shared.old { queues = if is_dropped own message then shared.old.queues
+        else with_message text_cmp dead_queue (refused number.command number.place message) shared.old.queues }) }
+    ensures messages { OnOk result (held.new.messages ≡ held.old.messages + kept_one own message) }
+    ensures bytes { OnOk result (held.new.bytes ≡ held.old.bytes + kept_bytes own message) }
+{
+    if is_dropped(own, &message) {
+        return Ok(());
+    }
+    held.messages += 1;
+    held.bytes += size_there(&message.sending);
+    shared.put_in_queue(alloc, refused(alloc, number, message)?)
 }
 
 /// Settled messages that are kept go to the queue of refused ones, and are held there. The first that is settled has that
@@ -140,11 +167,7 @@ fn keep(
 {
     let mut number = first;
     for (_, message) in settled {
-        if !is_dropped(own, &message) {
-            held.messages += 1;
-            held.bytes += size_there(&message.sending);
-            shared.put_in_queue(alloc, refused(alloc, number, message)?)?;
-        }
+        keep_one(alloc, shared, held, own, number, message)?;
         number.place += 1;
     }
     Ok(())
