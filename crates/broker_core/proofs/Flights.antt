@@ -13,13 +13,13 @@ use Rattle.std.proofs.lemmas.Option.{get_or_from_slice_get, none-some, same_Some
 use Rattle.record_core.specs.Destinations.{is_queue}
 use Rattle.line_core.proofs.Flights.{has_delivery-mapped, length-settled, sum_by-settled, unsettled-mapped}
 use Rattle.line_core.specs.declared.message.Message.{Message}
-use Rattle.line_core.specs.Flights.{IsOver, IsRising, has_delivery, mapped, settled, unsettled}
+use Rattle.line_core.specs.Flights.{IsOver, IsRising, has_delivery, mapped, settled}
 use Rattle.line_core.specs.Lines.{inserted}
 use Rattle.broker_state.specs.declared.subscription.Subscription.{Subscription}
 use Rattle.broker_core.specs.declared.precheck.PrecheckFlight.{PrecheckFlight}
 use Rattle.broker_core.specs.declared.precheck.PrecheckSize.{PrecheckSize}
 use Rattle.broker_state.specs.Dead.{is_dropped}
-use Rattle.broker_state.specs.Lists.{changed, picked, with_first}
+use Rattle.broker_state.specs.Lists.{picked, with_first}
 use Rattle.broker_state.specs.Operations.{awaits, copied, is_of, settled_by}
 use Rattle.broker_state.specs.Parts.{NonePass, copies_to}
 use Rattle.broker_state.specs.Names.{Name}

@@ -218,10 +218,7 @@ fn precheck_acknowledge(
 
 /// A delivery is refused in a precheck, by the rule that keeps. Refused where no flight has it, or where what is kept finds no
 /// room once all that is settled has gone.
-fn precheck_refuse(
-    precheck: &mut Precheck,
-    delivery: u64,
-) -> Result<Result<(), Fault>, AllocError>
+fn precheck_refuse(precheck: &mut Precheck, delivery: u64) -> Result<Result<(), Fault>, AllocError>
     requires { (session : ℕ) × (durables : List (Name × List ℕ)) × (subs : List Subscription) × (s : State)
         × StandsFor session durables subs precheck.old s }
     ensures { IfOk result (λ r. (session place : ℕ) (durables : List (Name × List ℕ)) (subs : List Subscription) (s : State)

@@ -1,19 +1,8 @@
-use Rattle.std.proofs.Common.{◌≡◌, ◌≤◌, ◌+◌, ◌∙◌, List, ℕ, Result, Ok, Err, IfOk, OnOk, ap, cond, inl, inr, subst, sym, ◌⊎◌}
-use Rattle.std.proofs.lemmas.Result.{IfOk-weaker}
-use Rattle.std.specs.List.{list_any}
-use Rattle.std.specs.declared.alloc.AllocError.{AllocError}
-use Rattle.command_core.specs.declared.fault.Fault.{Fault}
-use Rattle.command_core.specs.declared.fault.Fault.TheVariants.{UnknownAcknowledgement}
+use Rattle.std.proofs.Common.{◌∙◌, List, ℕ, ap, subst, sym}
 use Rattle.command_core.specs.declared.member.Member.{Member}
-use Rattle.command_core.specs.declared.member.Member.TheVariants.{Ack, Nack}
-use Rattle.broker_state.specs.declared.subscription.Subscription.{Subscription}
-use Rattle.broker_core.specs.declared.precheck.Precheck.{Precheck}
-use Rattle.broker_state.specs.Lists.{with_first}
-use Rattle.broker_state.specs.Names.{Name}
 use Rattle.broker_state.specs.Executing.{applied}
 use Rattle.broker_state.specs.Parts.{copies_to}
-use Rattle.broker_state.specs.States.{State}
-use Rattle.broker_core.specs.Prechecks.{Leads, StandsFor, bytes_in, deliveries_in, has, left_by}
+use Rattle.broker_core.specs.Prechecks.{Leads}
 use Rattle.broker_core.proofs.PrecheckSteps.{send_leads}
 use Rattle.broker_core.proofs.precheck.precheck_member.Goals as goal
 
