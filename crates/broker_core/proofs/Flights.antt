@@ -13,13 +13,13 @@ use Rattle.std.proofs.lemmas.Option.{get_or_from_slice_get, none-some, same_Some
 use Rattle.record_core.specs.Destinations.{is_queue}
 use Rattle.line_core.proofs.Flights.{has_delivery-mapped, length-settled, sum_by-settled, unsettled-mapped}
 use Rattle.line_core.specs.declared.message.Message.{Message}
-use Rattle.line_core.specs.Flights.{IsOver, IsRising, has_delivery, mapped, settled, unsettled}
+use Rattle.line_core.specs.Flights.{IsOver, IsRising, has_delivery, mapped, settled}
 use Rattle.line_core.specs.Lines.{inserted}
 use Rattle.broker_state.specs.declared.subscription.Subscription.{Subscription}
 use Rattle.broker_core.specs.declared.precheck.PrecheckFlight.{PrecheckFlight}
 use Rattle.broker_core.specs.declared.precheck.PrecheckSize.{PrecheckSize}
 use Rattle.broker_state.specs.Dead.{is_dropped}
-use Rattle.broker_state.specs.Lists.{changed, picked, with_first}
+use Rattle.broker_state.specs.Lists.{picked, with_first}
 use Rattle.broker_state.specs.Operations.{awaits, copied, is_of, settled_by}
 use Rattle.broker_state.specs.Parts.{NonePass, copies_to}
 use Rattle.broker_state.specs.Names.{Name}
@@ -70,8 +70,8 @@ module _ (session : ℕ) (subs : List Subscription) (at : ℕ) (sub : Subscripti
   flights_same other = more_by false other ∙ nothing (filter (is_of session) (take at subs))
 
 -- what is settled is in the flights no more
-pub settled_counts : (delivery : ℕ) (flights new : List PrecheckFlight) (at : ℕ) (flight : PrecheckFlight) (out : List (ℕ × PrecheckSize)) → slice_get flights at ≡ Some flight → out ≡ settled flight.mode delivery flight.deliveries → (length out ≤ deliveries_in flights) × (sum_by (λ item. item.1.bytes) out ≤ bytes_in flights)
-settled_counts delivery flights new at flight out is given =
+pub settled_counts : (delivery : ℕ) (flights : List PrecheckFlight) (at : ℕ) (flight : PrecheckFlight) (out : List (ℕ × PrecheckSize)) → slice_get flights at ≡ Some flight → out ≡ settled flight.mode delivery flight.deliveries → (length out ≤ deliveries_in flights) × (sum_by (λ item. item.1.bytes) out ≤ bytes_in flights)
+settled_counts delivery flights at flight out is given =
     let long = λ (f : PrecheckFlight). length f.deliveries in
     let wide = λ (f : PrecheckFlight). sum_by (λ (item : ℕ × PrecheckSize). item.1.bytes) f.deliveries in (
       omega (arith, sum_by-part long flights at flight is, length-settled flight.mode delivery flight.deliveries, ap length given),
@@ -128,10 +128,10 @@ module _ (session delivery : ℕ) where
       first_by sub subs (is_of session sub) (has_delivery delivery sub.unacknowledged) refl refl (first_flight subs)
 
   -- the first flight that has a delivery is that of the first subscription that has it
-  first_of_flights : Option (PrecheckFlight × List PrecheckFlight) → Option PrecheckFlight
+  abbrev first_of_flights : Option (PrecheckFlight × List PrecheckFlight) → Option PrecheckFlight
   first_of_flights o = option_map (λ (q : PrecheckFlight × List PrecheckFlight). q.0) o
 
-  first_of_subs : Option (Subscription × List Subscription) → Option PrecheckFlight
+  abbrev first_of_subs : Option (Subscription × List Subscription) → Option PrecheckFlight
   first_of_subs o = option_map (λ (q : Subscription × List Subscription). flight_of q.0) o
 
   behind_flight : (f : PrecheckFlight) (o : Option (PrecheckFlight × List PrecheckFlight)) → first_of_flights (option_map {U = PrecheckFlight × List PrecheckFlight} (λ (q : PrecheckFlight × List PrecheckFlight). (q.0, f ∷ q.1)) o) ≡ first_of_flights o

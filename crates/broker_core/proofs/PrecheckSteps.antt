@@ -1,4 +1,4 @@
-use Rattle.std.proofs.Common.{◌≡◌, ◌≤◌, ◌+◌, ◌*◌, ◌&&◌, List, ℕ, Bool, true, false, Some, Result, Ok, Err, OnOk, cond, length, nat_le, refl, sym, ap, ◌∙◌, subst, arith}
+use Rattle.std.proofs.Common.{◌≡◌, ◌≤◌, ◌+◌, ◌*◌, List, ℕ, Bool, true, false, Some, Result, Ok, Err, OnOk, cond, length, nat_le, refl, sym, ap, ◌∙◌, subst, arith}
 use Rattle.std.specs.List.{list_any, sum_by}
 use Rattle.std.proofs.lemmas.Bool.{and_parts, le-leb}
 use Rattle.std.proofs.lemmas.Bool.Decides.{nat_tests}

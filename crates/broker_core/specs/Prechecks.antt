@@ -1,11 +1,10 @@
-use Rattle.std.specs.Prelude.{◌≡◌, ◌≤◌, ◌+◌, ◌-◌, List, ℕ, Bool, Option, Some, None, Result, Ok, Err, filter, length, map, if◌then◌else◌}
+use Rattle.std.specs.Prelude.{◌≡◌, ◌≤◌, List, ℕ, Bool, Some, None, Result, Ok, Err, filter, length, map, if◌then◌else◌}
 use Rattle.std.specs.List.{sum_by}
 use Rattle.std.specs.List.Sorted.{IsStrictlySortedBy}
 use Rattle.std.specs.Map.{keys_of}
 use Rattle.command_core.specs.declared.fault.Fault.{Fault}
 use Rattle.line_core.specs.declared.message.Message.{Message}
-use Rattle.line_core.specs.Flights.{has_delivery, mapped, settled, unsettled}
-use Rattle.line_core.specs.Messages.{size_of}
+use Rattle.line_core.specs.Flights.{has_delivery, mapped, unsettled}
 use Rattle.broker_state.specs.declared.subscription.Subscription.{Subscription}
 use Rattle.broker_core.specs.declared.precheck.Precheck.{Precheck}
 use Rattle.broker_core.specs.declared.precheck.PrecheckFlight.{PrecheckFlight}

@@ -14,10 +14,10 @@ ghost use Rattle.broker_state.specs.Names.{Name};
 ghost use Rattle.broker_state.specs.Operations.{acknowledged};
 ghost use Rattle.broker_state.specs.Parts.{IsFirst, NonePass, find_room, without_state};
 ghost use Rattle.broker_state.specs.States.{State};
-ghost use Rattle.broker_core.specs.Prechecks.{Leads, StandsFor, bytes_in, deliveries_in, flights_of, has, kept_bytes_in, kept_in, left_by, sized};
+ghost use Rattle.broker_core.specs.Prechecks.{Leads, StandsFor, bytes_in, deliveries_in, flight_of, flights_of, has, kept_bytes_in, kept_in, left_by, sized};
 
 use broker_operations::{Order, Tables, copies_to, find_room, is_dropped, size_there};
-use broker_state::{Held, MOST_BYTES, NackRule, stand_in_order};
+use broker_state::{Held, MOST_BYTES, NackRule, Subscription, stand_in_order};
 use command_core::{AckMode, Fault, Member};
 use line_core::{Flight, Message, SettleFault, size};
 use std::alloc::{AllocError, Global};
@@ -74,6 +74,17 @@ fn sizes_of(
     Ok(sizes)
 }
 
+/// A subscription with the sizes of its deliveries.
+fn flight_of(alloc: Global, sub: &Subscription) -> Result<PrecheckFlight, AllocError>
+    ensures { IfOk result (λ flight. flight ≡ flight_of sub.now) }
+{
+    let deliveries = sizes_of(alloc, sub.has_own_line(), &sub.unacknowledged)?;
+    Ok(PrecheckFlight {
+        mode: sub.mode,
+        deliveries,
+    })
+}
+
 /// The subscriptions of the session, in waiting order.
 fn flights_of(alloc: Global, order: &Order, session: u64) -> Result<Vec<PrecheckFlight>, AllocError>
     ensures { IfOk result (λ flights. flights.items ≡ flights_of session order.now) }
@@ -82,11 +93,8 @@ fn flights_of(alloc: Global, order: &Order, session: u64) -> Result<Vec<Precheck
     for at in 0..order.len() {
         let sub = order.get(at);
         if sub.session == session {
-            let deliveries = sizes_of(alloc, sub.has_own_line(), &sub.unacknowledged)?;
-            flights.push(PrecheckFlight {
-                mode: sub.mode,
-                deliveries,
-            })?;
+            let flight = flight_of(alloc, sub)?;
+            flights.push(flight)?;
         }
     }
     Ok(flights)
@@ -202,18 +210,15 @@ fn precheck_acknowledge(
         → StandsFor session durables subs precheck.old s
         → Leads session durables subs precheck.new r (acknowledged s session delivery)) }
 {
-    match precheck_settle(precheck, delivery)? {
-        Some(_) => Ok(Ok(())),
-        None => Ok(Err(Fault::UnknownAcknowledgement)),
-    }
+    let Some(_settled) = precheck_settle(precheck, delivery)? else {
+        return Ok(Err(Fault::UnknownAcknowledgement));
+    };
+    Ok(Ok(()))
 }
 
 /// A delivery is refused in a precheck, by the rule that keeps. Refused where no flight has it, or where what is kept finds no
 /// room once all that is settled has gone.
-fn precheck_refuse(
-    precheck: &mut Precheck,
-    delivery: u64,
-) -> Result<Result<(), Fault>, AllocError>
+fn precheck_refuse(precheck: &mut Precheck, delivery: u64) -> Result<Result<(), Fault>, AllocError>
     requires { (session : ℕ) × (durables : List (Name × List ℕ)) × (subs : List Subscription) × (s : State)
         × StandsFor session durables subs precheck.old s }
     ensures { IfOk result (λ r. (session place : ℕ) (durables : List (Name × List ℕ)) (subs : List Subscription) (s : State)

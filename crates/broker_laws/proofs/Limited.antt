@@ -1,4 +1,4 @@
-use Rattle.std.proofs.Common.{◌≡◌, ◌≤◌, List, ℕ, length, arith}
+use Rattle.std.proofs.Common.{◌≤◌, ℕ, arith}
 use Rattle.command_core.specs.Commands.{CommandValue}
 use Rattle.command_core.specs.declared.command.Op.{Op}
 use Rattle.command_core.specs.declared.command.Op.TheVariants.{Open, Send, Subscribe, Unsubscribe, Ack, Nack, Commit, Note, End}
@@ -9,7 +9,7 @@ use Rattle.broker_state.specs.States.{IsInOrder, State}
 use Rattle.broker_state.specs.Steps.{led_to}
 use Rattle.broker_laws.proofs.Ordered.{IsOrdered, ordered_first, ordered_from}
 use Rattle.broker_laws.proofs.SubscriptionLimits.{limits_from}
-use Rattle.broker_laws.proofs.Walk.{Anything, Keeps, KeepsFrom, beside_from, led_keeps, places_of}
+use Rattle.broker_laws.proofs.Walk.{Keeps, KeepsFrom, beside_from, led_keeps, places_of}
 
 -- Rules of transactions that have at most 64 members.
 

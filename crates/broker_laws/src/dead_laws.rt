@@ -33,6 +33,6 @@ pub fn refusals_lose_nothing_else()
         → (s t : State) (session member delivery : ℕ) (sub : Subscription) (others : List Subscription) → IsInOrder s
         → picked (awaits session delivery) s.subscriptions ≡ Some (sub, others) → nacked Keeps s session member delivery ≡ Ok t
         → weight_of weight t
-            + sum_by (λ d. if is_dropped (is_own sub) d.1 then weight d.1 else 0) (settled sub.mode delivery sub.unacknowledged)
-            ≡ weight_of weight s }
+        + sum_by (λ d. if is_dropped (is_own sub) d.1 then weight d.1 else 0) (settled sub.mode delivery sub.unacknowledged)
+        ≡ weight_of weight s }
 {}

@@ -53,11 +53,7 @@ pub fn size_there(sending: &Sending) -> u64
 }
 
 /// A refused message as it goes to the queue of those, under that number.
-fn refused(
-    alloc: Global,
-    number: MessageNumber,
-    message: Message,
-) -> Result<Message, AllocError>
+fn refused(alloc: Global, number: MessageNumber, message: Message) -> Result<Message, AllocError>
     ensures { IfOk result (λ kept. kept ≡ refused number.command number.place message) }
 {
     let destination = dead_queue(alloc)?;
@@ -134,8 +130,10 @@ fn keep_one(
 ) -> Result<(), AllocError>
     requires few { held.old.messages + kept_one own message ≤ 4096 }
     requires small { held.old.bytes + kept_bytes own message ≤ 16777216 }
-    ensures lines { OnOk result (shared.new ≡ record shared.old { queues = if is_dropped own message then shared.old.queues
-        else with_message text_cmp dead_queue (refused number.command number.place message) shared.old.queues }) }
+    ensures lines { OnOk result (shared.new ≡ record shared.old {
+      queues = if is_dropped own message then shared.old.queues
+          else with_message text_cmp dead_queue (refused number.command number.place message) shared.old.queues;
+    }) }
     ensures messages { OnOk result (held.new.messages ≡ held.old.messages + kept_one own message) }
     ensures bytes { OnOk result (held.new.bytes ≡ held.old.bytes + kept_bytes own message) }
 {
@@ -161,7 +159,8 @@ fn keep(
     requires few { held.old.messages + length settled.items ≤ 4096 }
     requires small { held.old.bytes + all_kept_bytes own settled.items ≤ 16777216 }
     ensures lines { OnOk result (shared.new ≡ record shared.old {
-        queues = with_refused (refused_from (is_dropped own) first.command first.place settled.items) shared.old.queues }) }
+      queues = with_refused (refused_from (is_dropped own) first.command first.place settled.items) shared.old.queues;
+    }) }
     ensures messages { OnOk result (held.new.messages ≡ held.old.messages + all_kept own settled.items) }
     ensures bytes { OnOk result (held.new.bytes ≡ held.old.bytes + all_kept_bytes own settled.items) }
 {
@@ -222,14 +221,7 @@ impl Tables {
         };
         let settled = self.order.settle(at, delivery)?;
         let_deliveries_go(&mut self.held, settled.as_slice());
-        keep(
-            alloc,
-            &mut self.shared,
-            &mut self.held,
-            own,
-            first,
-            settled,
-        )?;
+        keep(alloc, &mut self.shared, &mut self.held, own, first, settled)?;
         Ok((self, Ok(())))
     }
 }

@@ -1,8 +1,7 @@
-use Rattle.std.proofs.Common.{◌≡◌, ◌≤◌, ◌+◌, ◌&&◌, List, [], ◌∷◌, ℕ, Bool, true, false, Option, Some, None, Result, Ok, Err, cond, fold, length, nat_le, refl, sym, ap, ◌∙◌, arith, if◌then◌else◌}
+use Rattle.std.proofs.Common.{◌≡◌, ◌≤◌, ◌+◌, ◌&&◌, List, [], ◌∷◌, ℕ, Bool, true, false, Some, Ok, Err, cond, nat_le, refl, ap, ◌∙◌, arith, if◌then◌else◌}
 use Rattle.std.specs.List.{AllByRecursion, list_any, sum_by}
 use Rattle.std.proofs.lemmas.Bool.{le-leb}
 use Rattle.std.proofs.lemmas.List.Sums.{sum_by-cons}
-use Rattle.command_core.specs.declared.fault.Fault.{Fault}
 use Rattle.command_core.specs.declared.fault.Fault.TheVariants.{NoRoom, UnknownAcknowledgement}
 use Rattle.line_core.specs.declared.message.Message.{Message}
 use Rattle.line_core.specs.Flights.{settled}
@@ -11,7 +10,7 @@ use Rattle.broker_state.specs.declared.subscription.Subscription.{Subscription}
 use Rattle.broker_state.specs.Dead.{dead_queue, first_place, is_dropped, keeping, keeping_from, kept_by_nack, kept_of, nacked, refused, refused_from, with_refused, with_room}
 use Rattle.broker_state.specs.Lists.{picked, with_first}
 use Rattle.broker_state.specs.Names.{text_cmp}
-use Rattle.broker_state.specs.Operations.{acknowledged, awaits, is_within, settled_by}
+use Rattle.broker_state.specs.Operations.{awaits, settled_by}
 use Rattle.broker_state.specs.States.{State, bytes, held_bytes, held_messages, one, weight_of, weight_of_subscription}
 use Rattle.broker_state.specs.Waiting.{Lines, is_own, weight_of_lines, with_message}
 use Rattle.broker_state.proofs.Firsts.{sum_first}

@@ -1,4 +1,4 @@
-use Rattle.std.specs.Prelude.{◌+◌, ◌&&◌, ◌==◌, List, [], ◌∷◌, ◌++◌, ℕ, Bool, false, not, Option, Some, None, Result, Ok, Err, count_by, filter, fold, is_some, length, map, nat_le, unwrap_or, if◌then◌else◌}
+use Rattle.std.specs.Prelude.{◌&&◌, ◌==◌, List, [], ◌∷◌, ◌++◌, ℕ, Bool, false, not, Option, Some, None, Result, Ok, Err, count_by, filter, fold, is_some, length, map, nat_le, unwrap_or, if◌then◌else◌}
 use Rattle.std.specs.BTreeMap.{insert_entry, is_at}
 use Rattle.std.specs.List.{list_any}
 use Rattle.std.specs.Map.{lookup, remove_entry}

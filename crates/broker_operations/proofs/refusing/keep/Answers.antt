@@ -1,4 +1,4 @@
-use Rattle.std.proofs.Common.{◌≡◌, ◌+◌, ◌∷◌, ◌∙◌, List, ℕ, ap, arith, length, sym}
+use Rattle.std.proofs.Common.{◌+◌, ◌∙◌, List, ℕ, ap, arith, length, sym}
 use Rattle.line_core.specs.declared.message.Message.{Message}
 use Rattle.broker_state.specs.Dead.{is_dropped, refused_from, with_refused}
 use Rattle.broker_state.specs.Waiting.{Shared}
