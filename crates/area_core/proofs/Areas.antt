@@ -1,11 +1,12 @@
 -- A block more in an area.
-use Rattle.std.proofs.Common.{◌≡◌, ◌≢◌, ◌⊎◌, inl, inr, ℕ, ◌+◌, ◌<◌, ◌≤◌, ◌^◌, List, [], ◌∷◌, ◌++◌, length, refl, sym, ◌∙◌, ap, arith, append_assoc, length-append, take, drop, take-append-drop}
+use Rattle.std.proofs.Common.{◌≡◌, ◌⊎◌, inl, inr, ℕ, ◌+◌, ◌<◌, ◌≤◌, ◌^◌, List, [], ◌∷◌, ◌++◌, length, refl, sym, ◌∙◌, ap, arith, append_assoc, length-append, take, drop, take-append-drop}
 use Rattle.std.specs.Int.{w64, to_be_bytes}
 use Rattle.std.specs.List.{AllByRecursion, flat_map}
 use Rattle.std.proofs.lemmas.Bool.{cases_eq}
 use Rattle.std.proofs.lemmas.List.{append-nil, drop_at, drop-drop}
 use Rattle.command_core.specs.Commands.{CommandValue}
-use Rattle.area_core.specs.Areas.{counted, closed, block, front, records, IsBlock, IsArea}
+use Rattle.area_core.specs.declared.version.Version.{Version}
+use Rattle.area_core.specs.Areas.{counted, closed, closed_snapshot, block, front, headed, records, word_of, IsBlock, IsArea}
 
 pub all_push : {X : Type 0} (P : X → Type 0) (xs : List X) (x : X) → AllByRecursion P xs → P x → AllByRecursion P (xs ++ x ∷ [])
 all_push P [] x all p = (p, tt)
@@ -24,11 +25,17 @@ behind_flat f p bs b rest =
     ∙ ap (λ (l : List ℕ). p ++ l) (flat_pushed f bs b rest)
     ∙ sym (append_assoc p (flat_map f bs) (f b ++ rest))
 
-pub pushed : (snapshot : List ℕ) (bs : List (List CommandValue)) (b : List CommandValue) (rest : List ℕ) → front snapshot (bs ++ b ∷ []) ++ rest ≡ front snapshot bs ++ (block b ++ rest)
-pushed snapshot bs b rest = behind_flat block (counted snapshot) bs b rest
+pub pushed : (version : Version) (snapshot : List ℕ) (bs : List (List CommandValue)) (b : List CommandValue) (rest : List ℕ) → front version snapshot (bs ++ b ∷ []) ++ rest ≡ front version snapshot bs ++ (block b ++ rest)
+pushed version snapshot bs b rest = behind_flat block (headed version snapshot) bs b rest
 
 pub length-counted : (b : List ℕ) → length (counted b) ≡ 8 + length b
 length-counted b = length-append (to_be_bytes w64 (length b)) b
+
+pub length-headed : (version : Version) (snapshot : List ℕ) → length (headed version snapshot) ≡ 8 + length snapshot
+length-headed version snapshot = length-append (to_be_bytes w64 (word_of version (length snapshot))) snapshot
+
+pub length-sealed : (version : Version) (snapshot : List ℕ) → length (closed_snapshot version snapshot) ≡ 9 + length snapshot
+length-sealed version snapshot = omega (arith, length-append (headed version snapshot) (0 ∷ []), length-headed version snapshot)
 
 pub length-block : (b : List CommandValue) → length (block b) ≡ 9 + length (records b)
 length-block b = omega (arith, length-counted (records b))
@@ -36,52 +43,54 @@ length-block b = omega (arith, length-counted (records b))
 pub length-closed : (b : List ℕ) → length (closed b) ≡ 9 + length b
 length-closed b = omega (arith, length-append (counted b) (0 ∷ []), length-counted b)
 
-pub length-pushed : (snapshot : List ℕ) (bs : List (List CommandValue)) (b : List CommandValue) → length (front snapshot (bs ++ b ∷ [])) ≡ length (front snapshot bs) + (9 + length (records b))
-length-pushed snapshot bs b =
-    ap (λ (l : List ℕ). length l) (sym (append-nil (front snapshot (bs ++ b ∷ []))) ∙ pushed snapshot bs b [] ∙ ap (λ (l : List ℕ). front snapshot bs ++ l) (append-nil (block b)))
-    ∙ length-append (front snapshot bs) (block b)
-    ∙ ap (λ (n : ℕ). length (front snapshot bs) + n) (length-block b)
+pub length-pushed : (version : Version) (snapshot : List ℕ) (bs : List (List CommandValue)) (b : List CommandValue) → length (front version snapshot (bs ++ b ∷ [])) ≡ length (front version snapshot bs) + (9 + length (records b))
+length-pushed version snapshot bs b =
+    ap (λ (l : List ℕ). length l) (sym (append-nil (front version snapshot (bs ++ b ∷ []))) ∙ pushed version snapshot bs b [] ∙ ap (λ (l : List ℕ). front version snapshot bs ++ l) (append-nil (block b)))
+    ∙ length-append (front version snapshot bs) (block b)
+    ∙ ap (λ (n : ℕ). length (front version snapshot bs) + n) (length-block b)
 
 -- behind an open gate stand a block and a closed gate
-pub opened : (snapshot : List ℕ) (bs : List (List CommandValue)) (b : List CommandValue) (rest : List ℕ) → front snapshot bs ++ 1 ∷ (closed (records b) ++ rest) ≡ front snapshot (bs ++ b ∷ []) ++ 0 ∷ rest
-opened snapshot bs b rest =
-    ap (λ (l : List ℕ). front snapshot bs ++ 1 ∷ l) (append_assoc (counted (records b)) (0 ∷ []) rest) ∙ sym (pushed snapshot bs b (0 ∷ rest))
+pub opened : (version : Version) (snapshot : List ℕ) (bs : List (List CommandValue)) (b : List CommandValue) (rest : List ℕ) → front version snapshot bs ++ 1 ∷ (closed (records b) ++ rest) ≡ front version snapshot (bs ++ b ∷ []) ++ 0 ∷ rest
+opened version snapshot bs b rest =
+    ap (λ (l : List ℕ). front version snapshot bs ++ 1 ∷ l) (append_assoc (counted (records b)) (0 ∷ []) rest) ∙ sym (pushed version snapshot bs b (0 ∷ rest))
 
 -- with this gate open the block is read too
-pub with_block : (size : ℕ) (snapshot : List ℕ) (bs : List (List CommandValue)) (b : List CommandValue) (rest bytes : List ℕ) → AllByRecursion IsBlock bs → IsBlock b → length (front snapshot bs) + 10 + length (records b) ≤ size
-    → bytes ≡ front snapshot bs ++ 1 ∷ (closed (records b) ++ rest) → IsArea size snapshot (bs ++ b ∷ []) bytes
-with_block size snapshot bs b rest bytes each form room is = record {
+pub with_block : (version : Version) (size : ℕ) (snapshot : List ℕ) (bs : List (List CommandValue)) (b : List CommandValue) (rest bytes : List ℕ) → length snapshot < 2 ^ 56 → AllByRecursion IsBlock bs → IsBlock b → length (front version snapshot bs) + 10 + length (records b) ≤ size
+    → bytes ≡ front version snapshot bs ++ 1 ∷ (closed (records b) ++ rest) → IsArea version size snapshot (bs ++ b ∷ []) bytes
+with_block version size snapshot bs b rest bytes seven each form room is = record {
   gate = 0;
   rest = rest;
-  whole = is ∙ opened snapshot bs b rest;
+  whole = is ∙ opened version snapshot bs b rest;
   shut = omega arith;
-  fits = omega (arith, room, length-pushed snapshot bs b);
+  fits = omega (arith, room, length-pushed version snapshot bs b);
+  seven = seven;
   each = all_push IsBlock bs b each form;
 }
 
 -- whatever the gate is
-pub with_gate : (size : ℕ) (snapshot : List ℕ) (bs : List (List CommandValue)) (b : List CommandValue) (rest bytes : List ℕ) (y : ℕ) → AllByRecursion IsBlock bs → IsBlock b → length (front snapshot bs) + 10 + length (records b) ≤ size
-    → bytes ≡ front snapshot bs ++ y ∷ (closed (records b) ++ rest) → IsArea size snapshot bs bytes ⊎ IsArea size snapshot (bs ++ b ∷ []) bytes
-with_gate size snapshot bs b rest bytes y each form room is = elim (cases_eq y 1) [
-  | inl open_gate ↦ inr (with_block size snapshot bs b rest bytes each form room (is ∙ ap (λ (g : ℕ). front snapshot bs ++ g ∷ (closed (records b) ++ rest)) open_gate))
-  | inr shut ↦ inl (record { gate = y; rest = closed (records b) ++ rest; whole = is; shut = shut; fits = omega (arith, room); each = each })
+pub with_gate : (version : Version) (size : ℕ) (snapshot : List ℕ) (bs : List (List CommandValue)) (b : List CommandValue) (rest bytes : List ℕ) (y : ℕ) → length snapshot < 2 ^ 56 → AllByRecursion IsBlock bs → IsBlock b → length (front version snapshot bs) + 10 + length (records b) ≤ size
+    → bytes ≡ front version snapshot bs ++ y ∷ (closed (records b) ++ rest) → IsArea version size snapshot bs bytes ⊎ IsArea version size snapshot (bs ++ b ∷ []) bytes
+with_gate version size snapshot bs b rest bytes y seven each form room is = elim (cases_eq y 1) [
+  | inl open_gate ↦ inr (with_block version size snapshot bs b rest bytes seven each form room (is ∙ ap (λ (g : ℕ). front version snapshot bs ++ g ∷ (closed (records b) ++ rest)) open_gate))
+  | inr shut ↦ inl (record { gate = y; rest = closed (records b) ++ rest; whole = is; shut = shut; fits = omega (arith, room); seven = seven; each = each })
 ]
 
 -- a snapshot that was just written
-pub fresh : (size : ℕ) (snapshot rest bytes : List ℕ) → length snapshot + 9 ≤ size → bytes ≡ closed snapshot ++ rest → IsArea size snapshot [] bytes
-fresh size snapshot rest bytes room is =
-    let no_blocks : front snapshot [] ≡ counted snapshot = append-nil (counted snapshot) in
+pub fresh : (version : Version) (size : ℕ) (snapshot rest bytes : List ℕ) → length snapshot < 2 ^ 56 → length snapshot + 9 ≤ size → bytes ≡ closed_snapshot version snapshot ++ rest → IsArea version size snapshot [] bytes
+fresh version size snapshot rest bytes seven room is =
+    let no_blocks : front version snapshot [] ≡ headed version snapshot = append-nil (headed version snapshot) in
     record {
       gate = 0;
       rest = rest;
-      whole = is ∙ append_assoc (counted snapshot) (0 ∷ []) rest ∙ ap (λ (l : List ℕ). l ++ 0 ∷ rest) (sym no_blocks);
+      whole = is ∙ append_assoc (headed version snapshot) (0 ∷ []) rest ∙ ap (λ (l : List ℕ). l ++ 0 ∷ rest) (sym no_blocks);
       shut = omega arith;
-      fits = omega (arith, room, ap (λ (l : List ℕ). length l) no_blocks, length-counted snapshot);
+      fits = omega (arith, room, ap (λ (l : List ℕ). length l) no_blocks, length-headed version snapshot);
+      seven = seven;
       each = tt;
     }
 
-pub length-fresh : (snapshot : List ℕ) → length (front snapshot []) ≡ 8 + length snapshot
-length-fresh snapshot = ap (λ (l : List ℕ). length l) (append-nil (counted snapshot)) ∙ length-counted snapshot
+pub length-fresh : (version : Version) (snapshot : List ℕ) → length (front version snapshot []) ≡ 8 + length snapshot
+length-fresh version snapshot = ap (λ (l : List ℕ). length l) (append-nil (headed version snapshot)) ∙ length-headed version snapshot
 
 -- a block that was read in three parts: its gate, how many bytes, and these
 pub block_read : (base gate : ℕ) (p rest content v : List ℕ) → drop base content ≡ p ++ rest → gate ≡ length p → take 1 (drop (base + gate) content) ≡ 1 ∷ []

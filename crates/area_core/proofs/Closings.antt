@@ -1,4 +1,4 @@
--- The pieces of bytes between their length and a closed gate, one behind the other.
+-- The pieces of a snapshot between an area's first word and a closed gate, one behind the other.
 use Rattle.std.proofs.Common.{◌≡◌, ◌≢◌, inl, inr, ℕ, ◌+◌, ◌-◌, ◌==◌, ◌<◌, ◌≤◌, Bool, true, false, List, [], ◌∷◌, ◌++◌, length, take, drop, cond, nat_lt, refl, sym, ◌∙◌, ap, subst, arith, append_assoc, length-append, length-drop}
 use Rattle.std.specs.Int.{w64, to_be_bytes}
 use Rattle.std.proofs.Math.Seq.{take-add, take-append-add, drop-append-add}
@@ -8,7 +8,8 @@ use Rattle.std.proofs.lemmas.Slice.{drop-append-drop}
 use Rattle.disk_core.specs.Images.{patched, Torn}
 use Rattle.disk_core.proofs.Patched.{front}
 use Rattle.disk_core.proofs.Torn.{drop_after, take_before}
-use Rattle.area_core.specs.Areas.{closed}
+use Rattle.area_core.specs.declared.version.Version.TheVariants.{Two}
+use Rattle.area_core.specs.Areas.{closed_snapshot, word_of}
 use Rattle.area_core.specs.Closing.{closing, heading}
 use Rattle.area_core.specs.declared.area.Area.{Area}
 use Rattle.area_core.specs.Journals.{is_odd, other, start}
@@ -42,14 +43,14 @@ closes_on n h xs le more =
     ∙ drop-append-le (n - length h) xs (0 ∷ []) (omega (arith, more, le, length-append h (xs ++ 0 ∷ []), length-append xs (0 ∷ [])))
 
 -- before the first piece, all is to be written
-pub closes_first : (coming : List ℕ) (total : ℕ) → total ≡ length coming → closing 0 total coming ≡ closed coming
+pub closes_first : (coming : List ℕ) (total : ℕ) → total ≡ length coming → closing 0 total coming ≡ closed_snapshot Two coming
 closes_first coming total is =
-    ap (λ (n : ℕ). to_be_bytes w64 n ++ (coming ++ 0 ∷ [])) is ∙ sym (append_assoc (to_be_bytes w64 (length coming)) coming (0 ∷ []))
+    ap (λ (n : ℕ). to_be_bytes w64 (word_of Two n) ++ (coming ++ 0 ∷ [])) is ∙ sym (append_assoc (to_be_bytes w64 (word_of Two (length coming))) coming (0 ∷ []))
 
 pub length-heading : (at total : ℕ) → length (heading at total) ≤ 8
 length-heading at total = by (at == 0)
   where
-    by : (b : Bool) → length (cond b (to_be_bytes w64 total) []) ≤ 8
+    by : (b : Bool) → length (cond b (to_be_bytes w64 (word_of Two total)) []) ≤ 8
     by true = omega arith
     by false = omega arith
 
@@ -69,7 +70,7 @@ closes_next n at next total whole coming eight is le then more =
     let size = whole_piece n at whole (closing at total coming) is le (omega (arith, then, more)) in
     let on : next ≡ n + at = omega (arith, then, size.1) in
     let later : next ≢ 0 = (λ e. omega (arith, e, on, eight)) in
-    let none : heading next total ≡ [] = ap (λ (b : Bool). cond b (to_be_bytes w64 total) []) (ne_eqb next 0 later) in
+    let none : heading next total ≡ [] = ap (λ (b : Bool). cond b (to_be_bytes w64 (word_of Two total)) []) (ne_eqb next 0 later) in
     ap (λ (l : List ℕ). l ++ (drop (n - length (heading at total)) coming ++ 0 ∷ [])) none
     ∙ sym (closes_on n (heading at total) coming (omega (arith, length-heading at total, eight)) size.0)
     ∙ ap (λ (l : List ℕ). drop n l) is ∙ drop-drop n at whole ∙ ap (λ (k : ℕ). drop k whole) (omega (arith, on))

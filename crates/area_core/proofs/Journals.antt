@@ -1,9 +1,10 @@
 -- What writes behind the header keep of a journal.
-use Rattle.std.proofs.Common.{◌≡◌, ◌⊎◌, inl, inr, ℕ, ◌+◌, ◌-◌, ◌≤◌, Bool, true, false, List, [], ◌∷◌, ◌++◌, length, drop, get_or, refl, sym, ◌∙◌, ap, subst, arith}
+use Rattle.std.proofs.Common.{◌≡◌, ◌⊎◌, inl, inr, ℕ, ◌+◌, ◌-◌, ◌≤◌, Bool, true, false, List, [], ◌∷◌, ◌++◌, length, drop, get_or, refl, sym, ◌∙◌, subst, arith}
 use Rattle.disk_core.specs.Images.{patched, Torn}
 use Rattle.disk_core.proofs.Torn.{take_before, byte_outside, torn_patched}
 use Rattle.disk_core.proofs.Patched.{length-patched}
 use Rattle.command_core.specs.Commands.{CommandValue}
+use Rattle.area_core.specs.declared.version.Version.{Version}
 use Rattle.area_core.specs.Areas.{closed, front, records, IsBlock, IsArea}
 use Rattle.area_core.specs.Journals.{is_odd, start, IsJournal, Reads}
 use Rattle.area_core.proofs.Areas.{with_block, with_gate, length-closed}
@@ -19,6 +20,7 @@ start_most size false = omega arith
 
 pub journal_stays : (size selector at n : ℕ) (d c : List ℕ) → IsJournal size selector d → 17 ≤ at → Torn at n d c → IsJournal size selector c
 journal_stays size selector at n d c j le torn = record {
+  named = j.named;
   begins = take_before at n 16 d c torn (omega (arith, le)) ∙ j.begins;
   selects = byte_outside at n 16 d c torn (inl (omega (arith, le))) ∙ j.selects;
   least = j.least;
@@ -27,58 +29,59 @@ journal_stays size selector at n d c j le torn = record {
 }
 
 -- a torn write behind the first closed gate keeps the area
-pub area_stays : (size base : ℕ) (snapshot : List ℕ) (bs : List (List CommandValue)) (at n : ℕ) (d c : List ℕ) → IsArea size snapshot bs (drop base d) → base + length (front snapshot bs) + 1 ≤ at → Torn at n d c → IsArea size snapshot bs (drop base c)
-area_stays size base snapshot bs at n d c a le torn =
+pub area_stays : (version : Version) (size base : ℕ) (snapshot : List ℕ) (bs : List (List CommandValue)) (at n : ℕ) (d c : List ℕ) → IsArea version size snapshot bs (drop base d) → base + length (front version snapshot bs) + 1 ≤ at → Torn at n d c → IsArea version size snapshot bs (drop base c)
+area_stays version size base snapshot bs at n d c a le torn =
     let again : base + (at - base) ≡ at = omega (arith, le) in
     let inside : Torn (at - base) n (drop base d) (drop base c) = torn_from base (at - base) n d c (subst (λ (m : ℕ). Torn m n d c) (sym again) torn) in
-    let here : Torn (at - base) n (front snapshot bs ++ a.gate ∷ a.rest) (drop base c) = subst (λ (l : List ℕ). Torn (at - base) n l (drop base c)) a.whole inside in
+    let here : Torn (at - base) n (front version snapshot bs ++ a.gate ∷ a.rest) (drop base c) = subst (λ (l : List ℕ). Torn (at - base) n l (drop base c)) a.whole inside in
     record {
       gate = a.gate;
-      rest = drop (length (front snapshot bs) + 1) (drop base c);
-      whole = torn_behind (front snapshot bs) a.gate a.rest (drop base c) (at - base) n (omega (arith, le)) here;
+      rest = drop (length (front version snapshot bs) + 1) (drop base c);
+      whole = torn_behind (front version snapshot bs) a.gate a.rest (drop base c) (at - base) n (omega (arith, le)) here;
       shut = a.shut;
       fits = a.fits;
+      seven = a.seven;
       each = a.each;
     }
 
-pub stays : (size selector : ℕ) (snapshot : List ℕ) (bs : List (List CommandValue)) (at n : ℕ) (d c : List ℕ) → Reads size selector snapshot bs d → start size (is_odd selector) + length (front snapshot bs) + 1 ≤ at → Torn at n d c → Reads size selector snapshot bs c
-stays size selector snapshot bs at n d c r le torn = record {
+pub stays : (version : Version) (size selector : ℕ) (snapshot : List ℕ) (bs : List (List CommandValue)) (at n : ℕ) (d c : List ℕ) → Reads version size selector snapshot bs d → start size (is_odd selector) + length (front version snapshot bs) + 1 ≤ at → Torn at n d c → Reads version size selector snapshot bs c
+stays version size selector snapshot bs at n d c r le torn = record {
   journal = journal_stays size selector at n d c r.journal (omega (arith, le, start_least size (is_odd selector))) torn;
-  area = area_stays size (start size (is_odd selector)) snapshot bs at n d c r.area le torn;
+  area = area_stays version size (start size (is_odd selector)) snapshot bs at n d c r.area le torn;
 }
 
-module _ (size selector : ℕ) (snapshot : List ℕ) (bs : List (List CommandValue)) (b : List CommandValue) (gate : ℕ) (d : List ℕ)
-    (form : IsBlock b) (room : length (front snapshot bs) + 10 + length (records b) ≤ size) (reads : Reads size selector snapshot bs d) (at : gate ≡ start size (is_odd selector) + length (front snapshot bs)) where
+module _ (version : Version) (size selector : ℕ) (snapshot : List ℕ) (bs : List (List CommandValue)) (b : List CommandValue) (gate : ℕ) (d : List ℕ)
+    (form : IsBlock b) (room : length (front version snapshot bs) + 10 + length (records b) ≤ size) (reads : Reads version size selector snapshot bs d) (at : gate ≡ start size (is_odd selector) + length (front version snapshot bs)) where
   within : gate + 1 + length (closed (records b)) ≤ length d
   within = omega (arith, at, room, reads.journal.fits, start_most size (is_odd selector), length-closed (records b))
 
   behind : Torn (gate + 1) (length (closed (records b))) d (patched (gate + 1) (closed (records b)) d)
   behind = torn_patched (gate + 1) (length (closed (records b))) (closed (records b)) d refl within
 
-  ready : Reads size selector snapshot bs (patched (gate + 1) (closed (records b)) d)
-  ready = stays size selector snapshot bs (gate + 1) (length (closed (records b))) d (patched (gate + 1) (closed (records b)) d) reads (omega (arith, at)) behind
+  ready : Reads version size selector snapshot bs (patched (gate + 1) (closed (records b)) d)
+  ready = stays version size selector snapshot bs (gate + 1) (length (closed (records b))) d (patched (gate + 1) (closed (records b)) d) reads (omega (arith, at)) behind
 
-  there : drop (start size (is_odd selector)) (patched (gate + 1) (closed (records b)) d) ≡ front snapshot bs ++ reads.area.gate ∷ (closed (records b) ++ drop (length (closed (records b))) reads.area.rest)
-  there = staged (start size (is_odd selector)) gate (front snapshot bs) reads.area.gate reads.area.rest (closed (records b)) d at (omega (arith, within)) reads.area.whole
+  there : drop (start size (is_odd selector)) (patched (gate + 1) (closed (records b)) d) ≡ front version snapshot bs ++ reads.area.gate ∷ (closed (records b) ++ drop (length (closed (records b))) reads.area.rest)
+  there = staged (start size (is_odd selector)) gate (front version snapshot bs) reads.area.gate reads.area.rest (closed (records b)) d at (omega (arith, within)) reads.area.whole
 
   -- the block's gate is torn
-  pub torn_open : (c : List ℕ) → Torn gate 1 (patched (gate + 1) (closed (records b)) d) c → Reads size selector snapshot bs c ⊎ Reads size selector snapshot (bs ++ b ∷ []) c
+  pub torn_open : (c : List ℕ) → Torn gate 1 (patched (gate + 1) (closed (records b)) d) c → Reads version size selector snapshot bs c ⊎ Reads version size selector snapshot (bs ++ b ∷ []) c
   torn_open c torn =
       let rest = drop (length (closed (records b))) reads.area.rest in
       let journal = journal_stays size selector gate 1 (patched (gate + 1) (closed (records b)) d) c ready.journal (omega (arith, at, start_least size (is_odd selector))) torn in
-      let whole = gate_torn (start size (is_odd selector)) gate (front snapshot bs) reads.area.gate (closed (records b) ++ rest) (patched (gate + 1) (closed (records b)) d) c at there torn in
-      elim (with_gate size snapshot bs b rest (drop (start size (is_odd selector)) c) (get_or (drop (start size (is_odd selector)) c) (length (front snapshot bs)) 0) reads.area.each form room whole) [
+      let whole = gate_torn (start size (is_odd selector)) gate (front version snapshot bs) reads.area.gate (closed (records b) ++ rest) (patched (gate + 1) (closed (records b)) d) c at there torn in
+      elim (with_gate version size snapshot bs b rest (drop (start size (is_odd selector)) c) (get_or (drop (start size (is_odd selector)) c) (length (front version snapshot bs)) 0) reads.area.seven reads.area.each form room whole) [
         | inl old ↦ inl (record { journal = journal; area = old })
         | inr new ↦ inr (record { journal = journal; area = new })
       ]
 
   -- the block's gate is open
-  pub is_open : Reads size selector snapshot (bs ++ b ∷ []) (patched gate (1 ∷ []) (patched (gate + 1) (closed (records b)) d))
+  pub is_open : Reads version size selector snapshot (bs ++ b ∷ []) (patched gate (1 ∷ []) (patched (gate + 1) (closed (records b)) d))
   is_open =
       let long : gate + 1 ≤ length (patched (gate + 1) (closed (records b)) d) = omega (arith, within, length-patched (gate + 1) (closed (records b)) d within) in
       record {
         journal = journal_stays size selector gate 1 (patched (gate + 1) (closed (records b)) d) (patched gate (1 ∷ []) (patched (gate + 1) (closed (records b)) d)) ready.journal (omega (arith, at, start_least size (is_odd selector)))
             (torn_patched gate 1 (1 ∷ []) (patched (gate + 1) (closed (records b)) d) refl long);
-        area = with_block size snapshot bs b (drop (length (closed (records b))) reads.area.rest) _ reads.area.each form room
-            (gate_set (start size (is_odd selector)) gate (front snapshot bs) reads.area.gate 1 (closed (records b) ++ drop (length (closed (records b))) reads.area.rest) (patched (gate + 1) (closed (records b)) d) at (omega (arith, long)) there);
+        area = with_block version size snapshot bs b (drop (length (closed (records b))) reads.area.rest) _ reads.area.seven reads.area.each form room
+            (gate_set (start size (is_odd selector)) gate (front version snapshot bs) reads.area.gate 1 (closed (records b) ++ drop (length (closed (records b))) reads.area.rest) (patched (gate + 1) (closed (records b)) d) at (omega (arith, long)) there);
       }

@@ -1,10 +1,12 @@
--- Bytes that are written between their length and a closed gate, piece by piece.
+-- A snapshot that is written between an area's first word and a closed gate, piece by piece.
 use Rattle.std.specs.Prelude.{◌==◌, ℕ, List, [], ◌∷◌, ◌++◌, cond}
 use Rattle.std.specs.Int.{w64, to_be_bytes}
+use Rattle.area_core.specs.declared.version.Version.TheVariants.{Two}
+use Rattle.area_core.specs.Areas.{word_of}
 
--- before the first of them, eight bytes that tell how many they are
+-- before the first of its bytes, eight that tell the second version, and how many they are
 abbrev pub heading : ℕ → ℕ → List ℕ
-heading at total = cond (at == 0) (to_be_bytes w64 total) []
+heading at total = cond (at == 0) (to_be_bytes w64 (word_of Two total)) []
 
 -- what is still to be written, where so many bytes are and these are still to come
 abbrev pub closing : ℕ → ℕ → List ℕ → List ℕ

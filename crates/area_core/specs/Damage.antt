@@ -10,40 +10,48 @@ use Rattle.disk_core.specs.Faults.{IsOneMore}
 use Rattle.area_core.specs.declared.area.Area.{Area}
 use Rattle.area_core.specs.declared.faults.ReadFault.{ReadFault}
 use Rattle.area_core.specs.declared.faults.ReadFault.TheVariants.{NotAJournal, Damaged, Device, UnknownVersion, TooSmall, Memory}
-use Rattle.area_core.specs.Areas.{HasRecord, records}
-use Rattle.area_core.specs.Journals.{is_odd, start, IsJournal}
+use Rattle.area_core.specs.declared.version.Version.{Version}
+use Rattle.area_core.specs.Areas.{HasRecord, highest, records}
+use Rattle.area_core.specs.Journals.{AreDigits, is_odd, start, IsJournal}
 
 -- the disk has fewer than 32 bytes, or another name
 abbrev pub IsNoJournal : List ℕ → Type 0
 IsNoJournal content = (length content < 32) ⊎ (take 6 content ≢ codes "STOMPJ")
 
--- it has the name, but not this version
+-- it has the name, but with the digits of no version
 pub record IsOtherVersion (content : List ℕ) : Type 0 where
   pub long : 32 ≤ length content
   pub named : take 6 content ≡ codes "STOMPJ"
-  pub version : take 2 (drop 6 content) ≢ codes "01"
+  pub version : AreDigits (take 2 (drop 6 content)) → ⊥
 
 -- It has name and version, but its areas are too short, or the disk is shorter than both. Eight bytes spell many numbers, of
 -- which the one that fits eight bytes is meant; so here and below.
 pub record IsTooSmall (content : List ℕ) : Type 0 where
   pub long : 32 ≤ length content
   pub named : take 6 content ≡ codes "STOMPJ"
-  pub version : take 2 (drop 6 content) ≡ codes "01"
+  pub version : AreDigits (take 2 (drop 6 content))
   pub size : ℕ
   pub told : take 8 (drop 8 content) ≡ to_be_bytes w64 size
   pub word : size < 2 ^ 64
   pub small : (size < 4096) ⊎ (length content < 32 + 2 * size)
 
--- the live area's snapshot, with the gate behind it, doesn't fit into the area
-pub record IsLongSnapshot (content : List ℕ) (place : ℕ) : Type 0 where
+-- The word at that place, which an area of so many bytes begins with, tells no version in its highest byte, or in the seven
+-- others a snapshot that doesn't fit into the area with the gate behind it.
+pub record IsBadWord (size : ℕ) (content : List ℕ) (place : ℕ) : Type 0 where
+  pub high : ℕ
+  pub count : ℕ
+  pub told : take 8 (drop place content) ≡ to_be_bytes w64 (high * 2 ^ 56 + count)
+  pub byte : high < 256
+  pub seven : count < 2 ^ 56
+  pub bad : ((version : Version) → high ≢ highest version) ⊎ (size < count + 9)
+
+-- so is the word that the live area begins with
+pub record HasBadWord (content : List ℕ) (place : ℕ) : Type 0 where
   pub size : ℕ
   pub selector : ℕ
   pub journal : IsJournal size selector content
   pub at : place ≡ start size (is_odd selector)
-  pub count : ℕ
-  pub told : take 8 (drop place content) ≡ to_be_bytes w64 count
-  pub word : count < 2 ^ 64
-  pub long : size < count + 9
+  pub bad : IsBadWord size content place
 
 -- the byte at that place
 abbrev pub HasByte : ℕ → ℕ → List ℕ → Type 0
@@ -115,9 +123,9 @@ IsHeaderTold (Damaged place) content = ⊥
 IsHeaderTold Device content = Unit {0}
 IsHeaderTold (Memory _) content = ⊥
 
--- what is told of the header, of the snapshot's length and of its bytes is so
+-- what is told of the header, and of the version and the length of the snapshot, is so
 abbrev pub IsFrontTold : ReadFault → List ℕ → Type 0
-IsFrontTold (Damaged place) content = IsLongSnapshot content place
+IsFrontTold (Damaged place) content = HasBadWord content place
 IsFrontTold (Memory _) content = Unit {0}
 IsFrontTold fault content = IsHeaderTold fault content
 
@@ -131,6 +139,12 @@ abbrev pub IsRecordTold : ReadFault → ℕ → List ℕ → Type 0
 IsRecordTold (Damaged at) place bytes = (offset : ℕ) × (at ≡ place + offset) × IsNoRecordAt bytes offset
 IsRecordTold Device place bytes = ⊥
 IsRecordTold fault place bytes = IsOfDevice fault
+
+-- what is told of the word at that place is so
+abbrev pub IsWordTold : ReadFault → ℕ → ℕ → List ℕ → Type 0
+IsWordTold (Damaged told) place size content = (told ≡ place) × IsBadWord size content place
+IsWordTold Device place size content = Unit {0}
+IsWordTold fault place size content = ⊥
 
 -- what is told of the length behind the area's gate is so
 abbrev pub IsLengthTold : ReadFault → Area → List ℕ → Type 0

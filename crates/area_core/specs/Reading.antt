@@ -1,5 +1,5 @@
 -- What was read of an area so far.
-use Rattle.std.specs.Prelude.{◌≡◌, ℕ, List, ◌++◌, length, drop}
+use Rattle.std.specs.Prelude.{◌≡◌, ◌<◌, ◌^◌, ℕ, List, ◌++◌, length, drop}
 use Rattle.std.specs.List.{AllByRecursion}
 use Rattle.disk_core.specs.declared.disk.Disk.{Ghosts}
 use Rattle.disk_core.specs.Images.{Same}
@@ -13,8 +13,9 @@ use Rattle.area_core.specs.Journals.{IsJournal, is_odd, start}
 pub record IsPast (area : Area) (snapshot : List ℕ) (blocks : List (List CommandValue)) (image : List ℕ) : Type 0 where
   pub journal : IsJournal area.size area.selector image
   pub rest : List ℕ
-  pub whole : drop (start area.size (is_odd area.selector)) image ≡ front snapshot blocks ++ rest
-  pub gate : area.gate ≡ length (front snapshot blocks)
+  pub whole : drop (start area.size (is_odd area.selector)) image ≡ front area.version snapshot blocks ++ rest
+  pub gate : area.gate ≡ length (front area.version snapshot blocks)
+  pub seven : length snapshot < 2 ^ 56
   pub each : AllByRecursion IsBlock blocks
 
 -- nothing changed: the content stays, and so do the images, at each moment since

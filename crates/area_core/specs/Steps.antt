@@ -1,5 +1,5 @@
 -- What the steps of an area may leave, and why they fail.
-use Rattle.std.specs.Prelude.{◌≡◌, ◌⊎◌, ℕ, List, [], ◌∷◌, ◌++◌, Result, Ok, Err}
+use Rattle.std.specs.Prelude.{◌≡◌, ◌⊎◌, ◌<◌, ◌≤◌, ◌+◌, ◌^◌, ℕ, List, [], ◌∷◌, ◌++◌, Result, Ok, Err}
 use Rattle.disk_core.specs.Faults.{IsOneMore}
 use Rattle.command_core.specs.Commands.{CommandValue}
 use Rattle.area_core.specs.declared.area.Area.{Area}
@@ -15,7 +15,12 @@ use Rattle.area_core.specs.Puts.{Each}
 abbrev pub IsBeforeOrAfter : (List ℕ → Type 0) → Area → List CommandValue → List ℕ → Type 0
 IsBeforeOrAfter images area batch c =
     (snapshot : List ℕ) (blocks : List (List CommandValue)) → Each images (IsAt area snapshot blocks)
-    → IsAt area snapshot blocks c ⊎ Reads area.size area.selector snapshot (blocks ++ batch ∷ []) c
+    → IsAt area snapshot blocks c ⊎ Reads area.version area.size area.selector snapshot (blocks ++ batch ∷ []) c
+
+-- An area of so many bytes has no room for a snapshot of so many: it doesn't fit with its length before it and a gate behind
+-- it, or seven bytes don't count it.
+abbrev pub HasNoRoom : ℕ → ℕ → Type 0
+HasNoRoom size count = (size < count + 9) ⊎ (2 ^ 56 ≤ count)
 
 -- the disk failed just where that is the answer
 abbrev pub IsCaused : {T : Type 0} → ℕ → ℕ → Result T AreaFault → Type 0

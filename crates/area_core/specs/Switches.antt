@@ -2,22 +2,23 @@
 use Rattle.std.specs.Prelude.{◌≡◌, ℕ, List, [], length, drop}
 use Rattle.command_core.specs.Commands.{CommandValue}
 use Rattle.area_core.specs.declared.area.Area.{Area}
+use Rattle.area_core.specs.declared.version.Version.TheVariants.{Two}
 use Rattle.area_core.specs.Areas.{IsArea}
 use Rattle.area_core.specs.Held.{IsAt}
 use Rattle.area_core.specs.Journals.{IsJournal, is_odd, other, start}
 use Rattle.area_core.specs.Puts.{Each, IsTorn}
 
--- the area that is not live has the snapshot last written, and no block
+-- the area that is not live is of the second version, and has the snapshot last written and no block
 pub record HasIdle (area : Area) (snapshot : List ℕ) (image : List ℕ) : Type 0 where
-  pub idle : IsArea area.size snapshot [] (drop (start area.size (other (is_odd area.selector))) image)
+  pub idle : IsArea Two area.size snapshot [] (drop (start area.size (other (is_odd area.selector))) image)
   pub written : area.written ≡ length snapshot
 
 -- both areas are whole, whatever the selector is
 pub record IsBoth (area : Area) (snapshot : List ℕ) (blocks : List (List CommandValue)) (next : List ℕ) (image : List ℕ) : Type 0 where
   pub selector : ℕ
   pub journal : IsJournal area.size selector image
-  pub live : IsArea area.size snapshot blocks (drop (start area.size (is_odd area.selector)) image)
-  pub idle : IsArea area.size next [] (drop (start area.size (other (is_odd area.selector))) image)
+  pub live : IsArea area.version area.size snapshot blocks (drop (start area.size (is_odd area.selector)) image)
+  pub idle : IsArea Two area.size next [] (drop (start area.size (other (is_odd area.selector))) image)
 
 -- where each image held the same at the start, so does this one
 abbrev pub KeepsLive : (List ℕ → Type 0) → Area → List ℕ → Type 0

@@ -47,7 +47,7 @@ impl Area {
         ensures sound { IsErrOf result AreaFault.Broken → self.old.broken ≡ true }
         ensures ok { OnOk result (self.new.broken ≡ false) }
         ensures err { OnErr result (self.new.broken ≡ true) }
-        ensures place { (self.new.size ≡ self.old.size) × (self.new.selector ≡ self.old.selector) }
+        ensures place { (self.new.size ≡ self.old.size) × (self.new.selector ≡ self.old.selector) × (self.new.version ≡ self.old.version) }
         ensures used { OnOk result (self.new.gate ≡ self.old.gate + 9 + length (records (commands batch.now))) }
         ensures size { length (D.content disk.new) ≡ length (D.content disk.old) }
         ensures cause { IsCaused (D.failures disk.old) (D.failures disk.new) result }

@@ -1,15 +1,18 @@
 //! The live area of a journal.
 
 ghost use Rattle.std.specs.Prelude.{◌≡◌, ◌+◌, ◌*◌, ◌%◌, ◌<◌, ◌≤◌, ◌^◌, ◌↔◌, IsTrue, length};
-ghost use Rattle.area_core.specs.Areas.{commands, records};
+ghost use Rattle.area_core.specs.Areas.{commands, number, records};
 ghost use Rattle.area_core.specs.Journals.{is_odd, other, start};
 
+use crate::Version;
 use crate::batch::records_len;
 use command_core::Entry;
 
 /// The live area of a journal, at its first closed gate. It holds no disk.
 #[derive(Drop)]
 pub struct Area {
+    // What it tells of itself.
+    pub(crate) version: Version,
     pub(crate) size: u64,
     pub(crate) selector: u8,
     // Where the first closed gate is, from the area's first byte on.
@@ -68,6 +71,20 @@ impl Area {
             Some(total) => self.fits(total),
             None => false,
         }
+    }
+
+    /// The number of the version that it tells of itself: 1 or 2.
+    pub fn version(&self) -> u8
+        ensures { result ≡ number self.now.version }
+    {
+        self.version.number()
+    }
+
+    /// That version.
+    pub fn told_version(&self) -> Version
+        ensures { result ≡ self.now.version }
+    {
+        self.version
     }
 
     /// Which of the two areas it is: 0 or 1.

@@ -1,20 +1,23 @@
-//! Bytes between their length and a closed gate, piece by piece.
+//! A snapshot between an area's first word and a closed gate, piece by piece.
 
-ghost use Rattle.std.specs.Prelude.{◌≡◌, ◌-◌, ◌++◌, ◌∷◌, [], IfOk, OnOk, cond, drop, length, take};
+ghost use Rattle.std.specs.Prelude.{◌≡◌, ◌<◌, ◌^◌, ◌-◌, ◌++◌, ◌∷◌, [], IfOk, OnOk, cond, drop, length, take};
 ghost use Rattle.area_core.specs.Closing.{closing, heading};
 
+use crate::Version;
 use crate::pieces::Pieces;
+use crate::put::word_of;
 use std::alloc::{AllocError, Global};
 
 // How many bytes are written at once.
 const PIECE: usize = 65_536;
 
-// How many bytes follow, where none is written yet.
+// The second version, and how many bytes follow, where none is written yet.
 fn heading(alloc: Global, at: u64, total: u64) -> Result<Vec<u8>, AllocError>
+    requires { total < 2 ^ 56 }
     ensures { IfOk result (λ v. v.items ≡ heading at total) }
 {
     if at == 0 {
-        return Vec::from_slice(alloc, &total.to_be_bytes());
+        return Vec::from_slice(alloc, &word_of(Version::Two, total).to_be_bytes());
     }
     Ok(Vec::new(alloc))
 }
@@ -36,6 +39,7 @@ pub(crate) fn next_closed<P: Pieces>(
     at: u64,
     total: u64,
 ) -> Result<Vec<u8>, AllocError>
+    requires { total < 2 ^ 56 }
     ensures piece { IfOk result (λ v. v.items ≡ take 65536 (closing at total (P.coming pieces.old))) }
     ensures rest { OnOk result (P.coming pieces.new ≡ drop (65536 - length (heading at total)) (P.coming pieces.old)) }
 {

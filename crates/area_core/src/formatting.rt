@@ -3,32 +3,46 @@
 ghost use Rattle.std.specs.Prelude.{◌≡◌, ◌⊎◌, ◌+◌, ◌*◌, ◌<◌, ◌≤◌, ◌++◌, [], IfOk, IsErrOf, OnOk, codes, length, replicate};
 ghost use Rattle.disk_core.specs.Images.{Only};
 ghost use Rattle.area_core.specs.Areas.{first_snapshot};
-ghost use Rattle.area_core.specs.Journals.{Reads, header};
+ghost use Rattle.area_core.specs.Journals.{Reads, digits, header};
+ghost use Rattle.area_core.specs.declared.version.Version.TheVariants.{Two};
 ghost use Rattle.area_core.specs.Puts.{Each};
 ghost use Rattle.area_core.specs.Steps.{IsBeforeWriting, IsFormatCaused};
 
-use crate::FormatFault;
-use crate::put::closed;
+use crate::put::closed_snapshot;
+use crate::{FormatFault, Version};
 use disk_core::Disk;
 use std::alloc::{AllocError, Global};
 
-/// The 32 bytes of the header of a journal with areas of so many bytes, by which the first area is live.
-pub fn header_of(alloc: Global, area_bytes: u64) -> Result<Vec<u8>, AllocError>
-    ensures { IfOk result (λ bytes. bytes.items ≡ header area_bytes ++ replicate 16 0) }
+// How the version is spelled in a journal's name.
+fn digits_of(version: Version) -> &'static [u8]
+    ensures { result.now ≡ digits version }
+{
+    match version {
+        Version::One => b"01",
+        Version::Two => b"02",
+    }
+}
+
+/// The 32 bytes of the header of a journal with areas of so many bytes, by which the first area is live. Its name has that
+/// version.
+pub fn header_of(alloc: Global, version: Version, area_bytes: u64) -> Result<Vec<u8>, AllocError>
+    ensures { IfOk result (λ bytes. bytes.items ≡ header version area_bytes ++ replicate 16 0) }
 {
     let mut out = Vec::with_capacity(alloc, 32)?;
-    out.extend_from_slice(b"STOMPJ01")?;
+    out.extend_from_slice(b"STOMPJ")?;
+    out.extend_from_slice(digits_of(version))?;
     out.extend_from_slice(&area_bytes.to_be_bytes())?;
     out.extend_from_slice(&[0; 16])?;
     Ok(out)
 }
 
-/// Makes the disk an empty journal with two areas of so many bytes each, which are at least 4,096. What it held is given up.
+/// Makes the disk an empty journal of the second version with two areas of so many bytes each, which are at least 4,096. What it
+/// held is given up.
 ///
 /// `TooSmall` and `Memory` come before the disk is written to. After `Device` it may hold anything.
 pub fn format<D: Disk>(alloc: Global, disk: &mut D, area_bytes: u64) -> Result<(), FormatFault>
     ensures formatted { D.honest disk.old →
-        OnOk result (Each (D.images disk.new) (Reads area_bytes 0 first_snapshot [])) }
+        OnOk result (Each (D.images disk.new) (Reads Two area_bytes 0 first_snapshot [])) }
     ensures only { D.honest disk.old → OnOk result (Only (D.content disk.new) (D.images disk.new)) }
     ensures small { IsErrOf result FormatFault.TooSmall →
         (area_bytes < 4096) ⊎ (length (D.content disk.old) < 32 + 2 * area_bytes) }
@@ -43,8 +57,8 @@ pub fn format<D: Disk>(alloc: Global, disk: &mut D, area_bytes: u64) -> Result<(
     if area_bytes < 4096 || all < 32 || area_bytes > (all - 32) / 2 {
         return Err(FormatFault::TooSmall);
     }
-    let front = closed(alloc, &[0; 32])?;
-    let header = header_of(alloc, area_bytes)?;
+    let front = closed_snapshot(alloc, Version::Two, &[0; 32])?;
+    let header = header_of(alloc, Version::Two, area_bytes)?;
     disk.write_at(32, &front)?;
     disk.write_at(0, &header)?;
     disk.sync()?;

@@ -4,7 +4,7 @@ ghost use Rattle.std.specs.Prelude.{◌≡◌, ◌↔◌, ◌+◌, ◌*◌, ◌�
 ghost use Rattle.std.specs.Int.{w64, to_be_bytes};
 ghost use Rattle.disk_core.specs.Faults.{HasCause};
 ghost use Rattle.area_core.specs.Damage.{IsHeaderTold, IsOfDevice, IsReadCaused};
-ghost use Rattle.area_core.specs.Journals.{IsJournal};
+ghost use Rattle.area_core.specs.Journals.{AreDigits, IsJournal};
 ghost use Rattle.area_core.specs.Reading.{Quiet};
 
 use crate::ReadFault;
@@ -55,6 +55,13 @@ fn are(bytes: &[u8], wanted: &[u8]) -> bool
     bytes == wanted
 }
 
+// Whether these are the digits of a version.
+fn are_digits(bytes: &[u8; 2]) -> bool
+    ensures { IsTrue result ↔ AreDigits bytes.now }
+{
+    are(bytes, b"01") || are(bytes, b"02")
+}
+
 // So many bytes.
 pub(crate) fn fetch_bytes<D: Disk>(
     alloc: Global,
@@ -102,7 +109,7 @@ pub(crate) fn header<D: Disk>(disk: &mut D) -> Result<(u64, u8), ReadFault>
     }
     let mut version = [0; 2];
     fetch(disk, 6, &mut version)?;
-    if !are(&version, b"01") {
+    if !are_digits(&version) {
         return Err(ReadFault::UnknownVersion);
     }
     let size = fetch_number(disk, 8)?;

@@ -16,10 +16,12 @@ mod put;
 mod reading;
 mod records;
 mod switch;
+mod version;
 
 pub use area::Area;
 pub use faults::{AreaFault, FormatFault, ReadFault};
 pub use formatting::{format, header_of};
 pub use law::an_image_has_one_reading;
 pub use pieces::{LentBytes, Pieces};
-pub use put::closed;
+pub use put::{closed, closed_snapshot};
+pub use version::Version;

@@ -1,9 +1,10 @@
 //! A snapshot is written into the area that is not live, piece by piece.
 
-ghost use Rattle.std.specs.Prelude.{◌≡◌, ◌+◌, ◌-◌, ◌*◌, ◌≤◌, [], ℕ, List, false, true, drop, length, take, IfOk, OnOk, OnErr, IsErrOf};
+ghost use Rattle.std.specs.Prelude.{◌≡◌, ◌+◌, ◌-◌, ◌*◌, ◌<◌, ◌≤◌, ◌^◌, [], ℕ, List, false, true, drop, length, take, IfOk, OnOk, OnErr, IsErrOf};
 ghost use Rattle.disk_core.specs.Images.{patched, Torn};
 ghost use Rattle.disk_core.specs.Moments.{LeavesOnly};
-ghost use Rattle.area_core.specs.Areas.{closed};
+ghost use Rattle.area_core.specs.Areas.{closed_snapshot};
+ghost use Rattle.area_core.specs.declared.version.Version.TheVariants.{Two};
 ghost use Rattle.area_core.specs.Closing.{closing, heading};
 ghost use Rattle.area_core.specs.Journals.{is_odd, other, start};
 ghost use Rattle.area_core.specs.Steps.{IfMemory, IsCaused};
@@ -33,7 +34,7 @@ impl Area {
             D.content disk.new ≡ patched (start self.old.size (other (is_odd self.old.selector)) + at) piece.now (D.content disk.old)) }
         ensures torn { D.honest disk.old →
             Torn (start self.old.size (other (is_odd self.old.selector))) self.old.size (D.content disk.old) (D.content disk.new) }
-        ensures place { (self.new.size ≡ self.old.size) × (self.new.selector ≡ self.old.selector) × (self.new.gate ≡ self.old.gate) }
+        ensures place { (self.new.size ≡ self.old.size) × (self.new.selector ≡ self.old.selector) × (self.new.gate ≡ self.old.gate) × (self.new.version ≡ self.old.version) }
         ensures room { IsErrOf result AreaFault.Full → ⊥ }
         ensures memory { IfMemory result ⊥ }
         ensures broken { self.old.broken ≡ true →
@@ -67,6 +68,7 @@ impl Area {
     ) -> Result<u64, AreaFault>
         requires room { 32 + 2 * self.old.size ≤ length (D.content disk.old) }
         requires whole { self.old.broken ≡ false }
+        requires seven { total < 2 ^ 56 }
         requires within { at + length (closing at total (P.coming pieces.old)) ≤ self.old.size }
         ensures outside { D.honest disk.old →
             LeavesOnly D.moment D.images_since disk.old disk.new
@@ -75,7 +77,7 @@ impl Area {
             D.content disk.new ≡ patched (start self.old.size (other (is_odd self.old.selector)) + at) (take 65536 (closing at total (P.coming pieces.old))) (D.content disk.old)) }
         ensures count { IfOk result (λ n. n ≡ length (take 65536 (closing at total (P.coming pieces.old)))) }
         ensures rest { OnOk result (P.coming pieces.new ≡ drop (65536 - length (heading at total)) (P.coming pieces.old)) }
-        ensures place { (self.new.size ≡ self.old.size) × (self.new.selector ≡ self.old.selector) × (self.new.gate ≡ self.old.gate) }
+        ensures place { (self.new.size ≡ self.old.size) × (self.new.selector ≡ self.old.selector) × (self.new.gate ≡ self.old.gate) × (self.new.version ≡ self.old.version) }
         ensures room { IsErrOf result AreaFault.Full → ⊥ }
         ensures sound { IsErrOf result AreaFault.Broken → ⊥ }
         ensures ok { OnOk result (self.new.broken ≡ false) }
@@ -97,7 +99,7 @@ impl Area {
         }
     }
 
-    // Writes the snapshot between its length and a closed gate, from the first byte of the area that is not live on.
+    // Writes the snapshot between an area's first word and a closed gate, from the first byte of the area that is not live on.
     pub(crate) fn write_closed<D: Disk, P: Pieces>(
         &mut self,
         alloc: Global,
@@ -107,12 +109,13 @@ impl Area {
         requires room { 32 + 2 * self.old.size ≤ length (D.content disk.old) }
         requires whole { self.old.broken ≡ false }
         requires fits { length (P.coming pieces.old) + 9 ≤ self.old.size }
+        requires seven { length (P.coming pieces.old) < 2 ^ 56 }
         ensures outside { D.honest disk.old →
             LeavesOnly D.moment D.images_since disk.old disk.new
             (KeepsRest (D.images disk.old) self.old) }
         ensures content { D.honest disk.old → OnOk result (
-            D.content disk.new ≡ patched (start self.old.size (other (is_odd self.old.selector))) (closed (P.coming pieces.old)) (D.content disk.old)) }
-        ensures place { (self.new.size ≡ self.old.size) × (self.new.selector ≡ self.old.selector) × (self.new.gate ≡ self.old.gate) }
+            D.content disk.new ≡ patched (start self.old.size (other (is_odd self.old.selector))) (closed_snapshot Two (P.coming pieces.old)) (D.content disk.old)) }
+        ensures place { (self.new.size ≡ self.old.size) × (self.new.selector ≡ self.old.selector) × (self.new.gate ≡ self.old.gate) × (self.new.version ≡ self.old.version) }
         ensures room { IsErrOf result AreaFault.Full → ⊥ }
         ensures sound { IsErrOf result AreaFault.Broken → ⊥ }
         ensures ok { OnOk result (self.new.broken ≡ false) }

@@ -1,14 +1,19 @@
 //! Bytes that are written and made stable.
 
-ghost use Rattle.std.specs.Prelude.{◌≡◌, ◌+◌, ◌<◌, ◌≤◌, ◌^◌, [], ◌∷◌, length, OnOk, IfOk};
+ghost use Rattle.std.specs.Prelude.{◌≡◌, ◌+◌, ◌++◌, ◌<◌, ◌≤◌, ◌^◌, [], ◌∷◌, length, OnOk, IfOk};
+ghost use Rattle.std.specs.Int.{w64, to_be_bytes};
 ghost use Rattle.disk_core.specs.Faults.{HasCause};
 ghost use Rattle.disk_core.specs.Images.{patched, Within, Only};
 ghost use Rattle.disk_core.specs.Moments.{LeavesOnly};
-ghost use Rattle.area_core.specs.Areas.{closed};
+ghost use Rattle.area_core.specs.Areas.{closed, closed_snapshot, word_of};
 ghost use Rattle.area_core.specs.Puts.{IsTorn, IsGated};
 
+use crate::Version;
 use disk_core::{DeviceFault, Disk};
 use std::alloc::{AllocError, Global};
+
+// Seven bytes count fewer than these.
+pub(crate) const COUNTED: u64 = 1 << 56;
 
 // Writes bytes and syncs. Whenever the disk stops, only their range differs from what it might have left before.
 pub(crate) fn put<D: Disk>(disk: &mut D, at: u64, bytes: &[u8]) -> Result<(), DeviceFault>
@@ -55,13 +60,39 @@ pub(crate) fn put_behind_gate<D: Disk>(
     put(disk, gate, &[1])
 }
 
+// The word that an area of that version begins with, where its snapshot has so many bytes.
+pub(crate) fn word_of(version: Version, count: u64) -> u64
+    requires { count < 2 ^ 63 }
+    ensures { result ≡ word_of version count }
+{
+    version.highest() as u64 * COUNTED + count
+}
+
+// This word in eight bytes, the bytes, and a closed gate.
+fn closed_behind(alloc: Global, word: u64, bytes: &[u8]) -> Result<Vec<u8>, AllocError>
+    ensures { IfOk result (λ v. v.items ≡ (to_be_bytes w64 word ++ bytes.now) ++ 0 ∷ []) }
+{
+    let mut out = Vec::with_capacity(alloc, bytes.len().saturating_add(9))?;
+    out.extend_from_slice(&word.to_be_bytes())?;
+    out.extend_from_slice(bytes)?;
+    out.push(0)?;
+    Ok(out)
+}
+
+/// An area of that version with this snapshot, from its first byte up to a closed gate.
+pub fn closed_snapshot(
+    alloc: Global,
+    version: Version,
+    snapshot: &[u8],
+) -> Result<Vec<u8>, AllocError>
+    ensures { IfOk result (λ v. v.items ≡ closed_snapshot version snapshot.now) }
+{
+    closed_behind(alloc, word_of(version, snapshot.len() as u64), snapshot)
+}
+
 /// How many bytes these are, in eight, the bytes, and a closed gate.
 pub fn closed(alloc: Global, bytes: &[u8]) -> Result<Vec<u8>, AllocError>
     ensures { IfOk result (λ v. v.items ≡ closed bytes.now) }
 {
-    let mut out = Vec::with_capacity(alloc, bytes.len().saturating_add(9))?;
-    out.extend_from_slice(&(bytes.len() as u64).to_be_bytes())?;
-    out.extend_from_slice(bytes)?;
-    out.push(0)?;
-    Ok(out)
+    closed_behind(alloc, bytes.len() as u64, bytes)
 }

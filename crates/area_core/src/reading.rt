@@ -1,19 +1,48 @@
 //! An area is read, from its snapshot on.
 
-ghost use Rattle.std.specs.Prelude.{◌≡◌, ◌+◌, ◌*◌, ◌≤◌, ◌<◌, ◌∷◌, ◌++◌, [], ℕ, List, false, length, take, drop, IfErr, IfOk, IfSome, MatchOption};
+ghost use Rattle.std.specs.Prelude.{◌≡◌, ◌+◌, ◌*◌, ◌≤◌, ◌<◌, ◌^◌, ◌∷◌, ◌++◌, [], ℕ, List, false, length, take, drop, IfErr, IfOk, IfSome, MatchOption};
 ghost use Rattle.std.specs.Int.{w64, to_be_bytes};
 ghost use Rattle.command_core.specs.Commands.{CommandValue};
-ghost use Rattle.area_core.specs.Damage.{IsBlockTold, IsFrontTold, IsLengthTold, IsReadCaused};
+ghost use Rattle.area_core.specs.Areas.{word_of};
+ghost use Rattle.area_core.specs.Damage.{IsBlockTold, IsFrontTold, IsLengthTold, IsReadCaused, IsWordTold};
 ghost use Rattle.area_core.specs.Held.{IsAt};
 ghost use Rattle.area_core.specs.Journals.{is_odd, start};
 ghost use Rattle.area_core.specs.Reading.{IsPast, Quiet};
 
 use crate::header::{fetch, fetch_bytes, fetch_number, header};
+use crate::put::COUNTED;
 use crate::records::commands_of;
-use crate::{Area, ReadFault};
+use crate::{Area, ReadFault, Version};
 use command_core::Command;
 use disk_core::Disk;
 use std::alloc::Global;
+
+// The version of the area of so many bytes that begins at that place, and how many bytes its snapshot has. A version that is
+// not known is told before it is seen whether the snapshot fits.
+fn first_word<D: Disk>(disk: &mut D, at: u64, size: u64) -> Result<(Version, u64), ReadFault>
+    requires room { at + 8 ≤ length (D.content disk.old) }
+    requires least { 9 ≤ size }
+    ensures told { D.honest disk.old →
+        IfOk result (λ r. take 8 (drop at (D.content disk.old)) ≡ to_be_bytes w64 (word_of r.0 r.1)) }
+    ensures seven { IfOk result (λ r. r.1 < 2 ^ 56) }
+    ensures fits { IfOk result (λ r. r.1 + 9 ≤ size) }
+    ensures refused { D.honest disk.old → IfErr result (λ fault. IsWordTold fault at size (D.content disk.old)) }
+    ensures quiet { D.honest disk.old → Quiet D.Disk disk.old disk.new }
+    ensures size { length (D.content disk.new) ≡ length (D.content disk.old) }
+    ensures cause { IsReadCaused (D.failures disk.old) (D.failures disk.new) result }
+    ensures honest { D.honest disk.old → D.honest disk.new }
+    ensures was_honest { D.honest disk.new → D.honest disk.old }
+{
+    let word = fetch_number(disk, at)?;
+    let Some(version) = Version::of(word / COUNTED) else {
+        return Err(ReadFault::Damaged(at));
+    };
+    let length = word % COUNTED;
+    if length > size - 9 {
+        return Err(ReadFault::Damaged(at));
+    }
+    Ok((version, length))
+}
 
 impl Area {
     /// The live area, before its first block, and the bytes of its snapshot. Nothing is written.
@@ -32,6 +61,7 @@ impl Area {
     {
         let (size, selector) = header(disk)?;
         let mut area = Area {
+            version: Version::Two,
             size,
             selector,
             gate: 8,
@@ -39,11 +69,9 @@ impl Area {
             broken: false,
         };
         let base = area.begins();
-        let length = fetch_number(disk, base)?;
-        if length > size - 9 {
-            return Err(ReadFault::Damaged(base));
-        }
+        let (version, length) = first_word(disk, base, size)?;
         let snapshot = fetch_bytes(alloc, disk, base + 8, length)?;
+        area.version = version;
         area.gate = 8 + length;
         Ok((area, snapshot))
     }
@@ -92,7 +120,7 @@ impl Area {
         ensures same { IfErr result (λ _. self.new ≡ self.old) }
         ensures forward { self.old.gate ≤ self.new.gate }
         ensures grows { IfOk result (λ next. IfSome next (λ _. self.old.gate < self.new.gate)) }
-        ensures place { (self.new.size ≡ self.old.size) × (self.new.selector ≡ self.old.selector) × (self.new.broken ≡ self.old.broken) }
+        ensures place { (self.new.size ≡ self.old.size) × (self.new.selector ≡ self.old.selector) × (self.new.broken ≡ self.old.broken) × (self.new.version ≡ self.old.version) }
         ensures quiet { D.honest disk.old → Quiet D.Disk disk.old disk.new }
         ensures size { length (D.content disk.new) ≡ length (D.content disk.old) }
         ensures cause { IsReadCaused (D.failures disk.old) (D.failures disk.new) result }

@@ -1,24 +1,26 @@
 //! A snapshot is written into the other area, which is then made the live one.
 
-ghost use Rattle.std.specs.Prelude.{◌≡◌, ◌+◌, ◌*◌, ◌%◌, ◌<◌, ◌≤◌, [], ℕ, List, true, false, length, OnOk, OnErr, IsErrOf};
+ghost use Rattle.std.specs.Prelude.{◌≡◌, ◌+◌, ◌*◌, ◌%◌, ◌≤◌, [], ℕ, List, true, false, length, OnOk, OnErr, IsErrOf};
 ghost use Rattle.command_core.specs.Commands.{CommandValue};
 ghost use Rattle.disk_core.specs.Images.{Only};
 ghost use Rattle.disk_core.specs.Moments.{LeavesOnly};
 ghost use Rattle.area_core.specs.Held.{IsAt};
 ghost use Rattle.area_core.specs.Puts.{Each};
-ghost use Rattle.area_core.specs.Steps.{IfMemory, IsCaused};
+ghost use Rattle.area_core.specs.Steps.{HasNoRoom, IfMemory, IsCaused};
 ghost use Rattle.area_core.specs.Switches.{HasIdle, KeepsAllButSelector, KeepsBoth, KeepsLive, KeepsRest};
+ghost use Rattle.area_core.specs.declared.version.Version.TheVariants.{Two};
 
 use crate::pieces::Pieces;
-use crate::put::put;
-use crate::{Area, AreaFault};
+use crate::put::{COUNTED, put};
+use crate::{Area, AreaFault, Version};
 use disk_core::Disk;
 use std::alloc::Global;
 
 impl Area {
-    /// Writes a snapshot into the area that is not live, in pieces of 65,536 bytes, each by one call of the disk, and a sync. A stop at
-    /// any moment leaves every other byte as it was, the live area too. `Full` comes before the first call; where memory is
-    /// refused, pieces may have been written.
+    /// Writes a snapshot into the area that is not live, which is of the second version then, whatever it was: in pieces of 65,536
+    /// bytes, each by one call of the disk, and a sync. A stop at any moment leaves every other byte as it was, the live area too.
+    /// `Full` comes before the first call, where the snapshot doesn't fit, or has 2^56 bytes or more; where memory is refused,
+    /// pieces may have been written.
     pub fn write_snapshot<D: Disk, P: Pieces>(
         &mut self,
         alloc: Global,
@@ -35,8 +37,8 @@ impl Area {
         ensures idle { D.honest disk.old →
             OnOk result (Each (D.images disk.new) (HasIdle self.new (P.coming snapshot.old))) }
         ensures full { IsErrOf result AreaFault.Full →
-            (self.old.size < length (P.coming snapshot.old) + 9) × (disk.new ≡ disk.old) }
-        ensures place { (self.new.size ≡ self.old.size) × (self.new.selector ≡ self.old.selector) × (self.new.gate ≡ self.old.gate) }
+            HasNoRoom self.old.size (length (P.coming snapshot.old)) × (disk.new ≡ disk.old) }
+        ensures place { (self.new.size ≡ self.old.size) × (self.new.selector ≡ self.old.selector) × (self.new.gate ≡ self.old.gate) × (self.new.version ≡ self.old.version) }
         ensures written { OnOk result (self.new.written ≡ length (P.coming snapshot.old)) }
         ensures only { D.honest disk.old →
             OnOk result (Only (D.content disk.new) (D.images disk.new)) }
@@ -55,7 +57,7 @@ impl Area {
             return Err(AreaFault::Broken);
         }
         let size = snapshot.len();
-        if size > self.size - 9 {
+        if size > self.size - 9 || size >= COUNTED {
             self.broken = true;
             return Err(AreaFault::Full);
         }
@@ -85,6 +87,8 @@ impl Area {
             Each (D.images disk.old) (HasIdle self.old next) →
             Each (D.images disk.new) (IsAt self.new next [])) }
         ensures place { self.new.size ≡ self.old.size }
+        ensures version { OnOk result (self.new.version ≡ Two) }
+        ensures version_err { OnErr result (self.new.version ≡ self.old.version) }
         ensures gate { OnOk result (self.new.gate ≡ self.old.written + 8) }
         ensures selector { OnOk result (self.new.selector ≡ (self.old.selector + 1) % 256) }
         ensures room { IsErrOf result AreaFault.Full → self.old.broken ≡ true }
@@ -109,6 +113,7 @@ impl Area {
         let selector = self.selector.wrapping_add(1);
         put(disk, 16, &[selector])?;
         self.selector = selector;
+        self.version = Version::Two;
         self.gate = 8 + self.written;
         self.broken = false;
         Ok(())

@@ -1,7 +1,8 @@
-use Rattle.std.proofs.Common.{◌≡◌, ◌≤◌, ◌+◌, ◌++◌, ◌&&◌, ◌||◌, List, [], ◌∷◌, ℕ, suc, zero, Bool, true, false, cond, Some, count_by, filter, length, map, refl, slice_get, sym, ap, ◌∙◌, subst, arith, take}
+use Rattle.std.proofs.Common.{◌≡◌, ◌≤◌, ◌+◌, ◌++◌, ◌&&◌, ◌||◌, List, [], ◌∷◌, ℕ, suc, zero, Bool, true, false, cond, Option, Some, None, if◌then◌else◌, count_by, filter, length, map, refl, slice_get, sym, ap, ◌∙◌, subst, arith, take}
 use Rattle.std.specs.List.{AllByRecursion, list_any, sum_by}
 use Rattle.std.specs.List.Sorted.{IsStrictlySortedBy}
 use Rattle.std.specs.Map.{keys_of}
+use Rattle.std.specs.Option.{option_map}
 use Rattle.std.specs.Ordering.{nat_cmp}
 use Rattle.std.specs.Str.{bytes_eq}
 use Rattle.std.specs.declared.cmp.Ordering.TheVariants.{Less}
@@ -12,18 +13,21 @@ use Rattle.std.proofs.lemmas.Option.{get_or_from_slice_get, none-some, same_Some
 use Rattle.record_core.specs.Destinations.{is_queue}
 use Rattle.line_core.proofs.Flights.{has_delivery-mapped, length-settled, sum_by-settled, unsettled-mapped}
 use Rattle.line_core.specs.declared.message.Message.{Message}
-use Rattle.line_core.specs.Flights.{IsOver, IsRising, has_delivery, mapped, settled, unsettled}
+use Rattle.line_core.specs.Flights.{IsOver, IsRising, has_delivery, mapped, settled}
 use Rattle.line_core.specs.Lines.{inserted}
 use Rattle.broker_state.specs.declared.subscription.Subscription.{Subscription}
 use Rattle.broker_core.specs.declared.precheck.PrecheckFlight.{PrecheckFlight}
-use Rattle.broker_state.specs.Lists.{changed, with_first}
+use Rattle.broker_core.specs.declared.precheck.PrecheckSize.{PrecheckSize}
+use Rattle.broker_state.specs.Dead.{is_dropped}
+use Rattle.broker_state.specs.Lists.{picked, with_first}
 use Rattle.broker_state.specs.Operations.{awaits, copied, is_of, settled_by}
 use Rattle.broker_state.specs.Parts.{NonePass, copies_to}
 use Rattle.broker_state.specs.Names.{Name}
 use Rattle.broker_state.specs.States.{bytes, one, weight_of_subscription}
 use Rattle.broker_state.specs.Waiting.{is_own}
-use Rattle.broker_core.specs.Prechecks.{bytes_in, deliveries_in, flight_of, flights_of, has, left_by}
-use Rattle.broker_state.proofs.Weights.{ones, sum_by-changed}
+use Rattle.broker_core.specs.Prechecks.{bytes_in, bytes_kept, deliveries_in, flight_of, flights_of, has, kept_bytes_in, kept_in, left_by, one_kept, sized}
+use Rattle.broker_operations.specs.Refusals.{all_kept, all_kept_bytes, bytes_there, kept_bytes, kept_one}
+use Rattle.broker_state.proofs.Weights.{ones, sum_by-part}
 
 -- what a flight's deliveries before a place have is under the number there
 module _ {X Y : Type 0} (f : X → Y) where
@@ -66,12 +70,12 @@ module _ (session : ℕ) (subs : List Subscription) (at : ℕ) (sub : Subscripti
   flights_same other = more_by false other ∙ nothing (filter (is_of session) (take at subs))
 
 -- what is settled is in the flights no more
-pub settled_counts : (delivery : ℕ) (flights new : List PrecheckFlight) (at : ℕ) (flight : PrecheckFlight) (out : List (ℕ × ℕ)) → slice_get flights at ≡ Some flight → out ≡ settled flight.mode delivery flight.deliveries → new ≡ changed at (left_by delivery) flights → (length out + deliveries_in new ≡ deliveries_in flights) × (sum_by (λ item. item.1) out + bytes_in new ≡ bytes_in flights)
-settled_counts delivery flights new at flight out is given left =
+pub settled_counts : (delivery : ℕ) (flights : List PrecheckFlight) (at : ℕ) (flight : PrecheckFlight) (out : List (ℕ × PrecheckSize)) → slice_get flights at ≡ Some flight → out ≡ settled flight.mode delivery flight.deliveries → (length out ≤ deliveries_in flights) × (sum_by (λ item. item.1.bytes) out ≤ bytes_in flights)
+settled_counts delivery flights at flight out is given =
     let long = λ (f : PrecheckFlight). length f.deliveries in
-    let wide = λ (f : PrecheckFlight). sum_by (λ (item : ℕ × ℕ). item.1) f.deliveries in (
-      omega (arith, sum_by-changed long (left_by delivery) flights at flight is, length-settled flight.mode delivery flight.deliveries, ap length given, ap deliveries_in left),
-      omega (arith, sum_by-changed wide (left_by delivery) flights at flight is, sum_by-settled (λ (item : ℕ × ℕ). item.1) flight.mode delivery flight.deliveries, ap (sum_by (λ (item : ℕ × ℕ). item.1)) given, ap bytes_in left),
+    let wide = λ (f : PrecheckFlight). sum_by (λ (item : ℕ × PrecheckSize). item.1.bytes) f.deliveries in (
+      omega (arith, sum_by-part long flights at flight is, length-settled flight.mode delivery flight.deliveries, ap length given),
+      omega (arith, sum_by-part wide flights at flight is, sum_by-settled (λ (item : ℕ × PrecheckSize). item.1.bytes) flight.mode delivery flight.deliveries, ap (sum_by (λ (item : ℕ × PrecheckSize). item.1.bytes)) given),
     )
 
 module _ (session delivery : ℕ) where
@@ -80,13 +84,13 @@ module _ (session delivery : ℕ) where
   any_flight [] = refl
   any_flight (sub ∷ subs) =
       elim (is_of session sub) as (λ b. list_any (has delivery) (map flight_of (cond b (sub ∷ filter (is_of session) subs) (filter (is_of session) subs))) ≡ ((b && has_delivery delivery sub.unacknowledged) || list_any (awaits session delivery) subs)) [
-        | true ↦ ap (λ b. b || list_any (has delivery) (flights_of session subs)) (has_delivery-mapped bytes delivery sub.unacknowledged) ∙ ap (λ b. has_delivery delivery sub.unacknowledged || b) (any_flight subs)
+        | true ↦ ap (λ b. b || list_any (has delivery) (flights_of session subs)) (has_delivery-mapped (sized (is_own sub)) delivery sub.unacknowledged) ∙ ap (λ b. has_delivery delivery sub.unacknowledged || b) (any_flight subs)
         | false ↦ any_flight subs
       ]
 
   left_settled : (sub : Subscription) → left_by delivery (flight_of sub) ≡ flight_of (settled_by delivery sub)
   left_settled sub =
-      ap (λ l. record (flight_of sub) { deliveries = l }) (unsettled-mapped bytes sub.mode delivery sub.unacknowledged)
+      ap (λ l. record (flight_of sub) { deliveries = l }) (unsettled-mapped (sized (is_own sub)) sub.mode delivery sub.unacknowledged)
 
   abbrev after : List Subscription → List Subscription
   after subs = with_first (awaits session delivery) (settled_by delivery) subs
@@ -103,7 +107,7 @@ module _ (session delivery : ℕ) where
 
   first_is : (sub : Subscription) (fs : List PrecheckFlight) (h : Bool) → has_delivery delivery sub.unacknowledged ≡ h → with_first (has delivery) (left_by delivery) (flight_of sub ∷ fs) ≡ cond h (flight_of (settled_by delivery sub) ∷ fs) (flight_of sub ∷ with_first (has delivery) (left_by delivery) fs)
   first_is sub fs h held =
-      ap (λ c. cond c (left_by delivery (flight_of sub) ∷ fs) (flight_of sub ∷ with_first (has delivery) (left_by delivery) fs)) (has_delivery-mapped bytes delivery sub.unacknowledged ∙ held)
+      ap (λ c. cond c (left_by delivery (flight_of sub) ∷ fs) (flight_of sub ∷ with_first (has delivery) (left_by delivery) fs)) (has_delivery-mapped (sized (is_own sub)) delivery sub.unacknowledged ∙ held)
       ∙ ap (λ f. cond h (f ∷ fs) (flight_of sub ∷ with_first (has delivery) (left_by delivery) fs)) (left_settled sub)
 
   first_by : (sub : Subscription) (subs : List Subscription) (b h : Bool) → is_of session sub ≡ b → has_delivery delivery sub.unacknowledged ≡ h → with_first (has delivery) (left_by delivery) (flights_of session subs) ≡ flights_of session (after subs) → with_first (has delivery) (left_by delivery) (flights_of session (sub ∷ subs)) ≡ flights_of session (after (sub ∷ subs))
@@ -123,45 +127,97 @@ module _ (session delivery : ℕ) where
   first_flight (sub ∷ subs) =
       first_by sub subs (is_of session sub) (has_delivery delivery sub.unacknowledged) refl refl (first_flight subs)
 
-  -- what subscriptions weigh beside their flights stays
-  module _ (weight : Subscription → ℕ) (part : PrecheckFlight → ℕ) (each : (sub : Subscription) → weight (settled_by delivery sub) + part (flight_of sub) ≡ weight sub + part (flight_of (settled_by delivery sub))) where
-    kept_by : (sub : Subscription) (subs : List Subscription) (b h : Bool) → is_of session sub ≡ b → has_delivery delivery sub.unacknowledged ≡ h → sum_by weight (after subs) + sum_by part (flights_of session subs) ≡ sum_by weight subs + sum_by part (flights_of session (after subs)) → sum_by weight (after (sub ∷ subs)) + sum_by part (flights_of session (sub ∷ subs)) ≡ sum_by weight (sub ∷ subs) + sum_by part (flights_of session (after (sub ∷ subs)))
-    kept_by sub subs true true is held rest =
-        omega (arith, each sub, ap (sum_by weight) (after_is sub subs true true is held), ap (sum_by part) (heads sub subs true is), ap (sum_by part) (ap (flights_of session) (after_is sub subs true true is held) ∙ heads (settled_by delivery sub) subs true is), sum_by-cons weight sub subs, sum_by-cons weight (settled_by delivery sub) subs, sum_by-cons part (flight_of sub) (flights_of session subs), sum_by-cons part (flight_of (settled_by delivery sub)) (flights_of session subs))
-    kept_by sub subs true false is held rest =
-        omega (arith, rest, ap (sum_by weight) (after_is sub subs true false is held), ap (sum_by part) (heads sub subs true is), ap (sum_by part) (ap (flights_of session) (after_is sub subs true false is held) ∙ heads sub (after subs) true is), sum_by-cons weight sub subs, sum_by-cons weight sub (after subs), sum_by-cons part (flight_of sub) (flights_of session subs), sum_by-cons part (flight_of sub) (flights_of session (after subs)))
-    kept_by sub subs false h is held rest =
-        omega (arith, rest, ap (sum_by weight) (after_is sub subs false h is held), ap (sum_by part) (heads sub subs false is), ap (sum_by part) (ap (flights_of session) (after_is sub subs false h is held) ∙ heads sub (after subs) false is), sum_by-cons weight sub subs, sum_by-cons weight sub (after subs))
+  -- the first flight that has a delivery is that of the first subscription that has it
+  abbrev first_of_flights : Option (PrecheckFlight × List PrecheckFlight) → Option PrecheckFlight
+  first_of_flights o = option_map (λ (q : PrecheckFlight × List PrecheckFlight). q.0) o
 
-    kept : (subs : List Subscription) → sum_by weight (after subs) + sum_by part (flights_of session subs) ≡ sum_by weight subs + sum_by part (flights_of session (after subs))
-    kept [] = refl
-    kept (sub ∷ subs) =
-        kept_by sub subs (is_of session sub) (has_delivery delivery sub.unacknowledged) refl refl (kept subs)
+  abbrev first_of_subs : Option (Subscription × List Subscription) → Option PrecheckFlight
+  first_of_subs o = option_map (λ (q : Subscription × List Subscription). flight_of q.0) o
 
--- the bytes of deliveries stand for their messages
-pub sum_by-mapped : (flight : List (ℕ × Message)) → sum_by (λ (item : ℕ × ℕ). item.1) (mapped bytes flight) ≡ sum_by (λ (item : ℕ × Message). bytes item.1) flight
-sum_by-mapped [] = refl
-sum_by-mapped (x ∷ flight) =
-    omega (arith, sum_by-mapped flight, sum_by-cons (λ (item : ℕ × ℕ). item.1) (x.0, bytes x.1) (mapped bytes flight), sum_by-cons (λ (item : ℕ × Message). bytes item.1) x flight)
+  behind_flight : (f : PrecheckFlight) (o : Option (PrecheckFlight × List PrecheckFlight)) → first_of_flights (option_map {U = PrecheckFlight × List PrecheckFlight} (λ (q : PrecheckFlight × List PrecheckFlight). (q.0, f ∷ q.1)) o) ≡ first_of_flights o
+  behind_flight f None = refl
+  behind_flight f (Some q) = refl
 
-pub length-mapped : (flight : List (ℕ × Message)) → length (mapped bytes flight) ≡ length flight
-length-mapped [] = refl
-length-mapped (x ∷ flight) = ap suc (length-mapped flight)
+  behind_sub : (sub : Subscription) (o : Option (Subscription × List Subscription)) → first_of_subs (option_map {U = Subscription × List Subscription} (λ (q : Subscription × List Subscription). (q.0, sub ∷ q.1)) o) ≡ first_of_subs o
+  behind_sub sub None = refl
+  behind_sub sub (Some q) = refl
+
+  abbrev flights_by : Bool → PrecheckFlight → List PrecheckFlight → Option (PrecheckFlight × List PrecheckFlight)
+  flights_by b f fs =
+      if b then Some (f, fs) else option_map {U = PrecheckFlight × List PrecheckFlight} (λ (q : PrecheckFlight × List PrecheckFlight). (q.0, f ∷ q.1)) (picked (has delivery) fs)
+
+  abbrev subs_by : Bool → Subscription → List Subscription → Option (Subscription × List Subscription)
+  subs_by b sub subs =
+      if b then Some (sub, subs) else option_map {U = Subscription × List Subscription} (λ (q : Subscription × List Subscription). (q.0, sub ∷ q.1)) (picked (awaits session delivery) subs)
+
+  alike_by : (sub : Subscription) (subs : List Subscription) (b h : Bool) → is_of session sub ≡ b → has_delivery delivery sub.unacknowledged ≡ h → first_of_flights (picked (has delivery) (flights_of session subs)) ≡ first_of_subs (picked (awaits session delivery) subs) → first_of_flights (picked (has delivery) (flights_of session (sub ∷ subs))) ≡ first_of_subs (picked (awaits session delivery) (sub ∷ subs))
+  alike_by sub subs true true is held rest =
+      ap (λ fs. first_of_flights (picked (has delivery) fs)) (heads sub subs true is)
+      ∙ ap (λ c. first_of_flights (flights_by c (flight_of sub) (flights_of session subs))) (has_delivery-mapped (sized (is_own sub)) delivery sub.unacknowledged ∙ held)
+      ∙ sym (ap (λ c. first_of_subs (subs_by (c && has_delivery delivery sub.unacknowledged) sub subs)) is ∙ ap (λ c. first_of_subs (subs_by c sub subs)) held)
+  alike_by sub subs true false is held rest =
+      ap (λ fs. first_of_flights (picked (has delivery) fs)) (heads sub subs true is)
+      ∙ ap (λ c. first_of_flights (flights_by c (flight_of sub) (flights_of session subs))) (has_delivery-mapped (sized (is_own sub)) delivery sub.unacknowledged ∙ held)
+      ∙ behind_flight (flight_of sub) (picked (has delivery) (flights_of session subs)) ∙ rest
+      ∙ sym (ap (λ c. first_of_subs (subs_by (c && has_delivery delivery sub.unacknowledged) sub subs)) is ∙ ap (λ c. first_of_subs (subs_by c sub subs)) held ∙ behind_sub sub (picked (awaits session delivery) subs))
+  alike_by sub subs false h is held rest =
+      ap (λ fs. first_of_flights (picked (has delivery) fs)) (heads sub subs false is) ∙ rest
+      ∙ sym (ap (λ c. first_of_subs (subs_by (c && has_delivery delivery sub.unacknowledged) sub subs)) is ∙ behind_sub sub (picked (awaits session delivery) subs))
+
+  alike : (subs : List Subscription) → first_of_flights (picked (has delivery) (flights_of session subs)) ≡ first_of_subs (picked (awaits session delivery) subs)
+  alike [] = refl
+  alike (sub ∷ subs) =
+      alike_by sub subs (is_of session sub) (has_delivery delivery sub.unacknowledged) refl refl (alike subs)
+
+  pub picked_flight : (subs : List Subscription) (sub : Subscription) (others : List Subscription) → picked (awaits session delivery) subs ≡ Some (sub, others) → (rest : List PrecheckFlight) × (picked (has delivery) (flights_of session subs) ≡ Some (flight_of sub, rest))
+  picked_flight subs sub others is =
+      by (picked (has delivery) (flights_of session subs)) refl (alike subs ∙ ap first_of_subs is)
+    where
+      by : (o : Option (PrecheckFlight × List PrecheckFlight)) → picked (has delivery) (flights_of session subs) ≡ o → first_of_flights o ≡ Some (flight_of sub) → (rest : List PrecheckFlight) × (picked (has delivery) (flights_of session subs) ≡ Some (flight_of sub, rest))
+      by None found same = absurd cc
+      by (Some q) found same = (q.1, found ∙ ap (λ f. Some (f, q.1)) (same_Some q.0 (flight_of sub) same))
+
+-- the sizes of deliveries stand for their messages
+module _ (own : Bool) where
+  pub sum_by-mapped : (flight : List (ℕ × Message)) → sum_by (λ (item : ℕ × PrecheckSize). item.1.bytes) (mapped (sized own) flight) ≡ sum_by (λ (item : ℕ × Message). bytes item.1) flight
+  sum_by-mapped [] = refl
+  sum_by-mapped (x ∷ flight) =
+      omega (arith, sum_by-mapped flight, sum_by-cons (λ (item : ℕ × PrecheckSize). item.1.bytes) (x.0, sized own x.1) (mapped (sized own) flight), sum_by-cons (λ (item : ℕ × Message). bytes item.1) x flight)
+
+  pub length-mapped : (flight : List (ℕ × Message)) → length (mapped (sized own) flight) ≡ length flight
+  length-mapped [] = refl
+  length-mapped (x ∷ flight) = ap suc (length-mapped flight)
+
+  -- and for what is kept of them
+  one_sized : (m : Message) → one_kept (sized own m) ≡ kept_one own m
+  one_sized m = by (is_dropped own m)
+    where
+      by : (b : Bool) → elim (if b then None else Some (bytes_there m)) as (λ o. ℕ) [ None ↦ 0 | Some there ↦ 1 ] ≡ (if b then 0 else 1)
+      by true = refl
+      by false = refl
+
+  bytes_sized : (m : Message) → bytes_kept (sized own m) ≡ kept_bytes own m
+  bytes_sized m = by (is_dropped own m)
+    where
+      by : (b : Bool) → elim (if b then None else Some (bytes_there m)) as (λ o. ℕ) [ None ↦ 0 | Some there ↦ there ] ≡ (if b then 0 else bytes_there m)
+      by true = refl
+      by false = refl
+
+  pub kept-mapped : (flight : List (ℕ × Message)) → kept_in (mapped (sized own) flight) ≡ all_kept own flight
+  kept-mapped [] = refl
+  kept-mapped (x ∷ flight) =
+      omega (arith, kept-mapped flight, one_sized x.1, sum_by-cons (λ (item : ℕ × PrecheckSize). one_kept item.1) (x.0, sized own x.1) (mapped (sized own) flight), sum_by-cons (λ (item : ℕ × Message). kept_one own item.1) x flight)
+
+  pub kept_bytes-mapped : (flight : List (ℕ × Message)) → kept_bytes_in (mapped (sized own) flight) ≡ all_kept_bytes own flight
+  kept_bytes-mapped [] = refl
+  kept_bytes-mapped (x ∷ flight) =
+      omega (arith, kept_bytes-mapped flight, bytes_sized x.1, sum_by-cons (λ (item : ℕ × PrecheckSize). bytes_kept item.1) (x.0, sized own x.1) (mapped (sized own) flight), sum_by-cons (λ (item : ℕ × Message). kept_bytes own item.1) x flight)
 
 abbrev pub long : PrecheckFlight → ℕ
 long flight = length flight.deliveries
 
 abbrev pub wide : PrecheckFlight → ℕ
-wide flight = sum_by (λ (item : ℕ × ℕ). item.1) flight.deliveries
-
-module _ (session delivery : ℕ) (subs : List Subscription) where
-  pub kept_messages : sum_by (weight_of_subscription one) (after session delivery subs) + deliveries_in (flights_of session subs) ≡ sum_by (weight_of_subscription one) subs + deliveries_in (flights_of session (after session delivery subs))
-  kept_messages =
-      kept session delivery (weight_of_subscription one) long (λ sub. omega (arith, ones sub.unacknowledged, ones (unsettled sub.mode delivery sub.unacknowledged), length-mapped sub.unacknowledged, length-mapped (unsettled sub.mode delivery sub.unacknowledged))) subs
-
-  pub kept_bytes : sum_by (weight_of_subscription bytes) (after session delivery subs) + bytes_in (flights_of session subs) ≡ sum_by (weight_of_subscription bytes) subs + bytes_in (flights_of session (after session delivery subs))
-  kept_bytes =
-      kept session delivery (weight_of_subscription bytes) wide (λ sub. omega (arith, sum_by-mapped sub.unacknowledged, sum_by-mapped (unsettled sub.mode delivery sub.unacknowledged))) subs
+wide flight = sum_by (λ (item : ℕ × PrecheckSize). item.1.bytes) flight.deliveries
 
 module _ (session : ℕ) (weight : Subscription → ℕ) (part : PrecheckFlight → ℕ) (each : (sub : Subscription) → part (flight_of sub) ≤ weight sub) where
   flights_part : (subs : List Subscription) → sum_by part (flights_of session subs) ≤ sum_by weight subs
@@ -175,11 +231,11 @@ module _ (session : ℕ) (weight : Subscription → ℕ) (part : PrecheckFlight 
 -- what is in the flights is among what the subscriptions weigh
 pub few_deliveries : (session : ℕ) (subs : List Subscription) → deliveries_in (flights_of session subs) ≤ sum_by (weight_of_subscription one) subs
 few_deliveries session subs =
-    flights_part session (weight_of_subscription one) long (λ sub. omega (arith, ones sub.unacknowledged, length-mapped sub.unacknowledged)) subs
+    flights_part session (weight_of_subscription one) long (λ sub. omega (arith, ones sub.unacknowledged, length-mapped (is_own sub) sub.unacknowledged)) subs
 
 pub few_bytes : (session : ℕ) (subs : List Subscription) → bytes_in (flights_of session subs) ≤ sum_by (weight_of_subscription bytes) subs
 few_bytes session subs =
-    flights_part session (weight_of_subscription bytes) wide (λ sub. omega (arith, sum_by-mapped sub.unacknowledged)) subs
+    flights_part session (weight_of_subscription bytes) wide (λ sub. omega (arith, sum_by-mapped (is_own sub) sub.unacknowledged)) subs
 
 -- copies change no flight
 pub flights-copied : (session : ℕ) (m : Message) (subs : List Subscription) → flights_of session (map (copied m) subs) ≡ flights_of session subs

@@ -4,6 +4,8 @@ pub use Rattle.broker_state.specs.Waiting
 pub use Rattle.broker_state.specs.States
 pub use Rattle.broker_state.specs.HandOut
 pub use Rattle.broker_state.specs.Operations
+pub use Rattle.broker_state.specs.Dead
+pub use Rattle.broker_state.specs.Executing
 pub use Rattle.broker_state.specs.Steps
 pub use Rattle.broker_state.specs.Parts
 pub use Rattle.broker_state.specs.Settles

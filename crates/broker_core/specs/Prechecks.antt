@@ -1,20 +1,29 @@
-use Rattle.std.specs.Prelude.{◌≡◌, ◌≤◌, List, ℕ, Bool, Result, Ok, Err, filter, length, map}
+use Rattle.std.specs.Prelude.{◌≡◌, ◌≤◌, List, ℕ, Bool, Some, None, Result, Ok, Err, filter, length, map, if◌then◌else◌}
 use Rattle.std.specs.List.{sum_by}
 use Rattle.std.specs.List.Sorted.{IsStrictlySortedBy}
 use Rattle.std.specs.Map.{keys_of}
 use Rattle.command_core.specs.declared.fault.Fault.{Fault}
+use Rattle.line_core.specs.declared.message.Message.{Message}
 use Rattle.line_core.specs.Flights.{has_delivery, mapped, unsettled}
 use Rattle.broker_state.specs.declared.subscription.Subscription.{Subscription}
 use Rattle.broker_core.specs.declared.precheck.Precheck.{Precheck}
 use Rattle.broker_core.specs.declared.precheck.PrecheckFlight.{PrecheckFlight}
+use Rattle.broker_core.specs.declared.precheck.PrecheckSize.{PrecheckSize}
+use Rattle.broker_state.specs.Dead.{is_dropped}
 use Rattle.broker_state.specs.Operations.{is_of}
 use Rattle.broker_state.specs.Parts.{copies_to}
 use Rattle.broker_state.specs.States.{State, bytes, held_bytes, held_messages}
 use Rattle.broker_state.specs.Names.{Name, name_cmp, text_cmp}
+use Rattle.broker_state.specs.Waiting.{is_own}
+use Rattle.broker_operations.specs.Refusals.{bytes_there}
 
--- a subscription with the bytes of its deliveries in place of their messages
+-- a message's bytes, and those that it has in the queue of refused ones, unless it is dropped once it is refused
+abbrev pub sized : Bool → Message → PrecheckSize
+sized own m = record { bytes = bytes m; refused = if is_dropped own m then None else Some (bytes_there m) }
+
+-- a subscription with the sizes of its deliveries in place of their messages
 abbrev pub flight_of : Subscription → PrecheckFlight
-flight_of sub = record { mode = sub.mode; deliveries = mapped bytes sub.unacknowledged }
+flight_of sub = record { mode = sub.mode; deliveries = mapped (sized (is_own sub)) sub.unacknowledged }
 
 -- the subscriptions of a session so, in waiting order
 abbrev pub flights_of : ℕ → List Subscription → List PrecheckFlight
@@ -33,7 +42,20 @@ abbrev pub deliveries_in : List PrecheckFlight → ℕ
 deliveries_in flights = sum_by (λ flight. length flight.deliveries) flights
 
 abbrev pub bytes_in : List PrecheckFlight → ℕ
-bytes_in flights = sum_by (λ flight. sum_by (λ item. item.1) flight.deliveries) flights
+bytes_in flights = sum_by (λ flight. sum_by (λ item. item.1.bytes) flight.deliveries) flights
+
+-- how many of some deliveries are kept once they are refused, and how many bytes they have then
+abbrev pub one_kept : PrecheckSize → ℕ
+one_kept size = elim size.refused as (λ o. ℕ) [ None ↦ 0 | Some there ↦ 1 ]
+
+abbrev pub bytes_kept : PrecheckSize → ℕ
+bytes_kept size = elim size.refused as (λ o. ℕ) [ None ↦ 0 | Some there ↦ there ]
+
+abbrev pub kept_in : List (ℕ × PrecheckSize) → ℕ
+kept_in deliveries = sum_by (λ item. one_kept item.1) deliveries
+
+abbrev pub kept_bytes_in : List (ℕ × PrecheckSize) → ℕ
+kept_bytes_in deliveries = sum_by (λ item. bytes_kept item.1) deliveries
 
 -- What a precheck stands for: the state to which the members before would have led, from a state with these subscriptions.
 pub record StandsFor (session : ℕ) (durables : List (Name × List ℕ)) (subs : List Subscription) (precheck : Precheck) (s : State) : Type 0 where

@@ -6,13 +6,14 @@ ghost use Rattle.broker_state.specs.Operations.{restarted};
 ghost use Rattle.broker_state.specs.PartsOf.{state_of_parts};
 ghost use Rattle.broker_state.specs.Sound.{IsSound};
 ghost use Rattle.broker_state.specs.States.{empty_state, held_messages, held_bytes};
-ghost use Rattle.broker_state.specs.Steps.{step, outs};
+ghost use Rattle.broker_state.specs.Steps.{outs, outs_by, outs_v1, step, step_by, step_v1};
 
+use crate::committing::have_few_members;
 use crate::executing::execute;
 use crate::fault::BrokerFault;
 use broker_checks::{are_sound, held_of};
 use broker_operations::{SharedLines, Tables};
-use broker_state::{DurableName, GivenName, Held, Parts, Subscription};
+use broker_state::{DurableName, GivenName, Held, NackRule, Parts, Subscription};
 use command_core::{Command, Dest, Out};
 use std::alloc::{AllocError, Global};
 use std::collections::BTreeMap;
@@ -86,19 +87,47 @@ impl Broker {
         self.broken = false;
     }
 
-    /// Carries out the command of the next number, and answers its outputs. `Memory` where memory is refused: what it held
-    /// is let go then, its count stays, and from then on the answer is `Broken`, which changes nothing.
+    /// Carries out the command of the next number, and answers its outputs. A NACK keeps what it settles: it goes to
+    /// `/queue/dead`, unless it is of a plain subscription of a topic or was refused before. `Memory` where memory is refused:
+    /// what it held is let go then, its count stays, and from then on the answer is `Broken`, which changes nothing.
     pub fn step(&mut self, alloc: Global, command: Command) -> Result<Vec<Out>, BrokerFault>
         requires { self.old.state.count < 2 ^ 62 }
         ensures state { OnOk result (self.new.state ≡ step self.old.state command) }
         ensures outs { IfOk result (λ given. given.items ≡ outs self.old.state command) }
         ensures outcome { IsOutcome self.old self.new result }
     {
+        self.step_by(alloc, NackRule::Keeps, command)
+    }
+
+    /// Carries out the command of the next number as `step` does, but for a NACK: it drops all messages that it settles, as
+    /// an ACK does. So the commands of a journal of version 1 were carried out. `Memory` and `Broken` as `step`.
+    pub fn step_v1(&mut self, alloc: Global, command: Command) -> Result<Vec<Out>, BrokerFault>
+        requires { self.old.state.count < 2 ^ 62 }
+        ensures state { OnOk result (self.new.state ≡ step_v1 self.old.state command) }
+        ensures outs { IfOk result (λ given. given.items ≡ outs_v1 self.old.state command) }
+        ensures outcome { IsOutcome self.old self.new result }
+    {
+        self.step_by(alloc, NackRule::Drops, command)
+    }
+
+    /// Carries out the command of the next number by that rule of NACK.
+    fn step_by(
+        &mut self,
+        alloc: Global,
+        rule: NackRule,
+        command: Command,
+    ) -> Result<Vec<Out>, BrokerFault>
+        requires { self.old.state.count < 2 ^ 62 }
+        ensures state { OnOk result (self.new.state ≡ step_by rule self.old.state command) }
+        ensures outs { IfOk result (λ given. given.items ≡ outs_by rule self.old.state command) }
+        ensures outcome { IsOutcome self.old self.new result }
+    {
         if self.broken {
             return Err(BrokerFault::Broken);
         }
+        have_few_members(command.op());
         let tables = self.take(alloc);
-        match execute(tables, alloc, command) {
+        match execute(tables, alloc, rule, command) {
             Ok((tables, given)) => {
                 self.put(tables);
                 Ok(given)

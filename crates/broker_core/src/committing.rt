@@ -1,28 +1,41 @@
 //! Transactions are carried out, wholly or not at all.
 
-ghost use Rattle.std.specs.Prelude.{◌≡◌, ◌≤◌, IfOk, IsErr, length};
-ghost use Rattle.broker_state.specs.Operations.{applied, committed};
+ghost use Rattle.std.specs.Prelude.{◌≡◌, ◌<◌, ◌≤◌, IfOk, IsErr, length};
+ghost use Rattle.broker_state.specs.Executing.{HasFewMembers, applied, committed};
 ghost use Rattle.broker_state.specs.Parts.{leaving};
 
 use crate::precheck::precheck_members;
 use broker_operations::Tables;
-use command_core::{Fault, Member, Members};
+use broker_state::NackRule;
+use command_core::{Fault, Member, Members, Op};
 use std::alloc::{AllocError, Global};
+
+/// A transaction has at most 64 members: it knows that when it is asked. Nothing changes.
+pub fn have_few_members(op: &Op)
+    ensures { HasFewMembers op.now }
+{
+    if let Op::Commit(members) = op {
+        let _members = members.as_slice();
+    }
+}
 
 /// A member of a transaction is carried out. Refused as it is, and then the tables are as they were.
 fn apply(
     tables: Tables,
     alloc: Global,
+    rule: NackRule,
     session: u64,
     place: u32,
     member: Member,
 ) -> Result<(Tables, Result<(), Fault>), AllocError>
-    ensures applied { IfOk result (λ r. applied tables session place member ≡ leaving r.1 r.0) }
+    requires few { place < 64 }
+    ensures applied { IfOk result (λ r. applied rule tables session place member ≡ leaving r.1 r.0) }
     ensures same { IfOk result (λ r. IsErr r.1 → r.0 ≡ tables) }
 {
     match member {
         Member::Send(sending) => tables.send(alloc, place, sending),
-        Member::Ack(delivery) | Member::Nack(delivery) => tables.acknowledge(session, delivery),
+        Member::Ack(delivery) => tables.acknowledge(session, delivery),
+        Member::Nack(delivery) => tables.nack(alloc, rule, place, session, delivery),
     }
 }
 
@@ -31,14 +44,15 @@ fn apply(
 pub fn commit(
     tables: Tables,
     alloc: Global,
+    rule: NackRule,
     session: u64,
     members: Members,
 ) -> Result<(Tables, Result<(), Fault>), AllocError>
-    ensures committed { IfOk result (λ r. committed tables session 0 members ≡ leaving r.1 r.0) }
+    ensures committed { IfOk result (λ r. committed rule tables session 0 members ≡ leaving r.1 r.0) }
     ensures same { IfOk result (λ r. IsErr r.1 → r.0 ≡ tables) }
 {
-    match precheck_members(alloc, &tables, session, members.as_slice()) {
-        Ok(Ok(())) => apply_all(tables, alloc, session, members.into_vec()),
+    match precheck_members(alloc, rule, &tables, session, members.as_slice()) {
+        Ok(Ok(())) => apply_all(tables, alloc, rule, session, members.into_vec()),
         Ok(Err(fault)) => Ok((tables, Err(fault))),
         Err(refused) => Err(refused),
     }
@@ -48,16 +62,17 @@ pub fn commit(
 fn apply_all(
     tables: Tables,
     alloc: Global,
+    rule: NackRule,
     session: u64,
     members: Vec<Member>,
 ) -> Result<(Tables, Result<(), Fault>), AllocError>
     requires few { length members.items ≤ 64 }
-    ensures committed { IfOk result (λ r. committed tables session 0 members.items ≡ leaving r.1 r.0) }
+    ensures committed { IfOk result (λ r. committed rule tables session 0 members.items ≡ leaving r.1 r.0) }
 {
     let mut tables = tables;
     let mut place = 0;
     for member in members {
-        let (left, done) = apply(tables, alloc, session, place, member)?;
+        let (left, done) = apply(tables, alloc, rule, session, place, member)?;
         tables = left;
         if let Err(fault) = done {
             return Ok((tables, Err(fault)));

@@ -5,32 +5,36 @@ ghost use Rattle.record_core.specs.Texts.{IsGiven};
 ghost use Rattle.command_core.specs.Operations.{IsOp};
 ghost use Rattle.command_core.specs.Replies.{connected};
 ghost use Rattle.broker_state.specs.HandOut.{settled};
-ghost use Rattle.broker_state.specs.Operations.{ended, executed, opened};
+ghost use Rattle.broker_state.specs.Executing.{executed};
+ghost use Rattle.broker_state.specs.Operations.{ended, opened};
 ghost use Rattle.broker_state.specs.Parts.{is_end, leaving};
-ghost use Rattle.broker_state.specs.Steps.{accepted_or_ended, answers, is_opening, led_to, outs, outs_to, replies, step};
+ghost use Rattle.broker_state.specs.Steps.{accepted_or_ended, answers, is_opening, led_to, outs_by, outs_to, replies, step_by};
 
 use crate::answers::{answer_done, answer_end, answer_open, answer_refused};
 use crate::committing::commit;
 use broker_operations::Tables;
+use broker_state::NackRule;
 use command_core::{Command, Fault, HeaderText, Op, Out};
 use std::alloc::{AllocError, Global};
 
 /// Carries out the command whose number is how many were carried out before it, counts it, and answers its outputs: the
-/// MESSAGEs that it hands out, and then what answers it. Where memory is refused, nothing is left of the tables.
+/// MESSAGEs that it hands out, and then what answers it. A NACK goes by that rule. Where memory is refused, nothing is left
+/// of the tables.
 pub fn execute(
     tables: Tables,
     alloc: Global,
+    rule: NackRule,
     command: Command,
 ) -> Result<(Tables, Vec<Out>), AllocError>
     requires small { tables.count < 2 ^ 62 }
-    ensures state { IfOk result (λ r. r.0 ≡ step tables command) }
-    ensures outs { IfOk result (λ r. r.1.items ≡ outs tables command) }
+    ensures state { IfOk result (λ r. r.0 ≡ step_by rule tables command) }
+    ensures outs { IfOk result (λ r. r.1.items ≡ outs_by rule tables command) }
 {
     let number = tables.count();
     let (session, op, receipt) = command.into_parts();
     let (mut tables, outs) = match op {
         Op::Open { client_id } => open(tables, alloc, client_id)?,
-        op => execute_if_open(tables, alloc, session, op, receipt)?,
+        op => execute_if_open(tables, alloc, rule, session, op, receipt)?,
     };
     tables.set_count(number + 1);
     Ok((tables, outs))
@@ -40,19 +44,20 @@ pub fn execute(
 fn execute_if_open(
     tables: Tables,
     alloc: Global,
+    rule: NackRule,
     session: u64,
     op: Op,
     receipt: Option<HeaderText>,
 ) -> Result<(Tables, Vec<Out>), AllocError>
     requires form { IsOp op }
     requires other { is_opening op ≡ false }
-    ensures state { IfOk result (λ r. r.0 ≡ (led_to tables session op).state) }
-    ensures outs { IfOk result (λ r. r.1.items ≡ (led_to tables session op).outs ++ answers tables session receipt op) }
+    ensures state { IfOk result (λ r. r.0 ≡ (led_to rule tables session op).state) }
+    ensures outs { IfOk result (λ r. r.1.items ≡ (led_to rule tables session op).outs ++ answers rule tables session receipt op) }
 {
     if !tables.sessions().contains_key(&session) {
         return Ok((tables, Vec::new(alloc)));
     }
-    execute_in_session(tables, alloc, session, op, receipt)
+    execute_in_session(tables, alloc, rule, session, op, receipt)
 }
 
 /// A session is opened.
@@ -78,14 +83,15 @@ fn open(
 fn execute_in_session(
     tables: Tables,
     alloc: Global,
+    rule: NackRule,
     session: u64,
     op: Op,
     receipt: Option<HeaderText>,
 ) -> Result<(Tables, Vec<Out>), AllocError>
     requires form { IsOp op }
     requires other { is_opening op ≡ false }
-    ensures state { IfOk result (λ r. r.0 ≡ (settled (accepted_or_ended tables session (executed tables session op))).state) }
-    ensures outs { IfOk result (λ r. r.1.items ≡ (settled (accepted_or_ended tables session (executed tables session op))).outs ++ outs_to tables.count session (replies tables session op receipt)) }
+    ensures state { IfOk result (λ r. r.0 ≡ (settled (accepted_or_ended tables session (executed rule tables session op))).state) }
+    ensures outs { IfOk result (λ r. r.1.items ≡ (settled (accepted_or_ended tables session (executed rule tables session op))).outs ++ outs_to tables.count session (replies rule tables session op receipt)) }
 {
     let number = tables.count();
     let mut outs = Vec::new(alloc);
@@ -94,7 +100,7 @@ fn execute_in_session(
         answer_end(alloc, number, session, end, receipt, &mut outs)?;
         return Ok((tables, outs));
     }
-    let (tables, done) = execute_operation(tables, alloc, session, op)?;
+    let (tables, done) = execute_operation(tables, alloc, rule, session, op)?;
     match done {
         Ok(()) => {
             let tables = tables.settle(alloc, &mut outs)?;
@@ -128,18 +134,20 @@ fn end_and_settle(
 fn execute_operation(
     tables: Tables,
     alloc: Global,
+    rule: NackRule,
     session: u64,
     op: Op,
 ) -> Result<(Tables, Result<(), Fault>), AllocError>
     requires form { IsOp op }
     requires other { (is_opening op ≡ false) × (is_end op ≡ false) }
-    ensures executed { IfOk result (λ r. executed tables session op ≡ leaving r.1 r.0) }
+    ensures executed { IfOk result (λ r. executed rule tables session op ≡ leaving r.1 r.0) }
     ensures same { IfOk result (λ r. IsErr r.1 → r.0 ≡ tables) }
 {
     match op {
         Op::Send(sending) => tables.send(alloc, 0, sending),
-        Op::Ack(delivery) | Op::Nack(delivery) => tables.acknowledge(session, delivery),
-        Op::Commit(members) => commit(tables, alloc, session, members),
+        Op::Ack(delivery) => tables.acknowledge(session, delivery),
+        Op::Nack(delivery) => tables.nack(alloc, rule, 0, session, delivery),
+        Op::Commit(members) => commit(tables, alloc, rule, session, members),
         Op::Subscribe {
             id,
             destination,

@@ -1,27 +1,40 @@
 //! A transaction is tried on what decides over its refusal.
 
-ghost use Rattle.std.specs.Prelude.{◌≡◌, ◌+◌, ◌*◌, ◌≤◌, ◌^◌, ◌<◌, IfOk, MatchOption, OnOk, Ok, Err, Some, ℕ, if◌then◌else◌, length, slice_get, true};
+ghost use Rattle.std.specs.Prelude.{◌≡◌, ◌+◌, ◌*◌, ◌≤◌, ◌^◌, ◌<◌, IfOk, IfSome, List, MatchOption, OnOk, Ok, Err, Some, ℕ, if◌then◌else◌, is_some, length, slice_get, true};
 ghost use Rattle.std.specs.List.{list_any, sum_by};
-ghost use Rattle.command_core.specs.declared.fault.Fault.TheVariants.{NoRoom, UnknownAcknowledgement};
+ghost use Rattle.command_core.specs.declared.fault.Fault.TheVariants.{NoRoom};
 ghost use Rattle.line_core.specs.Flights.{mapped, settled};
 ghost use Rattle.broker_core.specs.declared.precheck.PrecheckFlight.{PrecheckFlight};
-ghost use Rattle.broker_state.specs.Lists.{changed, with_first};
-ghost use Rattle.broker_state.specs.Operations.{applied, committed};
+ghost use Rattle.broker_state.specs.declared.nack_rule.NackRule.TheVariants.{Keeps};
+ghost use Rattle.broker_state.specs.declared.subscription.Subscription.{Subscription};
+ghost use Rattle.broker_state.specs.Dead.{nacked};
+ghost use Rattle.broker_state.specs.Executing.{applied, committed};
+ghost use Rattle.broker_state.specs.Lists.{changed, picked, with_first};
+ghost use Rattle.broker_state.specs.Names.{Name};
+ghost use Rattle.broker_state.specs.Operations.{acknowledged};
 ghost use Rattle.broker_state.specs.Parts.{IsFirst, NonePass, find_room, without_state};
-ghost use Rattle.broker_state.specs.States.{State, bytes};
-ghost use Rattle.broker_core.specs.Prechecks.{Leads, StandsFor, bytes_in, deliveries_in, flights_of, has, left_by};
+ghost use Rattle.broker_state.specs.States.{State};
+ghost use Rattle.broker_core.specs.Prechecks.{Leads, StandsFor, bytes_in, deliveries_in, flight_of, flights_of, has, kept_bytes_in, kept_in, left_by, sized};
 
-use broker_operations::{Order, Tables, copies_to, find_room};
-use broker_state::{Held, stand_in_order};
+use broker_operations::{Order, Tables, copies_to, find_room, is_dropped, size_there};
+use broker_state::{Held, MOST_BYTES, NackRule, Subscription, stand_in_order};
 use command_core::{AckMode, Fault, Member};
 use line_core::{Flight, Message, SettleFault, size};
 use std::alloc::{AllocError, Global};
 
-/// A subscription of the session, with the bytes of its deliveries in place of their messages.
+/// What decides whether a message that is not acknowledged finds room: its bytes, and those that it has in the queue of
+/// refused messages, unless it is dropped once it is refused.
+#[derive(Clone, Copy)]
+struct PrecheckSize {
+    bytes: u64,
+    refused: Option<u32>,
+}
+
+/// A subscription of the session, with the sizes of its deliveries in place of their messages.
 #[derive(Drop)]
 struct PrecheckFlight {
     mode: AckMode,
-    deliveries: Flight<u64>,
+    deliveries: Flight<PrecheckSize>,
 }
 
 /// What decides whether members are refused: how much would be held, and the subscriptions of the session.
@@ -31,15 +44,45 @@ struct Precheck {
     flights: Vec<PrecheckFlight>,
 }
 
-/// The deliveries with the bytes of their messages alone.
-fn sizes_of(alloc: Global, flight: &Flight<Message>) -> Result<Flight<u64>, AllocError>
-    ensures { IfOk result (λ sizes. sizes ≡ mapped bytes flight.now) }
+/// The sizes of a message of a subscription, where it is said whether that has a line of its own.
+fn sized(own: bool, message: &Message) -> PrecheckSize
+    ensures { result ≡ sized own message.now }
+{
+    let refused = if is_dropped(own, message) {
+        None
+    } else {
+        Some(size_there(&message.sending) as u32)
+    };
+    PrecheckSize {
+        bytes: size(&message.sending) as u64,
+        refused,
+    }
+}
+
+/// The deliveries with the sizes of their messages alone.
+fn sizes_of(
+    alloc: Global,
+    own: bool,
+    flight: &Flight<Message>,
+) -> Result<Flight<PrecheckSize>, AllocError>
+    ensures { IfOk result (λ sizes. sizes ≡ mapped (sized own) flight.now) }
 {
     let mut sizes = Flight::new(alloc);
     for (delivery, message) in flight.as_slice() {
-        sizes.add(*delivery, size(&message.sending) as u64)?;
+        sizes.add(*delivery, sized(own, message))?;
     }
     Ok(sizes)
+}
+
+/// A subscription with the sizes of its deliveries.
+fn flight_of(alloc: Global, sub: &Subscription) -> Result<PrecheckFlight, AllocError>
+    ensures { IfOk result (λ flight. flight ≡ flight_of sub.now) }
+{
+    let deliveries = sizes_of(alloc, sub.has_own_line(), &sub.unacknowledged)?;
+    Ok(PrecheckFlight {
+        mode: sub.mode,
+        deliveries,
+    })
 }
 
 /// The subscriptions of the session, in waiting order.
@@ -50,11 +93,8 @@ fn flights_of(alloc: Global, order: &Order, session: u64) -> Result<Vec<Precheck
     for at in 0..order.len() {
         let sub = order.get(at);
         if sub.session == session {
-            let deliveries = sizes_of(alloc, &sub.unacknowledged)?;
-            flights.push(PrecheckFlight {
-                mode: sub.mode,
-                deliveries,
-            })?;
+            let flight = flight_of(alloc, sub)?;
+            flights.push(flight)?;
         }
     }
     Ok(flights)
@@ -73,13 +113,42 @@ fn find_flight(flights: &[PrecheckFlight], delivery: u64) -> Option<usize>
 }
 
 /// The bytes of settled deliveries, which are held.
-fn sum_of(settled: &[(u64, u64)]) -> u64
-    requires { sum_by (λ item. item.1) settled.now ≤ 16777216 }
-    ensures { result ≡ sum_by (λ item. item.1) settled.now }
+fn sum_of(settled: &[(u64, PrecheckSize)]) -> u64
+    requires { sum_by (λ item. item.1.bytes) settled.now ≤ 16777216 }
+    ensures { result ≡ sum_by (λ item. item.1.bytes) settled.now }
 {
     let mut bytes = 0;
     for (_, size) in settled {
-        bytes += *size;
+        bytes += size.bytes;
+    }
+    bytes
+}
+
+/// How many of settled deliveries are kept where they are refused.
+fn kept_of(settled: &[(u64, PrecheckSize)]) -> u64
+    ensures kept { result ≡ kept_in settled.now }
+    ensures few { result ≤ length settled.now }
+{
+    let mut kept = 0;
+    for (_, size) in settled {
+        if let Some(_there) = size.refused {
+            kept += 1;
+        }
+    }
+    kept
+}
+
+/// The bytes that those have in the queue of refused messages.
+fn kept_bytes_of(settled: &[(u64, PrecheckSize)]) -> u64
+    requires few { length settled.now ≤ 4096 }
+    ensures bytes { result ≡ kept_bytes_in settled.now }
+    ensures small { result < 2 ^ 45 }
+{
+    let mut bytes = 0;
+    for (_, size) in settled {
+        if let Some(there) = size.refused {
+            bytes += there as u64;
+        }
     }
     bytes
 }
@@ -89,7 +158,7 @@ fn settle_at(
     flights: &mut Vec<PrecheckFlight>,
     at: usize,
     delivery: u64,
-) -> Result<Vec<(u64, u64)>, AllocError>
+) -> Result<Vec<(u64, PrecheckSize)>, AllocError>
     requires place { at < length flights.old.items }
     requires known { (flight : PrecheckFlight) → slice_get flights.old.items at ≡ Some flight → has delivery flight ≡ true }
     ensures settled { IfOk result (λ out. (flight : PrecheckFlight) → slice_get flights.old.items at ≡ Some flight
@@ -104,30 +173,86 @@ fn settle_at(
     }
 }
 
+/// A delivery is settled in a precheck, with those that its mode settles besides; gives them, or none where no flight has
+/// the delivery, and then nothing changes.
+fn precheck_settle(
+    precheck: &mut Precheck,
+    delivery: u64,
+) -> Result<Option<Vec<(u64, PrecheckSize)>>, AllocError>
+    requires small { precheck.old.held.bytes ≤ 16777216 }
+    requires messages { deliveries_in precheck.old.flights.items ≤ precheck.old.held.messages }
+    requires bytes { bytes_in precheck.old.flights.items ≤ precheck.old.held.bytes }
+    ensures found { IfOk result (λ found. is_some found ≡ list_any (has delivery) precheck.old.flights.items) }
+    ensures settled { IfOk result (λ found. IfSome found (λ out. (flight : PrecheckFlight) (others : List PrecheckFlight)
+        → picked (has delivery) precheck.old.flights.items ≡ Some (flight, others)
+        → out.items ≡ settled flight.mode delivery flight.deliveries)) }
+    ensures flights { OnOk result (precheck.new.flights.items ≡ with_first (has delivery) (left_by delivery) precheck.old.flights.items) }
+    ensures messages { IfOk result (λ found. IfSome found (λ out. precheck.new.held.messages + length out.items ≡ precheck.old.held.messages)) }
+    ensures bytes { IfOk result (λ found. IfSome found (λ out. precheck.new.held.bytes + sum_by (λ item. item.1.bytes) out.items ≡ precheck.old.held.bytes)) }
+{
+    let Some(at) = find_flight(precheck.flights.as_slice(), delivery) else {
+        return Ok(None);
+    };
+    let settled = settle_at(&mut precheck.flights, at, delivery)?;
+    precheck.held.messages -= settled.len() as u64;
+    precheck.held.bytes -= sum_of(settled.as_slice());
+    Ok(Some(settled))
+}
+
 /// A delivery is acknowledged in a precheck. Refused where no flight has it, and then nothing changes.
 fn precheck_acknowledge(
     precheck: &mut Precheck,
     delivery: u64,
 ) -> Result<Result<(), Fault>, AllocError>
-    requires small { precheck.old.held.bytes ≤ 16777216 }
-    requires messages { deliveries_in precheck.old.flights.items ≤ precheck.old.held.messages }
-    requires bytes { bytes_in precheck.old.flights.items ≤ precheck.old.held.bytes }
-    ensures answer { IfOk result (λ r. r ≡ (if list_any (has delivery) precheck.old.flights.items then Ok tt else Err UnknownAcknowledgement)) }
-    ensures flights { OnOk result (precheck.new.flights.items ≡ with_first (has delivery) (left_by delivery) precheck.old.flights.items) }
-    ensures messages { OnOk result (precheck.new.held.messages + deliveries_in precheck.old.flights.items
-        ≡ precheck.old.held.messages + deliveries_in precheck.new.flights.items) }
-    ensures bytes { OnOk result (precheck.new.held.bytes + bytes_in precheck.old.flights.items
-        ≡ precheck.old.held.bytes + bytes_in precheck.new.flights.items) }
-    ensures fewer { OnOk result (precheck.new.held.messages ≤ precheck.old.held.messages) }
-    ensures smaller { OnOk result (precheck.new.held.bytes ≤ precheck.old.held.bytes) }
+    requires { (session : ℕ) × (durables : List (Name × List ℕ)) × (subs : List Subscription) × (s : State)
+        × StandsFor session durables subs precheck.old s }
+    ensures { IfOk result (λ r. (session : ℕ) (durables : List (Name × List ℕ)) (subs : List Subscription) (s : State)
+        → StandsFor session durables subs precheck.old s
+        → Leads session durables subs precheck.new r (acknowledged s session delivery)) }
 {
-    let Some(at) = find_flight(precheck.flights.as_slice(), delivery) else {
+    let Some(_settled) = precheck_settle(precheck, delivery)? else {
         return Ok(Err(Fault::UnknownAcknowledgement));
     };
-    let settled = settle_at(&mut precheck.flights, at, delivery)?;
-    precheck.held.messages -= settled.len() as u64;
-    precheck.held.bytes -= sum_of(settled.as_slice());
     Ok(Ok(()))
+}
+
+/// A delivery is refused in a precheck, by the rule that keeps. Refused where no flight has it, or where what is kept finds no
+/// room once all that is settled has gone.
+fn precheck_refuse(precheck: &mut Precheck, delivery: u64) -> Result<Result<(), Fault>, AllocError>
+    requires { (session : ℕ) × (durables : List (Name × List ℕ)) × (subs : List Subscription) × (s : State)
+        × StandsFor session durables subs precheck.old s }
+    ensures { IfOk result (λ r. (session place : ℕ) (durables : List (Name × List ℕ)) (subs : List Subscription) (s : State)
+        → StandsFor session durables subs precheck.old s
+        → Leads session durables subs precheck.new r (nacked Keeps s session place delivery)) }
+{
+    let Some(settled) = precheck_settle(precheck, delivery)? else {
+        return Ok(Err(Fault::UnknownAcknowledgement));
+    };
+    let bytes = kept_bytes_of(settled.as_slice());
+    if precheck.held.bytes + bytes > MOST_BYTES {
+        return Ok(Err(Fault::NoRoom));
+    }
+    precheck.held.messages += kept_of(settled.as_slice());
+    precheck.held.bytes += bytes;
+    Ok(Ok(()))
+}
+
+/// A delivery is refused in a precheck, by that rule.
+fn precheck_nack(
+    precheck: &mut Precheck,
+    rule: NackRule,
+    delivery: u64,
+) -> Result<Result<(), Fault>, AllocError>
+    requires { (session : ℕ) × (durables : List (Name × List ℕ)) × (subs : List Subscription) × (s : State)
+        × StandsFor session durables subs precheck.old s }
+    ensures { IfOk result (λ r. (session place : ℕ) (durables : List (Name × List ℕ)) (subs : List Subscription) (s : State)
+        → StandsFor session durables subs precheck.old s
+        → Leads session durables subs precheck.new r (nacked rule s session place delivery)) }
+{
+    match rule {
+        NackRule::Drops => precheck_acknowledge(precheck, delivery),
+        NackRule::Keeps => precheck_refuse(precheck, delivery),
+    }
 }
 
 /// So many copies of so many bytes are kept in a precheck. Refused where they find no room, and then nothing changes.
@@ -151,19 +276,21 @@ fn precheck_send(precheck: &mut Precheck, copies: u64, size: u64) -> Result<(), 
 /// Whether a member is refused after those that were tried before.
 fn precheck_member(
     precheck: &mut Precheck,
+    rule: NackRule,
     tables: &Tables,
     member: &Member,
 ) -> Result<Result<(), Fault>, AllocError>
     requires { (session : ℕ) × (s : State) × StandsFor session tables.now.durables tables.now.subscriptions precheck.old s }
     ensures { IfOk result (λ r. (session place : ℕ) (s : State) → StandsFor session tables.now.durables tables.now.subscriptions precheck.old s
-        → Leads session tables.now.durables tables.now.subscriptions precheck.new r (applied s session place member.now)) }
+        → Leads session tables.now.durables tables.now.subscriptions precheck.new r (applied rule s session place member.now)) }
 {
     match member {
         Member::Send(sending) => {
             let copies = copies_to(tables, sending.destination());
             Ok(precheck_send(precheck, copies, size(sending) as u64))
         }
-        Member::Ack(delivery) | Member::Nack(delivery) => precheck_acknowledge(precheck, *delivery),
+        Member::Ack(delivery) => precheck_acknowledge(precheck, *delivery),
+        Member::Nack(delivery) => precheck_nack(precheck, rule, *delivery),
     }
 }
 
@@ -183,16 +310,17 @@ fn begin(alloc: Global, tables: &Tables, session: u64) -> Result<Precheck, Alloc
 /// Whether the members of a transaction are refused, and with what: nothing is carried out.
 pub fn precheck_members(
     alloc: Global,
+    rule: NackRule,
     tables: &Tables,
     session: u64,
     members: &[Member],
 ) -> Result<Result<(), Fault>, AllocError>
     requires few { length members.now ≤ 64 }
-    ensures { IfOk result (λ r. r ≡ without_state (committed tables.now session 0 members.now)) }
+    ensures { IfOk result (λ r. r ≡ without_state (committed rule tables.now session 0 members.now)) }
 {
     let mut precheck = begin(alloc, tables, session)?;
     for member in members {
-        if let Err(fault) = precheck_member(&mut precheck, tables, member)? {
+        if let Err(fault) = precheck_member(&mut precheck, rule, tables, member)? {
             return Ok(Err(fault));
         }
     }

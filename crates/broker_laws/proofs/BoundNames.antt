@@ -13,13 +13,14 @@ use Rattle.record_core.specs.Destinations.{is_queue}
 use Rattle.line_core.specs.declared.message.Message.{Message}
 use Rattle.broker_state.specs.declared.subscription.Subscription.{Subscription}
 use Rattle.broker_state.specs.HandOut.{can_take, delivered, handed}
+use Rattle.broker_state.specs.declared.nack_rule.NackRule.{NackRule}
 use Rattle.broker_state.specs.Lists.{picked, with_first}
 use Rattle.broker_state.specs.Names.{Name, name_cmp, text_cmp}
 use Rattle.broker_state.specs.Operations.{awaits, client_in, copied, copied_to_names, forgotten, fresh, is_of, message_of, opened, restarted, settled_by, fanned_out, topic_of, uses, with_subscription, without}
 use Rattle.broker_state.specs.Parts.{NonePass}
 use Rattle.broker_state.specs.Sound.{HasNames, OwnsName}
 use Rattle.broker_state.specs.States.{IsInOrder, State, empty_state}
-use Rattle.broker_state.specs.Steps.{step}
+use Rattle.broker_state.specs.Steps.{step_by}
 use Rattle.broker_state.specs.Waiting.{Lines, Shared, left_from, left_line, returned_from, with_deliveries, with_line, with_message}
 use Rattle.broker_laws.proofs.Counts.{count_added, count_behind, count_left, count_none, counted, none_passes, sum_mapped, sum_with_first}
 use Rattle.broker_state.proofs.Firsts.{any_none}
@@ -320,6 +321,9 @@ module _ (number : ℕ) where
     changes = λ place. names_changes;
     next = λ place s known now. now;
     fanned_out = λ place s sending fits known now. names_fanned_out s now (message_of s.count place sending);
+    refused = λ place s session delivery sub others is fits known now.
+        let after = names_acknowledged s now (awaits session delivery) delivery in
+        record { few = after.few; topics = after.topics; own = after.own; once = after.once; lines = after.lines };
   }
 
 -- no name is bound at first
@@ -327,9 +331,9 @@ pub empty_names : HasNames empty_state
 empty_names = record { few = omega arith; topics = tt; own = tt; once = λ name. omega arith; lines = tt }
 
 -- a step keeps what is asked of durable names, and so does a restart
-pub step_names : (s : State) (c : CommandValue) → IsInOrder s → HasNames s → HasNames (step s c)
-step_names s c order now =
-    let after = (led_in_order s order (λ place. HasNames) (names_from s.count) c now).2 in
+pub step_names : (rule : NackRule) (s : State) (c : CommandValue) → IsInOrder s → HasNames s → HasNames (step_by rule s c)
+step_names rule s c order now =
+    let after = (led_in_order s order (λ place. HasNames) (names_from s.count) rule c now).2 in
     record { few = after.few; topics = after.topics; own = after.own; once = after.once; lines = after.lines }
 
 pub restarted_names : (s : State) → IsInOrder s → HasNames s → HasNames (restarted s)

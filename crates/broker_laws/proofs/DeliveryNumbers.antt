@@ -147,4 +147,7 @@ deliveries_kept_from = record {
   changes = λ place. deliveries_kept;
   next = λ place s _ now. now;
   fanned_out = λ place s sending fits _ now. fanned_out_deliveries s (message_of s.count place sending) now;
+  refused = λ place s session delivery sub others is fits _ now.
+      let after = deliveries_kept.acknowledged s session delivery tt now in
+      record { under = after.under; most = after.most; once = after.once };
 }

@@ -4,29 +4,32 @@ use Rattle.command_core.specs.Commands.{CommandValue}
 use Rattle.line_core.specs.declared.message.Message.{Message}
 use Rattle.broker_state.specs.declared.subscription.Subscription.{Subscription}
 use Rattle.broker_state.specs.HandOut.{can_take, hand_out, handed_from, handed_to, settled}
+use Rattle.broker_state.specs.declared.nack_rule.NackRule.{NackRule}
 use Rattle.broker_state.specs.Lists.{picked}
 use Rattle.broker_state.specs.Operations.{is_within, message_of, restarted, fanned_out}
 use Rattle.broker_state.specs.Sound.{HasLimits}
 use Rattle.broker_state.specs.States.{IsInOrder, State, bytes, empty_state, held_bytes, held_messages, is_open, one, weight_of}
-use Rattle.broker_state.specs.Steps.{done, is_opening, led_to, step}
+use Rattle.broker_state.specs.Steps.{done, is_opening, led_to, step_by}
 use Rattle.broker_state.specs.Waiting.{line_for}
 use Rattle.broker_laws.proofs.Conserved.{IsLight, light_changes}
 use Rattle.broker_laws.proofs.Deliveries.{settled_ends}
 use Rattle.broker_laws.proofs.Ordered.{IsOrdered, done_ordered, led_in_order, restarted_keeps_in_order}
 use Rattle.broker_laws.proofs.Walk.{KeepsFrom}
+use Rattle.broker_state.proofs.Refusals.{kept_in}
 
--- What a sending may not exceed, no other change exceeds.
+-- What a sending and a refusal may not exceed, no other change exceeds.
 module _ (weight : Message → ℕ) (most : ℕ) (fits : (s : State) → is_within s ≡ true → weight_of weight s ≤ most) where
   within_from : (number : ℕ) → KeepsFrom (IsOrdered number) (λ place. IsLight weight most 0)
   within_from number = record {
     changes = λ place. light_changes weight most number 0;
     next = λ place s known now. now;
     fanned_out = λ place s sending within known now. omega (arith, fits (fanned_out s (message_of s.count place sending)) within);
+    refused = λ place s session delivery sub others is within known now. omega (arith, fits (kept_in s session place delivery sub) within);
   }
 
-  step_within : (s : State) (c : CommandValue) → IsInOrder s → weight_of weight s ≤ most → weight_of weight (step s c) ≤ most
-  step_within s c order now =
-      omega (arith, (led_in_order s order (λ place. IsLight weight most 0) (within_from s.count) c (omega (arith, now))).2)
+  step_within : (rule : NackRule) (s : State) (c : CommandValue) → IsInOrder s → weight_of weight s ≤ most → weight_of weight (step_by rule s c) ≤ most
+  step_within rule s c order now =
+      omega (arith, (led_in_order s order (λ place. IsLight weight most 0) (within_from s.count) rule c (omega (arith, now))).2)
 
   restarted_within : (s : State) → IsInOrder s → weight_of weight s ≤ most → weight_of weight (restarted s) ≤ most
   restarted_within s order now =
@@ -53,11 +56,11 @@ nothing_counted s number none = by (picked (can_take s) s.subscriptions) none
     by (Some q) is = from q.0 q.1 (line_for s.shared q.0) is
 
 -- once a command is carried out nothing is left to be handed out
-led_settled : (s : State) (c : CommandValue) → IsInOrder s → hand_out s ≡ None → hand_out (led_to s c.session c.op).state ≡ None
-led_settled s c order none = by (is_opening c.op || is_open s c.session)
+led_settled : (rule : NackRule) (s : State) (c : CommandValue) → IsInOrder s → hand_out s ≡ None → hand_out (led_to rule s c.session c.op).state ≡ None
+led_settled rule s c order none = by (is_opening c.op || is_open s c.session)
   where
-    by : (b : Bool) → hand_out (if b then settled (done s c.session c.op) else record { state = s; outs = [] }).state ≡ None
-    by true = settled_ends (done s c.session c.op) (done_ordered s c order).order
+    by : (b : Bool) → hand_out (if b then settled (done rule s c.session c.op) else record { state = s; outs = [] }).state ≡ None
+    by true = settled_ends (done rule s c.session c.op) (done_ordered rule s c order).order
     by false = none
 
 -- nothing is held at first
@@ -65,11 +68,11 @@ pub empty_held : HasLimits empty_state
 empty_held = record { messages = omega arith; bytes = omega arith; settled = refl }
 
 -- a step keeps the limits of what is held, and so does a restart
-pub step_held : (s : State) (c : CommandValue) → IsInOrder s → HasLimits s → HasLimits (step s c)
-step_held s c order now = record {
-  messages = step_within one 4096 few_messages s c order now.messages;
-  bytes = step_within bytes 16777216 few_bytes s c order now.bytes;
-  settled = nothing_counted (led_to s c.session c.op).state (s.count + 1) (led_settled s c order now.settled);
+pub step_held : (rule : NackRule) (s : State) (c : CommandValue) → IsInOrder s → HasLimits s → HasLimits (step_by rule s c)
+step_held rule s c order now = record {
+  messages = step_within one 4096 few_messages rule s c order now.messages;
+  bytes = step_within bytes 16777216 few_bytes rule s c order now.bytes;
+  settled = nothing_counted (led_to rule s c.session c.op).state (s.count + 1) (led_settled rule s c order now.settled);
 }
 
 pub restarted_held : (s : State) → IsInOrder s → HasLimits s → HasLimits (restarted s)

@@ -1,6 +1,8 @@
 pub mod CommandLists
 pub mod SharedOrder
 pub mod Deliveries
+pub mod Meters
+pub mod Limited
 pub mod Conserved
 pub mod Heard
 pub mod Standing
@@ -21,4 +23,5 @@ pub mod SingleCopies
 pub mod PlacedLines
 pub mod StateLines
 pub mod SoundSteps
+pub mod NothingLost
 pub mod EndsInTurn

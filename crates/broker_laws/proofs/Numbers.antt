@@ -7,9 +7,10 @@ use Rattle.command_core.specs.declared.command.Op.TheVariants.{Open, Send, Subsc
 use Rattle.command_core.specs.Commands.{CommandValue}
 use Rattle.command_core.specs.Outs.{OutValue}
 use Rattle.command_core.specs.Replies.{connected}
+use Rattle.broker_state.specs.declared.nack_rule.NackRule.{NackRule}
 use Rattle.broker_state.specs.States.{State, is_open}
 use Rattle.broker_state.specs.HandOut.{Handed, Settling, behind, hand_out, settled, settling, waiting}
-use Rattle.broker_state.specs.Steps.{answers, done, is_opening, led_to, outs, outs_to, replies}
+use Rattle.broker_state.specs.Steps.{answers, done, is_opening, led_to, outs_by, outs_to, replies}
 use Rattle.broker_laws.proofs.Deliveries.{made}
 
 abbrev IsNumbered : ℕ → List OutValue → Type 0
@@ -37,21 +38,21 @@ replied_numbered : (s : State) (session : ℕ) (frames : List Frame) (b : Bool) 
 replied_numbered s session frames true = answers_numbered s.count session frames
 replied_numbered s session frames false = tt
 
-answer_numbered : (s : State) (session : ℕ) (receipt : Option (List ℕ)) (op : Op) → IsNumbered s.count (answers s session receipt op)
-answer_numbered s session receipt (Open client_id) = answers_numbered s.count s.count (connected s.count ∷ [])
-answer_numbered s session receipt (Send sending) = replied_numbered s session (replies s session (Send sending) receipt) (is_open s session)
-answer_numbered s session receipt (Subscribe id to mode name) = replied_numbered s session (replies s session (Subscribe id to mode name) receipt) (is_open s session)
-answer_numbered s session receipt (Unsubscribe id name) = replied_numbered s session (replies s session (Unsubscribe id name) receipt) (is_open s session)
-answer_numbered s session receipt (Ack delivery) = replied_numbered s session (replies s session (Ack delivery) receipt) (is_open s session)
-answer_numbered s session receipt (Nack delivery) = replied_numbered s session (replies s session (Nack delivery) receipt) (is_open s session)
-answer_numbered s session receipt (Commit members) = replied_numbered s session (replies s session (Commit members) receipt) (is_open s session)
-answer_numbered s session receipt Note = replied_numbered s session (replies s session Note receipt) (is_open s session)
-answer_numbered s session receipt (End end) = replied_numbered s session (replies s session (End end) receipt) (is_open s session)
+answer_numbered : (rule : NackRule) (s : State) (session : ℕ) (receipt : Option (List ℕ)) (op : Op) → IsNumbered s.count (answers rule s session receipt op)
+answer_numbered rule s session receipt (Open client_id) = answers_numbered s.count s.count (connected s.count ∷ [])
+answer_numbered rule s session receipt (Send sending) = replied_numbered s session (replies rule s session (Send sending) receipt) (is_open s session)
+answer_numbered rule s session receipt (Subscribe id to mode name) = replied_numbered s session (replies rule s session (Subscribe id to mode name) receipt) (is_open s session)
+answer_numbered rule s session receipt (Unsubscribe id name) = replied_numbered s session (replies rule s session (Unsubscribe id name) receipt) (is_open s session)
+answer_numbered rule s session receipt (Ack delivery) = replied_numbered s session (replies rule s session (Ack delivery) receipt) (is_open s session)
+answer_numbered rule s session receipt (Nack delivery) = replied_numbered s session (replies rule s session (Nack delivery) receipt) (is_open s session)
+answer_numbered rule s session receipt (Commit members) = replied_numbered s session (replies rule s session (Commit members) receipt) (is_open s session)
+answer_numbered rule s session receipt Note = replied_numbered s session (replies rule s session Note receipt) (is_open s session)
+answer_numbered rule s session receipt (End end) = replied_numbered s session (replies rule s session (End end) receipt) (is_open s session)
 
 if_numbered : (s t : State) (n : ℕ) (b : Bool) → t.count ≡ n → IsNumbered n (if b then settled t else record { state = s; outs = [] }).outs
 if_numbered s t n true same = settling_numbered n (waiting t) t same
 if_numbered s t n false same = tt
 
-pub outs_numbered : (s : State) (c : CommandValue) → (done s c.session c.op).count ≡ s.count → IsNumbered s.count (outs s c)
-outs_numbered s c same =
-    all_append (λ out. out.number ≡ s.count) (led_to s c.session c.op).outs (answers s c.session c.receipt c.op) (if_numbered s (done s c.session c.op) s.count (is_opening c.op || is_open s c.session) same) (answer_numbered s c.session c.receipt c.op)
+pub outs_numbered : (rule : NackRule) (s : State) (c : CommandValue) → (done rule s c.session c.op).count ≡ s.count → IsNumbered s.count (outs_by rule s c)
+outs_numbered rule s c same =
+    all_append (λ out. out.number ≡ s.count) (led_to rule s c.session c.op).outs (answers rule s c.session c.receipt c.op) (if_numbered s (done rule s c.session c.op) s.count (is_opening c.op || is_open s c.session) same) (answer_numbered rule s c.session c.receipt c.op)

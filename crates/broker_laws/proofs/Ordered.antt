@@ -8,13 +8,15 @@ use Rattle.std.proofs.lemmas.Cmp.{nat_cmp_total}
 use Rattle.command_core.specs.Commands.{CommandValue}
 use Rattle.record_core.specs.Destinations.{is_queue}
 use Rattle.line_core.specs.declared.message.Message.{Message}
+use Rattle.broker_state.specs.declared.nack_rule.NackRule.{NackRule}
 use Rattle.broker_state.specs.Names.{name_cmp, text_cmp}
 use Rattle.broker_state.specs.Operations.{message_of, restarted, fanned_out}
 use Rattle.broker_state.specs.States.{IsInOrder, State, empty_state}
-use Rattle.broker_state.specs.Steps.{done, led_to, step}
+use Rattle.broker_state.specs.Steps.{done, led_to, step_by}
 use Rattle.broker_state.specs.Waiting.{Shared}
 use Rattle.broker_state.proofs.KeyedLines.{rising-with_message}
 use Rattle.broker_state.proofs.Keys.{names_total, texts_total}
+use Rattle.broker_state.proofs.Refusals.{kept_from, weight-with_refused}
 use Rattle.broker_state.proofs.Sendings.{fanned_out_by}
 use Rattle.broker_laws.proofs.SharedOrder.{AreRising, left_rising, returned_weight}
 use Rattle.broker_state.proofs.SortedEntries.{all_inserted, all_removed, sorted_inserted, sorted_removed}
@@ -110,6 +112,13 @@ module _ (number : ℕ) where
     changes = λ place. ordered_changes;
     next = λ place s _ now. now;
     fanned_out = λ place s sending fits _ now. ordered_fanned_out s (message_of s.count place sending) now;
+    refused = λ place s session delivery sub others is fits _ now. record {
+      order = record { names = now.order.names; queues = (weight-with_refused (λ m. 0) (kept_from s session place delivery sub) s.shared.queues now.order.queues).0 };
+      durables = now.durables;
+      sessions = now.sessions;
+      opened = now.opened;
+      count = now.count;
+    };
   }
 
 later : {X : Type 0} (n : ℕ) (es : List (ℕ × X)) → AllByRecursion (λ (e : ℕ × X). e.0 < n) es → AllByRecursion (λ (e : ℕ × X). e.0 < n + 1) es
@@ -122,10 +131,10 @@ ordered_first s order =
 
 -- A rule that each change keeps, of a state in order, is kept by what a command leads to, and by a restart.
 module _ (s : State) (order : IsInOrder s) where
-  pub led_in_order : (Rule : ℕ → State → Type 0) → KeepsFrom (IsOrdered s.count) Rule → (c : CommandValue) → Rule 0 s → (place : ℕ) × IsOrdered s.count (led_to s c.session c.op).state × Rule place (led_to s c.session c.op).state
-  led_in_order Rule keeps c now =
-      let after = led_keeps (λ place t. IsOrdered s.count t × Rule place t) (beside_from (IsOrdered s.count) Rule (ordered_from s.count) keeps) s c.session c.op order.opened (ordered_first s order, now) in
-      (after.0, after.1.0, after.1.1)
+  pub led_in_order : (Rule : ℕ → State → Type 0) → KeepsFrom (IsOrdered s.count) Rule → (rule : NackRule) (c : CommandValue) → Rule 0 s → (place : ℕ) × IsOrdered s.count (led_to rule s c.session c.op).state × Rule place (led_to rule s c.session c.op).state
+  led_in_order Rule keeps rule c now =
+      let after = led_keeps (λ place t. IsOrdered s.count t × Rule place t) (beside_from (IsOrdered s.count) Rule (ordered_from s.count) keeps) rule s c.session c.op order.opened (ordered_first s order, now) in
+      (after.0, after.2.0, after.2.1)
 
   pub restarted_keeps_in_order : (Rule : State → Type 0) → Keeps (IsOrdered s.count) Rule → Rule s → Rule (restarted s)
   restarted_keeps_in_order Rule keeps now =
@@ -137,9 +146,9 @@ unfolding IsStrictlySortedBy
 empty_in_order = record { sessions = tt; opened = tt; durables = tt; names = tt; queues = tt }
 
 -- a step keeps the state in order
-pub step_in_order : (s : State) (c : CommandValue) → IsInOrder s → IsInOrder (step s c)
-step_in_order s c order =
-    let now = (led_keeps (λ place. IsOrdered s.count) (ordered_from s.count) s c.session c.op order.opened (ordered_first s order)).1 in
+pub step_in_order : (rule : NackRule) (s : State) (c : CommandValue) → IsInOrder s → IsInOrder (step_by rule s c)
+step_in_order rule s c order =
+    let now = (led_keeps (λ place. IsOrdered s.count) (ordered_from s.count) rule s c.session c.op order.opened (ordered_first s order)).2 in
     record { sessions = now.sessions; opened = now.opened; durables = now.durables; names = now.order.names; queues = now.order.queues }
 
 -- and so does a restart
@@ -150,9 +159,9 @@ restarted_in_order s order =
     record { sessions = tt; opened = tt; durables = now.durables; names = now.order.names; queues = now.order.queues }
 
 -- what an operation does leaves the order and the count
-pub done_ordered : (s : State) (c : CommandValue) → IsInOrder s → IsOrdered s.count (done s c.session c.op)
-done_ordered s c order =
-    (done_keeps (λ place. IsOrdered s.count) (ordered_from s.count) s c.session c.op order.opened (ordered_first s order)).1
+pub done_ordered : (rule : NackRule) (s : State) (c : CommandValue) → IsInOrder s → IsOrdered s.count (done rule s c.session c.op)
+done_ordered rule s c order =
+    (done_keeps (λ place. IsOrdered s.count) (ordered_from s.count) rule s c.session c.op order.opened (ordered_first s order)).2
 
-pub done_count : (s : State) (c : CommandValue) → IsInOrder s → (done s c.session c.op).count ≡ s.count
-done_count s c order = (done_ordered s c order).count
+pub done_count : (rule : NackRule) (s : State) (c : CommandValue) → IsInOrder s → (done rule s c.session c.op).count ≡ s.count
+done_count rule s c order = (done_ordered rule s c order).count

@@ -12,10 +12,11 @@ use Rattle.std.proofs.lemmas.Slice.Eq.{bytes_eq-Decides}
 use Rattle.frame_core.proofs.Lists.{all_append, all_both, all_left, all_push, all_right, all_weaker}
 use Rattle.record_core.specs.Destinations.{is_queue}
 use Rattle.line_core.specs.declared.message.Message.{Message}
-use Rattle.line_core.specs.Flights.{settles}
+use Rattle.line_core.specs.Flights.{settled, settles}
 use Rattle.line_core.specs.Lines.{inserted}
 use Rattle.line_core.proofs.Inserted.{all_inserted}
 use Rattle.broker_state.specs.declared.subscription.Subscription.{Subscription}
+use Rattle.broker_state.specs.Dead.{dead_queue, first_place, is_dropped, with_refused}
 use Rattle.broker_state.specs.HandOut.{can_take, delivered, handed, is_auto}
 use Rattle.broker_state.specs.Lists.{is_none, picked, with_first}
 use Rattle.broker_state.specs.Names.{AreSame, Name, name_cmp, text_cmp}
@@ -28,6 +29,7 @@ use Rattle.broker_state.proofs.Keys.{name_itself, names_total, same_names, same_
 use Rattle.broker_state.proofs.Lookups.{is_equal, lookup_inserted, lookup_removed, none_found, other_way}
 use Rattle.broker_laws.proofs.Ordered.{IsOrdered}
 use Rattle.broker_laws.proofs.Picked.{all_picked, all_with_first}
+use Rattle.broker_state.proofs.Refusals.{all_kept, kept_from, kept_in}
 use Rattle.broker_state.proofs.Sendings.{fanned_out_by}
 use Rattle.broker_state.proofs.SortedEntries.{all_removed}
 use Rattle.broker_laws.proofs.Walk.{Keeps, KeepsFrom}
@@ -93,6 +95,12 @@ IsLineOwn sub = is_own sub ≡ false → sub.line ≡ []
 
 abbrev HasTo : Subscription → Type 0
 HasTo sub = AreTo sub.destination (had_by sub)
+
+-- refused messages in the line of those
+queues_refused : (messages : List Message) → AreTo dead_queue messages → (lines : Lines (List ℕ)) → AllByRecursion IsQueueLine lines → AllByRecursion IsQueueLine (with_refused messages lines)
+queues_refused [] are lines all = all
+queues_refused (m ∷ messages) are lines all =
+    queues_refused messages are.1 (with_message text_cmp dead_queue m lines) (to_put text_cmp same_texts IsQueueLine dead_queue dead_queue (λ line some to. (refl, some, to)) (λ line has. has.2) m are.0 lines all)
 
 -- No line that stays is empty, and messages are where they are sent to.
 pub record IsPlaced (s : State) : Type 0 where
@@ -266,6 +274,17 @@ module _ (s : State) (now : IsPlaced s) where
     own = all_with_first p IsLineOwn (settled_by delivery) (λ sub passes own. own) s.subscriptions now.own;
   }
 
+  placed_refused : (session place delivery : ℕ) (sub : Subscription) → IsPlaced (kept_in s session place delivery sub)
+  placed_refused session place delivery sub =
+      let after = placed_acknowledged (awaits session delivery) delivery in
+      let are = all_kept (is_dropped (is_own sub)) s.count (λ m. m.sending.destination ≡ dead_queue) (λ at m. refl) (first_place place) (settled sub.mode delivery sub.unacknowledged) in
+      record {
+        queues = queues_refused (kept_from s session place delivery sub) are s.shared.queues now.queues;
+        names = after.names;
+        to = after.to;
+        own = after.own;
+      }
+
   module _ (known : HasNames s) (p : Subscription → Bool) (sub : Subscription) (others : List Subscription) (is : picked p s.subscriptions ≡ Some (sub, others)) where
     to_parts : HasTo sub × AllByRecursion HasTo others
     to_parts = all_picked p s.subscriptions sub others is HasTo now.to
@@ -368,4 +387,5 @@ module _ (number : ℕ) where
     changes = λ place. placed_changes;
     next = λ place s known now. now;
     fanned_out = λ place s sending fits known now. placed_fanned_out s now (message_of s.count place sending) number known.0;
+    refused = λ place s session delivery sub others is fits known now. placed_refused s now session place delivery sub;
   }

@@ -4,24 +4,28 @@ use Rattle.std.specs.Ordering.{is_eq}
 use Rattle.std.proofs.lemmas.List.Sums.{sum_by-cons, sum_by_push}
 use Rattle.frame_core.proofs.Lists.{all_push, all_weaker}
 use Rattle.record_core.specs.Destinations.{is_queue}
-use Rattle.record_core.specs.Sendings.{SendingValue}
 use Rattle.line_core.specs.declared.message.Message.{Message}
+use Rattle.line_core.specs.Flights.{settled}
 use Rattle.line_core.proofs.Flights.{sum_by-settled}
 use Rattle.line_core.proofs.Inserted.{sum_by-inserted}
 use Rattle.broker_state.specs.declared.subscription.Subscription.{Subscription}
+use Rattle.broker_state.specs.Dead.{dead_queue, is_dropped, with_refused}
 use Rattle.broker_state.specs.HandOut.{can_take, delivered, handed, is_auto}
 use Rattle.broker_state.specs.Kept.{takes_from}
 use Rattle.broker_state.specs.Lists.{picked, with_first}
 use Rattle.broker_state.specs.Names.{Name, name_cmp, text_cmp}
 use Rattle.broker_state.specs.Operations.{awaits, copied, forgotten, message_of, settled_by, fanned_out, uses, without}
 use Rattle.broker_state.specs.States.{State, weight_of_subscription}
-use Rattle.broker_state.specs.Waiting.{Shared, is_own, left_line, line_at, line_for, line_from}
+use Rattle.broker_state.specs.Waiting.{Lines, Shared, is_own, left_line, line_at, line_for, line_from, with_message}
 use Rattle.broker_laws.proofs.Counts.{sum_first_less, sum_mapped}
 use Rattle.broker_laws.proofs.Deliveries.{sum_picked}
 use Rattle.broker_state.proofs.Keys.{names_total, same_names, same_texts, texts_total}
+use Rattle.broker_laws.proofs.Limited.{IsLimited, up_to_64}
 use Rattle.broker_laws.proofs.LineWeights.{flying, name_back, name_copied, name_left, part, queue_back, queue_left, weight_put, weight_removed}
+use Rattle.broker_laws.proofs.Meters.{IsMetered, settles_few}
 use Rattle.broker_laws.proofs.Ordered.{IsOrdered}
 use Rattle.broker_laws.proofs.Picked.{all_picked, all_with_first}
+use Rattle.broker_state.proofs.Refusals.{kept_from, kept_in, let_go}
 use Rattle.broker_state.proofs.Sendings.{fanned_out_by}
 use Rattle.broker_state.proofs.Served.{flight_more}
 use Rattle.broker_laws.proofs.Walk.{Keeps, KeepsFrom}
@@ -181,16 +185,31 @@ module _ (weight : Message → ℕ) where
     own = all_weaker (IsSingleOwn before) (IsSingleOwn left) (λ x single own. omega (arith, single own, less)) s.subscriptions now.own;
   }
 
-  -- What a command sends weighs no more, from place to place, than what is left falls by.
-  pub record IsMetered (number : ℕ) (left : ℕ → ℕ) : Type 0 where
-    pub falls : (place : ℕ) → left (place + 1) ≤ left place
-    pub new : (place : ℕ) (sending : SendingValue) → weight (message_of number place sending) + left (place + 1) ≤ left place
+  -- the line of refused messages, and another, with more messages
+  refused_line : (to : List ℕ) (messages : List Message) (lines : Lines (List ℕ)) → sum_by weight (line_at text_cmp to (with_refused messages lines)) ≤ sum_by weight (line_at text_cmp to lines) + sum_by weight messages
+  refused_line to [] lines = omega arith
+  refused_line to (m ∷ messages) lines =
+      let more = with_message text_cmp dead_queue m lines in
+      omega (arith, refused_line to messages more, weight_put text_cmp texts_total same_texts weight to dead_queue m lines (is_eq (text_cmp to dead_queue)) refl, at_most (is_eq (text_cmp to dead_queue)) (weight m), sum_by-cons weight m messages)
+
+  -- what a refusal keeps stands in the line of refused messages alone
+  refused_single : (before left : ℕ) (s : State) (session place delivery : ℕ) (sub : Subscription) → sum_by weight (kept_from s session place delivery sub) + left ≤ before → IsSingle before s → IsSingle left (kept_in s session place delivery sub)
+  refused_single before left s session place delivery sub enough now =
+      let after = acknowledged_single before s (awaits session delivery) delivery now in
+      record {
+        queues = λ to. omega (arith, after.queues to, enough, refused_line to (kept_from s session place delivery sub) s.shared.queues);
+        names = λ name. omega (arith, after.names name, enough);
+        own = all_weaker (IsSingleOwn before) (IsSingleOwn left) (λ x single own. omega (arith, single own, enough)) (let_go s session place delivery).subscriptions after.own;
+      }
 
   -- So it stays one at most.
-  pub single_from : (number : ℕ) (left : ℕ → ℕ) → IsMetered number left → KeepsFrom (IsOrdered number) (λ place. IsSingle (left place))
+  pub single_from : (number : ℕ) (left : ℕ → ℕ) → IsMetered weight number left → KeepsFrom (IsLimited number) (λ place s. place ≤ 64 → IsSingle (left place) s)
   single_from number left metered = record {
-    changes = λ place. single_changes number (left place);
-    next = λ place s known now. less_left (left place) (left (place + 1)) s (metered.falls place) now;
-    fanned_out = λ place s sending fits known now.
-        fanned_out_single (left place) (left (place + 1)) s (message_of s.count place sending) (rw known.count (metered.new place sending)) now number known;
+    changes = λ place. up_to_64 number place (IsSingle (left place)) (single_changes number (left place));
+    next = λ place s known now few.
+        less_left (left place) (left (place + 1)) s (metered.falls place) (now (omega (arith, few)));
+    fanned_out = λ place s sending fits known now few.
+        fanned_out_single (left place) (left (place + 1)) s (message_of s.count place sending) (rw known.0.count (metered.new place sending (omega (arith, few)))) (now (omega (arith, few))) number known.0;
+    refused = λ place s session delivery sub others is fits known now few.
+        refused_single (left place) (left (place + 1)) s session place delivery sub (rw known.0.count (metered.refused place (is_dropped (is_own sub)) (settled sub.mode delivery sub.unacknowledged) (settles_few s (awaits session delivery) delivery sub others is known.1))) (now (omega (arith, few)));
   }

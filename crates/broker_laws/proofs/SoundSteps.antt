@@ -1,9 +1,11 @@
 -- A state that a broker can have is followed by such ones alone.
 use Rattle.command_core.specs.Commands.{CommandValue}
+use Rattle.broker_state.specs.declared.nack_rule.NackRule.{NackRule}
+use Rattle.broker_state.specs.Executing.{HasFewMembers}
 use Rattle.broker_state.specs.Operations.{restarted}
 use Rattle.broker_state.specs.Sound.{IsSound}
 use Rattle.broker_state.specs.States.{State, empty_state}
-use Rattle.broker_state.specs.Steps.{step}
+use Rattle.broker_state.specs.Steps.{step_by}
 use Rattle.broker_laws.proofs.Ordered.{empty_in_order, restarted_in_order, step_in_order}
 use Rattle.broker_laws.proofs.SubscriptionLimits.{empty_limits, restarted_limits, step_limits}
 use Rattle.broker_laws.proofs.BoundNames.{empty_names, restarted_names, step_names}
@@ -21,14 +23,14 @@ sound_first = record {
   limits = empty_held;
 }
 
-pub sound_step : (s : State) (c : CommandValue) → IsSound s → IsSound (step s c)
-sound_step s c was = record {
-  order = step_in_order s c was.order;
-  subscriptions = step_limits s c was.order was.subscriptions;
-  names = step_names s c was.order was.names;
-  numbers = step_keeps_numbers s c was.order was.numbers;
-  lines = step_lines s c was.order was.names was.numbers was.lines;
-  limits = step_held s c was.order was.limits;
+pub sound_step : (rule : NackRule) (s : State) (c : CommandValue) → HasFewMembers c.op → IsSound s → IsSound (step_by rule s c)
+sound_step rule s c few was = record {
+  order = step_in_order rule s c was.order;
+  subscriptions = step_limits rule s c was.order was.subscriptions;
+  names = step_names rule s c was.order was.names;
+  numbers = step_keeps_numbers rule s c was.order was.numbers;
+  lines = step_lines rule s c few was.order was.subscriptions was.names was.numbers was.lines;
+  limits = step_held rule s c was.order was.limits;
 }
 
 pub sound_restart : (s : State) → IsSound s → IsSound (restarted s)

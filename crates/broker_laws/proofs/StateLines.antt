@@ -1,4 +1,4 @@
-use Rattle.std.proofs.Common.{◌≡◌, ◌≢◌, ◌<◌, ◌≤◌, ◌+◌, ◌-◌, ◌&&◌, ◌||◌, ◌++◌, ◌⊎◌, inl, inr, List, [], ◌∷◌, ℕ, Bool, true, false, Option, Some, None, cond, count_by, is_some, map, not, refl, ap, ◌∙◌, arith, if◌then◌else◌}
+use Rattle.std.proofs.Common.{◌≡◌, ◌≢◌, ◌<◌, ◌≤◌, ◌&&◌, ◌||◌, ◌++◌, ◌⊎◌, inl, inr, List, [], ◌∷◌, ℕ, Bool, true, false, Option, Some, None, cond, count_by, is_some, map, not, refl, ap, ◌∙◌, arith, if◌then◌else◌}
 use Rattle.std.specs.List.{AllByRecursion, sum_by}
 use Rattle.std.specs.Str.{bytes_eq}
 use Rattle.std.proofs.lemmas.Bool.{cases_lt}
@@ -11,20 +11,24 @@ use Rattle.line_core.specs.declared.message.Message.{Message}
 use Rattle.line_core.specs.declared.message.MessageNumber.{MessageNumber}
 use Rattle.line_core.specs.Lines.{is_same}
 use Rattle.broker_state.specs.declared.subscription.Subscription.{Subscription}
+use Rattle.broker_state.specs.declared.nack_rule.NackRule.{NackRule}
+use Rattle.broker_state.specs.Executing.{HasFewMembers}
 use Rattle.broker_state.specs.Kept.{takes_from, unacknowledged_by}
 use Rattle.broker_state.specs.Names.{Name, name_cmp, text_cmp}
 use Rattle.broker_state.specs.Operations.{message_of, restarted, uses}
-use Rattle.broker_state.specs.Sound.{AreOnce, HasLines, HasNames, HasNumbers, had_by}
+use Rattle.broker_state.specs.Sound.{AreOnce, HasLines, HasNames, HasNumbers, HasSubscriptions, had_by}
 use Rattle.broker_state.specs.States.{IsInOrder, State, empty_state, standing, weight_of, weight_of_subscription}
-use Rattle.broker_state.specs.Steps.{led_to, step}
+use Rattle.broker_state.specs.Steps.{led_to, step_by}
 use Rattle.broker_state.specs.Waiting.{is_own, line_at}
 use Rattle.broker_laws.proofs.BoundNames.{names_changes, names_from}
 use Rattle.broker_state.proofs.KeyedLines.{weight-removed}
 use Rattle.broker_laws.proofs.LineWeights.{flown, flown_where, flying, part}
-use Rattle.broker_laws.proofs.MessageNumbers.{same_parts, sum_nothing}
-use Rattle.broker_laws.proofs.Ordered.{IsOrdered, led_in_order, ordered_first, ordered_from, restarted_keeps_in_order}
+use Rattle.broker_laws.proofs.Limited.{led_few}
+use Rattle.broker_laws.proofs.MessageNumbers.{same_parts}
+use Rattle.broker_laws.proofs.Meters.{Meter, meter, none_metered, sum_nothing}
+use Rattle.broker_laws.proofs.Ordered.{IsOrdered, ordered_first, ordered_from, restarted_keeps_in_order}
 use Rattle.broker_laws.proofs.PlacedLines.{IsNamed, IsPlaced, placed_changes, placed_from}
-use Rattle.broker_laws.proofs.SingleCopies.{IsMetered, IsSingle, IsSingleOwn, in_queue, less_left, single_changes, single_from, under}
+use Rattle.broker_laws.proofs.SingleCopies.{IsSingle, IsSingleOwn, in_queue, less_left, single_changes, single_from, under}
 use Rattle.broker_laws.proofs.Standing.{all_stand}
 use Rattle.broker_laws.proofs.Walk.{beside, beside_from, led_keeps, restarted_keeps}
 
@@ -52,32 +56,26 @@ module _ (number : MessageNumber) where
   abbrev copies : Message → ℕ
   copies m = counted (is_same number m.number)
 
-  -- one is left up to the place of that number, and none behind it
-  abbrev left : ℕ → ℕ
-  left place = 1 - (place - number.place)
+  one_at_most : (m : Message) → copies m ≤ 1
+  one_at_most m = by (is_same number m.number)
+    where
+      by : (b : Bool) → counted b ≤ 1
+      by true = omega arith
+      by false = omega arith
 
-  another : (m : Message) → number.command ≢ m.number.command → copies m ≡ 0
+  -- one of another number does not
+  another : (m : Message) → (is_same number m.number ≡ true → ⊥) → copies m ≡ 0
   another m other = by (is_same number m.number) refl
     where
       by : (b : Bool) → is_same number m.number ≡ b → counted b ≡ 0
-      by true is = absurd (other (same_parts number m.number is).0)
+      by true is = absurd (other is)
       by false is = refl
 
-  metered : (command : ℕ) → IsMetered copies command left
-  metered command = record {
-    falls = λ place. omega arith;
-    new = λ place sending. by place (is_same number (message_of command place sending).number) (λ is. (same_parts number (message_of command place sending).number is).1);
-  }
-    where
-      by : (place : ℕ) (b : Bool) → (b ≡ true → number.place ≡ place) → counted b + left (place + 1) ≤ left place
-      by place true same = omega (arith, same refl)
-      by place false same = omega arith
+  of_another : (m : Message) → number.command ≢ m.number.command → copies m ≡ 0
+  of_another m other = another m (λ is. other (same_parts number m.number is).0)
 
-  none_metered : (command : ℕ) → number.command ≢ command → IsMetered copies command (λ place. 0)
-  none_metered command other = record {
-    falls = λ place. omega arith;
-    new = λ place sending. omega (arith, another (message_of command place sending) other);
-  }
+  meter_of : (command : ℕ) → Meter copies command number.place one_at_most (λ place sending other. another (message_of command place sending) (λ is. other (same_parts number (message_of command place sending).number is).1))
+  meter_of command = meter copies command number.place one_at_most (λ place sending other. another (message_of command place sending) (λ is. other (same_parts number (message_of command place sending).number is).1))
 
   -- how often it stands in lines, and unacknowledged
   unacknowledged_copies : (such : Subscription → Bool) (subs : List Subscription) → sum_by copies (unacknowledged_by such subs) ≡ sum_by (part copies such) subs
@@ -114,7 +112,7 @@ module _ (number : MessageNumber) where
 
   none_stands : (s : State) → AllByRecursion (λ m. m.number.command < s.count) (standing s) → s.count ≤ number.command → weight_of copies s ≡ 0
   none_stands s numbers later =
-      all_stand copies s ∙ sum_nothing copies (standing s) (all_weaker (λ m. m.number.command < s.count) (λ m. copies m ≡ 0) (λ m before. another m (λ same. omega (arith, same, before, later))) (standing s) numbers)
+      all_stand copies s ∙ sum_nothing copies (standing s) (all_weaker (λ m. m.number.command < s.count) (λ m. copies m ≡ 0) (λ m before. of_another m (λ same. omega (arith, same, before, later))) (standing s) numbers)
 
   single_of : (s : State) → HasLines s → IsSingle copies 0 s
   single_of s now = record {
@@ -124,16 +122,18 @@ module _ (number : MessageNumber) where
   }
 
   -- a step leaves one at most
-  single_led : (s : State) (c : CommandValue) → IsInOrder s → HasNumbers s → HasLines s → IsSingle copies 0 (led_to s c.session c.op).state
-  single_led s c order numbers now = by (cases_lt number.command s.count)
+  single_led : (rule : NackRule) (s : State) (c : CommandValue) → HasFewMembers c.op → IsInOrder s → HasSubscriptions s → HasNumbers s → HasLines s → IsSingle copies 0 (led_to rule s c.session c.op).state
+  single_led rule s c few order limited numbers now = by (cases_lt number.command s.count)
     where
-      by : (number.command < s.count) ⊎ (s.count ≤ number.command) → IsSingle copies 0 (led_to s c.session c.op).state
+      by : (number.command < s.count) ⊎ (s.count ≤ number.command) → IsSingle copies 0 (led_to rule s c.session c.op).state
       by (inl earlier) =
-          (led_in_order s order (λ place. IsSingle copies 0) (single_from copies s.count (λ place. 0) (none_metered s.count (λ same. omega (arith, same, earlier)))) c (single_of s now)).2
+          let none = none_metered copies s.count (λ place sending. of_another (message_of s.count place sending) (λ same. omega (arith, same, earlier))) in
+          (led_few s order limited (λ place. IsSingle copies 0) (single_from copies s.count (λ place. 0) none) rule c few (single_of s now)).1
       by (inr later) =
+          let one = meter_of s.count in
           let first = single_yet s (none_stands s numbers.messages later) in
-          let after = led_in_order s order (λ place. IsSingle copies (left place)) (single_from copies s.count left (metered s.count)) c (less_left copies 1 (left 0) s (omega arith) first) in
-          less_left copies (left after.0) 0 (led_to s c.session c.op).state (omega arith) after.2
+          let after = led_few s order limited (λ place. IsSingle copies (one.left place)) (single_from copies s.count one.left one.metered) rule c few (less_left copies 1 (one.left 0) s (omega (arith, one.first)) first) in
+          less_left copies (one.left after.0) 0 (led_to rule s c.session c.op).state (omega arith) after.1
 
   single_restarted : (s : State) → IsInOrder s → HasLines s → IsSingle copies 0 (restarted s)
   single_restarted s order now =
@@ -214,12 +214,12 @@ empty_lines = record {
 }
 
 -- a step keeps what is asked of lines, and so does a restart
-pub step_lines : (s : State) (c : CommandValue) → IsInOrder s → HasNames s → HasNumbers s → HasLines s → HasLines (step s c)
-step_lines s c order names numbers now =
+pub step_lines : (rule : NackRule) (s : State) (c : CommandValue) → HasFewMembers c.op → IsInOrder s → HasSubscriptions s → HasNames s → HasNumbers s → HasLines s → HasLines (step_by rule s c)
+step_lines rule s c few order limited names numbers now =
     let named = beside_from (IsOrdered s.count) (λ place. HasNames) (ordered_from s.count) (names_from s.count) in
     let all = beside_from (IsNamed s.count) (λ place. IsPlaced) named (placed_from s.count) in
-    let after = led_keeps (λ place t. IsNamed s.count t × IsPlaced t) all s c.session c.op order.opened ((ordered_first s order, names), placed_of s now) in
-    let led = lines_of (led_to s c.session c.op).state after.1.1 (λ number. single_led number s c order numbers now) in
+    let after = led_keeps (λ place t. IsNamed s.count t × IsPlaced t) all rule s c.session c.op order.opened ((ordered_first s order, names), placed_of s now) in
+    let led = lines_of (led_to rule s c.session c.op).state after.2.1 (λ number. single_led number rule s c few order limited numbers now) in
     record { queues = led.queues; names = led.names; to = led.to; own = led.own; once_in_queues = led.once_in_queues; once_under_names = led.once_under_names; once_of_own = led.once_of_own }
 
 pub restarted_lines : (s : State) → IsInOrder s → HasNames s → HasLines s → HasLines (restarted s)

@@ -17,12 +17,13 @@ use Rattle.line_core.specs.declared.message.Message.{Message}
 use Rattle.line_core.proofs.Flights.{length-settled}
 use Rattle.broker_state.specs.declared.subscription.Subscription.{Subscription}
 use Rattle.broker_state.specs.HandOut.{can_take, delivered, handed, has_room, is_auto}
+use Rattle.broker_state.specs.declared.nack_rule.NackRule.{NackRule}
 use Rattle.broker_state.specs.Lists.{is_none, picked, with_first}
 use Rattle.broker_state.specs.Names.{Name}
 use Rattle.broker_state.specs.Operations.{awaits, copied, forgotten, fresh, is_named, is_of, message_of, opened, restarted, settled_by, fanned_out, with_subscription, without}
 use Rattle.broker_state.specs.Sound.{HasSubscriptions, window_of}
 use Rattle.broker_state.specs.States.{IsInOrder, State, empty_state, is_open}
-use Rattle.broker_state.specs.Steps.{step}
+use Rattle.broker_state.specs.Steps.{step_by}
 use Rattle.broker_state.specs.Waiting.{left_line, line_for}
 use Rattle.broker_laws.proofs.Counts.{count_added, count_behind, count_left, count_none, counted, sum_mapped, sum_with_first}
 use Rattle.broker_state.proofs.Lookups.{is_equal, lookup_removed, some_inserted}
@@ -163,11 +164,14 @@ module _ (number : ℕ) where
       by false =
           whole (fanned_out_by s m false) (all_mapped (λ x. is_open s x.session ≡ true) (copied m) (λ sub is. copied_keeps (λ x. is_open s x.session ≡ true) m sub is is) s.subscriptions now.of_open) (few_copied s.subscriptions (parts s now) m)
 
-  limits_from : KeepsFrom (IsOrdered number) (λ place. HasSubscriptions)
+  pub limits_from : KeepsFrom (IsOrdered number) (λ place. HasSubscriptions)
   limits_from = record {
     changes = λ place. limits_changes;
     next = λ place s known now. now;
     fanned_out = λ place s sending fits known now. limits_fanned_out s (message_of s.count place sending) now;
+    refused = λ place s session delivery sub others is fits known now.
+        let after = limits_changes.acknowledged s session delivery known now in
+        record { of_open = after.of_open; ids = after.ids; few = after.few; window = after.window };
   }
 
 -- the first state has none
@@ -175,9 +179,9 @@ pub empty_limits : HasSubscriptions empty_state
 empty_limits = record { of_open = tt; ids = λ session id. omega arith; few = λ session. omega arith; window = tt }
 
 -- a step keeps the limits of subscriptions, and so does a restart
-pub step_limits : (s : State) (c : CommandValue) → IsInOrder s → HasSubscriptions s → HasSubscriptions (step s c)
-step_limits s c order now =
-    let after = (led_in_order s order (λ place. HasSubscriptions) (limits_from s.count) c now).2 in
+pub step_limits : (rule : NackRule) (s : State) (c : CommandValue) → IsInOrder s → HasSubscriptions s → HasSubscriptions (step_by rule s c)
+step_limits rule s c order now =
+    let after = (led_in_order s order (λ place. HasSubscriptions) (limits_from s.count) rule c now).2 in
     record { of_open = after.of_open; ids = after.ids; few = after.few; window = after.window }
 
 pub restarted_limits : (s : State) → IsInOrder s → HasSubscriptions s → HasSubscriptions (restarted s)

@@ -1,4 +1,4 @@
-use Rattle.std.proofs.Common.{◌≡◌, ◌<◌, ◌≤◌, ◌+◌, ◌&&◌, ◌||◌, List, [], ◌∷◌, ℕ, suc, zero, Bool, true, false, cond, not, Option, Some, None, Result, Ok, Err, count_by, filter, fold, is_some, length, nat_le, refl, sym, ap, subst, ◌∙◌, arith, if◌then◌else◌}
+use Rattle.std.proofs.Common.{◌≡◌, ◌<◌, ◌≤◌, ◌+◌, ◌&&◌, ◌||◌, List, [], ◌∷◌, ℕ, suc, zero, Bool, true, false, true≢false, cond, not, Option, Some, None, Result, Ok, Err, count_by, filter, fold, is_some, length, nat_le, refl, sym, ap, subst, ◌∙◌, arith, if◌then◌else◌}
 use Rattle.std.specs.BTreeMap.{insert_entry, is_at}
 use Rattle.std.specs.List.{AllByRecursion, list_any}
 use Rattle.std.specs.Map.{remove_entry}
@@ -17,17 +17,23 @@ use Rattle.command_core.specs.declared.member.Member.TheVariants as members
 use Rattle.record_core.specs.Destinations.{is_queue}
 use Rattle.record_core.specs.Sendings.{SendingValue}
 use Rattle.line_core.specs.declared.message.Message.{Message}
+use Rattle.broker_state.specs.declared.nack_rule.NackRule.{NackRule}
+use Rattle.broker_state.specs.declared.nack_rule.NackRule.TheVariants as nack
 use Rattle.broker_state.specs.declared.subscription.Subscription.{Subscription}
+use Rattle.broker_state.specs.Dead.{nacked, with_room}
+use Rattle.broker_state.specs.Executing.{applied, committed, executed}
 use Rattle.broker_state.specs.HandOut.{Handed, can_take, hand_out, handed, settled, waiting}
 use Rattle.broker_state.specs.Lists.{picked, with_first}
 use Rattle.broker_state.specs.Names.{Name, name_cmp}
-use Rattle.broker_state.specs.Operations.{acknowledged, applied, awaits, begun_by, begun_for, bound, executed, client_of, committed, ended, ended_one, forgotten, fresh, given_up_for, is_named, is_of, is_within, message_of, name_for, named, opened, or_same, restarted, sent, settled_by, fanned_out, subscribed, topic_of, unsubscribed, used_again, uses, with_subscription, without, without_named}
+use Rattle.broker_state.specs.Operations.{acknowledged, awaits, begun_by, begun_for, bound, client_of, ended, ended_one, forgotten, fresh, given_up_for, is_named, is_of, is_within, message_of, name_for, named, opened, or_same, restarted, sent, settled_by, fanned_out, subscribed, topic_of, unsubscribed, used_again, uses, with_subscription, without, without_named}
 use Rattle.broker_state.specs.Parts.{NonePass}
 use Rattle.broker_state.specs.States.{State, is_open}
 use Rattle.broker_state.specs.Steps.{accepted_or_ended, done, is_opening, led_to}
 use Rattle.broker_state.specs.Waiting.{line_for, returned}
 use Rattle.broker_laws.proofs.Deliveries.{made, settling_keeps}
 use Rattle.broker_state.proofs.Ending.{filter-all_others, filter-none}
+use Rattle.broker_state.proofs.Firsts.{any_none}
+use Rattle.broker_state.proofs.Refusals.{kept_in, nacked_none, nacked_some}
 use Rattle.broker_laws.proofs.Picked.{filter-picked, filter-unpicked, length-picked, picked_nothing}
 
 -- What a step is made of. A rule that each of these changes keeps is kept by a step and by a restart.
@@ -58,11 +64,12 @@ pub record Keeps (Known Rule : State → Type 0) : Type 0 where
   pub handed : (s : State) (sub : Subscription) (others : List Subscription) (m : Message) (rest : List Message) → picked (can_take s) s.subscriptions ≡ Some (sub, others) → line_for s.shared sub ≡ m ∷ rest → Known s → Rule s → Rule (handed s sub others m rest).state
 
 -- The rule may change from place to place in a transaction: each change keeps it, a sending leads on to the next place,
--- and so does what is done instead of one.
+-- and so do a refusal that keeps its messages and what is done instead of either.
 pub record KeepsFrom (Known : State → Type 0) (Rule : ℕ → State → Type 0) : Type 0 where
   pub changes : (place : ℕ) → Keeps Known (Rule place)
   pub next : (place : ℕ) (s : State) → Known s → Rule place s → Rule (place + 1) s
   pub fanned_out : (place : ℕ) (s : State) (sending : SendingValue) → is_within (fanned_out s (message_of s.count place sending)) ≡ true → Known s → Rule place s → Rule (place + 1) (fanned_out s (message_of s.count place sending))
+  pub refused : (place : ℕ) (s : State) (session delivery : ℕ) (sub : Subscription) (others : List Subscription) → picked (awaits session delivery) s.subscriptions ≡ Some (sub, others) → is_within (kept_in s session place delivery sub) ≡ true → Known s → Rule place s → Rule (place + 1) (kept_in s session place delivery sub)
 
 -- what holds of every state
 abbrev pub Anything : State → Type 0
@@ -96,6 +103,8 @@ beside_from Known Rule k r = record {
   next = λ place s _ now. (now.0, r.next place s now.0 now.1);
   fanned_out = λ place s sending fits _ now.
       (k.fanned_out place s sending fits tt now.0, r.fanned_out place s sending fits now.0 now.1);
+  refused = λ place s session delivery sub others is fits _ now.
+      (k.refused place s session delivery sub others is fits tt now.0, r.refused place s session delivery sub others is fits now.0 now.1);
 }
 
 -- all are among those that pass everything, and none among those that pass nothing
@@ -264,96 +273,135 @@ module _ (Rule : State → Type 0) (keeps : Keeps Anything Rule) where
   settled_keeps : (s : State) → Rule s → Rule (settled s).state
   settled_keeps s now = settling_keeps Rule handed_keeps (waiting s) s now
 
-module _ (Rule : ℕ → State → Type 0) (keeps : KeepsFrom Anything Rule) where
-  -- the rule of some place
-  abbrev pub Somewhere : State → Type 0
-  Somewhere s = (place : ℕ) × Rule place s
+-- how many places the members of an operation have, which itself has one
+abbrev pub places_of : Op → ℕ
+places_of (Commit members) = length members
+places_of _ = 1
 
-  at_first : (r : Result State Fault) → Gives (Rule 0) r → Gives Somewhere r
-  at_first (Ok t) now = (0, now)
-  at_first (Err fault) now = tt
+module _ (Rule : ℕ → State → Type 0) (keeps : KeepsFrom Anything Rule) where
+  -- the rule of some place up to that one
+  abbrev pub UpTo : ℕ → State → Type 0
+  UpTo most s = (place : ℕ) × (place ≤ most) × Rule place s
+
+  further : (most more : ℕ) → most ≤ more → (r : Result State Fault) → Gives (UpTo most) r → Gives (UpTo more) r
+  further most more less (Ok t) now = (now.0, omega (arith, now.1, less), now.2)
+  further most more less (Err fault) now = tt
+
+  at_first : (most : ℕ) (r : Result State Fault) → Gives (Rule 0) r → Gives (UpTo most) r
+  at_first most (Ok t) now = (0, omega arith, now)
+  at_first most (Err fault) now = tt
+
+  at_next : (r : Result State Fault) → Gives (Rule 1) r → Gives (UpTo 1) r
+  at_next (Ok t) now = (1, omega arith, now)
+  at_next (Err fault) now = tt
+
+  -- where there is room, what is kept there
+  with_room_keeps : (place : ℕ) (t : State) → (is_within t ≡ true → Rule place t) → Gives (Rule place) (with_room t)
+  with_room_keeps place t kept = by (is_within t) refl
+    where
+      by : (b : Bool) → is_within t ≡ b → Gives (Rule place) (if b then Ok t else Err NoRoom)
+      by true fits = kept fits
+      by false full = tt
 
   sent_keeps : (s : State) (place : ℕ) (sending : SendingValue) → Rule place s → Gives (Rule (place + 1)) (sent s place sending)
-  sent_keeps s place sending now = by (is_within t) refl
-    where
-      t : State
-      t = fanned_out s (message_of s.count place sending)
-
-      by : (b : Bool) → is_within t ≡ b → Gives (Rule (place + 1)) (if b then Ok t else Err NoRoom)
-      by true fits = keeps.fanned_out place s sending fits tt now
-      by false full = tt
+  sent_keeps s place sending now =
+      with_room_keeps (place + 1) (fanned_out s (message_of s.count place sending)) (λ fits. keeps.fanned_out place s sending fits tt now)
 
   next_keeps : (place : ℕ) (r : Result State Fault) → Gives (Rule place) r → Gives (Rule (place + 1)) r
   next_keeps place (Ok t) now = keeps.next place t tt now
   next_keeps place (Err fault) now = tt
 
-  applied_keeps : (s : State) (session place : ℕ) (m : Member) → Rule place s → Gives (Rule (place + 1)) (applied s session place m)
-  applied_keeps s session place (members.Send sending) now = sent_keeps s place sending now
-  applied_keeps s session place (members.Ack delivery) now =
-      next_keeps place (acknowledged s session delivery) (acknowledged_keeps (Rule place) (keeps.changes place) s session delivery now)
-  applied_keeps s session place (members.Nack delivery) now =
+  settled_next : (s : State) (session place delivery : ℕ) → Rule place s → Gives (Rule (place + 1)) (acknowledged s session delivery)
+  settled_next s session place delivery now =
       next_keeps place (acknowledged s session delivery) (acknowledged_keeps (Rule place) (keeps.changes place) s session delivery now)
 
-  committed_keeps : (s : State) (session place : ℕ) (ms : List Member) → Rule place s → Gives Somewhere (committed s session place ms)
-  committed_keeps s session place [] now = (place, now)
-  committed_keeps s session place (m ∷ ms) now =
-      by (λ t after. committed_keeps t session (place + 1) ms after) (applied s session place m) (applied_keeps s session place m now)
+  refused_keeps : (s : State) (session place delivery : ℕ) → Rule place s → Gives (Rule (place + 1)) (nacked nack.Keeps s session place delivery)
+  refused_keeps s session place delivery now = found (list_any p s.subscriptions) refl
     where
-      by : ((t : State) → Rule (place + 1) t → Gives Somewhere (committed t session (place + 1) ms)) → (r : Result State Fault) → Gives (Rule (place + 1)) r → Gives Somewhere (elim r as (λ x. Result State Fault) [ Ok t ↦ committed t session (place + 1) ms | Err fault ↦ Err fault ])
-      by rest (Ok t) after = rest t after
-      by rest (Err fault) after = tt
+      p : Subscription → Bool
+      p = awaits session delivery
 
-  one_sent : (r : Result State Fault) → Gives (Rule 1) r → Gives Somewhere r
-  one_sent (Ok t) now = (1, now)
-  one_sent (Err fault) now = tt
+      some_keeps : (o : Option (Subscription × List Subscription)) → picked p s.subscriptions ≡ o → list_any p s.subscriptions ≡ true → Gives (Rule (place + 1)) (nacked nack.Keeps s session place delivery)
+      some_keeps None is some =
+          absurd (true≢false (sym some ∙ any_none p s.subscriptions (picked_nothing p s.subscriptions is)))
+      some_keeps (Some q) is some =
+          subst (Gives (Rule (place + 1))) (sym (nacked_some s session place delivery q.0 q.1 is some)) (with_room_keeps (place + 1) (kept_in s session place delivery q.0) (λ fits. keeps.refused place s session delivery q.0 q.1 is fits tt now))
 
-  executed_keeps : (s : State) (session : ℕ) (op : Op) → is_open s session ≡ true → Rule 0 s → Gives Somewhere (executed s session op)
-  executed_keeps s session (Open client_id) of_open now = (0, now)
-  executed_keeps s session (Send sending) of_open now = one_sent (sent s 0 sending) (sent_keeps s 0 sending now)
-  executed_keeps s session (Subscribe id to mode name) of_open now =
-      at_first (subscribed s session id to mode name) (subscribed_keeps (Rule 0) (keeps.changes 0) s session id to mode name of_open now)
-  executed_keeps s session (Unsubscribe id (Some name)) of_open now =
-      at_first (given_up_for (without_named s session id) (client_of s session) name) (given_up_keeps (Rule 0) (keeps.changes 0) (without_named s session id) (client_of s session) name (without_keeps (Rule 0) (keeps.changes 0) s session id now))
-  executed_keeps s session (Unsubscribe (Some id) None) of_open now =
-      at_first (unsubscribed s session id) (unsubscribed_keeps (Rule 0) (keeps.changes 0) s session id now)
-  executed_keeps s session (Unsubscribe None None) of_open now = tt
-  executed_keeps s session (Ack delivery) of_open now =
-      at_first (acknowledged s session delivery) (acknowledged_keeps (Rule 0) (keeps.changes 0) s session delivery now)
-  executed_keeps s session (Nack delivery) of_open now =
-      at_first (acknowledged s session delivery) (acknowledged_keeps (Rule 0) (keeps.changes 0) s session delivery now)
-  executed_keeps s session (Commit ms) of_open now = committed_keeps s session 0 ms now
-  executed_keeps s session Note of_open now = (0, now)
-  executed_keeps s session (End end) of_open now = (0, ended_keeps (Rule 0) (keeps.changes 0) s session now)
+      found : (b : Bool) → list_any p s.subscriptions ≡ b → Gives (Rule (place + 1)) (nacked nack.Keeps s session place delivery)
+      found true some = some_keeps (picked p s.subscriptions) refl some
+      found false none = subst (Gives (Rule (place + 1))) (sym (nacked_none s session place delivery none)) tt
 
-  accepted_keeps : (s : State) (session : ℕ) (r : Result State Fault) → Rule 0 s → Gives Somewhere r → Somewhere (accepted_or_ended s session r)
-  accepted_keeps s session (Ok t) before now = now
-  accepted_keeps s session (Err fault) before now = (0, ended_keeps (Rule 0) (keeps.changes 0) s session before)
+  nacked_keeps : (rule : NackRule) (s : State) (session place delivery : ℕ) → Rule place s → Gives (Rule (place + 1)) (nacked rule s session place delivery)
+  nacked_keeps nack.Drops s session place delivery now = settled_next s session place delivery now
+  nacked_keeps nack.Keeps s session place delivery now = refused_keeps s session place delivery now
 
-  heard_keeps : (s : State) (session : ℕ) (op : Op) → Rule 0 s → Somewhere (if is_open s session then accepted_or_ended s session (executed s session op) else s)
-  heard_keeps s session op now = by (is_open s session) refl
-    where
-      by : (b : Bool) → is_open s session ≡ b → Somewhere (if b then accepted_or_ended s session (executed s session op) else s)
-      by true of_open = accepted_keeps s session (executed s session op) now (executed_keeps s session op of_open now)
-      by false closed = (0, now)
+  module _ (rule : NackRule) where
+    applied_keeps : (s : State) (session place : ℕ) (m : Member) → Rule place s → Gives (Rule (place + 1)) (applied rule s session place m)
+    applied_keeps s session place (members.Send sending) now = sent_keeps s place sending now
+    applied_keeps s session place (members.Ack delivery) now = settled_next s session place delivery now
+    applied_keeps s session place (members.Nack delivery) now = nacked_keeps rule s session place delivery now
 
-  -- What an operation does keeps the rule, at some place.
-  pub done_keeps : (s : State) (session : ℕ) (op : Op) → AllByRecursion (λ e. e.0 < s.count) s.sessions → Rule 0 s → Somewhere (done s session op)
-  done_keeps s session (Open client_id) earlier now = (0, (keeps.changes 0).opened s client_id earlier tt now)
-  done_keeps s session (Send sending) earlier now = heard_keeps s session (Send sending) now
-  done_keeps s session (Subscribe id to mode name) earlier now = heard_keeps s session (Subscribe id to mode name) now
-  done_keeps s session (Unsubscribe id name) earlier now = heard_keeps s session (Unsubscribe id name) now
-  done_keeps s session (Ack delivery) earlier now = heard_keeps s session (Ack delivery) now
-  done_keeps s session (Nack delivery) earlier now = heard_keeps s session (Nack delivery) now
-  done_keeps s session (Commit ms) earlier now = heard_keeps s session (Commit ms) now
-  done_keeps s session Note earlier now = heard_keeps s session Note now
-  done_keeps s session (End end) earlier now = heard_keeps s session (End end) now
+    committed_keeps : (s : State) (session place : ℕ) (ms : List Member) → Rule place s → Gives (UpTo (place + length ms)) (committed rule s session place ms)
+    committed_keeps s session place [] now = (place, omega arith, now)
+    committed_keeps s session place (m ∷ ms) now =
+        by (λ t after. further (place + 1 + length ms) (place + length (m ∷ ms)) (omega arith) (committed rule t session (place + 1) ms) (committed_keeps t session (place + 1) ms after)) (applied rule s session place m) (applied_keeps s session place m now)
+      where
+        by : ((t : State) → Rule (place + 1) t → Gives (UpTo (place + length (m ∷ ms))) (committed rule t session (place + 1) ms)) → (r : Result State Fault) → Gives (Rule (place + 1)) r → Gives (UpTo (place + length (m ∷ ms))) (elim r as (λ x. Result State Fault) [ Ok t ↦ committed rule t session (place + 1) ms | Err fault ↦ Err fault ])
+        by rest (Ok t) after = rest t after
+        by rest (Err fault) after = tt
 
-  -- And so does what it leads to.
-  pub led_keeps : (s : State) (session : ℕ) (op : Op) → AllByRecursion (λ e. e.0 < s.count) s.sessions → Rule 0 s → Somewhere (led_to s session op).state
-  led_keeps s session op earlier now = by (is_opening op || is_open s session)
-    where
-      by : (b : Bool) → Somewhere (if b then settled (done s session op) else record { state = s; outs = [] }).state
-      by true =
-          let after = done_keeps s session op earlier now in
-          (after.0, settled_keeps (Rule after.0) (keeps.changes after.0) (done s session op) after.1)
-      by false = (0, now)
+    executed_keeps : (s : State) (session : ℕ) (op : Op) → is_open s session ≡ true → Rule 0 s → Gives (UpTo (places_of op)) (executed rule s session op)
+    executed_keeps s session (Open client_id) of_open now = (0, omega arith, now)
+    executed_keeps s session (Send sending) of_open now = at_next (sent s 0 sending) (sent_keeps s 0 sending now)
+    executed_keeps s session (Subscribe id to mode name) of_open now =
+        at_first 1 (subscribed s session id to mode name) (subscribed_keeps (Rule 0) (keeps.changes 0) s session id to mode name of_open now)
+    executed_keeps s session (Unsubscribe id (Some name)) of_open now =
+        at_first 1 (given_up_for (without_named s session id) (client_of s session) name) (given_up_keeps (Rule 0) (keeps.changes 0) (without_named s session id) (client_of s session) name (without_keeps (Rule 0) (keeps.changes 0) s session id now))
+    executed_keeps s session (Unsubscribe (Some id) None) of_open now =
+        at_first 1 (unsubscribed s session id) (unsubscribed_keeps (Rule 0) (keeps.changes 0) s session id now)
+    executed_keeps s session (Unsubscribe None None) of_open now = tt
+    executed_keeps s session (Ack delivery) of_open now =
+        at_next (acknowledged s session delivery) (settled_next s session 0 delivery now)
+    executed_keeps s session (Nack delivery) of_open now =
+        at_next (nacked rule s session 0 delivery) (nacked_keeps rule s session 0 delivery now)
+    executed_keeps s session (Commit ms) of_open now =
+        further (0 + length ms) (length ms) (omega arith) (committed rule s session 0 ms) (committed_keeps s session 0 ms now)
+    executed_keeps s session Note of_open now = (0, omega arith, now)
+    executed_keeps s session (End end) of_open now =
+        (0, omega arith, ended_keeps (Rule 0) (keeps.changes 0) s session now)
+
+    accepted_keeps : (most : ℕ) (s : State) (session : ℕ) (r : Result State Fault) → Rule 0 s → Gives (UpTo most) r → UpTo most (accepted_or_ended s session r)
+    accepted_keeps most s session (Ok t) before now = now
+    accepted_keeps most s session (Err fault) before now =
+        (0, omega arith, ended_keeps (Rule 0) (keeps.changes 0) s session before)
+
+    heard_keeps : (s : State) (session : ℕ) (op : Op) → Rule 0 s → UpTo (places_of op) (if is_open s session then accepted_or_ended s session (executed rule s session op) else s)
+    heard_keeps s session op now = by (is_open s session) refl
+      where
+        by : (b : Bool) → is_open s session ≡ b → UpTo (places_of op) (if b then accepted_or_ended s session (executed rule s session op) else s)
+        by true of_open =
+            accepted_keeps (places_of op) s session (executed rule s session op) now (executed_keeps s session op of_open now)
+        by false closed = (0, omega arith, now)
+
+    -- What an operation does keeps the rule, at some place.
+    pub done_keeps : (s : State) (session : ℕ) (op : Op) → AllByRecursion (λ e. e.0 < s.count) s.sessions → Rule 0 s → UpTo (places_of op) (done rule s session op)
+    done_keeps s session (Open client_id) earlier now =
+        (0, omega arith, (keeps.changes 0).opened s client_id earlier tt now)
+    done_keeps s session (Send sending) earlier now = heard_keeps s session (Send sending) now
+    done_keeps s session (Subscribe id to mode name) earlier now = heard_keeps s session (Subscribe id to mode name) now
+    done_keeps s session (Unsubscribe id name) earlier now = heard_keeps s session (Unsubscribe id name) now
+    done_keeps s session (Ack delivery) earlier now = heard_keeps s session (Ack delivery) now
+    done_keeps s session (Nack delivery) earlier now = heard_keeps s session (Nack delivery) now
+    done_keeps s session (Commit ms) earlier now = heard_keeps s session (Commit ms) now
+    done_keeps s session Note earlier now = heard_keeps s session Note now
+    done_keeps s session (End end) earlier now = heard_keeps s session (End end) now
+
+    -- And so does what it leads to.
+    pub led_keeps : (s : State) (session : ℕ) (op : Op) → AllByRecursion (λ e. e.0 < s.count) s.sessions → Rule 0 s → UpTo (places_of op) (led_to rule s session op).state
+    led_keeps s session op earlier now = by (is_opening op || is_open s session)
+      where
+        by : (b : Bool) → UpTo (places_of op) (if b then settled (done rule s session op) else record { state = s; outs = [] }).state
+        by true =
+            let after = done_keeps s session op earlier now in
+            (after.0, after.1, settled_keeps (Rule after.0) (keeps.changes after.0) (done rule s session op) after.2)
+        by false = (0, omega arith, now)

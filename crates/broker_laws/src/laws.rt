@@ -11,50 +11,52 @@ ghost use Rattle.command_core.specs.declared.fault.Fault.{Fault};
 ghost use Rattle.line_core.specs.Lines.{is_same};
 ghost use Rattle.line_core.specs.declared.message.Message.{Message};
 ghost use Rattle.line_core.specs.declared.message.MessageNumber.{MessageNumber};
+ghost use Rattle.broker_state.specs.declared.nack_rule.NackRule.{NackRule};
 ghost use Rattle.broker_state.specs.declared.subscription.Subscription.{Subscription};
+ghost use Rattle.broker_state.specs.Executing.{executed};
 ghost use Rattle.broker_state.specs.HandOut.{can_take, hand_out, handed, is_auto, settled};
 ghost use Rattle.broker_state.specs.Kept.{kept_in_queue, kept_under};
 ghost use Rattle.broker_state.specs.Lists.{picked};
 ghost use Rattle.broker_state.specs.Names.{Name};
-ghost use Rattle.broker_state.specs.Operations.{executed, ended, message_of, restarted, fanned_out};
+ghost use Rattle.broker_state.specs.Operations.{ended, message_of, restarted, fanned_out};
 ghost use Rattle.broker_state.specs.Sound.{IsSound};
 ghost use Rattle.broker_state.specs.States.{State, IsInOrder, bytes, empty_state, held_bytes, held_messages, is_open, standing, weight_of};
 ghost use Rattle.broker_state.specs.Waiting.{line_for};
-ghost use Rattle.broker_state.specs.Steps.{Event, answers, done, is_opening, led_to, step, outs, state_after, state_after_all, outs_of};
+ghost use Rattle.broker_state.specs.Steps.{Event, MayBefall, done, is_opening, outs_by, outs_of_by, state_after_all, state_after_by, step_by};
 
 /// Commands and then others do what the others do after the first, and give the outputs of both in turn.
 pub fn commands_follow_one_another()
-    ensures state { (s : State) (a b : List CommandValue)
-        → state_after s (a ++ b) ≡ state_after (state_after s a) b }
-    ensures outputs { (s : State) (a b : List CommandValue)
-        → outs_of s (a ++ b) ≡ outs_of s a ++ outs_of (state_after s a) b }
+    ensures state { (rule : NackRule) (s : State) (a b : List CommandValue)
+        → state_after_by rule s (a ++ b) ≡ state_after_by rule (state_after_by rule s a) b }
+    ensures outputs { (rule : NackRule) (s : State) (a b : List CommandValue)
+        → outs_of_by rule s (a ++ b) ≡ outs_of_by rule s a ++ outs_of_by rule (state_after_by rule s a) b }
 {}
 
 /// The first state is in order, and each command and each restart keeps it so.
 pub fn states_stay_in_order()
     ensures first { IsInOrder empty_state }
-    ensures step { (s : State) (c : CommandValue) → IsInOrder s → IsInOrder (step s c) }
+    ensures step { (rule : NackRule) (s : State) (c : CommandValue) → IsInOrder s → IsInOrder (step_by rule s c) }
     ensures restart { (s : State) → IsInOrder s → IsInOrder (restarted s) }
 {}
 
 /// A command of a session that is not open is counted and changes nothing else, and nothing is answered.
 pub fn closed_sessions_change_nothing()
-    ensures state { (s : State) (c : CommandValue) → is_opening c.op ≡ false
-        → is_open s c.session ≡ false → step s c ≡ record s { count = s.count + 1 } }
-    ensures outputs { (s : State) (c : CommandValue) → is_opening c.op ≡ false
-        → is_open s c.session ≡ false → outs s c ≡ [] }
+    ensures state { (rule : NackRule) (s : State) (c : CommandValue) → is_opening c.op ≡ false
+        → is_open s c.session ≡ false → step_by rule s c ≡ record s { count = s.count + 1 } }
+    ensures outputs { (rule : NackRule) (s : State) (c : CommandValue) → is_opening c.op ≡ false
+        → is_open s c.session ≡ false → outs_by rule s c ≡ [] }
 {}
 
 /// Each output has the number of the command that gives it.
 pub fn outputs_have_the_number_of_their_command()
-    ensures { (s : State) (c : CommandValue) → IsInOrder s
-        → AllByRecursion (λ out. out.number ≡ s.count) (outs s c) }
+    ensures { (rule : NackRule) (s : State) (c : CommandValue) → IsInOrder s
+        → AllByRecursion (λ out. out.number ≡ s.count) (outs_by rule s c) }
 {}
 
 /// What an operation does that is refused, a transaction too, is the end of its session and nothing else.
 pub fn refused_operations_end_their_session()
-    ensures { (s : State) (session : ℕ) (op : Op) (fault : Fault) → is_opening op ≡ false → is_open s session ≡ true
-        → executed s session op ≡ Err fault → done s session op ≡ ended s session }
+    ensures { (rule : NackRule) (s : State) (session : ℕ) (op : Op) (fault : Fault) → is_opening op ≡ false → is_open s session ≡ true
+        → executed rule s session op ≡ Err fault → done rule s session op ≡ ended s session }
 {}
 
 /// Once all is handed out nothing is left to be handed out.
@@ -79,9 +81,9 @@ pub fn held_counts_what_stands()
 
 /// Each message that stands has the number of a command that is counted, after any commands and restarts.
 pub fn messages_have_numbers_of_commands()
-    ensures step { (s : State) (c : CommandValue) → IsInOrder s
+    ensures step { (rule : NackRule) (s : State) (c : CommandValue) → IsInOrder s
         → AllByRecursion (λ m. m.number.command < s.count) (standing s)
-        → AllByRecursion (λ m. m.number.command < (step s c).count) (standing (step s c)) }
+        → AllByRecursion (λ m. m.number.command < (step_by rule s c).count) (standing (step_by rule s c)) }
     ensures restart { (s : State) → IsInOrder s
         → AllByRecursion (λ m. m.number.command < s.count) (standing s)
         → AllByRecursion (λ m. m.number.command < s.count) (standing (restarted s)) }
@@ -90,16 +92,16 @@ pub fn messages_have_numbers_of_commands()
 {}
 
 /// A message to a queue is put into one place, and later commands make no more of it, whatever a message may weigh. So
-/// after any commands and restarts at most one message to a queue has each number, of all that stand in lines and
-/// unacknowledged.
+/// after any commands and restarts, where transactions have at most 64 members, at most one message to a queue has each
+/// number, of all that stand in lines and unacknowledged.
 pub fn messages_of_queues_are_in_one_place()
     ensures once { (weight : Message → ℕ) (s : State) (m : Message) → IsInOrder s → is_queue m.sending.destination ≡ true
         → weight_of weight (fanned_out s m) ≡ weight_of weight s + weight m }
-    ensures later { (weight : Message → ℕ) (s : State) (c : CommandValue) → IsInOrder s
+    ensures later { (weight : Message → ℕ) (rule : NackRule) (s : State) (c : CommandValue) → IsInOrder s
         → ((place : ℕ) (sending : SendingValue) → weight (message_of s.count place sending) ≡ 0)
-        → weight_of weight (step s c) ≤ weight_of weight s }
+        → weight_of weight (step_by rule s c) ≤ weight_of weight s }
     ensures restart { (weight : Message → ℕ) (s : State) → IsInOrder s → weight_of weight (restarted s) ≤ weight_of weight s }
-    ensures reached { (events : List Event) (number : MessageNumber)
+    ensures reached { (events : List Event) (number : MessageNumber) → AllByRecursion MayBefall events
         → count_by (λ m. is_queue m.sending.destination && is_same number m.number) (standing (state_after_all empty_state events)) ≤ 1 }
 {}
 

@@ -2,11 +2,13 @@
 
 #![tactic(auto)]
 
+mod dead_laws;
 mod laws;
 mod line_laws;
 mod number_laws;
 mod sound_laws;
 
+pub use dead_laws::refusals_lose_nothing_else;
 pub use laws::{
     closed_sessions_change_nothing, commands_follow_one_another,
     deliveries_in_auto_leave_the_state, handing_out_ends, held_counts_what_stands,

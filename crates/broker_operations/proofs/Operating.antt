@@ -1,23 +1,30 @@
-use Rattle.std.proofs.Common.{◌≡◌, ◌<◌, ◌+◌, ◌&&◌, List, [], ◌∷◌, ℕ, suc, zero, Bool, true, false, IfSome, Option, Some, None, Result, Ok, Err, cond, count_by, filter, fold, is_some, length, nat_le, not, refl, remove, sym, ap, ◌∙◌, subst, arith, slice_get, slice_set, take}
+use Rattle.std.proofs.Common.{◌≡◌, ◌<◌, ◌≤◌, ◌+◌, ◌-◌, ◌&&◌, List, [], ◌∷◌, ℕ, suc, zero, Bool, true, false, IfSome, Option, Some, None, Result, Ok, Err, cond, count_by, filter, fold, is_some, length, nat_le, not, refl, remove, sym, ap, ◌∙◌, subst, arith, slice_get, slice_set, take}
 use Rattle.std.specs.BTreeMap.{is_at}
-use Rattle.std.specs.List.{list_any}
-use Rattle.std.specs.Map.{remove_entry}
+use Rattle.std.specs.List.{list_any, sum_by}
+use Rattle.std.specs.List.Sorted.{IsStrictlySortedBy}
+use Rattle.std.specs.Map.{keys_of, remove_entry}
 use Rattle.std.specs.Ordering.{nat_cmp}
+use Rattle.std.proofs.lemmas.Bool.{leb-true}
 use Rattle.std.proofs.lemmas.Option.{none-some, same_Some, slice_get_within}
 use Rattle.record_core.specs.declared.ack_mode.AckMode.{AckMode}
-use Rattle.command_core.specs.declared.command.Op.TheVariants.{Unsubscribe}
 use Rattle.command_core.specs.declared.fault.Fault.{Fault}
-use Rattle.command_core.specs.declared.fault.Fault.TheVariants.{DurableSubscription, SubscriptionIdInUse, UnknownSubscription, UnknownAcknowledgement, TooManyEntries}
+use Rattle.command_core.specs.declared.fault.Fault.TheVariants.{DurableSubscription, NoRoom, SubscriptionIdInUse, UnknownSubscription, UnknownAcknowledgement, TooManyEntries}
+use Rattle.line_core.specs.declared.message.Message.{Message}
+use Rattle.line_core.specs.Flights.{settled}
 use Rattle.broker_state.specs.declared.subscription.Subscription.{Subscription}
-use Rattle.broker_state.specs.Lists.{changed, with_first}
-use Rattle.broker_state.specs.Names.{Name}
-use Rattle.broker_state.specs.Operations.{acknowledged, awaits, begun_for, executed, client_of, ended, ended_one, forgotten, given_up, is_named, is_of, name_for, or_same, settled_by, subscribed, topic_of, unsubscribed, uses, without, without_named}
+use Rattle.broker_state.specs.declared.nack_rule.NackRule.TheVariants as rule
+use Rattle.broker_state.specs.Dead.{first_place, is_dropped, nacked, refused_from, with_refused}
+use Rattle.broker_state.specs.Lists.{changed, picked, with_first}
+use Rattle.broker_state.specs.Names.{Name, text_cmp}
+use Rattle.broker_state.specs.Operations.{acknowledged, awaits, begun_for, client_of, ended, ended_one, forgotten, given_up, is_named, is_of, name_for, or_same, settled_by, subscribed, topic_of, unsubscribed, unsubscribed_by, uses, without, without_named}
 use Rattle.broker_state.specs.Parts.{IsFirst, IsGivenAt, NonePass, but_at, without_at}
-use Rattle.broker_state.specs.States.{State}
-use Rattle.broker_state.specs.Waiting.{Shared, returned}
+use Rattle.broker_state.specs.States.{State, bytes, held_bytes, held_messages, one, weight_of}
+use Rattle.broker_state.specs.Waiting.{Shared, is_own, returned}
 use Rattle.broker_operations.specs.Places.{place_for}
+use Rattle.broker_operations.specs.Refusals.{all_kept, all_kept_bytes, bytes_there}
 use Rattle.broker_state.proofs.Ending.{same_state, filter-all_others, filter-first, filter-none, filter-others, length-removed, take-removed}
 use Rattle.broker_state.proofs.Firsts.{any_first, any_none, changed_first, picked_first, picked_none}
+use Rattle.broker_state.proofs.Refusals.{fewer, kept_from, kept_in, nacked_by, nacked_none, sum_kept, weight-kept_in, weight-let_go}
 
 -- an item stands in each place of a list
 pub item_at : {X : Type 0} (xs : List X) (at : ℕ) → at < length xs → (x : X) × (slice_get xs at ≡ Some x)
@@ -142,11 +149,11 @@ given_up_at s place within known used name found in_use =
     given_up_is (without_at s place) name known used (ap (λ d. is_some (topic_of name d)) (left_at s place within).1 ∙ found) (ap (list_any (uses name)) (left_at s place within).0 ∙ in_use)
 
 -- an UNSUBSCRIBE by id alone
-pub ended_nowhere : (s : State) (session : ℕ) (id : Option (List ℕ)) → IsGivenAt session id s.subscriptions None → executed s session (Unsubscribe id None) ≡ Err UnknownSubscription
+pub ended_nowhere : (s : State) (session : ℕ) (id : Option (List ℕ)) → IsGivenAt session id s.subscriptions None → unsubscribed_by s session id None ≡ Err UnknownSubscription
 ended_nowhere s session None given = refl
 ended_nowhere s session (Some id) none = unsubscribed_none s session id none
 
-pub ended_somewhere : (s t : State) (session : ℕ) (id : Option (List ℕ)) (at : ℕ) → IsGivenAt session id s.subscriptions (Some at) → ((sub : Subscription) → slice_get s.subscriptions at ≡ Some sub → t ≡ without s sub (remove s.subscriptions at)) → executed s session (Unsubscribe id None) ≡ Ok t
+pub ended_somewhere : (s t : State) (session : ℕ) (id : Option (List ℕ)) (at : ℕ) → IsGivenAt session id s.subscriptions (Some at) → ((sub : Subscription) → slice_get s.subscriptions at ≡ Some sub → t ≡ without s sub (remove s.subscriptions at)) → unsubscribed_by s session id None ≡ Ok t
 ended_somewhere s t session None at given ended = absurd cc
 ended_somewhere s t session (Some id) at first ended = unsubscribed_first s session id t at first ended
 
@@ -165,6 +172,73 @@ module _ (s : State) (session delivery : ℕ) where
   acknowledged_first at subs first left =
       ap (λ b. cond b (Ok (record s { subscriptions = with_first (awaits session delivery) (settled_by delivery) s.subscriptions })) (Err UnknownAcknowledgement)) (any_first (awaits session delivery) s.subscriptions at first)
       ∙ ap (λ l. Ok (record s { subscriptions = l })) (changed_first (awaits session delivery) (settled_by delivery) s.subscriptions at first ∙ sym left)
+
+-- A NACK that keeps, once the subscription that has the delivery is found.
+module _ (s : State) (session member delivery : ℕ) where
+  pub nack_none : NonePass (awaits session delivery) s.subscriptions → nacked rule.Keeps s session member delivery ≡ Err UnknownAcknowledgement
+  nack_none none =
+      nacked_none s session member delivery (any_none (awaits session delivery) s.subscriptions none)
+
+  module _ (at : ℕ) (sub : Subscription) (first : IsFirst (awaits session delivery) s.subscriptions at) (there : slice_get s.subscriptions at ≡ Some sub) where
+    is_picked : picked (awaits session delivery) s.subscriptions ≡ Some (sub, remove s.subscriptions at)
+    is_picked = picked_first (awaits session delivery) s.subscriptions at sub first there
+
+    -- the deliveries that it settles
+    abbrev pub gone_of : List (ℕ × Message)
+    gone_of = settled sub.mode delivery sub.unacknowledged
+
+    kept_count : sum_by bytes (kept_from s session member delivery sub) ≡ all_kept_bytes (is_own sub) gone_of
+    kept_count =
+        sum_kept (is_dropped (is_own sub)) s.count bytes bytes_there (λ at m. refl) (first_place member) gone_of
+
+    kept_ones : sum_by one (kept_from s session member delivery sub) ≡ all_kept (is_own sub) gone_of
+    kept_ones = sum_kept (is_dropped (is_own sub)) s.count one (λ m. 1) (λ at m. refl) (first_place member) gone_of
+
+    pub part_of : (weight : Message → ℕ) → sum_by (λ (d : ℕ × Message). weight d.1) gone_of ≤ weight_of weight s
+    part_of weight =
+        omega (arith, weight-let_go weight s session member delivery sub (remove s.subscriptions at) is_picked)
+
+    module _ (rising : IsStrictlySortedBy text_cmp (keys_of s.shared.queues)) (few : held_messages s ≤ 4096) where
+      pub nack_by : (b : Bool) → nat_le (held_bytes s - sum_by (λ (d : ℕ × Message). bytes d.1) gone_of + all_kept_bytes (is_own sub) gone_of) 16777216 ≡ b → nacked rule.Keeps s session member delivery ≡ cond b (Ok (kept_in s session member delivery sub)) (Err NoRoom)
+      nack_by b room =
+          nacked_by s session member delivery sub (remove s.subscriptions at) is_picked (any_first (awaits session delivery) s.subscriptions at first) rising few (held_bytes s - sum_by (λ (d : ℕ × Message). bytes d.1) gone_of + all_kept_bytes (is_own sub) gone_of) (omega (arith, part_of bytes, kept_count)) b room
+
+      -- what is held then
+      pub nack_bytes : held_bytes (kept_in s session member delivery sub) + sum_by (λ (d : ℕ × Message). bytes d.1) gone_of ≡ held_bytes s + all_kept_bytes (is_own sub) gone_of
+      nack_bytes =
+          omega (arith, weight-kept_in bytes s session member delivery sub (remove s.subscriptions at) is_picked rising, kept_count)
+
+      pub nack_messages : held_messages (kept_in s session member delivery sub) + sum_by (λ (d : ℕ × Message). one d.1) gone_of ≡ held_messages s + all_kept (is_own sub) gone_of
+      nack_messages =
+          omega (arith, weight-kept_in one s session member delivery sub (remove s.subscriptions at) is_picked rising, kept_ones)
+
+      pub nack_fewer : held_messages (kept_in s session member delivery sub) ≤ held_messages s
+      nack_fewer =
+          fewer s session member delivery sub (remove s.subscriptions at) is_picked (any_first (awaits session delivery) s.subscriptions at first) rising few
+
+      -- what is counted then
+      pub nack_counts : (own : Bool) (items : List (ℕ × Message)) (old_messages old_bytes mid_messages mid_bytes messages held : ℕ) → own ≡ is_own sub → items ≡ gone_of → old_messages ≡ held_messages s → old_bytes ≡ held_bytes s → mid_messages + sum_by (λ (d : ℕ × Message). one d.1) items ≡ old_messages → mid_bytes + sum_by (λ (d : ℕ × Message). bytes d.1) items ≡ old_bytes → messages ≡ mid_messages + all_kept own items → held ≡ mid_bytes + all_kept_bytes own items → (messages ≡ held_messages (kept_in s session member delivery sub)) × (held ≡ held_bytes (kept_in s session member delivery sub))
+      nack_counts own items old_messages old_bytes mid_messages mid_bytes messages held own_is given was was_bytes less less_bytes more more_bytes = (
+        omega (arith, nack_messages, was, less, more, ap (sum_by (λ (d : ℕ × Message). one d.1)) given, ap (all_kept own) given, ap (λ b. all_kept b gone_of) own_is),
+        omega (arith, nack_bytes, was_bytes, less_bytes, more_bytes, ap (sum_by (λ (d : ℕ × Message). bytes d.1)) given, ap (all_kept_bytes own) given, ap (λ b. all_kept_bytes b gone_of) own_is),
+      )
+
+    -- which is not too much
+    pub nack_small : (own : Bool) (items : List (ℕ × Message)) (old_bytes mid_bytes : ℕ) → own ≡ is_own sub → items ≡ gone_of → mid_bytes + sum_by (λ (d : ℕ × Message). bytes d.1) items ≡ old_bytes → nat_le (old_bytes - sum_by (λ (d : ℕ × Message). bytes d.1) gone_of + all_kept_bytes (is_own sub) gone_of) 16777216 ≡ true → mid_bytes + all_kept_bytes own items ≤ 16777216
+    nack_small own items old_bytes mid_bytes own_is given less room =
+        omega (arith, leb-true (old_bytes - sum_by (λ (d : ℕ × Message). bytes d.1) gone_of + all_kept_bytes (is_own sub) gone_of) 16777216 room, less, ap (sum_by (λ (d : ℕ × Message). bytes d.1)) given, ap (all_kept_bytes own) given, ap (λ b. all_kept_bytes b gone_of) own_is)
+
+    -- what has come
+    pub nack_lines : (own : Bool) (items : List (ℕ × Message)) (shared : Shared) → own ≡ is_own sub → items ≡ gone_of → shared ≡ record s.shared { queues = with_refused (refused_from (is_dropped own) s.count (first_place member) items) s.shared.queues } → shared ≡ record s.shared { queues = with_refused (kept_from s session member delivery sub) s.shared.queues }
+    nack_lines own items shared own_is given came =
+        came ∙ ap (λ l. record s.shared { queues = with_refused (refused_from (is_dropped own) s.count (first_place member) l) s.shared.queues }) given
+        ∙ ap (λ b. record s.shared { queues = with_refused (refused_from (is_dropped b) s.count (first_place member) gone_of) s.shared.queues }) own_is
+
+    -- the state then
+    pub nack_state : (subs : List Subscription) (shared : Shared) → subs ≡ changed at (settled_by delivery) s.subscriptions → shared ≡ record s.shared { queues = with_refused (kept_from s session member delivery sub) s.shared.queues } → record s { shared = shared; subscriptions = subs } ≡ kept_in s session member delivery sub
+    nack_state subs shared left came =
+        ap (λ h. record s { shared = h; subscriptions = subs }) came
+        ∙ ap (λ l. record s { shared = record s.shared { queues = with_refused (kept_from s session member delivery sub) s.shared.queues }; subscriptions = l }) (left ∙ sym (changed_first (awaits session delivery) (settled_by delivery) s.subscriptions at first))
 
 module _ (session : ℕ) where
   -- what is still to be ended, and what stays, once the first subscription of the session has ended

@@ -1,5 +1,6 @@
 pub mod Handing
 pub mod Places
+pub mod Refusals
 pub mod Returns
 pub mod Sendings
 pub mod Tables

@@ -11,7 +11,7 @@ use command_core::Fault;
 use std::alloc::AllocError;
 
 /// Where the subscription of that session waits that has not acknowledged the delivery of that number.
-fn find_awaiting(order: &Order, session: u64, delivery: u64) -> Option<usize>
+pub(crate) fn find_awaiting(order: &Order, session: u64, delivery: u64) -> Option<usize>
     ensures { MatchOption result (NonePass (awaits session delivery) order.now)
         (λ at. IsFirst (awaits session delivery) order.now at) }
 {

@@ -6,12 +6,14 @@ mod acknowledging;
 mod hand_out;
 mod keyed_lines;
 mod order;
+mod refusing;
 mod sending;
 mod shared_lines;
 mod subscribing;
 mod tables;
 
 pub use order::Order;
+pub use refusing::{is_dropped, size_there};
 pub use sending::{copies_to, find_room};
 pub use shared_lines::SharedLines;
 pub use tables::Tables;

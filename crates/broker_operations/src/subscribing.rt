@@ -6,9 +6,8 @@ ghost use Rattle.std.specs.List.{list_any, sum_by};
 ghost use Rattle.std.specs.Str.{bytes_eq};
 ghost use Rattle.line_core.specs.declared.message.Message.{Message};
 ghost use Rattle.record_core.specs.Texts.{IsGiven};
-ghost use Rattle.command_core.specs.declared.command.Op.TheVariants.{Unsubscribe};
 ghost use Rattle.broker_state.specs.Names.{name_cmp};
-ghost use Rattle.broker_state.specs.Operations.{begun, executed, client_in, ended, forgotten, given_up, given_up_for, is_named, is_of, name_for, restarted, subscribed, uses, with_subscription, without};
+ghost use Rattle.broker_state.specs.Operations.{begun, client_in, ended, forgotten, given_up, given_up_for, is_named, is_of, name_for, restarted, subscribed, unsubscribed_by, uses, with_subscription, without};
 ghost use Rattle.broker_state.specs.Parts.{IsFirst, IsGivenAt, NonePass, but_at, leaving, without_at};
 ghost use Rattle.broker_state.specs.States.{bytes, one};
 ghost use Rattle.broker_operations.specs.Places.{place_for};
@@ -296,7 +295,7 @@ impl Tables {
         durable: Option<HeaderText>,
     ) -> Result<(Tables, Result<(), Fault>), AllocError>
         requires form { IsGiven durable }
-        ensures executed { IfOk result (λ r. executed self session (Unsubscribe id durable) ≡ leaving r.1 r.0) }
+        ensures executed { IfOk result (λ r. unsubscribed_by self session id durable ≡ leaving r.1 r.0) }
         ensures same { IfOk result (λ r. IsErr r.1 → r.0 ≡ self) }
     {
         let at = find_given(&self.order, session, &id);

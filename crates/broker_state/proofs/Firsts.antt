@@ -1,6 +1,7 @@
-use Rattle.std.proofs.Common.{◌≡◌, ◌<◌, ◌≤◌, ◌++◌, List, [], ◌∷◌, ℕ, suc, zero, Bool, true, false, Some, None, length, take, refl, sym, ap, subst, ◌∙◌, arith, slice_get, remove, if◌then◌else◌}
-use Rattle.std.specs.List.{list_any}
+use Rattle.std.proofs.Common.{◌≡◌, ◌<◌, ◌≤◌, ◌+◌, ◌||◌, ◌++◌, List, [], ◌∷◌, ℕ, suc, zero, Bool, true, false, Option, Some, None, length, take, refl, sym, ap, subst, ◌∙◌, arith, slice_get, remove, if◌then◌else◌}
+use Rattle.std.specs.List.{list_any, sum_by}
 use Rattle.std.specs.Option.{option_map}
+use Rattle.std.proofs.lemmas.List.Sums.{sum_by-cons}
 use Rattle.std.proofs.lemmas.Option.{slice_get_within}
 use Rattle.broker_state.specs.Lists.{changed, picked, with_first}
 use Rattle.broker_state.specs.Parts.{IsFirst, NonePass}
@@ -42,6 +43,34 @@ module _ {X : Type 0} (p : X → Bool) where
   pub any_none : (xs : List X) → NonePass p xs → list_any p xs ≡ false
   any_none [] none = refl
   any_none (y ∷ ys) none = rw none.0 (any_none ys none.1)
+
+-- where there is one that passes, one is picked
+pub picked_some : {X : Type 0} (p : X → Bool) (xs : List X) → list_any p xs ≡ true → (x : X) × (ys : List X) × (picked p xs ≡ Some (x, ys))
+picked_some p [] some = absurd cc
+picked_some {X} p (z ∷ zs) some = by (p z) refl some (λ rest. picked_some p zs rest)
+  where
+    by : (b : Bool) → p z ≡ b → (b || list_any p zs) ≡ true → (list_any p zs ≡ true → (x : X) × (ys : List X) × (picked p zs ≡ Some (x, ys))) → (x : X) × (ys : List X) × (picked p (z ∷ zs) ≡ Some (x, ys))
+    by true is some tails = (z, zs, ap (λ b. if b then Some (z, zs) else option_map {U = X × List X} (λ (q : X × List X). (q.0, z ∷ q.1)) (picked p zs)) is)
+    by false is some tails =
+        let t = tails some in
+        (t.0, z ∷ t.1, ap (λ b. if b then Some (z, zs) else option_map {U = X × List X} (λ (q : X × List X). (q.0, z ∷ q.1)) (picked p zs)) is ∙ ap (option_map {U = X × List X} (λ (q : X × List X). (q.0, z ∷ q.1))) t.2)
+
+-- a sum once the one that is picked is changed
+pub sum_first : {X : Type 0} (p : X → Bool) (g : X → X) (f : X → ℕ) (xs : List X) (x : X) (ys : List X) → picked p xs ≡ Some (x, ys) → sum_by f (with_first p g xs) + f x ≡ sum_by f xs + f (g x)
+sum_first p g f [] x ys is = absurd cc
+sum_first {X} p g f (z ∷ zs) x ys is = by (p z) is (λ y qs rest. sum_first p g f zs y qs rest)
+  where
+    behind_one : ((y : X) (qs : List X) → picked p zs ≡ Some (y, qs) → sum_by f (with_first p g zs) + f y ≡ sum_by f zs + f (g y)) → (o : Option (X × List X)) → picked p zs ≡ o → option_map {U = X × List X} (λ (q : X × List X). (q.0, z ∷ q.1)) o ≡ Some (x, ys) → sum_by f (z ∷ with_first p g zs) + f x ≡ sum_by f (z ∷ zs) + f (g x)
+    behind_one tails None rest made = absurd cc
+    behind_one tails (Some q) rest made =
+        let same = ap (λ (r : X × List X). r.0) (same_some _ _ made) in
+        omega (arith, tails q.0 q.1 rest, ap f same, ap (λ y. f (g y)) same, sum_by-cons f z zs, sum_by-cons f z (with_first p g zs))
+
+    by : (b : Bool) → (if b then Some (z, zs) else option_map {U = X × List X} (λ (q : X × List X). (q.0, z ∷ q.1)) (picked p zs)) ≡ Some (x, ys) → ((y : X) (qs : List X) → picked p zs ≡ Some (y, qs) → sum_by f (with_first p g zs) + f y ≡ sum_by f zs + f (g y)) → sum_by f (if b then g z ∷ zs else z ∷ with_first p g zs) + f x ≡ sum_by f (z ∷ zs) + f (g x)
+    by true made tails =
+        let same = ap (λ (r : X × List X). r.0) (same_some _ _ made) in
+        omega (arith, ap f same, ap (λ y. f (g y)) same, sum_by-cons f z zs, sum_by-cons f (g z) zs)
+    by false made tails = behind_one tails (picked p zs) refl made
 
 -- what stands before a place stands there too once the item in it was taken out
 pub take_removed : {X : Type 0} (xs : List X) (at : ℕ) (ys : List X) → at < length xs → take at (remove xs at ++ ys) ≡ take at xs

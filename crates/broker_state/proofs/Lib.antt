@@ -8,5 +8,6 @@ pub mod Weights
 pub mod Places
 pub mod Ending
 pub mod Sendings
+pub mod Refusals
 pub mod SortedEntries
 pub mod Alls

@@ -4,6 +4,8 @@ pub mod Waiting
 pub mod States
 pub mod HandOut
 pub mod Operations
+pub mod Dead
+pub mod Executing
 pub mod Steps
 pub mod Parts
 pub mod Settles

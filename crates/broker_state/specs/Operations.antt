@@ -1,16 +1,12 @@
-use Rattle.std.specs.Prelude.{◌+◌, ◌&&◌, ◌==◌, List, [], ◌∷◌, ◌++◌, ℕ, Bool, false, not, Option, Some, None, Result, Ok, Err, count_by, filter, fold, is_some, length, map, nat_le, unwrap_or, if◌then◌else◌}
+use Rattle.std.specs.Prelude.{◌&&◌, ◌==◌, List, [], ◌∷◌, ◌++◌, ℕ, Bool, false, not, Option, Some, None, Result, Ok, Err, count_by, filter, fold, is_some, length, map, nat_le, unwrap_or, if◌then◌else◌}
 use Rattle.std.specs.BTreeMap.{insert_entry, is_at}
 use Rattle.std.specs.List.{list_any}
 use Rattle.std.specs.Map.{lookup, remove_entry}
 use Rattle.std.specs.Ordering.{nat_cmp}
 use Rattle.std.specs.Str.{bytes_eq}
 use Rattle.record_core.specs.declared.ack_mode.AckMode.{AckMode}
-use Rattle.command_core.specs.declared.command.Op.{Op}
-use Rattle.command_core.specs.declared.command.Op.TheVariants.{Send, Subscribe, Unsubscribe, Ack, Nack, Commit, End}
 use Rattle.command_core.specs.declared.fault.Fault.{Fault}
 use Rattle.command_core.specs.declared.fault.Fault.TheVariants.{SubscriptionIdInUse, UnknownSubscription, UnknownAcknowledgement, NoRoom, NoClientId, DurableSubscription, TooManyEntries}
-use Rattle.command_core.specs.declared.member.Member.{Member}
-use Rattle.command_core.specs.declared.member.Member.TheVariants as members
 use Rattle.record_core.specs.Destinations.{is_queue}
 use Rattle.record_core.specs.Sendings.{SendingValue}
 use Rattle.line_core.specs.declared.message.Message.{Message}
@@ -166,6 +162,12 @@ abbrev pub given_up_for : State → Option (List ℕ) → List ℕ → Result St
 given_up_for s None name = Err NoClientId
 given_up_for s (Some client) name = given_up s (client, name)
 
+-- an UNSUBSCRIBE by durable name, after the end of the subscription of that id where one is given, or by id alone
+abbrev pub unsubscribed_by : State → ℕ → Option (List ℕ) → Option (List ℕ) → Result State Fault
+unsubscribed_by s session id (Some name) = given_up_for (without_named s session id) (client_of s session) name
+unsubscribed_by s session (Some id) None = unsubscribed s session id
+unsubscribed_by s session None None = Err UnknownSubscription
+
 -- the subscription is one of that session, and has the delivery of that number unacknowledged
 abbrev pub awaits : ℕ → ℕ → Subscription → Bool
 awaits session delivery sub = is_of session sub && has_delivery delivery sub.unacknowledged
@@ -174,26 +176,12 @@ awaits session delivery sub = is_of session sub && has_delivery delivery sub.una
 abbrev pub settled_by : ℕ → Subscription → Subscription
 settled_by delivery sub = record sub { unacknowledged = unsettled sub.mode delivery sub.unacknowledged }
 
--- An ACK settles what its session has not acknowledged, and is refused where that delivery isn't there. A NACK settles the
--- same, and drops it (STOMP 1.2, "ACK" and "NACK").
+-- An ACK settles what its session has not acknowledged, and is refused where that delivery isn't there (STOMP 1.2, "ACK").
 abbrev pub acknowledged : State → ℕ → ℕ → Result State Fault
 acknowledged s session delivery =
     if list_any (awaits session delivery) s.subscriptions
     then Ok (record s { subscriptions = with_first (awaits session delivery) (settled_by delivery) s.subscriptions })
     else Err UnknownAcknowledgement
-
--- a member of a transaction, or the same on its own
-abbrev pub applied : State → ℕ → ℕ → Member → Result State Fault
-applied s session place (members.Send sending) = sent s place sending
-applied s session place (members.Ack delivery) = acknowledged s session delivery
-applied s session place (members.Nack delivery) = acknowledged s session delivery
-
--- The members of a transaction are applied in their order, from that place on, with nothing handed out between them; where
--- one is refused, all are (STOMP 1.2, "COMMIT").
-abbrev pub committed : State → ℕ → ℕ → List Member → Result State Fault
-committed s session place [] = Ok s
-committed s session place (m ∷ ms) =
-    elim (applied s session place m) as (λ r. Result State Fault) [ Ok t ↦ committed t session (place + 1) ms | Err fault ↦ Err fault ]
 
 -- an Open opens the session whose number is this command's number
 abbrev pub opened : State → Option (List ℕ) → State
@@ -210,16 +198,3 @@ ended s session = record s {
 -- Every session ends, with all subscriptions, and nothing is handed out.
 abbrev pub restarted : State → State
 restarted s = record s { sessions = []; shared = fold returned s.shared s.subscriptions; subscriptions = [] }
-
--- what an operation of an open session leaves, or why it is refused
-abbrev pub executed : State → ℕ → Op → Result State Fault
-executed s session (Send sending) = sent s 0 sending
-executed s session (Subscribe id destination mode durable) = subscribed s session id destination mode durable
-executed s session (Unsubscribe id (Some name)) = given_up_for (without_named s session id) (client_of s session) name
-executed s session (Unsubscribe (Some id) None) = unsubscribed s session id
-executed s session (Unsubscribe None None) = Err UnknownSubscription
-executed s session (Ack delivery) = acknowledged s session delivery
-executed s session (Nack delivery) = acknowledged s session delivery
-executed s session (Commit members) = committed s session 0 members
-executed s session (End end) = Ok (ended s session)
-executed s session _ = Ok s

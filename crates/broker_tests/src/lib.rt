@@ -4,6 +4,8 @@
 #![tactic(auto)]
 
 #[cfg(test)]
+mod dead_tests;
+#[cfg(test)]
 mod durable_tests;
 #[cfg(test)]
 mod parts_tests;

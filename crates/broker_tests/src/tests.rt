@@ -23,9 +23,21 @@ pub(crate) enum Event<'a> {
     /// Sends `hi` there.
     Send(u64, &'a str),
     Ack(u64, u64),
+    Nack(u64, u64),
+    /// These in a transaction.
+    Together(u64, &'a [Part<'a>]),
     /// Sends `hi` there, and acknowledges that delivery, in a transaction.
     Commit(u64, &'a str, u64),
     End(u64, End),
+}
+
+/// What a transaction has in one place.
+#[derive(Clone, Copy)]
+pub(crate) enum Part<'a> {
+    /// `hi` goes there.
+    Sends(&'a str),
+    Acks(u64),
+    Nacks(u64),
 }
 
 pub(crate) fn header_text(alloc: Global, text: &str) -> Result<HeaderText, Fail> {
@@ -130,7 +142,30 @@ fn transaction(alloc: Global, session: u64, to: &str, delivery: u64) -> Result<C
     Ok(Command::new(session, op, None))
 }
 
-fn command_of(alloc: Global, event: &Event<'_>) -> Result<Command, Fail> {
+fn member_of(alloc: Global, part: &Part<'_>) -> Result<Member, Fail> {
+    match part {
+        Part::Sends(to) => Ok(Member::Send(greeting(alloc, to)?)),
+        Part::Acks(delivery) => Ok(Member::Ack(*delivery)),
+        Part::Nacks(delivery) => Ok(Member::Nack(*delivery)),
+    }
+}
+
+fn together(alloc: Global, session: u64, parts: &[Part<'_>]) -> Result<Command, Fail> {
+    if parts.len() > 64 {
+        return Err(Fail::from("too many members"));
+    }
+    let mut members = Vec::new(alloc);
+    for part in parts {
+        members.push(member_of(alloc, part)?)?;
+    }
+    if members.len() > 64 {
+        return Err(Fail::from("too many members"));
+    }
+    let op = Op::Commit(Members::new(members));
+    Ok(Command::new(session, op, None))
+}
+
+pub(crate) fn command_of(alloc: Global, event: &Event<'_>) -> Result<Command, Fail> {
     match event {
         Event::Connect => Ok(Command::new(0, Op::Open { client_id: None }, None)),
         Event::Subscribe(session, id, to, mode) => subscription(alloc, *session, id, to, *mode),
@@ -145,6 +180,8 @@ fn command_of(alloc: Global, event: &Event<'_>) -> Result<Command, Fail> {
             Ok(Command::new(*session, op, None))
         }
         Event::Ack(session, delivery) => Ok(Command::new(*session, Op::Ack(*delivery), None)),
+        Event::Nack(session, delivery) => Ok(Command::new(*session, Op::Nack(*delivery), None)),
+        Event::Together(session, parts) => together(alloc, *session, parts),
         Event::Commit(session, to, delivery) => transaction(alloc, *session, to, *delivery),
         Event::End(session, end) => Ok(Command::new(*session, Op::End(*end), None)),
     }

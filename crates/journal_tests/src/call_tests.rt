@@ -1,4 +1,7 @@
-use area_core::{Area, AreaFault, FormatFault, LentBytes, ReadFault, closed, format, header_of};
+use area_core::{
+    Area, AreaFault, FormatFault, LentBytes, ReadFault, Version, closed, closed_snapshot, format,
+    header_of,
+};
 use byteorder::{BigEndian, ByteOrder};
 use disk_core::{Call, Disk, FuseDisk, MemDisk};
 use std::alloc::{AllocError, Global};
@@ -104,18 +107,19 @@ fn formatting_fails_where_its_disk_fails(rt: HostRuntime) -> Result<(), Fail> {
     Ok(())
 }
 
-// The header of an empty journal: its name, how long an area is, and the selector.
-fn made_header() -> [u8; 32] {
+// The header of an empty journal with this name: how long an area is, and the selector.
+fn made_header(name: &[u8; 8]) -> [u8; 32] {
     let mut bytes = [0; 32];
-    bytes[..8].copy_from_slice(b"STOMPJ01");
+    bytes[..8].copy_from_slice(name);
     BigEndian::write_u64(&mut bytes[8..16], 4_096);
     bytes
 }
 
-// The front of its first area: how long the snapshot is, which is empty, and a closed gate.
-fn made_front() -> [u8; 41] {
+// The front of an area that begins with this byte: it and how long the snapshot is, which is empty, and a closed gate.
+fn made_front(first: u8) -> [u8; 41] {
     let mut bytes = [0; 41];
     BigEndian::write_u64(&mut bytes[..8], 32);
+    bytes[0] = first;
     bytes
 }
 
@@ -135,8 +139,6 @@ fn written_over(rt: &impl Abort, alloc: Global) -> Result<MemDisk, Fail> {
 // Formatting gives up what the disk held.
 #[test]
 fn an_empty_journal_has_the_bytes_of_its_format(rt: HostRuntime) -> Result<(), Fail> {
-    assert!(rt; header_of(rt.alloc(), 4_096)?.as_slice() == made_header().as_slice());
-    assert!(rt; closed(rt.alloc(), &[0; 32])?.as_slice() == made_front().as_slice());
     let mut disk = written_over(&rt, rt.alloc())?;
     format(rt.alloc(), &mut disk, 4_096)?;
     let mut header = [0xee; 32];
@@ -144,7 +146,22 @@ fn an_empty_journal_has_the_bytes_of_its_format(rt: HostRuntime) -> Result<(), F
     assert!(rt; disk.size() == SIZE);
     disk.read_at(0, &mut header)?;
     disk.read_at(32, &mut front)?;
-    assert!(rt; header == made_header() && front == made_front());
+    assert!(rt; header == made_header(b"STOMPJ02") && front == made_front(2));
+    Ok(())
+}
+
+// The digits in the name, and the byte that an area begins with: 0 in the first version, 2 in the second. A block has no such byte.
+#[test]
+fn each_version_has_its_bytes(rt: HostRuntime) -> Result<(), Fail> {
+    let old = header_of(rt.alloc(), Version::One, 4_096)?;
+    assert!(rt; old.as_slice() == made_header(b"STOMPJ01").as_slice());
+    let new = header_of(rt.alloc(), Version::Two, 4_096)?;
+    assert!(rt; new.as_slice() == made_header(b"STOMPJ02").as_slice());
+    let old = closed_snapshot(rt.alloc(), Version::One, &[0; 32])?;
+    assert!(rt; old.as_slice() == made_front(0).as_slice());
+    let new = closed_snapshot(rt.alloc(), Version::Two, &[0; 32])?;
+    assert!(rt; new.as_slice() == made_front(2).as_slice());
+    assert!(rt; closed(rt.alloc(), &[0; 32])?.as_slice() == made_front(0).as_slice());
     Ok(())
 }
 
@@ -231,10 +248,10 @@ fn expect_live(
     drop(snapshot);
     assert!(rt; area.size() == 4_096 && disk.size() == SIZE);
     let block = area.next_block(alloc, disk);
-    let shown = (area.number(), area.used());
+    let shown = (area.number(), area.used(), area.version());
     drop(area);
     assert!(rt; is_same && matches!(block, Ok(None)));
-    assert_eq!(rt; shown, (selector % 2, wanted.len() as u64 + 9));
+    assert_eq!(rt; shown, (selector % 2, wanted.len() as u64 + 9, 2));
     Ok(())
 }
 
@@ -304,4 +321,110 @@ fn a_snapshot_fails_where_its_disk_fails(rt: HostRuntime) -> Result<(), Fail> {
         assert!(rt; failed == (passed < 4), "{passed} calls");
     }
     Ok(())
+}
+
+// The digits in the name, the byte that the live area begins with, and the version that it tells, or none where its first word is
+// damaged.
+const VERSIONS: [(&[u8; 2], u8, Option<u8>); 8] = [
+    (b"01", 0, Some(1)),
+    (b"01", 2, Some(2)),
+    (b"02", 0, Some(1)),
+    (b"02", 2, Some(2)),
+    (b"02", 1, None),
+    (b"01", 3, None),
+    (b"02", 4, None),
+    (b"02", 255, None),
+];
+
+// The version that the live area tells, or none where it is damaged in its first word.
+fn told_version(
+    rt: &impl Abort,
+    alloc: Global,
+    disk: &mut MemDisk,
+    digits: &[u8; 2],
+    first: u8,
+) -> Result<Option<u8>, Fail> {
+    assert!(rt; disk.size() == SIZE);
+    disk.write_at(6, digits)?;
+    disk.write_at(32, &[first])?;
+    match Area::front(alloc, disk) {
+        Ok((area, snapshot)) => {
+            drop(snapshot);
+            Ok(Some(area.version()))
+        }
+        Err(ReadFault::Damaged(32)) => Ok(None),
+        Err(fault) => Err(Fail::from(fault)),
+    }
+}
+
+// The name does not decide.
+#[test]
+fn an_area_tells_its_version_itself(rt: HostRuntime) -> Result<(), Fail> {
+    for (digits, first, wanted) in VERSIONS {
+        let mut disk = formatted(rt.alloc())?;
+        let told = told_version(&rt, rt.alloc(), &mut disk, digits, first);
+        drop(disk);
+        assert!(rt; told? == wanted, "byte {first}");
+    }
+    Ok(())
+}
+
+// Whether a journal whose name has these digits is of another version.
+fn is_unknown(
+    rt: &impl Abort,
+    alloc: Global,
+    disk: &mut MemDisk,
+    digits: &[u8; 2],
+) -> Result<bool, Fail> {
+    assert!(rt; disk.size() == SIZE);
+    disk.write_at(6, digits)?;
+    match Area::front(alloc, disk) {
+        Ok(read) => {
+            drop(read);
+            Ok(false)
+        }
+        Err(ReadFault::UnknownVersion) => Ok(true),
+        Err(fault) => Err(Fail::from(fault)),
+    }
+}
+
+#[test]
+fn a_name_with_other_digits_is_of_another_version(rt: HostRuntime) -> Result<(), Fail> {
+    for (digits, wanted) in [
+        (b"00", true),
+        (b"01", false),
+        (b"02", false),
+        (b"03", true),
+        (b"12", true),
+        (b"21", true),
+    ] {
+        let mut disk = formatted(rt.alloc())?;
+        let unknown = is_unknown(&rt, rt.alloc(), &mut disk, digits);
+        drop(disk);
+        assert!(rt; unknown? == wanted);
+    }
+    Ok(())
+}
+
+// The first area of a new journal becomes one of the first version. What is written then is of the second.
+fn move_from_old(rt: &impl Abort, alloc: Global, disk: &mut MemDisk) -> Result<(), Fail> {
+    assert!(rt; disk.size() == SIZE);
+    disk.write_at(32, &[0])?;
+    let (mut area, old) = front(rt, alloc, disk)?;
+    drop(old);
+    let before = area.version();
+    let moved = move_over(rt, alloc, disk, &mut area, &[0x5a; 7]);
+    let after = area.version();
+    drop(area);
+    moved?;
+    assert_eq!(rt; (before, after), (1, 2));
+    expect_live(rt, alloc, disk, &[0x5a; 7], 1)
+}
+
+#[test]
+fn a_snapshot_is_written_as_the_second_version(rt: HostRuntime) -> Result<(), Fail> {
+    let mut disk = formatted(rt.alloc())?;
+    let done = move_from_old(&rt, rt.alloc(), &mut disk);
+    drop(disk);
+    done
 }

@@ -2,7 +2,7 @@
 
 ghost use Rattle.std.specs.Prelude.{◌≡◌, ◌==◌, ◌<◌, ◌+◌, ◌++◌, ◌∷◌, [], OnOk, OnErr, IfOk, IfErr, IfSome, Err, ℕ, false, true, drop, is_some, length, take};
 ghost use Rattle.std.specs.List.{remove};
-ghost use Rattle.line_core.specs.Flights.{IsOver, IsRising, StandsAt, has_delivery, settled, unsettled};
+ghost use Rattle.line_core.specs.Flights.{IsOver, IsRising, StandsAt, has_delivery, settled, settles, unsettled};
 ghost use Rattle.line_core.specs.declared.flight.SettleFault.TheVariants.{Unknown};
 
 use command_core::AckMode;
@@ -141,6 +141,17 @@ impl<T: Drop> Flight<T> {
             }
         }
         None
+    }
+}
+
+/// Whether the acknowledgement of a delivery settles the one of that number: with `client` each up to the acknowledged
+/// one, else that one alone.
+pub fn settles(mode: AckMode, delivery: u64, number: u64) -> bool
+    ensures { result ≡ settles mode delivery number }
+{
+    match mode {
+        AckMode::Client => number <= delivery,
+        AckMode::ClientIndividual | AckMode::Auto => number == delivery,
     }
 }
 

@@ -8,7 +8,7 @@ mod line;
 mod line_laws;
 mod message;
 
-pub use flight::{Flight, SettleFault};
+pub use flight::{Flight, SettleFault, settles};
 pub use flight_laws::{
     acknowledgements_keep_order, other_items_settle_alike, settled_and_unsettled_are_the_flight,
 };

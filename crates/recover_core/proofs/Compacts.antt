@@ -7,7 +7,10 @@ use Rattle.command_core.specs.Commands.{CommandValue}
 use Rattle.broker_core.specs.States.{State}
 use Rattle.snapshot_core.specs.Snapshots.{Spells}
 use Rattle.area_core.specs.declared.area.Area.{Area}
+use Rattle.area_core.specs.declared.version.Version.{Version}
+use Rattle.area_core.specs.declared.version.Version.TheVariants.{Two}
 use Rattle.area_core.specs.Held.{IsAt}
+use Rattle.area_core.specs.Journals.{Reads}
 use Rattle.area_core.specs.Puts.{Each}
 use Rattle.area_core.specs.Switches.{HasIdle, IsBoth, KeepsAllButSelector, KeepsBoth, KeepsLive, KeepsRest}
 use Rattle.area_core.proofs.Areas.{length-fresh}
@@ -21,7 +24,7 @@ use Rattle.recover_core.proofs.Stores.{leads, stands}
 
 -- while nothing is done, and while the snapshot is written, the live area stays
 pub written_as : (images : List ℕ → Type 0) (area : Area) (s : State) (c : List ℕ) → KeepsLive images area c → KeepsState images area s c
-written_as images area s c keeps snapshot blocks each lead = stands area.size area.selector snapshot blocks c s (keeps snapshot blocks each).reads lead
+written_as images area s c keeps snapshot blocks each lead = stands area.version area.size area.selector snapshot blocks c s (keeps snapshot blocks each).reads lead
 
 pub still_as : (images : List ℕ → Type 0) (area : Area) (s : State) (c : List ℕ) → images c → KeepsState images area s c
 still_as images area s c image = written_as images area s c (λ snapshot blocks each. each c image)
@@ -35,19 +38,20 @@ pub record Copied (images now : List ℕ → Type 0) (area next : Area) (s : Sta
   pub size : next.size ≡ area.size
   pub selector : next.selector ≡ area.selector
   pub gate : next.gate ≡ area.gate
+  pub version : next.version ≡ area.version
   pub snapshot : List ℕ
   pub idle : Each now (HasIdle next snapshot)
   pub spells : Spells snapshot s
 
 module _ {images now : List ℕ → Type 0} {area next : Area} {s : State} (w : Copied images now area next s) where
   held : (snapshot : List ℕ) (blocks : List (List CommandValue)) → Each images (IsAt area snapshot blocks) → Each now (IsAt next snapshot blocks)
-  held snapshot blocks each d image = moved area next snapshot blocks d w.size w.selector w.gate (w.live d image snapshot blocks each)
+  held snapshot blocks each d image = moved area next snapshot blocks d w.size w.selector w.gate w.version (w.live d image snapshot blocks each)
 
-  copy_leads : Leads w.snapshot [] s
+  copy_leads : Leads Two w.snapshot [] s
   copy_leads = record { first = s; spells = w.spells; is = refl }
 
-  either_stands : (snapshot : List ℕ) (blocks : List (List CommandValue)) (c : List ℕ) → IsBoth next snapshot blocks w.snapshot c → Leads snapshot blocks s → Stands c s
-  either_stands snapshot blocks c both lead = ⊎_elim (λ (x : Stands c s). x) (λ (x : Stands c s). x) (both_stand next snapshot blocks w.snapshot s s c both lead copy_leads)
+  either_stands : (snapshot : List ℕ) (blocks : List (List CommandValue)) (c : List ℕ) → IsBoth next snapshot blocks w.snapshot c → Leads area.version snapshot blocks s → Stands c s
+  either_stands snapshot blocks c both lead = ⊎_elim (λ (x : Stands c s). x) (λ (x : Stands c s). x) (both_stand next snapshot blocks w.snapshot s s c both (subst (λ (v : Version). Leads v snapshot blocks s) (sym w.version) lead) copy_leads)
 
   pub switched_as : (c : List ℕ) → KeepsBoth now next c → KeepsState images area s c
   switched_as c keeps snapshot blocks each lead = either_stands snapshot blocks c (keeps snapshot blocks w.snapshot (held snapshot blocks each) w.idle) lead
@@ -62,27 +66,34 @@ module _ {images now : List ℕ → Type 0} {area next : Area} {s : State} (w : 
       let whole : Torn 16 1 d (patched 16 (n ∷ []) c) = record { size = again.size ∙ torn.2.size; before = again.before ∙ torn.2.before; after = again.after ∙ torn.2.after } in
       either_stands snapshot blocks (patched 16 (n ∷ []) c) (keeps_both next now (patched 16 (n ∷ []) c) (d, torn.1, whole) snapshot blocks w.snapshot (held snapshot blocks each) w.idle) lead)
 
-  pub then_live : (later : List ℕ → Type 0) (last : Area)
+  then_live : (later : List ℕ → Type 0) (last : Area) → last.version ≡ Two
       → ((snapshot : List ℕ) (blocks : List (List CommandValue)) (new : List ℕ) → Each now (IsAt next snapshot blocks) → Each now (HasIdle next new) → Each later (IsAt last new []))
       → (snapshot : List ℕ) (blocks : List (List CommandValue)) → Each images (IsAt area snapshot blocks) → HasWritten later last s
-  then_live later last after snapshot blocks each =
+  then_live later last two after snapshot blocks each =
       let there = after snapshot blocks w.snapshot (held snapshot blocks each) w.idle in record {
         sound = ∣ record { snapshot = w.snapshot; blocks = []; held = there } ∣₁;
-        stands = λ c image. stands last.size last.selector w.snapshot [] c s (there c image).reads copy_leads;
+        stands = λ c image. stands last.version last.size last.selector w.snapshot [] c s (there c image).reads (subst (λ (v : Version). Leads v w.snapshot [] s) (sym two) copy_leads);
         holds = λ c image. record {
           selector = last.selector;
           snapshot = w.snapshot;
-          reads = (there c image).reads;
+          reads = subst (λ (v : Version). Reads v last.size last.selector w.snapshot [] c) two (there c image).reads;
           spells = w.spells;
-          is_used = omega (arith, (there c image).gate, length-fresh w.snapshot);
+          is_used = omega (arith, (there c image).gate, length-fresh last.version w.snapshot);
         };
       }
 
+  -- so it is where the switch went through
+  pub live_after : {E : Type 0} (later : List ℕ → Type 0) (last : Area) (res : Result (Unit {0}) E) → OnOk res (last.version ≡ Two)
+      → OnOk res ((snapshot : List ℕ) (blocks : List (List CommandValue)) (new : List ℕ) → Each now (IsAt next snapshot blocks) → Each now (HasIdle next new) → Each later (IsAt last new []))
+      → OnOk res ((snapshot : List ℕ) (blocks : List (List CommandValue)) → Each images (IsAt area snapshot blocks) → HasWritten later last s)
+  live_after later last (Ok x) two after = then_live later last two after
+  live_after later last (Err e) two after = tt
+
 -- what holds where each image has an area that leads to the state, holds where each stands for it
 module _ (area : Area) (images : List ℕ → Type 0) (content : List ℕ) (reads : images content) (sound : IsSound images area) (s : State) (stand : StandFor images s) where
-  knowing : (P : Type 0) → ((snapshot : List ℕ) (blocks : List (List CommandValue)) → Each images (IsAt area snapshot blocks) → Leads snapshot blocks s → ∥ P ∥₁) → ∥ P ∥₁
+  knowing : (P : Type 0) → ((snapshot : List ℕ) (blocks : List (List CommandValue)) → Each images (IsAt area snapshot blocks) → Leads area.version snapshot blocks s → ∥ P ∥₁) → ∥ P ∥₁
   knowing P then = ∥∥₁_elim sound ∥∥₁_prop (λ (it : Sound images area). ∥∥₁_elim (stand content reads) ∥∥₁_prop (λ (st : Standing content s).
-      then it.snapshot it.blocks it.held (leads area.size area.selector it.snapshot it.blocks content s (it.held content reads).reads st)))
+      then it.snapshot it.blocks it.held (leads area.version area.size area.selector it.snapshot it.blocks content s (it.held content reads).reads st)))
 
   pub stands_as : (c : List ℕ) → KeepsState images area s c → Stands c s
   stands_as c keeps = knowing (Standing c s) keeps

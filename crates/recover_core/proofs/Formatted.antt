@@ -1,5 +1,6 @@
 -- A journal that was formatted stands for the empty state.
 use Rattle.std.proofs.Common.{List, [], ℕ, refl, arith}
+use Rattle.area_core.specs.declared.version.Version.TheVariants.{Two}
 use Rattle.area_core.specs.Areas.{first_snapshot}
 use Rattle.area_core.specs.Journals.{Reads}
 use Rattle.broker_core.specs.States.{empty_state}
@@ -14,8 +15,8 @@ spells_empty = record {
   spelled = refl;
 }
 
-pub leads_empty : Leads first_snapshot [] empty_state
+pub leads_empty : Leads Two first_snapshot [] empty_state
 leads_empty = record { first = empty_state; spells = spells_empty; is = refl }
 
-pub stands_formatted : (size : ℕ) (content : List ℕ) → Reads size 0 first_snapshot [] content → Stands content empty_state
-stands_formatted size content reads = ∣ record { size = size; selector = 0; snapshot = first_snapshot; blocks = []; reads = reads; leads = leads_empty } ∣₁
+pub stands_formatted : (size : ℕ) (content : List ℕ) → Reads Two size 0 first_snapshot [] content → Stands content empty_state
+stands_formatted size content reads = ∣ record { version = Two; size = size; selector = 0; snapshot = first_snapshot; blocks = []; reads = reads; leads = leads_empty } ∣₁

@@ -1,25 +1,29 @@
 -- What opening a journal may leave.
-use Rattle.std.proofs.Common.{◌≡◌, ◌⊎◌, inl, inr, ⊎_elim, Bool, true, false, ℕ, List, [], drop, refl, sym, ◌∙◌, subst, arith}
+use Rattle.std.proofs.Common.{◌≡◌, ◌⊎◌, inl, inr, ⊎_elim, Bool, true, false, ℕ, ◌+◌, ◌≤◌, List, [], drop, length, take, refl, sym, ◌∙◌, ap, subst, arith}
 use Rattle.std.proofs.Math.Logic.{∥∥₁_prop, ∥∥₁_map, ∥∥₁_elim}
 use Rattle.disk_core.specs.declared.disk.Disk.{Ghosts}
 use Rattle.disk_core.specs.Images.{Within, Only}
 use Rattle.disk_core.specs.Moments.{Elapses, LeavesOnly}
 use Rattle.disk_core.proofs.Runs.{goes_on, joined, weaker}
+use Rattle.disk_core.proofs.Torn.{take_before}
 use Rattle.command_core.specs.Commands.{CommandValue}
 use Rattle.broker_core.specs.Operations.{restarted}
 use Rattle.broker_core.specs.States.{State}
 use Rattle.snapshot_core.specs.Snapshots.{Spells}
 use Rattle.area_core.specs.declared.area.Area.{Area}
+use Rattle.area_core.specs.declared.version.Version.{Version}
+use Rattle.area_core.specs.declared.version.Version.TheVariants.{Two}
 use Rattle.area_core.specs.Puts.{Each}
-use Rattle.area_core.specs.Areas.{IsArea}
+use Rattle.area_core.specs.Areas.{IsArea, front}
 use Rattle.area_core.specs.Held.{IsAt}
 use Rattle.area_core.specs.Journals.{is_odd, other, start, Reads}
-use Rattle.recover_core.specs.Opens.{HasRead, HasRestarted, IsUnwritten, KeepsEither, StandsForSome, RestartsAs, KeepsRestart}
+use Rattle.recover_core.specs.Opens.{HasRead, HasRestarted, IsUnwritten, KeepsEither, KeepsHeader, StandsForSome, RestartsAs, KeepsRestart}
 use Rattle.recover_core.specs.Standing.{Leads, Stands}
 use Rattle.area_core.specs.Reading.{Quiet}
 use Rattle.area_core.proofs.Areas.{length-fresh}
+use Rattle.area_core.proofs.Journals.{start_least}
 use Rattle.area_core.proofs.Unwritten.{untouched}
-use Rattle.area_core.specs.Switches.{HasIdle, IsBoth, KeepsLive, KeepsBoth}
+use Rattle.area_core.specs.Switches.{HasIdle, IsBoth, KeepsAllButSelector, KeepsBoth, KeepsLive, KeepsRest}
 use Rattle.recover_core.proofs.Stores.{stands}
 use Rattle.recover_core.proofs.Single.{stands_one}
 
@@ -30,15 +34,15 @@ same_image images c image each = ∥∥₁_map (each c image) (λ (it : StandsFo
 pub restart_twice : (s : State) → restarted (restarted s) ≡ restarted s
 restart_twice s = refl
 
-pub fresh_leads : (s : State) (snapshot : List ℕ) → Spells snapshot (restarted s) → Leads snapshot [] (restarted s)
+pub fresh_leads : (s : State) (snapshot : List ℕ) → Spells snapshot (restarted s) → Leads Two snapshot [] (restarted s)
 fresh_leads s snapshot spells = record { first = restarted s; spells = spells; is = refl }
 
 -- where this was read of one of the images, and c stands for that state or for its restart
 pub as_read : (images : List ℕ → Type 0) (area : Area) (s : State) (image c : List ℕ) → images image → HasRead area s image → (Stands c s ⊎ Stands c (restarted s)) → ∥ RestartsAs images c ∥₁
 as_read images area s image c among r (inl old) =
-    ∣ record { image = image; among = among; before = s; was = stands area.size area.selector r.snapshot r.blocks image s r.at.reads r.leads; now = s; stands = old; same = refl } ∣₁
+    ∣ record { image = image; among = among; before = s; was = stands area.version area.size area.selector r.snapshot r.blocks image s r.at.reads r.leads; now = s; stands = old; same = refl } ∣₁
 as_read images area s image c among r (inr new) =
-    ∣ record { image = image; among = among; before = s; was = stands area.size area.selector r.snapshot r.blocks image s r.at.reads r.leads; now = restarted s; stands = new; same = restart_twice s } ∣₁
+    ∣ record { image = image; among = among; before = s; was = stands area.version area.size area.selector r.snapshot r.blocks image s r.at.reads r.leads; now = restarted s; stands = new; same = restart_twice s } ∣₁
 
 same_or_other : (a b : Bool) → (a ≡ b) ⊎ (other b ≡ a)
 same_or_other true true = inl refl
@@ -47,19 +51,20 @@ same_or_other false true = inr refl
 same_or_other false false = inl refl
 
 -- whichever area is live, it has the state or its restart
-pub both_stand : (area : Area) (snapshot : List ℕ) (blocks : List (List CommandValue)) (next : List ℕ) (s t : State) (c : List ℕ) → IsBoth area snapshot blocks next c → Leads snapshot blocks s → Leads next [] t → Stands c s ⊎ Stands c t
+pub both_stand : (area : Area) (snapshot : List ℕ) (blocks : List (List CommandValue)) (next : List ℕ) (s t : State) (c : List ℕ) → IsBoth area snapshot blocks next c → Leads area.version snapshot blocks s → Leads Two next [] t → Stands c s ⊎ Stands c t
 both_stand area snapshot blocks next s t c both old new =
     ⊎_elim
-    (λ (e : is_odd both.selector ≡ is_odd area.selector). inl (stands area.size both.selector snapshot blocks c s
-    (record { journal = both.journal; area = subst (λ (b : Bool). IsArea area.size snapshot blocks (drop (start area.size b) c)) (sym e) both.live }) old))
-    (λ (e : other (is_odd area.selector) ≡ is_odd both.selector). inr (stands area.size both.selector next [] c t
-    (record { journal = both.journal; area = subst (λ (b : Bool). IsArea area.size next [] (drop (start area.size b) c)) e both.idle }) new))
+    (λ (e : is_odd both.selector ≡ is_odd area.selector). inl (stands area.version area.size both.selector snapshot blocks c s
+    (record { journal = both.journal; area = subst (λ (b : Bool). IsArea area.version area.size snapshot blocks (drop (start area.size b) c)) (sym e) both.live }) old))
+    (λ (e : other (is_odd area.selector) ≡ is_odd both.selector). inr (stands Two area.size both.selector next [] c t
+    (record { journal = both.journal; area = subst (λ (b : Bool). IsArea Two area.size next [] (drop (start area.size b) c)) e both.idle }) new))
     (same_or_other (is_odd both.selector) (is_odd area.selector))
 
-pub moved : (a b : Area) (snapshot : List ℕ) (blocks : List (List CommandValue)) (c : List ℕ) → b.size ≡ a.size → b.selector ≡ a.selector → b.gate ≡ a.gate → IsAt a snapshot blocks c → IsAt b snapshot blocks c
-moved a b snapshot blocks c size selector gate at = record {
-  reads = subst (λ (k : ℕ). Reads k b.selector snapshot blocks c) (sym size) (subst (λ (k : ℕ). Reads a.size k snapshot blocks c) (sym selector) at.reads);
-  gate = gate ∙ at.gate;
+pub moved : (a b : Area) (snapshot : List ℕ) (blocks : List (List CommandValue)) (c : List ℕ) → b.size ≡ a.size → b.selector ≡ a.selector → b.gate ≡ a.gate → b.version ≡ a.version → IsAt a snapshot blocks c → IsAt b snapshot blocks c
+moved a b snapshot blocks c size selector gate version at = record {
+  reads = subst (λ (k : ℕ). Reads b.version k b.selector snapshot blocks c) (sym size)
+      (subst (λ (k : ℕ). Reads b.version a.size k snapshot blocks c) (sym selector) (subst (λ (v : Version). Reads v a.size a.selector snapshot blocks c) (sym version) at.reads));
+  gate = gate ∙ at.gate ∙ ap (λ (v : Version). length (front v snapshot blocks)) (sym version);
 }
 
 -- What is known once the disk was read: each image of now is one that was there at the start, and this was read of it.
@@ -79,7 +84,7 @@ while_restarted first now area s k c keeps each =
 
 -- while the snapshot is written, the live area stays
 pub while_written : (images : List ℕ → Type 0) (area : Area) (s : State) (c : List ℕ) → KeepsLive images area c → KeepsEither images area s c
-while_written images area s c keeps snapshot blocks each lead = ∣ inl (stands area.size area.selector snapshot blocks c s (keeps snapshot blocks each).reads lead) ∣₁
+while_written images area s c keeps snapshot blocks each lead = ∣ inl (stands area.version area.size area.selector snapshot blocks c s (keeps snapshot blocks each).reads lead) ∣₁
 
 -- What is known once the snapshot was written: the live area is as it was, and the other has the snapshot.
 pub record Written (images now : List ℕ → Type 0) (area next : Area) (s : State) : Type 0 where
@@ -87,36 +92,53 @@ pub record Written (images now : List ℕ → Type 0) (area next : Area) (s : St
   pub size : next.size ≡ area.size
   pub selector : next.selector ≡ area.selector
   pub gate : next.gate ≡ area.gate
+  pub version : next.version ≡ area.version
   pub snapshot : List ℕ
   pub idle : Each now (HasIdle next snapshot)
   pub spells : Spells snapshot (restarted s)
 
 pub held_written : {images now : List ℕ → Type 0} {area next : Area} {s : State} (w : Written images now area next s) (snapshot : List ℕ) (blocks : List (List CommandValue)) → Each images (IsAt area snapshot blocks) → Each now (IsAt next snapshot blocks)
-held_written {area = area} {next = next} w snapshot blocks each d image = moved area next snapshot blocks d w.size w.selector w.gate (w.live d image snapshot blocks each)
+held_written {area = area} {next = next} w snapshot blocks each d image = moved area next snapshot blocks d w.size w.selector w.gate w.version (w.live d image snapshot blocks each)
 
 pub while_switched : (images now : List ℕ → Type 0) (area next : Area) (s : State) → Written images now area next s → (c : List ℕ) → KeepsBoth now next c → KeepsEither images area s c
 while_switched images now area next s w c keeps snapshot blocks each lead =
-    ∣ both_stand next snapshot blocks w.snapshot s (restarted s) c (keeps snapshot blocks w.snapshot (held_written w snapshot blocks each) w.idle) lead (fresh_leads s w.snapshot w.spells) ∣₁
+    ∣ both_stand next snapshot blocks w.snapshot s (restarted s) c (keeps snapshot blocks w.snapshot (held_written w snapshot blocks each) w.idle) (subst (λ (v : Version). Leads v snapshot blocks s) (sym w.version) lead) (fresh_leads s w.snapshot w.spells) ∣₁
 
-pub then_switched : (images now later : List ℕ → Type 0) (area next last : Area) (s : State) → Written images now area next s
+pub then_switched : (images now later : List ℕ → Type 0) (area next last : Area) (s : State) → last.version ≡ Two → Written images now area next s
     → ((snapshot : List ℕ) (blocks : List (List CommandValue)) (new : List ℕ) → Each now (IsAt next snapshot blocks) → Each now (HasIdle next new) → Each later (IsAt last new []))
     → (snapshot : List ℕ) (blocks : List (List CommandValue)) → Each images (IsAt area snapshot blocks) → HasRestarted later last s
-then_switched images now later area next last s w after snapshot blocks each =
+then_switched images now later area next last s two w after snapshot blocks each =
     let held = after snapshot blocks w.snapshot (held_written w snapshot blocks each) w.idle in record {
       sound = ∣ record { snapshot = w.snapshot; blocks = []; held = held } ∣₁;
-      stands = λ c image. stands last.size last.selector w.snapshot [] c (restarted s) (held c image).reads (fresh_leads s w.snapshot w.spells);
+      stands = λ c image. stands last.version last.size last.selector w.snapshot [] c (restarted s) (held c image).reads (subst (λ (v : Version). Leads v w.snapshot [] (restarted s)) (sym two) (fresh_leads s w.snapshot w.spells));
       holds = λ c image. record {
         selector = last.selector;
         snapshot = w.snapshot;
-        reads = (held c image).reads;
+        reads = subst (λ (v : Version). Reads v last.size last.selector w.snapshot [] c) two (held c image).reads;
         spells = w.spells;
-        is_used = omega (arith, (held c image).gate, length-fresh w.snapshot);
+        is_used = omega (arith, (held c image).gate, length-fresh last.version w.snapshot);
       };
     }
 
--- what was read is what the content stood for
+-- what was read is what the content stands for
+pub has_read_stands : (area : Area) (s : State) (image : List ℕ) → HasRead area s image → Stands image s
+has_read_stands area s image r = stands area.version area.size area.selector r.snapshot r.blocks image s r.at.reads r.leads
+
+-- and what it stood for
 pub is_read : (area : Area) (s t : State) (image : List ℕ) → HasRead area s image → Stands image t → s ≡ t
-is_read area s t image r stand = stands_one image s t (stands area.size area.selector r.snapshot r.blocks image s r.at.reads r.leads) stand
+is_read area s t image r stand = stands_one image s t (has_read_stands area s image r) stand
+
+-- the header stays while the snapshot is written
+pub rest_header : (images : List ℕ → Type 0) (area : Area) (c : List ℕ) → KeepsRest images area c → KeepsHeader images c
+rest_header images area c torn =
+    let at = start area.size (other (is_odd area.selector)) in
+    (torn.0, torn.1, take_before at area.size 16 torn.0 c torn.2 (omega (arith, start_least area.size (other (is_odd area.selector)))))
+
+-- and while the selector is
+pub switched_header : (images now : List ℕ → Type 0) → ((d : List ℕ) → now d → KeepsHeader images d) → (c : List ℕ) → KeepsAllButSelector now c → KeepsHeader images c
+switched_header images now kept c torn =
+    let from = kept torn.0 torn.1 in
+    (from.0, from.1, take_before 16 1 16 torn.0 c torn.2 (omega arith) ∙ from.2)
 
 module _ {D : Type 0} (disk : Ghosts D) (start : D) (only_now : (c : List ℕ) → disk.images_since start (disk.moment start) c → disk.images start c) where
   -- a sync and reads write nothing, at any moment
@@ -134,6 +156,16 @@ module _ {D : Type 0} (disk : Ghosts D) (start : D) (only_now : (c : List ℕ) �
   pub while_unwritten : (read : D) → IsUnwritten disk start read → LeavesOnly disk.moment disk.images_since start read (KeepsRestart (disk.images start))
   while_unwritten read none = weaker disk start read _ _ none.leaves (same_image (disk.images start))
 
+  -- nor is the header
+  pub header_unwritten : (read : D) → IsUnwritten disk start read → LeavesOnly disk.moment disk.images_since start read (KeepsHeader (disk.images start))
+  header_unwritten read none = weaker disk start read _ _ none.leaves (λ c image. (c, image, refl))
+
+  pub header_written : (read now : D) → IsUnwritten disk start read → LeavesOnly disk.moment disk.images_since read now (KeepsHeader (disk.images read))
+      → LeavesOnly disk.moment disk.images_since start now (KeepsHeader (disk.images start))
+  header_written read now none leaves =
+      joined disk start read now (KeepsHeader (disk.images start)) (header_unwritten read none)
+      (weaker disk read now _ _ leaves (λ c kept. (kept.0, none.images kept.0 kept.1, kept.2)))
+
   pub then_written : (read now : D) (area : Area) (s : State) → IsUnwritten disk start read → Known (disk.images start) (disk.images read) area s
       → LeavesOnly disk.moment disk.images_since read now (KeepsEither (disk.images read) area s) → LeavesOnly disk.moment disk.images_since start now (KeepsRestart (disk.images start))
   then_written read now area s none known leaves =
@@ -144,6 +176,6 @@ module _ {D : Type 0} (disk : Ghosts D) (start : D) (only_now : (c : List ℕ) �
   pub still : (area : Area) (s : State) → LeavesOnly disk.moment disk.images_since start start (KeepsEither (disk.images start) area s)
   still area s = record {
     later = omega arith;
-    each = λ c since snapshot blocks each lead. ∣ inl (stands area.size area.selector snapshot blocks c s (each c (only_now c since)).reads lead) ∣₁;
+    each = λ c since snapshot blocks each lead. ∣ inl (stands area.version area.size area.selector snapshot blocks c s (each c (only_now c since)).reads lead) ∣₁;
     before = λ t c le since. inl since;
   }

@@ -4,11 +4,12 @@ use Rattle.std.proofs.Math.Logic.{∥∥₁_elim}
 use Rattle.std.specs.Coded.{Coded-set}
 use Rattle.command_core.specs.Commands.{CommandValue}
 use Rattle.broker_core.specs.States.{BrokerValue, State}
-use Rattle.broker_core.specs.Steps.{state_after}
+use Rattle.broker_core.specs.Steps.{state_after_by}
 use Rattle.broker_core.specs.contracts.broker.Broker.{the_row}
 use Rattle.snapshot_core.proofs.SnapshotForms.{begins_no_other}
+use Rattle.area_core.specs.declared.version.Version.{Version}
 use Rattle.area_core.proofs.Single.{reads_one}
-use Rattle.recover_core.specs.Standing.{joined, Standing, Stands}
+use Rattle.recover_core.specs.Standing.{joined, rule_of, Standing, Stands}
 
 -- two proofs that states are the same are the same
 pub state_set : (s t : State) → IsProp (s ≡ t)
@@ -18,11 +19,12 @@ state_set s t p q =
 
 standing_one : (image : List ℕ) (s t : State) → Standing image s → Standing image t → s ≡ t
 standing_one image s t x y =
-    let one = reads_one x.size y.size x.selector y.selector x.snapshot y.snapshot x.blocks y.blocks image x.reads y.reads in
-    let firsts = begins_no_other x.leads.first y.leads.first x.snapshot y.snapshot [] [] x.leads.spells y.leads.spells (ap (λ (l : List ℕ). l ++ []) one.2) in
+    let one = reads_one x.version y.version x.size y.size x.selector y.selector x.snapshot y.snapshot x.blocks y.blocks image x.reads y.reads in
+    let firsts = begins_no_other x.leads.first y.leads.first x.snapshot y.snapshot [] [] x.leads.spells y.leads.spells (ap (λ (l : List ℕ). l ++ []) one.3) in
     x.leads.is
-    ∙ ap (λ (f : State). state_after f (joined x.blocks)) firsts.0
-    ∙ ap (λ (b : List (List CommandValue)). state_after y.leads.first (joined b)) one.3
+    ∙ ap (λ (v : Version). state_after_by (rule_of v) x.leads.first (joined x.blocks)) one.0
+    ∙ ap (λ (f : State). state_after_by (rule_of y.version) f (joined x.blocks)) firsts.0
+    ∙ ap (λ (b : List (List CommandValue)). state_after_by (rule_of y.version) y.leads.first (joined b)) one.4
     ∙ sym y.leads.is
 
 pub stands_one : (image : List ℕ) (s t : State) → Stands image s → Stands image t → s ≡ t

@@ -1,13 +1,13 @@
--- How many bytes the snapshot of a state has, once its sessions have ended.
-use Rattle.std.proofs.Common.{◌≡◌, ◌<◌, ◌≤◌, ◌+◌, ◌*◌, ◌&&◌, ◌||◌, ◌++◌, List, [], ◌∷◌, ℕ, Option, true, false, drop, length, flat_map, nat_le, refl, ap, arith, length-append, length-drop}
-use Rattle.std.specs.Int.{to_be_bytes, w64}
+-- How many bytes the snapshot of a state has, and what is left of it once its sessions have ended.
+use Rattle.std.proofs.Common.{◌≡◌, ◌<◌, ◌≤◌, ◌+◌, ◌*◌, ◌&&◌, ◌||◌, ◌++◌, List, [], ◌∷◌, ℕ, Bool, Option, Some, None, IfSome, option_map, if◌then◌else◌, true, false, ◌^◌, drop, length, flat_map, nat_le, refl, ap, arith, length-append, length-drop}
+use Rattle.std.specs.Int.{to_be_bytes, w32, w64}
 use Rattle.std.specs.List.{AllByRecursion, list_all, sum_by}
 use Rattle.std.specs.Map.{values_of}
 use Rattle.std.proofs.lemmas.Bool.{and_parts, leb-true}
 use Rattle.std.proofs.lemmas.List.Sums.{sum_by-cons}
 use Rattle.record_core.specs.Destinations.{IsDestination, is_destination_byte, is_name, is_queue, is_topic}
 use Rattle.record_core.specs.Sendings.{SendingValue}
-use Rattle.record_core.specs.Spellings.{counted, headers, pair, sending}
+use Rattle.record_core.specs.Spellings.{IsText, counted, headers, mode_byte, optional, pair, sending}
 use Rattle.line_core.specs.declared.message.Message.{Message}
 use Rattle.line_core.specs.Messages.{header_size, size_of}
 use Rattle.broker_state.specs.declared.subscription.Subscription.{Subscription}
@@ -15,10 +15,10 @@ use Rattle.broker_core.specs.Lists.{is_none}
 use Rattle.broker_core.specs.Names.{Name, name_cmp}
 use Rattle.broker_core.specs.Operations.{restarted}
 use Rattle.broker_core.specs.Sound.{AreTo, IsSound}
-use Rattle.broker_core.specs.States.{State, bytes, one}
-use Rattle.broker_core.specs.Waiting.{Lines, Shared, line_at, weight_of_lines}
+use Rattle.broker_core.specs.States.{State, bytes, one, weight_of_subscription}
+use Rattle.broker_core.specs.Waiting.{Lines, Shared, is_own, line_at, weight_of_lines}
 use Rattle.broker_state.proofs.Keys.{same_names}
-use Rattle.snapshot_core.specs.Snapshots.{HasForm, IsLine, IsMessage, IsName, Spells, durable, line, listed, message, queue, session, snapshot_of, subscription}
+use Rattle.snapshot_core.specs.Snapshots.{HasForm, IsDelivery, IsLine, IsMessage, IsName, IsSession, IsSubscription, Spells, delivery, durable, line, listed, message, own_line, queue, session, snapshot_of, subscription}
 use Rattle.recover_core.proofs.Sums.{found-le, looked_up}
 
 -- a text, and more behind it
@@ -105,3 +105,97 @@ snapshot_size s sound form closed ended =
 pub restart_fits : (s : State) (snapshot : List ℕ) → Spells snapshot (restarted s) → length snapshot < 24100000
 restart_fits s snapshot spells =
     omega (arith, ap (λ (l : List ℕ). length l) spells.spelled, snapshot_size (restarted s) spells.sound spells.form refl refl)
+
+-- ---- a state with sessions and subscriptions
+
+-- a text of at most 8,192 bytes, or none
+optional_size : (text : Option (List ℕ)) → IfSome text IsText → length (optional text) ≤ 8197
+optional_size None form = omega arith
+optional_size (Some text) form = omega (arith, length-append (to_be_bytes w32 (length text)) text, form.form.short)
+
+session_size : (e : ℕ × Option (List ℕ)) → IsSession e → length (session e) ≤ 8205
+session_size e form = omega (arith, length-append (to_be_bytes w64 e.0) (optional e.1), optional_size e.1 form.1)
+
+sessions_size : (es : List (ℕ × Option (List ℕ))) → AllByRecursion IsSession es → length (flat_map session es) ≤ 8205 * length es
+sessions_size [] form = omega arith
+sessions_size (e ∷ es) form = omega (arith, length-append (session e) (flat_map session es), session_size e form.0, sessions_size es form.1)
+
+deliveries_size : (ds : List (ℕ × Message)) → AllByRecursion IsDelivery ds → length (flat_map delivery ds) ≤ 542 * sum_by (λ d. one d.1) ds + sum_by (λ d. bytes d.1) ds
+deliveries_size [] form = omega arith
+deliveries_size (d ∷ ds) form =
+    omega (
+      arith,
+      length-append (delivery d) (flat_map delivery ds),
+      length-append (to_be_bytes w64 d.0) (message d.1),
+      message_size d.1 form.0.1,
+      deliveries_size ds form.1,
+      sum_by-cons (λ (e : ℕ × Message). one e.1) d ds,
+      sum_by-cons (λ (e : ℕ × Message). bytes e.1) d ds,
+    )
+
+-- nothing stands there of a line that the subscription shares
+own_size : (sub : Subscription) → IsLine sub.line → length (own_line sub) ≤ 4 + 534 * sum_by one sub.line + sum_by bytes sub.line
+own_size sub form = by (is_own sub)
+  where
+    by : (b : Bool) → length (if b then line sub.line else []) ≤ 4 + 534 * sum_by one sub.line + sum_by bytes sub.line
+    by true = line_size sub.line form
+    by false = omega arith
+
+own_name : (name : Option Name) → IfSome name IsName → IfSome (option_map (λ (n : Name). n.1) name) IsText
+own_name None form = tt
+own_name (Some name) form = form.own
+
+subscription_size : (sub : Subscription) → IsSubscription sub → length (subscription sub) ≤ 17000 + 542 * weight_of_subscription one sub + weight_of_subscription bytes sub
+subscription_size sub form =
+    let name = optional (option_map (λ (n : Name). n.1) sub.durable) in
+    let front = to_be_bytes w64 sub.session ++ counted sub.id ++ counted sub.destination in
+    let flights = listed delivery sub.unacknowledged in
+    omega (
+      arith,
+      four front (mode_byte sub.mode ∷ name) (own_line sub) flights,
+      length-append (to_be_bytes w64 sub.session ++ counted sub.id) (counted sub.destination),
+      length-append (to_be_bytes w64 sub.session) (counted sub.id),
+      length-append (to_be_bytes w32 (length sub.unacknowledged)) (flat_map delivery sub.unacknowledged),
+      form.id.form.short,
+      destination_size sub.destination form.destination,
+      optional_size (option_map (λ (n : Name). n.1) sub.durable) (own_name sub.durable form.durable),
+      own_size sub form.line,
+      deliveries_size sub.unacknowledged form.each,
+    )
+
+subscriptions_size : (subs : List Subscription) → AllByRecursion IsSubscription subs → length (flat_map subscription subs) ≤ 17000 * length subs + 542 * sum_by (weight_of_subscription one) subs + sum_by (weight_of_subscription bytes) subs
+subscriptions_size [] form = omega arith
+subscriptions_size (sub ∷ subs) form =
+    omega (
+      arith,
+      length-append (subscription sub) (flat_map subscription subs),
+      subscription_size sub form.0,
+      subscriptions_size subs form.1,
+      sum_by-cons (weight_of_subscription one) sub subs,
+      sum_by-cons (weight_of_subscription bytes) sub subs,
+    )
+
+-- seven bytes count any snapshot
+pub seven_count : (s : State) (snapshot : List ℕ) → Spells snapshot s → length snapshot < 2 ^ 56
+seven_count s snapshot spells =
+    let sound = spells.sound in
+    let form = spells.form in
+    let names = durables_size s.shared form.names s.durables form.durables in
+    let queues = queues_size s.shared.queues form.queues sound.lines.queues in
+    let whole = six (to_be_bytes w64 s.count) (to_be_bytes w64 s.next_delivery) (listed session s.sessions) (listed (durable s.shared) s.durables) (listed queue s.shared.queues) (listed subscription s.subscriptions) in
+    omega (
+      arith,
+      ap (λ (l : List ℕ). length l) spells.spelled,
+      whole,
+      sessions_size s.sessions form.sessions,
+      form.few_sessions,
+      names,
+      queues,
+      subscriptions_size s.subscriptions form.subscriptions,
+      form.few_subscriptions,
+      sound.names.few,
+      each_waits_once one s sound,
+      each_waits_once bytes s sound,
+      sound.limits.messages,
+      sound.limits.bytes,
+    )

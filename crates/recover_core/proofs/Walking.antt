@@ -1,10 +1,12 @@
 -- Reading block after block.
-use Rattle.std.proofs.Common.{◌≡◌, inl, inr, Bool, true, false, Result, Ok, Err, IfErr, if◌then◌else◌, ◌-◌, ℕ, ◌+◌, ◌*◌, ◌<◌, ◌≤◌, ◌^◌, List, [], ◌∷◌, ◌++◌, refl, sym, subst, ◌∙◌, arith}
+use Rattle.std.proofs.Common.{◌≡◌, inl, inr, Bool, true, false, Result, Ok, Err, IfErr, IsErrOf, length, if◌then◌else◌, ◌-◌, ℕ, ◌+◌, ◌*◌, ◌<◌, ◌≤◌, ◌^◌, List, [], ◌∷◌, ◌++◌, refl, sym, subst, ◌∙◌, arith}
 use Rattle.command_core.specs.Commands.{CommandValue}
 use Rattle.broker_core.specs.States.{State}
-use Rattle.broker_core.specs.Steps.{state_after}
+use Rattle.broker_core.specs.Steps.{state_after_by}
 use Rattle.snapshot_core.specs.Snapshots.{Spells}
 use Rattle.area_core.specs.declared.area.Area.{Area}
+use Rattle.area_core.specs.declared.version.Version.{Version}
+use Rattle.area_core.specs.declared.faults.AreaFault.{AreaFault}
 use Rattle.area_core.specs.declared.faults.AreaFault.TheVariants as areas
 use Rattle.area_core.specs.declared.faults.ReadFault.{ReadFault}
 use Rattle.area_core.specs.declared.faults.ReadFault.TheVariants as reads
@@ -12,12 +14,15 @@ use Rattle.area_core.specs.Damage.{IsBlockTold}
 use Rattle.area_core.specs.Held.{IsAt}
 use Rattle.area_core.specs.Journals.{is_odd, start}
 use Rattle.area_core.specs.Reading.{IsPast}
+use Rattle.area_core.specs.Steps.{HasNoRoom}
+use Rattle.broker_core.specs.Operations.{restarted}
+use Rattle.recover_core.proofs.Sizes.{restart_fits}
 use Rattle.recover_core.specs.declared.faults.OpenFault.{OpenFault}
 use Rattle.recover_core.specs.declared.faults.OpenFault.TheVariants.{Read, CountTooLarge, Area as Areas}
 use Rattle.recover_core.specs.Opens.{HasRead, IsFolded}
-use Rattle.recover_core.specs.Standing.{joined}
+use Rattle.recover_core.specs.Standing.{joined, rule_of}
 use Rattle.recover_core.specs.Told.{IfFull, IfRead, IsOfReading, IsOpenTold, IsSnapshotTold, IsStateRefused, IsTooLarge, IsTooLongFor, IsWalkTold, IsWriteTold}
-use Rattle.recover_core.specs.Walks.{HasEnded, HasWalked}
+use Rattle.recover_core.specs.Walks.{Follows, HasEnded, HasWalked}
 use Rattle.recover_core.proofs.Folded.{follows_leads, follows_more, leads_large}
 use Rattle.recover_core.proofs.Stores.{stands}
 
@@ -31,35 +36,35 @@ walked_first area s snapshot content past spells = record {
 }
 
 -- a block more
-pub walked_on : (area next : Area) (s t : State) (content : List ℕ) (batch : List CommandValue) → IsFolded s batch t
+pub walked_on : (area next : Area) (s t : State) (content : List ℕ) (batch : List CommandValue) → next.version ≡ area.version → IsFolded (rule_of area.version) s batch t
     → ((snapshot : List ℕ) (blocks : List (List CommandValue)) → IsPast area snapshot blocks content → IsPast next snapshot (blocks ++ batch ∷ []) content)
     → HasWalked area s content → HasWalked next t content
-walked_on area next s t content batch folded past w = record {
+walked_on area next s t content batch same folded past w = record {
   snapshot = w.snapshot;
   blocks = w.blocks ++ batch ∷ [];
   past = past w.snapshot w.blocks w.past;
-  follows = follows_more w.snapshot w.blocks s t batch w.follows folded;
+  follows = subst (λ (v : Version). Follows v w.snapshot (w.blocks ++ batch ∷ []) t) (sym same) (follows_more area.version w.snapshot w.blocks s t batch w.follows folded);
 }
 
 -- the closed gate
-pub walked_out : (area next : Area) (s : State) (content : List ℕ)
+pub walked_out : (area next : Area) (s : State) (content : List ℕ) → next.version ≡ area.version
     → ((snapshot : List ℕ) (blocks : List (List CommandValue)) → IsPast area snapshot blocks content → IsAt next snapshot blocks content)
     → HasWalked area s content → HasEnded next s content
-walked_out area next s content ends w = record { snapshot = w.snapshot; blocks = w.blocks; at = ends w.snapshot w.blocks w.past; follows = w.follows }
+walked_out area next s content same ends w = record { snapshot = w.snapshot; blocks = w.blocks; at = ends w.snapshot w.blocks w.past; follows = subst (λ (v : Version). Follows v w.snapshot w.blocks s) (sym same) w.follows }
 
 -- where the count is not large, that is the state that the content stands for
 pub read_of : (area : Area) (s : State) (content : List ℕ) → HasEnded area s content → s.count ≤ 2 ^ 61 → HasRead area s content
-read_of area s content ended small = record { snapshot = ended.snapshot; blocks = ended.blocks; at = ended.at; leads = follows_leads ended.snapshot ended.blocks s ended.follows small }
+read_of area s content ended small = record { snapshot = ended.snapshot; blocks = ended.blocks; at = ended.at; leads = follows_leads area.version ended.snapshot ended.blocks s ended.follows small }
 
 -- where it is, the content stands for a state whose count is large too
 pub too_large : (area : Area) (s : State) (content : List ℕ) → HasEnded area s content → 2 ^ 61 < s.count → IsTooLarge content
 too_large area s content ended large =
     let f = ended.follows in
-    let t = state_after f.first (joined ended.blocks) in
+    let t = state_after_by (rule_of area.version) f.first (joined ended.blocks) in
     record {
       state = t;
-      stands = stands area.size area.selector ended.snapshot ended.blocks content t ended.at.reads (record { first = f.first; spells = f.spells; is = refl });
-      large = leads_large ended.snapshot ended.blocks s f large;
+      stands = stands area.version area.size area.selector ended.snapshot ended.blocks content t ended.at.reads (record { first = f.first; spells = f.spells; is = refl });
+      large = leads_large area.version ended.snapshot ended.blocks s f large;
     }
 
 -- what is told of a block is so of the content
@@ -108,7 +113,7 @@ write_told (Areas areas.Full) area s content has small told = record {
   selector = area.selector;
   journal = has.at.reads.journal;
   state = s;
-  stands = stands area.size area.selector has.snapshot has.blocks content s has.at.reads has.leads;
+  stands = stands area.version area.size area.selector has.snapshot has.blocks content s has.at.reads has.leads;
   small = small;
   long = told;
 }
@@ -176,3 +181,17 @@ pub measure : (was more : Bool) (size now gate next : ℕ) → was ≡ true → 
 measure true true size now gate next is same forward grows within = omega (arith, same, grows refl, within)
 measure true false size now gate next is same forward grows within = omega (arith, same, forward, within)
 measure false more size now gate next is same forward grows within = absurd (cc is)
+
+-- a snapshot that seven bytes count is too long where an area has no room for it
+pub is_long : (size count : ℕ) → count < 2 ^ 56 → HasNoRoom size count → size < count + 9
+is_long size count seven (inl long) = long
+is_long size count seven (inr high) = absurd (omega (arith, seven, high))
+
+-- a snapshot of a restart doesn't fit where an area has no room for it, since seven bytes count it
+pub no_room_told : {T : Type 0} (answer : Result T AreaFault) (size : ℕ) (s : State) (snapshot : List ℕ) → Spells snapshot (restarted s) → (IsErrOf answer areas.Full → HasNoRoom size (length snapshot)) → (IsErrOf answer areas.Broken → ⊥)
+    → IfErr answer (λ fault. IsWriteTold (Areas fault) size s)
+no_room_told (Ok done) size s snapshot spells full whole = tt
+no_room_told (Err areas.Device) size s snapshot spells full whole = tt
+no_room_told (Err areas.Full) size s snapshot spells full whole = record { snapshot = snapshot; spells = spells; long = is_long size (length snapshot) (omega (arith, restart_fits s snapshot spells)) (full refl) }
+no_room_told (Err areas.Broken) size s snapshot spells full whole = whole refl
+no_room_told (Err (areas.Memory refused)) size s snapshot spells full whole = tt

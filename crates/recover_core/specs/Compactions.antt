@@ -29,8 +29,8 @@ IsRestOrTwice at size images s c = ∥ IsTorn at size images c ⊎ StandsTwice s
 
 -- where each image had an area that leads to the state, this one stands for it
 abbrev pub KeepsState : (List ℕ → Type 0) → Area → State → List ℕ → Type 0
-KeepsState images area s c = (snapshot : List ℕ) (blocks : List (List CommandValue)) → Each images (IsAt area snapshot blocks) → Leads snapshot blocks s → Stands c s
+KeepsState images area s c = (snapshot : List ℕ) (blocks : List (List CommandValue)) → Each images (IsAt area snapshot blocks) → Leads area.version snapshot blocks s → Stands c s
 
 -- and it has another area that is not live, or both stand for it
 abbrev pub KeepsTwo : (List ℕ → Type 0) → Area → State → List ℕ → Type 0
-KeepsTwo images area s c = (snapshot : List ℕ) (blocks : List (List CommandValue)) → Each images (IsAt area snapshot blocks) → Leads snapshot blocks s → KeepsRest images area c ⊎ StandsTwice s c
+KeepsTwo images area s c = (snapshot : List ℕ) (blocks : List (List CommandValue)) → Each images (IsAt area snapshot blocks) → Leads area.version snapshot blocks s → KeepsRest images area c ⊎ StandsTwice s c

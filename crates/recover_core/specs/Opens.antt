@@ -1,13 +1,15 @@
 -- What opening a journal keeps.
-use Rattle.std.specs.Prelude.{◌≡◌, ◌<◌, ◌^◌, ◌⊎◌, ◌+◌, ℕ, List, [], length}
+use Rattle.std.specs.Prelude.{◌≡◌, ◌<◌, ◌^◌, ◌⊎◌, ◌+◌, ℕ, List, [], length, take}
 use Rattle.disk_core.specs.declared.disk.Disk.{Ghosts}
 use Rattle.disk_core.specs.Images.{Within}
 use Rattle.disk_core.specs.Moments.{LeavesOnly}
 use Rattle.command_core.specs.Commands.{CommandValue}
 use Rattle.broker_core.specs.Operations.{restarted}
 use Rattle.broker_core.specs.States.{State}
-use Rattle.broker_core.specs.Steps.{state_after}
+use Rattle.broker_core.specs.Steps.{state_after_by}
+use Rattle.broker_state.specs.declared.nack_rule.NackRule.{NackRule}
 use Rattle.area_core.specs.declared.area.Area.{Area}
+use Rattle.area_core.specs.declared.version.Version.TheVariants.{Two}
 use Rattle.area_core.specs.Held.{IsAt}
 use Rattle.area_core.specs.Journals.{Reads}
 use Rattle.area_core.specs.Puts.{Each}
@@ -20,7 +22,7 @@ pub record HasRead (area : Area) (s : State) (image : List ℕ) : Type 0 where
   pub snapshot : List ℕ
   pub blocks : List (List CommandValue)
   pub at : IsAt area snapshot blocks image
-  pub leads : Leads snapshot blocks s
+  pub leads : Leads area.version snapshot blocks s
 
 -- the image stands for some state
 pub record StandsForSome (image : List ℕ) : Type 0 where
@@ -56,14 +58,18 @@ KeepsRestart images c = ((d : List ℕ) → images d → ∥ StandsForSome d ∥
 -- where each image held this area, which led to that state, an image of now stands for the state or for its restart
 abbrev pub KeepsEither : (List ℕ → Type 0) → Area → State → List ℕ → Type 0
 KeepsEither images area s c =
-    (snapshot : List ℕ) (blocks : List (List CommandValue)) → Each images (IsAt area snapshot blocks) → Leads snapshot blocks s → StandsForEither s (restarted s) c
+    (snapshot : List ℕ) (blocks : List (List CommandValue)) → Each images (IsAt area snapshot blocks) → Leads area.version snapshot blocks s → StandsForEither s (restarted s) c
 
--- The live area has a snapshot of this state and no block behind it. So many of its bytes are used: eight for the snapshot's
--- length, the snapshot, and a gate.
+-- one of these images with any bytes behind the name and the length of an area
+abbrev pub KeepsHeader : (List ℕ → Type 0) → List ℕ → Type 0
+KeepsHeader images c = (d : List ℕ) × images d × (take 16 c ≡ take 16 d)
+
+-- The live area is of the second version, and has a snapshot of this state and no block behind it. So many of its bytes are
+-- used: eight for its version and the snapshot's length, the snapshot, and a gate.
 pub record HoldsOnlySnapshot (size used : ℕ) (s : State) (image : List ℕ) : Type 0 where
   pub selector : ℕ
   pub snapshot : List ℕ
-  pub reads : Reads size selector snapshot [] image
+  pub reads : Reads Two size selector snapshot [] image
   pub spells : Spells snapshot s
   pub is_used : used ≡ length snapshot + 9
 
@@ -77,10 +83,10 @@ abbrev pub HasRestarted : (List ℕ → Type 0) → Area → State → Type 0
 HasRestarted images area s = HasWritten images area (restarted s)
 
 -- the count passes 2^61 on the way, and the rest was left out
-pub record IsLeftOut (before : State) (commands : List CommandValue) (now : State) : Type 0 where
+pub record IsLeftOut (rule : NackRule) (before : State) (commands : List CommandValue) (now : State) : Type 0 where
   pub now_large : 2 ^ 61 < now.count
-  pub all_large : 2 ^ 61 < (state_after before commands).count
+  pub all_large : 2 ^ 61 < (state_after_by rule before commands).count
 
--- These commands lead to this state, or the count passes 2^61 on the way, and the rest was left out.
-abbrev pub IsFolded : State → List CommandValue → State → Type 0
-IsFolded before commands now = (now ≡ state_after before commands) ⊎ IsLeftOut before commands now
+-- These commands lead to this state by that rule of NACK, or the count passes 2^61 on the way, and the rest was left out.
+abbrev pub IsFolded : NackRule → State → List CommandValue → State → Type 0
+IsFolded rule before commands now = (now ≡ state_after_by rule before commands) ⊎ IsLeftOut rule before commands now

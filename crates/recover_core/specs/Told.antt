@@ -11,7 +11,7 @@ use Rattle.area_core.specs.declared.faults.AreaFault.TheVariants as areas
 use Rattle.area_core.specs.declared.faults.ReadFault.{ReadFault}
 use Rattle.area_core.specs.declared.faults.ReadFault.TheVariants.{Damaged, Device}
 use Rattle.area_core.specs.declared.faults.ReadFault.TheVariants as reads
-use Rattle.area_core.specs.Damage.{IsDamagedAt, IsFrontTold, IsLongSnapshot}
+use Rattle.area_core.specs.Damage.{IsDamagedAt, IsFrontTold, HasBadWord}
 use Rattle.area_core.specs.Journals.{IsJournal, is_odd, start}
 use Rattle.area_core.specs.Reading.{IsPast}
 use Rattle.recover_core.specs.declared.faults.OpenFault.{OpenFault}
@@ -38,7 +38,7 @@ pub record IsBadBlock (content : List ℕ) (place : ℕ) : Type 0 where
 
 -- what is told of the header and the live area is so
 abbrev pub IsStateTold : ReadFault → List ℕ → Type 0
-IsStateTold (Damaged place) content = IsLongSnapshot content place ⊎ IsBadSnapshot content place ⊎ IsBadBlock content place
+IsStateTold (Damaged place) content = HasBadWord content place ⊎ IsBadSnapshot content place ⊎ IsBadBlock content place
 IsStateTold fault content = IsFrontTold fault content
 
 -- the content stands for a state after more than 2^61 commands

@@ -3,7 +3,7 @@
 ghost use Rattle.std.specs.Prelude.{◌≡◌, ◌+◌, ◌*◌, ◌<◌, ◌≤◌, ◌↔◌, ◌^◌, List, ℕ, IsErrOf, IsTrue, OnErr, OnOk, false, length, true};
 ghost use Rattle.disk_core.specs.Moments.{LeavesOnly};
 ghost use Rattle.command_core.specs.Commands.{CommandValue};
-ghost use Rattle.area_core.specs.Areas.{commands, records};
+ghost use Rattle.area_core.specs.Areas.{commands, number, records};
 ghost use Rattle.area_core.specs.Held.{IsAt};
 ghost use Rattle.area_core.specs.Puts.{Each};
 ghost use Rattle.area_core.specs.Steps.{IsCaused};
@@ -68,6 +68,7 @@ fn write_state<D: Disk>(
     ensures ok { OnOk result (area.new.broken ≡ false) }
     ensures kept { OnErr result (area.new.broken ≡ false → (disk.new ≡ disk.old) × (area.new ≡ area.old)) }
     ensures device { IsErrOf result AreaFault.Device → area.new.broken ≡ true }
+    ensures version { number area.old.version ≡ 2 → number area.new.version ≡ 2 }
     ensures size { (area.new.size ≡ area.old.size) × (length (D.content disk.new) ≡ length (D.content disk.old)) }
     ensures cause { IsCaused (D.failures disk.old) (D.failures disk.new) result }
     ensures honest { D.honest disk.old → D.honest disk.new }

@@ -3,6 +3,7 @@
 ghost use Rattle.std.specs.Prelude.{◌≡◌, ℕ, List, []};
 ghost use Rattle.area_core.specs.Areas.{first_snapshot};
 ghost use Rattle.area_core.specs.Journals.{Reads};
+ghost use Rattle.area_core.specs.declared.version.Version.TheVariants.{Two};
 ghost use Rattle.broker_core.specs.States.{State, empty_state};
 ghost use Rattle.recover_core.specs.Standing.{Stands};
 
@@ -14,5 +15,5 @@ pub fn an_image_stands_for_one_state()
 /// An image that reads as a new journal, whose first area is live and has the first snapshot and no block, stands for the
 /// empty state. So each image does of a disk that was formatted. It does nothing.
 pub fn a_formatted_journal_stands_for_the_empty_state()
-    ensures { (size : ℕ) (image : List ℕ) → Reads size 0 first_snapshot [] image → Stands image empty_state }
+    ensures { (size : ℕ) (image : List ℕ) → Reads Two size 0 first_snapshot [] image → Stands image empty_state }
 {}

@@ -19,7 +19,7 @@ pub use area_core::AreaFault;
 pub use faults::OpenFault;
 pub use law::{a_formatted_journal_stands_for_the_empty_state, an_image_stands_for_one_state};
 pub use opening::open;
-pub use seen::{Seen, VERSION, read};
+pub use seen::{Seen, read};
 pub use size_law::restarts_fit_large_areas;
 pub use store::Store;
 pub use stored::stored_broker;

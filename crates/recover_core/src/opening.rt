@@ -5,10 +5,11 @@ ghost use Rattle.command_core.specs.Commands.{CommandValue};
 ghost use Rattle.disk_core.specs.Images.{Only};
 ghost use Rattle.disk_core.specs.Moments.{LeavesOnly};
 ghost use Rattle.area_core.specs.Held.{IsAt};
+ghost use Rattle.area_core.specs.Areas.{number};
 ghost use Rattle.area_core.specs.Puts.{Each};
 ghost use Rattle.broker_core.specs.Operations.{restarted};
 ghost use Rattle.broker_core.specs.States.{State};
-ghost use Rattle.recover_core.specs.Opens.{HasRead, HasRestarted, HoldsOnlySnapshot, IsRestartOf, IsUnwritten, KeepsEither, KeepsRestart};
+ghost use Rattle.recover_core.specs.Opens.{HasRead, HasRestarted, HoldsOnlySnapshot, IsRestartOf, IsUnwritten, KeepsEither, KeepsHeader, KeepsRestart};
 ghost use Rattle.recover_core.specs.Sound.{IsSound};
 ghost use Rattle.recover_core.specs.Standing.{Stands, StandFor};
 ghost use Rattle.recover_core.specs.Stores.{disk_of, is_broken, opened_by, size_of, used_of};
@@ -49,11 +50,14 @@ fn write_restarted<D: Disk>(
     ensures any_moment { D.honest disk.old →
         LeavesOnly D.moment D.images_since disk.old disk.new
         (KeepsEither (D.images disk.old) area.old broker.old.state) }
+    ensures header { D.honest disk.old →
+        LeavesOnly D.moment D.images_since disk.old disk.new (KeepsHeader (D.images disk.old)) }
     ensures after { D.honest disk.old → OnOk result (
         (snapshot : List ℕ) (blocks : List (List CommandValue)) → Each (D.images disk.old) (IsAt area.old snapshot blocks) →
         HasRestarted (D.images disk.new) area.new broker.old.state) }
     ensures state { OnOk result (broker.new.state ≡ restarted broker.old.state) }
     ensures whole { OnOk result ((broker.new.broken ≡ false) × (area.new.broken ≡ false)) }
+    ensures version { OnOk result (number area.new.version ≡ 2) }
     ensures size { (area.new.size ≡ area.old.size) × (length (D.content disk.new) ≡ length (D.content disk.old)) }
     ensures refused { IfErr result (λ fault. IsWriteTold fault area.old.size broker.old.state) }
     ensures full { IfErr result (λ fault. IfFull fault (disk.new ≡ disk.old)) }
@@ -92,6 +96,9 @@ fn read_synced<D: Disk>(alloc: Global, disk: &mut D) -> Result<(Area, Broker), O
 fn open_area<D: Disk>(alloc: Global, disk: &mut D) -> Result<(Area, Broker), OpenFault>
     ensures any_moment { D.honest disk.old →
         LeavesOnly D.moment D.images_since disk.old disk.new (KeepsRestart (D.images disk.old)) }
+    ensures header { D.honest disk.old →
+        LeavesOnly D.moment D.images_since disk.old disk.new (KeepsHeader (D.images disk.old)) }
+    ensures version { IfOk result (λ opened. number opened.0.version ≡ 2) }
     ensures sound { D.honest disk.old → IfOk result (λ opened. IsSound (D.images disk.new) opened.0) }
     ensures state { D.honest disk.old → IfOk result (λ opened.
         (s : State) → Stands (D.content disk.old) s → opened.1.state ≡ restarted s) }
@@ -117,17 +124,21 @@ fn open_area<D: Disk>(alloc: Global, disk: &mut D) -> Result<(Area, Broker), Ope
     }
 }
 
-/// Opens a journal: reads the state that the disk stands for, ends its sessions, writes what is left into the other area,
-/// and makes that one live.
+/// Opens a journal of either version: reads the state that the disk stands for, its blocks by the rule of the version that the
+/// live area tells, ends its sessions, writes what is left into the other area as the second version, and makes that one live.
 ///
 /// A stop at any moment leaves a disk that stands for a state with the same restart. After Ok the live area has the snapshot of
-/// the state alone. A refusal hands the disk back, and it may be opened again; where what was read is the reason, a snapshot
+/// the state alone, and is of the second version; the name and the version in the header stay as they are at every moment. A refusal hands the disk back, and it may be opened again; where what was read is the reason, a snapshot
 /// that does not fit among them, nothing was written at any moment.
 pub fn open<D: Disk>(alloc: Global, disk: D) -> Result<Store<D>, (D, OpenFault)>
     ensures any_moment { D.honest disk → IfOk result (λ store.
         LeavesOnly D.moment D.images_since disk (disk_of store) (KeepsRestart (D.images disk))) }
     ensures any_moment_err { D.honest disk → IfErr result (λ back.
         LeavesOnly D.moment D.images_since disk back.0 (KeepsRestart (D.images disk))) }
+    ensures header { D.honest disk → IfOk result (λ store.
+        LeavesOnly D.moment D.images_since disk (disk_of store) (KeepsHeader (D.images disk))) }
+    ensures header_err { D.honest disk → IfErr result (λ back.
+        LeavesOnly D.moment D.images_since disk back.0 (KeepsHeader (D.images disk))) }
     ensures state { D.honest disk → IfOk result (λ store. IfSome (opened_by store) (λ broker.
         (s : State) → Stands (D.content disk) s → broker.state ≡ restarted s)) }
     ensures stood { D.honest disk → IfOk result (λ store. IfSome (opened_by store) (λ broker.

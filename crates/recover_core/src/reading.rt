@@ -47,7 +47,7 @@ fn read_block<D: Disk>(
     ensures kind { IfErr result IsOfReading }
     ensures forward { area.old.gate ≤ area.new.gate }
     ensures grows { IfOk result (λ more. more ≡ true → area.old.gate < area.new.gate) }
-    ensures place { (area.new.size ≡ area.old.size) × (area.new.selector ≡ area.old.selector) × (area.new.broken ≡ area.old.broken) }
+    ensures place { (area.new.size ≡ area.old.size) × (area.new.selector ≡ area.old.selector) × (area.new.broken ≡ area.old.broken) × (area.new.version ≡ area.old.version) }
     ensures whole { OnOk result (broker.new.broken ≡ false) }
     ensures quiet { D.honest disk.old → Quiet D.Disk disk.old disk.new }
     ensures cause { IsOpenCaused (D.failures disk.old) (D.failures disk.new) result }
@@ -57,7 +57,7 @@ fn read_block<D: Disk>(
 {
     match area.next_block(alloc, disk) {
         Ok(Some(commands)) => {
-            repeat_all(alloc, broker, commands)?;
+            repeat_all(alloc, broker, area.told_version(), commands)?;
             Ok(true)
         }
         Ok(None) => Ok(false),
@@ -81,7 +81,7 @@ fn read_blocks<D: Disk>(
     ensures refused { D.honest disk.old → HasWalked area.old broker.old.state (D.content disk.old) →
         IfErr result (λ fault. IsWalkTold fault (D.content disk.old)) }
     ensures kind { IfErr result IsOfReading }
-    ensures place { (area.new.size ≡ area.old.size) × (area.new.selector ≡ area.old.selector) × (area.new.broken ≡ area.old.broken) }
+    ensures place { (area.new.size ≡ area.old.size) × (area.new.selector ≡ area.old.selector) × (area.new.broken ≡ area.old.broken) × (area.new.version ≡ area.old.version) }
     ensures whole { OnOk result (broker.new.broken ≡ false) }
     ensures quiet { D.honest disk.old → Quiet D.Disk disk.old disk.new }
     ensures cause { IsOpenCaused (D.failures disk.old) (D.failures disk.new) result }

@@ -11,13 +11,10 @@ use broker_core::Held;
 use disk_core::Disk;
 use std::alloc::Global;
 
-/// The one version of journals that is known.
-pub const VERSION: u8 = 1;
-
 /// What a journal shows of itself.
 #[derive(Drop)]
 pub struct Seen {
-    /// The version of its header.
+    /// The version of its live area: 1 or 2. Opening a journal makes it 2.
     pub version: u8,
     /// Which of its two areas is live: 0 or 1.
     pub area: u8,
@@ -47,7 +44,7 @@ pub fn read<D: Disk>(alloc: Global, disk: &mut D) -> Result<Seen, OpenFault>
 {
     let (area, broker) = read_state(alloc, disk)?;
     Ok(Seen {
-        version: VERSION,
+        version: area.version(),
         area: area.number(),
         used: area.used(),
         count: broker.count(),

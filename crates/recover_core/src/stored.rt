@@ -13,7 +13,7 @@ use std::alloc::Global;
 
 /// The broker of the state that a journal stands for, with the sessions as they were: none has ended. Nothing is written. It is
 /// refused as `read` is.
-#[tactic(auto, using(crate::proofs::Stores::stands))]
+#[tactic(auto, using(crate::proofs::Opens::has_read_stands))]
 pub fn stored_broker<D: Disk>(alloc: Global, disk: &mut D) -> Result<Broker, OpenFault>
     ensures stands { D.honest disk.old → IfOk result (λ broker. Stands (D.content disk.old) broker.state) }
     ensures small { IfOk result (λ broker. (broker.state.count ≤ 2 ^ 61) × (broker.broken ≡ false)) }

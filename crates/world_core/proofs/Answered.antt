@@ -1,5 +1,5 @@
 -- What is kept before an answer is kept after it.
-use Rattle.std.proofs.Common.{◌≡◌, ◌≤◌, ◌+◌, ◌*◌, ℕ, List, [], Option, replicate, Bool, false, Result, Ok, Err, IfOk, OnErr, sym, ◌∙◌, subst}
+use Rattle.std.proofs.Common.{◌≡◌, ◌≤◌, ◌+◌, ◌*◌, ℕ, List, [], Option, replicate, Bool, false, Result, Ok, Err, IfOk, OnErr, sym, ◌∙◌, ap, subst}
 use Rattle.command_core.specs.Commands.{CommandValue}
 use Rattle.disk_core.specs.Memory.{none_held}
 use Rattle.broker_core.specs.States.{State, empty_state}
@@ -10,10 +10,14 @@ use Rattle.world_core.specs.declared.seat.Seat.{Seat}
 use Rattle.world_core.specs.Answers.{Answers, IsTold}
 use Rattle.world_core.specs.Keeping.{IsKept}
 use Rattle.world_core.specs.Limits.{seat_count}
-use Rattle.world_core.specs.Schedules.{Holds, first, opened_once}
+use Rattle.world_core.specs.Schedules.{FitsOld, Holds, crashed, first, first_old, old_journal, opened_once}
 use Rattle.world_core.specs.Worlds.{WorldValue}
 use Rattle.world_core.proofs.Patching.{here}
-use Rattle.world_core.proofs.Schedules.{answered, first_kept, kept_holds}
+use Rattle.broker_core.specs.Steps.{state_after_v1}
+use Rattle.recover_core.specs.Standing.{Stands}
+use Rattle.recover_core.proofs.Single.{stands_one}
+use Rattle.world_core.proofs.Recovered.{read_stands}
+use Rattle.world_core.proofs.Schedules.{answered, first_kept, kept_holds, old_kept, old_read, old_reading}
 
 answers : (w v : WorldValue) (e : Event) (b : Bool) → IsKept w → IsTold w e b v → Answers w e b v
 answers w v e b k told = let x = here w k in record { reading = x.reading; is_read = x.is_read; tells = told x.reading x.is_read }
@@ -56,6 +60,22 @@ begins_with size opening history ready seats released earlier content held o h f
 pub is_first : (size : ℕ) (v : WorldValue) (seats : List Seat) (content : List ℕ) (held : List (Option ℕ))
     → v ≡ first_with size empty_state [] [] seats [] [] content held → seats ≡ replicate seat_count (record { own = []; seen = 0 }) → content ≡ opened_once size → held ≡ none_held (32 + 2 * size) → v ≡ first size
 is_first size v seats content held is s c n = is ∙ (λ i. first_with size empty_state [] [] (s i) [] [] (c i) (n i))
+
+-- with the seats of a crash and this disk it is a crashed world
+pub is_crashed : (size : ℕ) (s t : State) (v : WorldValue) (seats : List Seat) (content bytes : List ℕ) (held : List (Option ℕ))
+    → v ≡ record (crashed size s content) { seats = seats; disk = record { size = size; content = content; held = held } }
+    → s ≡ t → seats ≡ replicate seat_count (record { own = []; seen = s.count }) → content ≡ bytes → held ≡ none_held (32 + 2 * size) → v ≡ crashed size t bytes
+is_crashed size s t v seats content bytes held is same placed are none =
+    is ∙ (λ i. record (crashed size s (are i)) { seats = placed i; disk = record { size = size; content = are i; held = none i } }) ∙ ap (λ (u : State). crashed size u bytes) same
+
+-- a journal of the first version stands for the state that its commands lead to by the old rule
+pub old_state_is : (size : ℕ) (commands : List CommandValue) (content : List ℕ) (s : State) → 4096 ≤ size → size ≤ 1048576 → FitsOld size commands → content ≡ old_journal size commands → Stands content s → s ≡ state_after_v1 empty_state commands
+old_state_is size commands content s least most fits are stand =
+    stands_one (old_journal size commands) s (state_after_v1 empty_state commands) (subst (λ (l : List ℕ). Stands l s) are stand)
+    (read_stands size (old_journal size commands) (old_reading size least most commands fits) (old_read size least most commands fits))
+
+pub old_is_kept : (size : ℕ) (v : WorldValue) (commands : List CommandValue) → 4096 ≤ size → size ≤ 1048576 → FitsOld size commands → v ≡ first_old size commands → IsKept v
+old_is_kept size v commands least most fits is = subst IsKept (sym is) (old_kept size least most commands fits)
 
 pub first_is_kept : (size : ℕ) (v : WorldValue) → 4096 ≤ size → size ≤ 1048576 → v ≡ first size → IsKept v
 first_is_kept size v least most is = subst IsKept (sym is) (first_kept size least most)

@@ -4,7 +4,8 @@ use Rattle.command_core.specs.Commands.{CommandValue}
 use Rattle.broker_core.specs.Operations.{restarted}
 use Rattle.broker_core.specs.States.{State}
 use Rattle.snapshot_core.specs.Snapshots.{snapshot_of}
-use Rattle.area_core.specs.Areas.{closed}
+use Rattle.area_core.specs.declared.version.Version.TheVariants.{Two}
+use Rattle.area_core.specs.Areas.{closed_snapshot}
 use Rattle.world_core.specs.Recoveries.{IsReadable}
 use Rattle.recover_core.specs.Standing.{Stands}
 use Rattle.recover_core.specs.Told.{IsTooLarge, IsTooLong}
@@ -182,10 +183,10 @@ module _ (w : WorldValue) (k : IsKept w) where
   one = readable.reading
 
   same_copy : (r : Reading) → IsRead w.disk.size w.disk.content r → length (copy_of one) ≡ length (copy_of r)
-  same_copy r x = ap (λ (s : State). length (closed (snapshot_of s))) (same_state w.disk.size w.disk.size w.disk.content one r readable.is_read x)
+  same_copy r x = ap (λ (s : State). length (closed_snapshot Two (snapshot_of s))) (same_state w.disk.size w.disk.size w.disk.content one r readable.is_read x)
 
   same_rest : (r : Reading) → IsRead w.disk.size w.disk.content r → length (rest_of one) ≡ length (rest_of r)
-  same_rest r x = ap (λ (s : State). length (closed (snapshot_of (restarted s)))) (same_state w.disk.size w.disk.size w.disk.content one r readable.is_read x)
+  same_rest r x = ap (λ (s : State). length (closed_snapshot Two (snapshot_of (restarted s)))) (same_state w.disk.size w.disk.size w.disk.content one r readable.is_read x)
 
   first_copy_due : done_at w.place ≡ 0 → (to : Place) → Copying (piece_end 0 (length (copy_of one))) (length (copy_of one)) ≡ to → IsDue w to
   first_copy_due none to is = subst (λ (q : Place). IsDue w q) is (λ r x. (omega (arith, none), omega (arith, same_copy r x)))
@@ -200,7 +201,7 @@ module _ (w : WorldValue) (k : IsKept w) where
       let whole = c.copies.whole in
       let within = c.copies.within in
       subst (λ (q : Place). IsDue w q) (let e : Copying (piece_end n m) m ≡ to = cc in e)
-      (λ r x. (omega (arith, there, within), omega (arith, whole, ap (λ (s : State). length (closed (snapshot_of s))) (same_state w.disk.size w.disk.size w.disk.content c.reading r c.is_read x))))
+      (λ r x. (omega (arith, there, within), omega (arith, whole, ap (λ (s : State). length (closed_snapshot Two (snapshot_of s))) (same_state w.disk.size w.disk.size w.disk.content c.reading r c.is_read x))))
 
   next_rest_due : (b : Bool) (n m : ℕ) → w.place ≡ SnapshotWriting n m → Preparing w.disk n m → (to : Place) → (if b then Some (SnapshotWriting (piece_end n m) m) else None) ≡ Some to → IsDue w to
   next_rest_due false n m e c to is = absurd (cc)
@@ -209,7 +210,7 @@ module _ (w : WorldValue) (k : IsKept w) where
       let whole = c.copies.whole in
       let within = c.copies.within in
       subst (λ (q : Place). IsDue w q) (let e : SnapshotWriting (piece_end n m) m ≡ to = cc in e)
-      (λ r x. (omega (arith, there, within), omega (arith, whole, ap (λ (s : State). length (closed (snapshot_of (restarted s)))) (same_state w.disk.size w.disk.size w.disk.content c.reading r c.is_read x))))
+      (λ r x. (omega (arith, there, within), omega (arith, whole, ap (λ (s : State). length (closed_snapshot Two (snapshot_of (restarted s)))) (same_state w.disk.size w.disk.size w.disk.content c.reading r c.is_read x))))
 
   due_copy : (p to : Place) → w.place ≡ p → IsAt (log_of w) w.disk p → copy_writes (length (copy_of one)) p ≡ Some to → IsDue w to
   due_copy Rest to e at is = first_copy_due (ap done_at e) to (let e : Copying (piece_end 0 (length (copy_of one))) (length (copy_of one)) ≡ to = cc in e)

@@ -1,10 +1,11 @@
 -- Pieces of a snapshot, one behind the other.
-use Rattle.std.proofs.Common.{◌≡◌, ℕ, ◌+◌, ◌-◌, ◌≤◌, List, [], ◌++◌, length, take, drop, sym, ◌∙◌, ap, arith, length-append, length-drop, take-append-drop}
+use Rattle.std.proofs.Common.{◌≡◌, ℕ, ◌+◌, ◌-◌, ◌<◌, ◌≤◌, ◌^◌, List, [], ◌++◌, length, take, drop, sym, ◌∙◌, ap, arith, length-append, length-drop, take-append-drop}
 use Rattle.std.proofs.lemmas.List.{take_at, length-take-le}
 use Rattle.std.proofs.Math.Seq.{take-add, take-length}
 use Rattle.disk_core.specs.Images.{Torn, patched}
 use Rattle.disk_core.proofs.Torn.{drop_after, take_before}
-use Rattle.area_core.specs.Areas.{IsArea, closed}
+use Rattle.area_core.specs.declared.version.Version.TheVariants.{Two}
+use Rattle.area_core.specs.Areas.{IsArea, closed_snapshot}
 use Rattle.area_core.proofs.Areas.{fresh}
 use Rattle.area_core.proofs.Ranges.{patched_from}
 
@@ -43,7 +44,7 @@ piece_there base from to bytes content le most fits there =
     ∙ ap (λ (n : ℕ). take n bytes) back
 
 -- once all of it stands there, it is the area's
-pub all_there : (size all : ℕ) (next l : List ℕ) → length next + 9 ≤ size → all ≡ length (closed next) → take all l ≡ take all (closed next) → IsArea size next [] l
-all_there size all next l room whole there =
-    let is : take all l ≡ closed next = there ∙ ap (λ (n : ℕ). take n (closed next)) whole ∙ take-length (closed next) in
-    fresh size next (drop all l) l room (sym (take-append-drop all l) ∙ ap (λ (x : List ℕ). x ++ drop all l) is)
+pub all_there : (size all : ℕ) (next l : List ℕ) → length next < 2 ^ 56 → length next + 9 ≤ size → all ≡ length (closed_snapshot Two next) → take all l ≡ take all (closed_snapshot Two next) → IsArea Two size next [] l
+all_there size all next l seven room whole there =
+    let is : take all l ≡ closed_snapshot Two next = there ∙ ap (λ (n : ℕ). take n (closed_snapshot Two next)) whole ∙ take-length (closed_snapshot Two next) in
+    fresh Two size next (drop all l) l seven room (sym (take-append-drop all l) ∙ ap (λ (x : List ℕ). x ++ drop all l) is)

@@ -14,9 +14,10 @@ use Rattle.disk_core.proofs.Overwritten.{frees, length-held_over}
 use Rattle.disk_core.proofs.Patched.{length-patched}
 use Rattle.disk_core.proofs.Synced.{only_content}
 use Rattle.disk_core.proofs.Torn.{torn_patched, torn_same}
-use Rattle.area_core.specs.Areas.{closed, front, records}
+use Rattle.area_core.specs.declared.version.Version.TheVariants.{Two}
+use Rattle.area_core.specs.Areas.{closed, closed_snapshot, front, records}
 use Rattle.area_core.specs.Journals.{is_odd, other, start}
-use Rattle.area_core.proofs.Areas.{length-closed}
+use Rattle.area_core.proofs.Areas.{length-sealed}
 use Rattle.world_core.specs.declared.event.Call.{Call}
 use Rattle.world_core.specs.declared.event.CallKind.{CallKind}
 use Rattle.world_core.specs.declared.event.CallKind.TheVariants.{Read, Write, Sync}
@@ -35,7 +36,7 @@ use Rattle.world_core.specs.Readings.{IsRead, Reading}
 use Rattle.world_core.specs.Worlds.{DiskValue, WorldValue, between}
 use Rattle.world_core.proofs.Logs.{batch_form, count_under, none_taken, prefix_moves, state_more}
 use Rattle.world_core.proofs.Copying.{all_there, piece_size, piece_there, torn_back, torn_on, torn_within}
-use Rattle.world_core.proofs.Readings.{at_selector, block_fits, block_reads, block_torn, gate_open, gate_torn, idle_fits, idle_torn, same_gate, same_state, selector_torn, selector_written, with_block}
+use Rattle.world_core.proofs.Readings.{at_selector, block_fits, block_reads, block_torn, gate_open, gate_torn, idle_fits, idle_torn, same_gate, same_state, same_version, selector_torn, selector_written, with_block}
 
 -- where it is not under another, it is that much or more
 le_where : (a b : ℕ) → nat_lt a b ≡ false → b ≤ a
@@ -51,7 +52,7 @@ not_running Reopening r = absurd (cc)
 not_running Crashed r = absurd (cc)
 
 exact_synced : (log : Log) (d : DiskValue) (n : ℕ) → Exact log d n → Exact log (synced d) n
-exact_synced log d n e = record { running = e.running; reading = e.reading; is_read = e.is_read; state = e.state }
+exact_synced log d n e = record { running = e.running; reading = e.reading; is_read = e.is_read; two = e.two; state = e.state }
 
 staged_synced : (log : Log) (d : DiskValue) (to : ℕ) → Staged log d to → Staged log (synced d) to
 staged_synced log d to s = record {
@@ -61,6 +62,7 @@ staged_synced log d to s = record {
   before = s.before;
   reading = s.reading;
   was_read = s.was_read;
+  two = s.two;
   state = s.state;
   form = s.form;
   room = s.room;
@@ -68,7 +70,7 @@ staged_synced log d to s = record {
 }
 
 restarted_synced : (d : DiskValue) → Restarted d → Restarted (synced d)
-restarted_synced d p = record { reading = p.reading; is_read = p.is_read; can = p.can; again = p.again }
+restarted_synced d p = record { reading = p.reading; is_read = p.is_read; two = p.two; can = p.can; again = p.again }
 
 at_ok : (ok : Bool) (log : Log) (d : DiskValue) (to : Place) → IsAt log d to → IsAt log d (place_after ok to)
 at_ok true log d to is = is
@@ -172,6 +174,7 @@ module _ (w : WorldValue) (k : IsKept w) (r : Reading) (x : IsRead w.disk.size w
         before = d.content;
         reading = r;
         was_read = now;
+        two = same_version d.size d.size d.content r exact.reading x exact.is_read ∙ exact.two;
         state = state;
         form = batch_form w.base w.history w.stored w.taken (omega (arith, k.begun, k.marked)) may.some k.taken k.forms;
         room = may.fits;
@@ -217,7 +220,7 @@ module _ (w : WorldValue) (k : IsKept w) (r : Reading) (x : IsRead w.disk.size w
         let p = patch_to w r (GateWritten to) in
         let fits : gate_of d r + 1 ≤ length d.content = omega (arith, gate_there, staged_fits, ap (λ (l : List ℕ). length l) s.content, length-patched (block_at + 1) block s.before staged_fits) in
         write_keeps w.phase (place_after ok (GateWritten to)) p (λ q. q) still fits
-        (λ c t. elim (gate_torn d.size s.before s.reading s.was_read cs s.form s.room c (subst (λ (l : List ℕ). Torn block_at 1 l c) s.content (subst (λ (n : ℕ). Torn n 1 d.content c) gate_there t))) [
+        (λ c t. elim (gate_torn d.size s.before s.reading s.was_read s.two cs s.form s.room c (subst (λ (l : List ℕ). Torn block_at 1 l c) s.content (subst (λ (n : ℕ). Torn n 1 d.content c) gate_there t))) [
           | inl old ↦ record { number = w.stored; stored = omega arith; taken = k.stored; reading = s.reading; is_read = old; same = ap restarted s.state; running = λ q. s.state }
           | inr new ↦ record { number = to; stored = omega (arith, s.more); taken = s.taken; reading = next; is_read = new; same = ap restarted next_state; running = λ q. next_state }
         ])
@@ -228,7 +231,8 @@ module _ (w : WorldValue) (k : IsKept w) (r : Reading) (x : IsRead w.disk.size w
             running = s.running;
             reading = next;
             is_read = subst (λ (n : ℕ). IsRead d.size (patched n (1 ∷ []) d.content) next) (sym gate_there)
-                (subst (λ (l : List ℕ). IsRead d.size (patched block_at (1 ∷ []) l) next) (sym s.content) (gate_open d.size s.before s.reading s.was_read cs s.form s.room));
+                (subst (λ (l : List ℕ). IsRead d.size (patched block_at (1 ∷ []) l) next) (sym s.content) (gate_open d.size s.before s.reading s.was_read s.two cs s.form s.room));
+            two = s.two;
             state = next_state;
           },
         ))
@@ -246,10 +250,10 @@ module _ (w : WorldValue) (k : IsKept w) (r : Reading) (x : IsRead w.disk.size w
         same = ap restarted e.state;
         running = λ q. e.state;
       })
-      (refl, record { running = e.running; reading = e.reading; is_read = e.is_read; state = e.state })
+      (refl, record { running = e.running; reading = e.reading; is_read = e.is_read; two = e.two; state = e.state })
 
   has_exact : HasCopy (log_of w) d → Exact (log_of w) d w.stored
-  has_exact c = record { running = c.running; reading = c.reading; is_read = c.is_read; state = c.state }
+  has_exact c = record { running = c.running; reading = c.reading; is_read = c.is_read; two = c.two; state = c.state }
 
   append_write : (ok : Bool) (p : Place) → IsAt (log_of w) d p → IsSomeAnd (append_writes w.taken p) (MayLead w r) → IsKept (called w r (record { list = Append; kind = Write; ok = ok }) p (append_writes w.taken p))
   append_write ok Rest is may = block_keeps ok is.0 is.1 may
@@ -366,19 +370,20 @@ module _ (w : WorldValue) (k : IsKept w) (r : Reading) (x : IsRead w.disk.size w
 
   -- Snapshot
 
-  copy_keeps : (ok : Bool) (to all : ℕ) → w.phase ≡ Running → r.state ≡ upto (log_of w) w.stored → CanCopy d.size r → AreTorn → done_at w.place ≤ to → to ≤ all → all ≡ length (copy_of r)
+  copy_keeps : (ok : Bool) (to all : ℕ) → w.phase ≡ Running → r.version ≡ Two → r.state ≡ upto (log_of w) w.stored → CanCopy d.size r → AreTorn → done_at w.place ≤ to → to ≤ all → all ≡ length (copy_of r)
       → take (done_at w.place) (drop (idle_of d) d.content) ≡ take (done_at w.place) (copy_of r)
       → IsKept (record w { place = place_after ok (Copying to all); disk = wrote d (patch_to w r (Copying to all)) })
-  copy_keeps ok to all running state can torn le within whole there =
+  copy_keeps ok to all running two state can torn le within whole there =
       let from = done_at w.place in
       let bytes = copy_of r in
       let most : to ≤ length bytes = omega (arith, within, whole) in
-      let room : length bytes ≤ d.size = omega (arith, length-closed (snapshot_of r.state), can.fits) in
+      let room : length bytes ≤ d.size = omega (arith, length-sealed Two (snapshot_of r.state), can.fits) in
       piece_keeps from to bytes le most room torn w.phase (place_after ok (Copying to all)) (λ q. q)
       (at_ok ok (log_of w) (wrote d (piece (idle_of d) from to bytes)) (Copying to all) (record {
         running = running;
         reading = r;
         is_read = still_reads from to bytes le most room torn;
+        two = two;
         state = state;
         can = can;
         copies = copies_more from to bytes le most room torn all whole there;
@@ -388,12 +393,12 @@ module _ (w : WorldValue) (k : IsKept w) (r : Reading) (x : IsRead w.disk.size w
       → let all = length (copy_of r) in IsKept (record w { place = place_after ok (Copying (piece_end 0 all) all); disk = wrote d (patch_to w r (Copying (piece_end 0 all) all)) })
   first_copy ok none still exact can =
       let state : r.state ≡ upto (log_of w) w.stored = same_state d.size d.size d.content r exact.reading x exact.is_read ∙ exact.state in
-      copy_keeps ok (piece_end 0 (length (copy_of r))) (length (copy_of r)) exact.running state can (still_torn still) (omega (arith, none)) (omega arith) refl
+      copy_keeps ok (piece_end 0 (length (copy_of r))) (length (copy_of r)) exact.running (same_version d.size d.size d.content r exact.reading x exact.is_read ∙ exact.two) state can (still_torn still) (omega (arith, none)) (omega arith) refl
       (ap (λ (n : ℕ). take n (drop (idle_of d) d.content)) none ∙ sym (ap (λ (n : ℕ). take n (copy_of r)) none))
 
   -- what was copied so far, of what is read
   copied_here : (done all : ℕ) → Copied (log_of w) d done all → Copies d (copy_of r) done all
-  copied_here done all c = subst (λ (s : State). Copies d (closed (snapshot_of s)) done all) (sym (same_state d.size d.size d.content r c.reading x c.is_read)) c.copies
+  copied_here done all c = subst (λ (s : State). Copies d (closed_snapshot Two (snapshot_of s)) done all) (sym (same_state d.size d.size d.content r c.reading x c.is_read)) c.copies
 
   next_copy : (ok b : Bool) (done all : ℕ) → w.place ≡ Copying done all → Copied (log_of w) d done all → IsSomeAnd (if b then Some (Copying (piece_end done all) all) else None) (MayLead w r) → b ≡ nat_lt done all
       → IsKept (called w r (record { list = Snapshot; kind = Write; ok = ok }) (Copying done all) (if b then Some (Copying (piece_end done all) all) else None))
@@ -402,7 +407,7 @@ module _ (w : WorldValue) (k : IsKept w) (r : Reading) (x : IsRead w.disk.size w
       let there : done_at w.place ≡ done = ap done_at e in
       let copies = copied_here done all c in
       let state : r.state ≡ upto (log_of w) w.stored = same_state d.size d.size d.content r c.reading x c.is_read ∙ c.state in
-      copy_keeps ok (piece_end done all) all c.running state may copies.torn (omega (arith, there, copies.within)) (omega arith) copies.whole
+      copy_keeps ok (piece_end done all) all c.running (same_version d.size d.size d.content r c.reading x c.is_read ∙ c.two) state may copies.torn (omega (arith, there, copies.within)) (omega arith) copies.whole
       (ap (λ (n : ℕ). take n (drop (idle_of d) d.content)) there ∙ copies.there ∙ sym (ap (λ (n : ℕ). take n (copy_of r)) there))
 
   copy_write : (ok : Bool) (p : Place) → w.place ≡ p → IsAt (log_of w) d p → IsSomeAnd (copy_writes (length (copy_of r)) p) (MayLead w r)
@@ -430,9 +435,10 @@ module _ (w : WorldValue) (k : IsKept w) (r : Reading) (x : IsRead w.disk.size w
         running = c.running;
         reading = c.reading;
         is_read = c.is_read;
+        two = c.two;
         state = c.state;
         can = c.can;
-        idle = all_there d.size all (snapshot_of c.reading.state) (drop (idle_of d) d.content) c.can.fits c.copies.whole (subst (λ (n : ℕ). take n (drop (idle_of d) d.content) ≡ take n (copy_of c.reading)) same c.copies.there);
+        idle = all_there d.size all (snapshot_of c.reading.state) (drop (idle_of d) d.content) (omega (arith, c.can.fits, k.most)) c.can.fits c.copies.whole (subst (λ (n : ℕ). take n (drop (idle_of d) d.content) ≡ take n (copy_of c.reading)) same c.copies.there);
       }
 
   copy_sync_if : (ok b : Bool) (done all : ℕ) → Copied (log_of w) d done all → b ≡ nat_lt done all
@@ -465,7 +471,7 @@ module _ (w : WorldValue) (k : IsKept w) (r : Reading) (x : IsRead w.disk.size w
       let t = c.reading.state in
       let next = snapshot_of t in
       let there = at_selector d.size d.content c.reading c.is_read in
-      let new_reading : Reading = record { gate = length (front next []); state = t } in
+      let new_reading : Reading = record { version = Two; gate = length (front Two next []); state = t } in
       write_keeps w.phase (place_after ok SwitchWritten) p (λ q. q) still (omega (arith, k.size))
       (λ image torn. elim (selector_torn d.size d.content c.reading there next t c.can.spelled c.idle image torn) [
         | inl old ↦ record { number = w.stored; stored = omega arith; taken = k.stored; reading = c.reading; is_read = old; same = ap restarted c.state; running = λ q. c.state }
@@ -475,6 +481,7 @@ module _ (w : WorldValue) (k : IsKept w) (r : Reading) (x : IsRead w.disk.size w
         running = c.running;
         reading = new_reading;
         is_read = selector_written d.size d.content c.reading there next t c.can.spelled c.idle;
+        two = refl;
         state = c.state;
       }))
 
@@ -520,7 +527,7 @@ module _ (w : WorldValue) (k : IsKept w) (r : Reading) (x : IsRead w.disk.size w
       let from = done_at w.place in
       let bytes = rest_of r in
       let most : to ≤ length bytes = omega (arith, within, whole) in
-      let room : length bytes ≤ d.size = omega (arith, length-closed (snapshot_of (restarted r.state)), can.fits) in
+      let room : length bytes ≤ d.size = omega (arith, length-sealed Two (snapshot_of (restarted r.state)), can.fits) in
       let log : Log = log_of (record w { phase = ended }) in
       piece_keeps from to bytes le most room torn ended (place_after ok (SnapshotWriting to all)) (λ q. absurd (not_running w.phase q))
       (at_ok ok log (wrote d (piece (idle_of d) from to bytes)) (SnapshotWriting to all) (
@@ -544,7 +551,7 @@ module _ (w : WorldValue) (k : IsKept w) (r : Reading) (x : IsRead w.disk.size w
   next_rest ok false done all e c may b = k
   next_rest ok true done all e c may b =
       let there : done_at w.place ≡ done = ap done_at e in
-      let copies : Copies d (rest_of r) done all = subst (λ (s : State). Copies d (closed (snapshot_of (restarted s))) done all) (sym (same_state d.size d.size d.content r c.reading x c.is_read)) c.copies in
+      let copies : Copies d (rest_of r) done all = subst (λ (s : State). Copies d (closed_snapshot Two (snapshot_of (restarted s))) done all) (sym (same_state d.size d.size d.content r c.reading x c.is_read)) c.copies in
       rest_keeps ok (piece_end done all) all may copies.torn (omega (arith, there, copies.within)) (omega arith) copies.whole
       (ap (λ (n : ℕ). take n (drop (idle_of d) d.content)) there ∙ copies.there ∙ sym (ap (λ (n : ℕ). take n (rest_of r)) there))
 
@@ -556,7 +563,7 @@ module _ (w : WorldValue) (k : IsKept w) (r : Reading) (x : IsRead w.disk.size w
         reading = c.reading;
         is_read = c.is_read;
         can = c.can;
-        idle = all_there d.size all (snapshot_of (restarted c.reading.state)) (drop (idle_of d) d.content) c.can.fits c.copies.whole (subst (λ (n : ℕ). take n (drop (idle_of d) d.content) ≡ take n (rest_of c.reading)) same c.copies.there);
+        idle = all_there d.size all (snapshot_of (restarted c.reading.state)) (drop (idle_of d) d.content) (omega (arith, c.can.fits, k.most)) c.can.fits c.copies.whole (subst (λ (n : ℕ). take n (drop (idle_of d) d.content) ≡ take n (rest_of c.reading)) same c.copies.there);
       }
 
   selector_keeps : (ok : Bool) → IsStill d → w.phase ≢ Running → Prepared d
@@ -572,13 +579,14 @@ module _ (w : WorldValue) (k : IsKept w) (r : Reading) (x : IsRead w.disk.size w
       write_keeps ended (place_after ok SelectorWritten) p (λ q. absurd (not_running w.phase q)) still (omega (arith, k.size))
       (λ image torn. elim (selector_torn d.size d.content c.reading there next t c.can.spelled c.idle image torn) [
         | inl old ↦ record { number = here.number; stored = here.stored; taken = here.taken; reading = c.reading; is_read = old; same = same; running = λ q. absurd (stopped q) }
-        | inr new ↦ record { number = here.number; stored = here.stored; taken = here.taken; reading = record { gate = length (front next []); state = t }; is_read = new; same = same; running = λ q. absurd (stopped q) }
+        | inr new ↦ record { number = here.number; stored = here.stored; taken = here.taken; reading = record { version = Two; gate = length (front Two next []); state = t }; is_read = new; same = same; running = λ q. absurd (stopped q) }
       ])
       (at_ok ok log (wrote d p) SelectorWritten (
         not_running w.phase,
         record {
-          reading = record { gate = length (front next []); state = t };
+          reading = record { version = Two; gate = length (front Two next []); state = t };
           is_read = selector_written d.size d.content c.reading there next t c.can.spelled c.idle;
+          two = refl;
           can = record { low = c.can.low; spelled = c.can.spelled; fits = c.can.fits };
           again = refl;
         },
@@ -725,5 +733,5 @@ module _ (w : WorldValue) (k : IsKept w) (r : Reading) (x : IsRead w.disk.size w
           same = ap restarted (sym (begins s.count));
           running = λ q. sym (begins s.count);
         };
-        at = (at.0, record { running = refl; reading = r; is_read = x; state = sym (begins s.count) });
+        at = (at.0, record { running = refl; reading = r; is_read = x; two = same_version d.size d.size d.content r at.2.reading x at.2.is_read ∙ at.2.two; state = sym (begins s.count) });
       }

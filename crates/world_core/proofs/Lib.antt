@@ -10,3 +10,4 @@ pub mod SessionEvents
 pub mod Shown
 pub mod Telling
 pub mod Copying
+pub mod OldJournals

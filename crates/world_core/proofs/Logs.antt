@@ -90,7 +90,7 @@ prefix_moves log next size c stored taken same phase f = record {
 }
 
 exact_moves : (log next : Log) (d : DiskValue) (n : ℕ) → upto next n ≡ upto log n → (log.phase ≡ Running → next.phase ≡ Running) → Exact log d n → Exact next d n
-exact_moves log next d n same phase e = record { running = phase e.running; reading = e.reading; is_read = e.is_read; state = e.state ∙ sym same }
+exact_moves log next d n same phase e = record { running = phase e.running; reading = e.reading; is_read = e.is_read; two = e.two; state = e.state ∙ sym same }
 
 staged_moves : (log next : Log) (d : DiskValue) (to : ℕ) → next.stored ≡ log.stored → log.taken ≤ next.taken → next.phase ≡ log.phase → log.base ≤ log.stored → AreSame log next log.taken → Staged log d to → Staged next d to
 staged_moves log next d to stored taken phase low same s =
@@ -103,6 +103,7 @@ staged_moves log next d to stored taken phase low same s =
       before = s.before;
       reading = s.reading;
       was_read = s.was_read;
+      two = s.two;
       state = s.state ∙ sym (same.upto_is log.stored (omega (arith, s.more, s.taken))) ∙ ap (λ (k : ℕ). upto next k) (sym stored);
       form = subst IsBlock (sym one) s.form;
       room = subst (λ (cs : List CommandValue). s.reading.gate + 10 + length (records cs) ≤ d.size) (sym one) s.room;
@@ -121,6 +122,7 @@ copied_stays log next d done all stored phase le same c = record {
   running = phase ∙ c.running;
   reading = c.reading;
   is_read = c.is_read;
+  two = c.two;
   state = stored_stays log next c.reading.state stored le same c.state;
   can = c.can;
   copies = c.copies;
@@ -131,6 +133,7 @@ has_copy_stays log next d stored phase le same c = record {
   running = phase ∙ c.running;
   reading = c.reading;
   is_read = c.is_read;
+  two = c.two;
   state = stored_stays log next c.reading.state stored le same c.state;
   can = c.can;
   idle = c.idle;

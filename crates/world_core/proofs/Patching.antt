@@ -4,9 +4,10 @@ use Rattle.command_core.specs.Commands.{CommandValue}
 use Rattle.command_core.specs.Entries.{EntryValue}
 use Rattle.broker_core.specs.Operations.{restarted}
 use Rattle.snapshot_core.specs.Snapshots.{snapshot_of}
-use Rattle.area_core.specs.Areas.{closed, commands, records}
+use Rattle.area_core.specs.declared.version.Version.TheVariants.{Two}
+use Rattle.area_core.specs.Areas.{closed, closed_snapshot, commands, records}
 use Rattle.area_core.specs.Journals.{is_odd, other, start}
-use Rattle.area_core.proofs.Areas.{length-closed}
+use Rattle.area_core.proofs.Areas.{length-closed, length-sealed}
 use Rattle.area_core.proofs.Journals.{start_most}
 use Rattle.world_core.specs.declared.patches.Patch.{Patch}
 use Rattle.world_core.specs.declared.place.Place.{Place}
@@ -99,10 +100,10 @@ patch_fits w k (BlockWritten to) r x due may = omega (arith, k.size, may.fits, l
 patch_fits w k (GateWritten to) r x due may = omega (arith, k.size, gate_within w.disk.size w.disk.content r x, start_most w.disk.size (is_odd (slice_index w.disk.content 16)))
 patch_fits w k (Copying done all) r x due may =
     let there = due r x in
-    omega (arith, k.size, there.0, there.1, piece_size (done_at w.place) done (copy_of r) there.0 there.1, may.fits, length-closed (snapshot_of r.state), start_most w.disk.size (other (is_odd (slice_index w.disk.content 16))))
+    omega (arith, k.size, there.0, there.1, piece_size (done_at w.place) done (copy_of r) there.0 there.1, may.fits, length-sealed Two (snapshot_of r.state), start_most w.disk.size (other (is_odd (slice_index w.disk.content 16))))
 patch_fits w k (SnapshotWriting done all) r x due may =
     let there = due r x in
-    omega (arith, k.size, there.0, there.1, piece_size (done_at w.place) done (rest_of r) there.0 there.1, may.fits, length-closed (snapshot_of (restarted r.state)), start_most w.disk.size (other (is_odd (slice_index w.disk.content 16))))
+    omega (arith, k.size, there.0, there.1, piece_size (done_at w.place) done (rest_of r) there.0 there.1, may.fits, length-sealed Two (snapshot_of (restarted r.state)), start_most w.disk.size (other (is_odd (slice_index w.disk.content 16))))
 patch_fits w k SwitchWritten r x due may = omega (arith, k.size)
 patch_fits w k CopySynced r x due may = omega arith
 patch_fits w k SelectorWritten r x due may = omega (arith, k.size)
@@ -135,20 +136,20 @@ not_other a false is = ap not is
 -- what was found for the bytes of the disk
 
 pub found_copy : (o : Option (Vec ℕ Global)) (v : Vec ℕ Global) (size : ℕ) (c d bytes : List ℕ) → o ≡ Some v → d ≡ c
-    → IfSome o (λ snapshot. (r : Reading) → IsRead size d r → CanCopy size r × (snapshot.items ≡ snapshot_of r.state)) → bytes ≡ closed v.items
+    → IfSome o (λ snapshot. (r : Reading) → IsRead size d r → CanCopy size r × (snapshot.items ≡ snapshot_of r.state)) → bytes ≡ closed_snapshot Two v.items
     → (r : Reading) → IsRead size c r → CanCopy size r × (bytes ≡ copy_of r)
 found_copy o v size c d bytes is same some closes r x =
     let it = subst (λ (q : Option (Vec ℕ Global)). IfSome q (λ snapshot. (r : Reading) → IsRead size c r → CanCopy size r × (snapshot.items ≡ snapshot_of r.state))) is
     (subst (λ (l : List ℕ). IfSome o (λ snapshot. (r : Reading) → IsRead size l r → CanCopy size r × (snapshot.items ≡ snapshot_of r.state))) same some) r x in
-    (it.0, closes ∙ ap (λ (l : List ℕ). closed l) it.1)
+    (it.0, closes ∙ ap (λ (l : List ℕ). closed_snapshot Two l) it.1)
 
 pub found_rest : (o : Option (Vec ℕ Global)) (v : Vec ℕ Global) (size : ℕ) (c d bytes : List ℕ) → o ≡ Some v → d ≡ c
-    → IfSome o (λ snapshot. (r : Reading) → IsRead size d r → CanRestart size r × (snapshot.items ≡ snapshot_of (restarted r.state))) → bytes ≡ closed v.items
+    → IfSome o (λ snapshot. (r : Reading) → IsRead size d r → CanRestart size r × (snapshot.items ≡ snapshot_of (restarted r.state))) → bytes ≡ closed_snapshot Two v.items
     → (r : Reading) → IsRead size c r → CanRestart size r × (bytes ≡ rest_of r)
 found_rest o v size c d bytes is same some closes r x =
     let it = subst (λ (q : Option (Vec ℕ Global)). IfSome q (λ snapshot. (r : Reading) → IsRead size c r → CanRestart size r × (snapshot.items ≡ snapshot_of (restarted r.state)))) is
     (subst (λ (l : List ℕ). IfSome o (λ snapshot. (r : Reading) → IsRead size l r → CanRestart size r × (snapshot.items ≡ snapshot_of (restarted r.state)))) same some) r x in
-    (it.0, closes ∙ ap (λ (l : List ℕ). closed l) it.1)
+    (it.0, closes ∙ ap (λ (l : List ℕ). closed_snapshot Two l) it.1)
 
 -- what was found is what is written
 pub copy_bytes_of : (o : Option (Vec ℕ Global)) (v : Vec ℕ Global) (size : ℕ) (c : List ℕ) → o ≡ Some v

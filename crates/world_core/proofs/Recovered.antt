@@ -5,6 +5,7 @@ use Rattle.broker_core.specs.Operations.{restarted}
 use Rattle.broker_core.specs.States.{BrokerValue, State}
 use Rattle.snapshot_core.specs.Snapshots.{Spells, snapshot_of}
 use Rattle.area_core.specs.declared.area.Area.{Area}
+use Rattle.area_core.specs.declared.version.Version.{Version}
 use Rattle.area_core.specs.Areas.{front}
 use Rattle.area_core.specs.Reading.{IsPast}
 use Rattle.area_core.proofs.Single.{reads_one, size_one}
@@ -23,11 +24,12 @@ passed_more area next content cs block p = record { snapshot = p.snapshot; block
 
 pub gate_is : (area : Area) (content : List ℕ) → HasEnded area content → (size : ℕ) (r : Reading) → IsRead size content r → area.gate ≡ r.gate
 gate_is area content e size r x =
-    let one = reads_one area.size size area.selector x.selector e.snapshot x.snapshot e.blocks x.blocks content e.at.reads x.reads in
-    e.at.gate ∙ ap (λ (l : List ℕ). length (front l e.blocks)) one.2 ∙ ap (λ (bs : List (List CommandValue)). length (front x.snapshot bs)) one.3 ∙ sym x.gate
+    let one = reads_one area.version r.version area.size size area.selector x.selector e.snapshot x.snapshot e.blocks x.blocks content e.at.reads x.reads in
+    e.at.gate ∙ ap (λ (v : Version). length (front v e.snapshot e.blocks)) one.0 ∙ ap (λ (l : List ℕ). length (front r.version l e.blocks)) one.3
+    ∙ ap (λ (bs : List (List CommandValue)). length (front r.version x.snapshot bs)) one.4 ∙ sym x.gate
 
 pub read_stands : (size : ℕ) (content : List ℕ) (r : Reading) → IsRead size content r → Stands content r.state
-read_stands size content r x = stands size x.selector x.snapshot x.blocks content r.state x.reads x.leads
+read_stands size content r x = stands r.version size x.selector x.snapshot x.blocks content r.state x.reads x.leads
 
 too_large : (content : List ℕ) (size : ℕ) (r : Reading) → IsRead size content r → CanRestart size r → IsTooLarge content → ⊥
 too_large content size r x can t =

@@ -3,7 +3,8 @@ use Rattle.std.specs.Prelude.{◌<◌, ◌≤◌, ℕ, ◌+◌, ◌-◌, ◌%◌
 use Rattle.command_core.specs.Commands.{CommandValue}
 use Rattle.disk_core.specs.Images.{patched}
 use Rattle.disk_core.specs.Memory.{held_over, none_held}
-use Rattle.area_core.specs.Areas.{closed, records}
+use Rattle.area_core.specs.declared.version.Version.TheVariants.{Two}
+use Rattle.area_core.specs.Areas.{closed, closed_snapshot, records}
 use Rattle.area_core.specs.Journals.{is_odd, other, start}
 use Rattle.broker_core.specs.Operations.{restarted}
 use Rattle.snapshot_core.specs.Snapshots.{Spells, snapshot_of}
@@ -84,12 +85,13 @@ open_writes whole (SnapshotWriting done all) = if nat_lt done all then Some (Sna
 open_writes whole SnapshotSynced = Some SelectorWritten
 open_writes whole at = None
 
--- what is written of the state that is read, its sessions included, and of what a restart leaves of it
+-- What is written of the state that is read, its sessions included, and of what a restart leaves of it: an area of the second
+-- version.
 abbrev pub copy_of : Reading → List ℕ
-copy_of r = closed (snapshot_of r.state)
+copy_of r = closed_snapshot Two (snapshot_of r.state)
 
 abbrev pub rest_of : Reading → List ℕ
-rest_of r = closed (snapshot_of (restarted r.state))
+rest_of r = closed_snapshot Two (snapshot_of (restarted r.state))
 
 -- where this is read of the disk
 abbrev pub leads : WorldValue → Reading → CallList → CallKind → Option Place

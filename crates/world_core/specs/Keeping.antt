@@ -4,6 +4,7 @@ use Rattle.std.specs.List.{AllByRecursion}
 use Rattle.command_core.specs.Commands.{CommandValue}
 use Rattle.disk_core.specs.Images.{IsImage, Torn, patched}
 use Rattle.disk_core.specs.Memory.{none_held}
+use Rattle.area_core.specs.declared.version.Version.TheVariants.{Two}
 use Rattle.area_core.specs.Areas.{HasRecord, IsArea, IsBlock, closed, records}
 use Rattle.area_core.specs.Journals.{is_odd, start}
 use Rattle.broker_core.specs.Operations.{restarted}
@@ -45,11 +46,12 @@ pub record HasPrefix (log : Log) (size : ℕ) (c : List ℕ) : Type 0 where
   pub same : restarted reading.state ≡ restarted (upto log number)
   pub running : log.phase ≡ Running → reading.state ≡ upto log number
 
--- what is read of the disk is the state after just these
+-- what is read of the disk is the state after just these, in an area of the second version
 pub record Exact (log : Log) (d : DiskValue) (n : ℕ) : Type 0 where
   pub running : log.phase ≡ Running
   pub reading : Reading
   pub is_read : IsRead d.size d.content reading
+  pub two : reading.version ≡ Two
   pub state : reading.state ≡ upto log n
 
 -- a block of the commands up to a number stands behind the gate of what was there before
@@ -60,6 +62,7 @@ pub record Staged (log : Log) (d : DiskValue) (to : ℕ) : Type 0 where
   pub before : List ℕ
   pub reading : Reading
   pub was_read : IsRead d.size before reading
+  pub two : reading.version ≡ Two
   pub state : reading.state ≡ upto log log.stored
   pub form : IsBlock (between log.base log.history log.stored to)
   pub room : reading.gate + 10 + length (records (between log.base log.history log.stored to)) ≤ d.size
@@ -78,6 +81,7 @@ pub record Copied (log : Log) (d : DiskValue) (done all : ℕ) : Type 0 where
   pub running : log.phase ≡ Running
   pub reading : Reading
   pub is_read : IsRead d.size d.content reading
+  pub two : reading.version ≡ Two
   pub state : reading.state ≡ upto log log.stored
   pub can : CanCopy d.size reading
   pub copies : Copies d (copy_of reading) done all
@@ -87,9 +91,10 @@ pub record HasCopy (log : Log) (d : DiskValue) : Type 0 where
   pub running : log.phase ≡ Running
   pub reading : Reading
   pub is_read : IsRead d.size d.content reading
+  pub two : reading.version ≡ Two
   pub state : reading.state ≡ upto log log.stored
   pub can : CanCopy d.size reading
-  pub idle : IsArea d.size (snapshot_of reading.state) [] (drop (idle_of d) d.content)
+  pub idle : IsArea Two d.size (snapshot_of reading.state) [] (drop (idle_of d) d.content)
 
 -- a snapshot of what a restart leaves of the state that is read stands in the idle area so far
 pub record Preparing (d : DiskValue) (done all : ℕ) : Type 0 where
@@ -103,12 +108,13 @@ pub record Prepared (d : DiskValue) : Type 0 where
   pub reading : Reading
   pub is_read : IsRead d.size d.content reading
   pub can : CanRestart d.size reading
-  pub idle : IsArea d.size (snapshot_of (restarted reading.state)) [] (drop (idle_of d) d.content)
+  pub idle : IsArea Two d.size (snapshot_of (restarted reading.state)) [] (drop (idle_of d) d.content)
 
--- what is read is a state that is restarted
+-- what is read is a state that is restarted, in an area of the second version
 pub record Restarted (d : DiskValue) : Type 0 where
   pub reading : Reading
   pub is_read : IsRead d.size d.content reading
+  pub two : reading.version ≡ Two
   pub can : CanRestart d.size reading
   pub again : restarted reading.state ≡ reading.state
 

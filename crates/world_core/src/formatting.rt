@@ -1,10 +1,15 @@
-//! The disk of the first world.
+//! The disks of the first worlds.
 
-ghost use Rattle.std.specs.Prelude.{◌≡◌, ◌+◌, ◌*◌, ◌≤◌, [], ◌∷◌, IfOk, length, replicate};
+ghost use Rattle.std.specs.Prelude.{◌≡◌, ◌+◌, ◌*◌, ◌≤◌, ◌++◌, [], ◌∷◌, IfOk, OnOk, length, replicate};
+ghost use Rattle.std.specs.List.{AllByRecursion, flat_map};
 ghost use Rattle.disk_core.specs.Images.{patched};
-ghost use Rattle.world_core.specs.Schedules.{opened_once};
+ghost use Rattle.area_core.specs.Areas.{HasRecord, block, records};
+ghost use Rattle.area_core.specs.Journals.{header};
+ghost use Rattle.area_core.specs.declared.version.Version.TheVariants.{One};
+ghost use Rattle.world_core.specs.Schedules.{old_area, one_block, opened_once};
 
-use area_core::{closed, header_of};
+use area_core::{Version, closed_snapshot, header_of};
+use command_core::{Command, encode};
 use std::alloc::{AllocError, Global};
 
 fn put_at(bytes: &mut [u8], at: usize, new: &[u8])
@@ -37,14 +42,70 @@ fn put_both(bytes: &mut [u8], size: u64, head: &[u8], front: &[u8])
     put_at(bytes, 16, &[1]);
 }
 
+// The records of commands, one behind the other.
+fn records_of(alloc: Global, commands: &[Command]) -> Result<Vec<u8>, AllocError>
+    ensures bytes { IfOk result (λ bytes. bytes.items ≡ records commands.now) }
+    ensures each { IfOk result (λ _. AllByRecursion HasRecord commands.now) }
+{
+    let mut out = Vec::new(alloc);
+    for command in commands {
+        let record = encode(alloc, command)?;
+        out.extend_from_slice(&record)?;
+    }
+    Ok(out)
+}
+
+// Adds these commands as a block behind its open gate, where there are some. Their records are given.
+fn put_block(out: &mut Vec<u8>, commands: &[Command], bytes: &[u8]) -> Result<(), AllocError>
+    requires { bytes.now ≡ records commands.now }
+    ensures { OnOk result (out.new.items ≡ out.old.items ++ flat_map block (one_block commands.now)) }
+{
+    if !commands.is_empty() {
+        out.push(1)?;
+        out.extend_from_slice(&(bytes.len() as u64).to_be_bytes())?;
+        out.extend_from_slice(bytes)?;
+    }
+    Ok(())
+}
+
+// An area of the first version with the empty state and these commands in one block.
+pub(crate) fn old_area(alloc: Global, commands: &[Command]) -> Result<Vec<u8>, AllocError>
+    ensures bytes { IfOk result (λ bytes. bytes.items ≡ old_area commands.now) }
+    ensures each { IfOk result (λ _. AllByRecursion HasRecord commands.now) }
+{
+    let records = records_of(alloc, commands)?;
+    let mut out = Vec::new(alloc);
+    out.extend_from_slice(&32_u64.to_be_bytes())?;
+    out.extend_from_slice(&[0; 32])?;
+    put_block(&mut out, commands, &records)?;
+    out.push(0)?;
+    Ok(out)
+}
+
+// A disk of the first version, whose first area is this one.
+pub(crate) fn old_content(alloc: Global, size: u64, area: &[u8]) -> Result<Vec<u8>, AllocError>
+    requires least { 4096 ≤ size }
+    requires most { size ≤ 1048576 }
+    requires fits { length area.now ≤ size }
+    ensures { IfOk result (λ content. content.items ≡
+        patched 0 (header One size ++ replicate 16 0) (patched 32 area.now (replicate (32 + 2 * size) 0))) }
+{
+    let head = header_of(alloc, Version::One, size)?;
+    let mut content = zeros(alloc, (32 + 2 * size) as usize)?;
+    put_at(&mut content, 32, area);
+    put_at(&mut content, 0, &head);
+    drop(head);
+    Ok(content)
+}
+
 // What formatting and then opening leave of a disk of zeros.
 pub(crate) fn first_content(alloc: Global, size: u64) -> Result<Vec<u8>, AllocError>
     requires least { 4096 ≤ size }
     requires most { size ≤ 1048576 }
     ensures { IfOk result (λ content. content.items ≡ opened_once size) }
 {
-    let head = header_of(alloc, size)?;
-    let front = closed(alloc, &[0; 32])?;
+    let head = header_of(alloc, Version::Two, size)?;
+    let front = closed_snapshot(alloc, Version::Two, &[0; 32])?;
     let mut content = zeros(alloc, (32 + 2 * size) as usize)?;
     put_both(&mut content, size, &head, &front);
     drop(front);

@@ -6,15 +6,17 @@ ghost use Rattle.disk_core.specs.Images.{IsImage};
 ghost use Rattle.broker_core.specs.States.{State};
 ghost use Rattle.world_core.specs.declared.event.Event.{Event};
 ghost use Rattle.world_core.specs.Promises.{HoldsOn, IsAfterSome, shown};
-ghost use Rattle.world_core.specs.Schedules.{Holds, Reaches, first};
+ghost use Rattle.world_core.specs.Schedules.{Holds, IsFirst, Reaches};
 ghost use Rattle.world_core.specs.Worlds.{WorldValue};
 
 use disk_core::Disk;
 
-/// Whatever happens, in whatever order, with any number of crashes, failures and openings: what is promised holds. Each
-/// image of the disk has a prefix of the history with all that sessions were told of.
+/// Whatever happens, in whatever order, with any number of crashes, failures and openings, from a new journal on, or from one of
+/// the first version: what is promised holds. Each image of the disk has a prefix of the history with all that sessions were
+/// told of.
 pub fn every_schedule()
-    ensures { (size : ℕ) (events : List Event) (w : WorldValue) → 4096 ≤ size → size ≤ 1048576 → Reaches (first size) events w → Holds w }
+    ensures { (size : ℕ) (begin : WorldValue) (events : List Event) (w : WorldValue) → 4096 ≤ size → size ≤ 1048576
+        → IsFirst size begin → Reaches begin events w → Holds w }
 {}
 
 /// What is promised holds of any disk whose images all stand for the state after a prefix of what a flusher took, with all

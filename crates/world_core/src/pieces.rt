@@ -11,7 +11,7 @@ use crate::Place;
 use crate::parts::Parts;
 use crate::patches::{Patch, area_begins};
 use crate::recovering::{restarted_snapshot, stored_snapshot};
-use area_core::closed;
+use area_core::{Version, closed_snapshot};
 use std::alloc::{AllocError, Global};
 
 // How much is written of a snapshot.
@@ -35,7 +35,7 @@ impl Parts {
         let Some(snapshot) = stored_snapshot(alloc, &self.content, self.size)? else {
             return Ok(None);
         };
-        let bytes = closed(alloc, &snapshot);
+        let bytes = closed_snapshot(alloc, Version::Two, &snapshot);
         drop(snapshot);
         Ok(Some(bytes?))
     }
@@ -50,7 +50,7 @@ impl Parts {
         let Some(snapshot) = restarted_snapshot(alloc, &self.content, self.size)? else {
             return Ok(None);
         };
-        let bytes = closed(alloc, &snapshot);
+        let bytes = closed_snapshot(alloc, Version::Two, &snapshot);
         drop(snapshot);
         Ok(Some(bytes?))
     }

@@ -167,7 +167,7 @@ pub(crate) fn restarted_snapshot(
 
 // The broker of the state that these bytes stand for, or none where its count is too large. A journal is refused for that and
 // for want of memory alone.
-fn broker_in(alloc: Global, content: &[u8]) -> Result<Option<Broker>, AllocError>
+pub(crate) fn broker_in(alloc: Global, content: &[u8]) -> Result<Option<Broker>, AllocError>
     ensures state { IfOk result (λ found. IfSome found (λ broker. Stands content.now broker.state)) }
     ensures small { IfOk result (λ found. IfSome found (λ broker. (broker.state.count ≤ 2 ^ 61) × (broker.broken ≡ false))) }
     ensures none { IfOk result (λ found. found ≡ None → IsTooLarge content.now) }

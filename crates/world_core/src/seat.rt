@@ -115,13 +115,13 @@ pub(crate) fn renew(seats: &mut [Seat], seen: u64)
     }
 }
 
-// So many seats.
-pub(crate) fn seats(alloc: Global, count: usize) -> Result<Vec<Seat>, AllocError>
-    ensures { IfOk result (λ all. all.items ≡ replicate count (record { own = []; seen = 0 })) }
+// So many seats, which have seen that mark.
+pub(crate) fn seats(alloc: Global, count: usize, seen: u64) -> Result<Vec<Seat>, AllocError>
+    ensures { IfOk result (λ all. all.items ≡ replicate count (record { own = []; seen = seen })) }
 {
     let mut all = Vec::new(alloc);
     for i in 0..count {
-        all.push(Seat::new(alloc, 0))?;
+        all.push(Seat::new(alloc, seen))?;
     }
     Ok(all)
 }

@@ -1,18 +1,21 @@
 //! The world, and its events.
 
-ghost use Rattle.std.specs.Prelude.{◌≡◌, ◌≤◌, IfOk, OnErr};
+ghost use Rattle.std.specs.Prelude.{◌≡◌, ◌≤◌, ◌+◌, ◌*◌, IfOk, IfSome, List, None, OnErr, false, length};
 ghost use Rattle.disk_core.specs.Memory.{none_held};
 ghost use Rattle.world_core.specs.Answers.{Answers, IsTold};
 ghost use Rattle.world_core.specs.Keeping.{IsKept};
 ghost use Rattle.world_core.specs.Parts.{value_of};
-ghost use Rattle.world_core.specs.Schedules.{Holds, first};
+ghost use Rattle.command_core.specs.Commands.{CommandValue};
+ghost use Rattle.world_core.specs.Schedules.{FitsOld, Holds, crashed, first, first_old, old_area};
 ghost use Rattle.world_core.specs.Worlds.{claimed};
 
-use crate::formatting::first_content;
+use crate::formatting::{first_content, old_area, old_content};
 use crate::parts::Parts;
+use crate::recovering::broker_in;
 use crate::seat::seats;
 use crate::{Event, Phase, Place, Seat};
 use broker_core::Broker;
+use command_core::Command;
 use std::alloc::{AllocError, Global};
 use std::marker::Model;
 use std::snapshot::Snapshot;
@@ -86,6 +89,62 @@ fn first_parts(
     }
 }
 
+// The parts of a world whose last life has crashed, with the state of this broker, these seats and this disk.
+fn crashed_parts(
+    alloc: Global,
+    size: u64,
+    broker: &Broker,
+    seats: Vec<Seat>,
+    content: Vec<u8>,
+    held: Vec<Option<u8>>,
+) -> Parts
+    requires { broker.now.broken ≡ false }
+    ensures { value_of result ≡ record (crashed size broker.now.state content.items) {
+      seats = seats.items;
+      disk = record { size = size; content = content.items; held = held.items };
+    } }
+{
+    let count = broker.count();
+    Parts {
+        base: count,
+        opening: Snapshot::of(broker),
+        history: Vec::new(alloc),
+        ready: Vec::new(alloc),
+        taken: count,
+        stored: count,
+        mark: count,
+        seats,
+        stopped: false,
+        released: Vec::new(alloc),
+        earlier: Vec::new(alloc),
+        phase: Phase::Crashed,
+        place: Place::Broken,
+        size,
+        content,
+        held,
+    }
+}
+
+// The world of a journal of the first version, whose first area is this one.
+fn old_parts(alloc: Global, size: u64, area: &[u8]) -> Result<Parts, AllocError>
+    requires least { 4096 ≤ size }
+    requires most { size ≤ 1048576 }
+    requires fits { length area.now ≤ size }
+    ensures { IfOk result (λ parts. (commands : List CommandValue) → FitsOld size commands → area.now ≡ old_area commands
+        → value_of parts ≡ first_old size commands) }
+{
+    let content = old_content(alloc, size, area)?;
+    // So few commands are never too many.
+    let Some(broker) = broker_in(alloc, &content)? else {
+        return Err(AllocError);
+    };
+    let held = none_held(alloc, (32 + 2 * size) as usize)?;
+    let seats = seats(alloc, SEATS, broker.count())?;
+    let parts = crashed_parts(alloc, size, &broker, seats, content, held);
+    drop(broker);
+    Ok(parts)
+}
+
 impl Parts {
     // Lets an event happen where it is possible, and answers whether it was.
     fn apply(&mut self, alloc: Global, event: Event) -> Result<bool, AllocError>
@@ -118,11 +177,36 @@ impl World {
     {
         let content = first_content(alloc, area_bytes)?;
         let held = none_held(alloc, (32 + 2 * area_bytes) as usize)?;
-        let seats = seats(alloc, SEATS)?;
+        let seats = seats(alloc, SEATS, 0)?;
         Ok(World {
             alloc,
             parts: first_parts(alloc, area_bytes, seats, content, held),
         })
+    }
+
+    /// The world of a journal of the first version with two areas of so many bytes each, as after a crash: the empty state and these
+    /// commands in one block, or no block where there are none. `None` where they do not fit. The error is want of memory.
+    pub fn new_v1(
+        alloc: Global,
+        area_bytes: u64,
+        commands: &[Command],
+    ) -> Result<Option<World>, AllocError>
+        requires least { 4096 ≤ area_bytes }
+        requires most { area_bytes ≤ 1048576 }
+        ensures some { IfOk result (λ found. IfSome found (λ world. FitsOld area_bytes commands.now × (world ≡ first_old area_bytes commands.now))) }
+        ensures none { IfOk result (λ found. found ≡ None → FitsOld area_bytes commands.now → ⊥) }
+    {
+        let area = old_area(alloc, commands)?;
+        if area.len() as u64 > area_bytes {
+            drop(area);
+            return Ok(None);
+        }
+        let parts = old_parts(alloc, area_bytes, &area);
+        drop(area);
+        Ok(Some(World {
+            alloc,
+            parts: parts?,
+        }))
     }
 
     /// Lets an event happen where it is possible, and answers whether it was. One that is not changes nothing; nor does want

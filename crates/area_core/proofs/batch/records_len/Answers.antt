@@ -1,4 +1,4 @@
-use Rattle.std.proofs.Common.{inl, inr, ◌≡◌, ◌≤◌, ◌+◌, ◌^◌, ◌<◌, arith, length, take, ap, sym, ◌∙◌, flat_map, List, ℕ, subst}
+use Rattle.std.proofs.Common.{inl, inr, ◌+◌, ◌^◌, arith, length, ap, sym, ◌∙◌, flat_map, List, ℕ, subst}
 use Rattle.std.specs.List.{AllByRecursion}
 use Rattle.std.proofs.lemmas.List.{take_all}
 use Rattle.std.proofs.lemmas.Bool.{cases_lt}

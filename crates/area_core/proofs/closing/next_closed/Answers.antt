@@ -1,5 +1,5 @@
-use Rattle.std.proofs.Common.{◌≡◌, ◌++◌, ◌-◌, ◌<◌, ◌≤◌, ◌∷◌, [], ℕ, List, cond, drop, length, take, sym, ◌∙◌, ap, arith, rules}
-use Rattle.area_core.specs.Closing.{closing, heading}
+use Rattle.std.proofs.Common.{◌≡◌, ◌++◌, ◌-◌, ℕ, length, take, ◌∙◌, ap, arith, rules}
+use Rattle.area_core.specs.Closing.{heading}
 use Rattle.area_core.proofs.Closings.{length-heading, piece_cut}
 use Rattle.area_core.proofs.closing.next_closed.Goals as goal
 

@@ -15,8 +15,8 @@ returns-then-not-are-clause-quiet g c honest = c.fetch.ensures.quiet honest
 pub returns-in_err-fetch-2-clause-quiet : goal.returns-in_err-fetch-2-clause-quiet
 returns-in_err-fetch-2-clause-quiet g c honest = quiet_then g.D.Disk c.args.disk.now c.fetch.new.disk c.fetch-2.new.disk (c.fetch.ensures.quiet honest) (c.fetch-2.ensures.quiet (c.fetch.ensures.honest honest))
 
-pub returns-then-not-are-2-clause-quiet : goal.returns-then-not-are-2-clause-quiet
-returns-then-not-are-2-clause-quiet g c honest = quiet_then g.D.Disk c.args.disk.now c.fetch.new.disk c.fetch-2.new.disk (c.fetch.ensures.quiet honest) (c.fetch-2.ensures.quiet (c.fetch.ensures.honest honest))
+pub returns-then-not-are_digits-clause-quiet : goal.returns-then-not-are_digits-clause-quiet
+returns-then-not-are_digits-clause-quiet g c honest = quiet_then g.D.Disk c.args.disk.now c.fetch.new.disk c.fetch-2.new.disk (c.fetch.ensures.quiet honest) (c.fetch-2.ensures.quiet (c.fetch.ensures.honest honest))
 
 pub returns-in_err-size-clause-quiet : goal.returns-in_err-size-clause-quiet
 returns-in_err-size-clause-quiet g c honest = quiet_then g.D.Disk c.args.disk.now c.fetch-2.new.disk c.fetch_number.new.disk (quiet_then g.D.Disk c.args.disk.now c.fetch.new.disk c.fetch-2.new.disk (c.fetch.ensures.quiet honest) (c.fetch-2.ensures.quiet (c.fetch.ensures.honest honest))) (c.fetch_number.ensures.quiet (c.fetch-2.ensures.honest (c.fetch.ensures.honest honest)))

@@ -1,4 +1,4 @@
-use Rattle.std.proofs.Common.{rules, ◌≡◌, ℕ, sym, arith}
+use Rattle.std.proofs.Common.{rules, sym}
 use Rattle.std.proofs.lemmas.Nat.{be_bytes_8}
 use Rattle.area_core.proofs.header.number_of.Goals as goal
 

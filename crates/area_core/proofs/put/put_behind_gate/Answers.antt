@@ -1,4 +1,4 @@
-use Rattle.std.proofs.Common.{inl, inr, ℕ, List, subst, rules}
+use Rattle.std.proofs.Common.{inl, rules}
 use Rattle.disk_core.proofs.Runs.{weaker}
 use Rattle.area_core.proofs.put.put_behind_gate.Goals as goal
 

@@ -1,4 +1,4 @@
-use Rattle.std.proofs.Common.{rules, ◌≡◌, ◌≢◌, ◌+◌, ◌-◌, ◌<◌, ◌≤◌, ◌++◌, [], List, ℕ, length, drop, sym, ◌∙◌, ap, subst, arith, length-append}
+use Rattle.std.proofs.Common.{rules, ◌≡◌, ◌-◌, ◌++◌, List, ℕ, length, sym, ◌∙◌, ap, subst, arith, length-append}
 use Rattle.area_core.specs.Areas.{records}
 use Rattle.area_core.specs.Damage.{IsRecordTold}
 use Rattle.area_core.proofs.RecordsRead.{all_read, each_more, less_left, record_more, some_rest, told_so}

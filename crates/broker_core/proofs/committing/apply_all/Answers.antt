@@ -1,5 +1,5 @@
 use Rattle.std.proofs.Common.{◌≡◌, ◌∷◌, ◌∙◌, ap, arith, length, rules, sym}
-use Rattle.broker_state.specs.Operations.{committed}
+use Rattle.broker_state.specs.Executing.{committed}
 use Rattle.broker_state.specs.Parts.{leaving}
 use Rattle.broker_core.proofs.Transactions.{committed_more}
 use Rattle.broker_core.proofs.committing.apply_all.Goals as goal
@@ -9,9 +9,9 @@ loop-member-preserved c =
     let s = c.loop-member.tables in
     let rest = c.next.new.self.rest.items in
     let first : c.loop-member.member-iterator.rest.items ≡ c.in-Some.member ∷ rest = search rules in
-    let all = ap (committed s c.args.session c.loop-member.place) (sym first) ∙ c.loop-member.invariant.committed in
+    let all = ap (committed c.args.rule s c.args.session c.loop-member.place) (sym first) ∙ c.loop-member.invariant.committed in
     let t = c.in_ok-left.left in
     record {
-      committed = sym (committed_more s t c.args.session c.loop-member.place c.in-Some.member rest (c.in_ok-left.ensures.applied ∙ ap (λ r. leaving r t) c.in_default.is)) ∙ all;
+      committed = sym (committed_more c.args.rule s t c.args.session c.loop-member.place c.in-Some.member rest (c.in_ok-left.ensures.applied ∙ ap (λ r. leaving r t) c.in_default.is)) ∙ all;
       few = omega (arith, ap length first);
     }

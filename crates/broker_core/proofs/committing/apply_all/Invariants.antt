@@ -1,9 +1,9 @@
 use Rattle.std.proofs.Common.{◌≡◌, ◌≤◌, ◌+◌, length}
-use Rattle.broker_state.specs.Operations.{committed}
+use Rattle.broker_state.specs.Executing.{committed}
 use Rattle.broker_core.proofs.committing.apply_all.Given as goal
 
 abbrev pub invariant-loop-member : goal.invariant-loop-member
 invariant-loop-member l = record {
-  committed : committed l.tables l.session l.place l.member-iterator.rest.items ≡ committed l.fn.tables l.session 0 l.fn.members.items;
+  committed : committed l.rule l.tables l.session l.place l.member-iterator.rest.items ≡ committed l.rule l.fn.tables l.session 0 l.fn.members.items;
   few : l.place + length l.member-iterator.rest.items ≤ 64;
 }

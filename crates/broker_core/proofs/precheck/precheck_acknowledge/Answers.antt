@@ -1,70 +1,22 @@
-use Rattle.std.proofs.Common.{◌∙◌, List, Ok, Err, ap, arith, cond, subst, sym}
-use Rattle.std.specs.List.{sum_by}
-use Rattle.command_core.specs.declared.fault.Fault.TheVariants.{UnknownAcknowledgement}
-use Rattle.broker_core.specs.declared.precheck.PrecheckFlight.{PrecheckFlight}
-use Rattle.broker_state.specs.Parts.{IsFirst, NonePass}
-use Rattle.broker_core.specs.Prechecks.{has, left_by}
-use Rattle.broker_state.proofs.Firsts.{any_first, any_none, changed_first}
-use Rattle.broker_core.proofs.Flights.{settled_counts, with_first-none}
-use Rattle.broker_operations.proofs.Operating.{item_at}
+use Rattle.std.proofs.Common.{◌∙◌, ap, is_some, sym}
+use Rattle.broker_core.proofs.PrecheckSteps.{acknowledge_none, acknowledge_some, few_held, small_held}
 use Rattle.broker_core.proofs.precheck.precheck_acknowledge.Goals as goal
 
-pub returns-in_default-clause-answer : goal.returns-in_default-clause-answer
-returns-in_default-clause-answer c =
-    let p = has c.args.delivery in
-    sym (ap (λ b. cond b (Ok tt) (Err UnknownAcknowledgement)) (any_none p c.args.precheck.now.flights.items (subst (NonePass p) c.as_slice.ensures.value c.in_default.ensures)))
+pub precheck_settle-requires-clause-messages : goal.precheck_settle-requires-clause-messages
+precheck_settle-requires-clause-messages c =
+    few_held c.requires.0 c.requires.1 c.requires.2 c.args.precheck.now c.args.precheck.now c.requires.3 c.requires.4
 
-pub returns-in_default-clause-flights : goal.returns-in_default-clause-flights
-returns-in_default-clause-flights c =
-    let p = has c.args.delivery in
-    sym (with_first-none p (left_by c.args.delivery) c.args.precheck.now.flights.items (subst (NonePass p) c.as_slice.ensures.value c.in_default.ensures))
+pub precheck_settle-requires-clause-bytes : goal.precheck_settle-requires-clause-bytes
+precheck_settle-requires-clause-bytes c =
+    small_held c.requires.0 c.requires.1 c.requires.2 c.args.precheck.now c.args.precheck.now c.requires.3 c.requires.4
 
-pub overflow_sub-precheck : goal.overflow_sub-precheck
-overflow_sub-precheck c =
-    let flights = c.args.precheck.now.flights.items in
-    let first = subst (λ (l : List PrecheckFlight). IsFirst (has c.args.delivery) l c.in-Some.at) c.as_slice.ensures.value c.in-Some.ensures in
-    let found = item_at flights c.in-Some.at first.within in
-    let counts = settled_counts c.args.delivery flights c.settle_at.new.flights.items c.in-Some.at found.0 c.in_ok-settled.settled.items found.1 (c.in_ok-settled.ensures.settled found.0 found.1) c.in_ok-settled.ensures.left in
-    omega (arith, counts.0)
+pub returns-in_default : goal.returns-in_default
+returns-in_default c = λ session durables subs s stands.
+    let none = sym c.in_ok-_settled.ensures.found ∙ ap is_some c.in_default.is in
+    acknowledge_none session durables subs c.args.precheck.now c.precheck_settle.new.precheck s stands c.args.delivery none
 
-pub sum_of-requires : goal.sum_of-requires
-sum_of-requires c =
-    let flights = c.args.precheck.now.flights.items in
-    let first = subst (λ (l : List PrecheckFlight). IsFirst (has c.args.delivery) l c.in-Some.at) c.as_slice.ensures.value c.in-Some.ensures in
-    let found = item_at flights c.in-Some.at first.within in
-    let counts = settled_counts c.args.delivery flights c.settle_at.new.flights.items c.in-Some.at found.0 c.in_ok-settled.settled.items found.1 (c.in_ok-settled.ensures.settled found.0 found.1) c.in_ok-settled.ensures.left in
-    omega (arith, counts.1, ap (sum_by (λ item. item.1)) c.as_slice-2.ensures.value)
-
-pub overflow_sub-precheck-2 : goal.overflow_sub-precheck-2
-overflow_sub-precheck-2 c =
-    let flights = c.args.precheck.now.flights.items in
-    let first = subst (λ (l : List PrecheckFlight). IsFirst (has c.args.delivery) l c.in-Some.at) c.as_slice.ensures.value c.in-Some.ensures in
-    let found = item_at flights c.in-Some.at first.within in
-    let counts = settled_counts c.args.delivery flights c.settle_at.new.flights.items c.in-Some.at found.0 c.in_ok-settled.settled.items found.1 (c.in_ok-settled.ensures.settled found.0 found.1) c.in_ok-settled.ensures.left in
-    omega (arith, counts.1, ap (sum_by (λ item. item.1)) c.as_slice-2.ensures.value)
-
-pub returns-clause-answer : goal.returns-clause-answer
-returns-clause-answer c =
-    let first = subst (λ (l : List PrecheckFlight). IsFirst (has c.args.delivery) l c.in-Some.at) c.as_slice.ensures.value c.in-Some.ensures in
-    sym (ap (λ b. cond b (Ok tt) (Err UnknownAcknowledgement)) (any_first (has c.args.delivery) c.args.precheck.now.flights.items c.in-Some.at first))
-
-pub returns-clause-flights : goal.returns-clause-flights
-returns-clause-flights c =
-    let first = subst (λ (l : List PrecheckFlight). IsFirst (has c.args.delivery) l c.in-Some.at) c.as_slice.ensures.value c.in-Some.ensures in
-    c.in_ok-settled.ensures.left ∙ sym (changed_first (has c.args.delivery) (left_by c.args.delivery) c.args.precheck.now.flights.items c.in-Some.at first)
-
-pub returns-clause-messages : goal.returns-clause-messages
-returns-clause-messages c =
-    let flights = c.args.precheck.now.flights.items in
-    let first = subst (λ (l : List PrecheckFlight). IsFirst (has c.args.delivery) l c.in-Some.at) c.as_slice.ensures.value c.in-Some.ensures in
-    let found = item_at flights c.in-Some.at first.within in
-    let counts = settled_counts c.args.delivery flights c.settle_at.new.flights.items c.in-Some.at found.0 c.in_ok-settled.settled.items found.1 (c.in_ok-settled.ensures.settled found.0 found.1) c.in_ok-settled.ensures.left in
-    omega (arith, counts.0)
-
-pub returns-clause-bytes : goal.returns-clause-bytes
-returns-clause-bytes c =
-    let flights = c.args.precheck.now.flights.items in
-    let first = subst (λ (l : List PrecheckFlight). IsFirst (has c.args.delivery) l c.in-Some.at) c.as_slice.ensures.value c.in-Some.ensures in
-    let found = item_at flights c.in-Some.at first.within in
-    let counts = settled_counts c.args.delivery flights c.settle_at.new.flights.items c.in-Some.at found.0 c.in_ok-settled.settled.items found.1 (c.in_ok-settled.ensures.settled found.0 found.1) c.in_ok-settled.ensures.left in
-    omega (arith, counts.1, ap (sum_by (λ item. item.1)) c.as_slice-2.ensures.value)
+pub returns : goal.returns
+returns c = λ session durables subs s stands.
+    let told = c.in_ok-_settled.ensures in
+    let some = sym told.found ∙ ap is_some c.in-Some.is in
+    acknowledge_some session durables subs c.args.precheck.now c.precheck_settle.new.precheck s stands c.args.delivery some c.in-Some._settled.items (rw c.in-Some.is at told.settled) told.flights (rw c.in-Some.is at told.messages) (rw c.in-Some.is at told.bytes)

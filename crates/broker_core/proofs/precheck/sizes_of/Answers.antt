@@ -2,7 +2,7 @@ use Rattle.std.proofs.Common.{◌∙◌, List, ℕ, ap, arith, length, refl, sli
 use Rattle.std.proofs.lemmas.Option.{slice_get_read}
 use Rattle.line_core.specs.declared.message.Message.{Message}
 use Rattle.line_core.specs.Flights.{IsOver}
-use Rattle.broker_state.specs.States.{bytes}
+use Rattle.broker_core.specs.Prechecks.{sized}
 use Rattle.broker_core.proofs.Flights.{over_before}
 use Rattle.broker_core.proofs.precheck.sizes_of.Goals as goal
 
@@ -12,4 +12,4 @@ add-requires c =
     let items = c.as_slice-delivery-items.result.now in
     let at = c.loop-delivery.delivery-index in
     let found = ap (λ (l : List (ℕ × Message)). slice_get l at) (sym c.as_slice-delivery-items.ensures.value) ∙ slice_get_read items (length items) at item refl (omega arith) c.loop-delivery-item.is in
-    subst (IsOver item.0) (sym c.loop-delivery.invariant) (over_before bytes c.args.flight.now c.loop-delivery.delivery-index item c.as_slice-delivery-items.ensures.rising found)
+    subst (IsOver item.0) (sym c.loop-delivery.invariant) (over_before (sized c.args.own) c.args.flight.now c.loop-delivery.delivery-index item c.as_slice-delivery-items.ensures.rising found)

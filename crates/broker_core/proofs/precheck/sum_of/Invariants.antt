@@ -3,4 +3,4 @@ use Rattle.std.specs.List.{sum_by}
 use Rattle.broker_core.proofs.precheck.sum_of.Given as goal
 
 abbrev pub invariant-loop-size : goal.invariant-loop-size
-invariant-loop-size l = l.bytes ≡ sum_by (λ item. item.1) (take l.size-index l.settled)
+invariant-loop-size l = l.bytes ≡ sum_by (λ item. item.1.bytes) (take l.size-index l.settled)

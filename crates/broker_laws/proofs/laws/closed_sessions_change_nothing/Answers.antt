@@ -6,7 +6,7 @@ use Rattle.broker_laws.proofs.laws.closed_sessions_change_nothing.Goals as goal
 
 pub returns : goal.returns
 returns c = record {
-  state = λ s d other closed. ap (λ (r : Settling). record r.state { count = s.count + 1 }) (closed_leads s d.session d.op other closed);
-  outputs = λ s d other closed.
-      ap (λ (r : Settling). r.outs ++ answers s d.session d.receipt d.op) (closed_leads s d.session d.op other closed) ∙ closed_answers s d.session d.receipt d.op other closed;
+  state = λ rule s d other closed. ap (λ (r : Settling). record r.state { count = s.count + 1 }) (closed_leads rule s d.session d.op other closed);
+  outputs = λ rule s d other closed.
+      ap (λ (r : Settling). r.outs ++ answers rule s d.session d.receipt d.op) (closed_leads rule s d.session d.op other closed) ∙ closed_answers rule s d.session d.receipt d.op other closed;
 }

@@ -1,10 +1,13 @@
-use Rattle.std.proofs.lemmas.Result.{on_ok_weaker}
+use Rattle.std.proofs.Common.{List, ℕ, IsErrOf, length, ap, arith, rules}
+use Rattle.area_core.specs.declared.faults.AreaFault.TheVariants as areas
 use Rattle.disk_core.proofs.Runs.{joined, weaker}
 use Rattle.disk_core.proofs.Torn.{torn_same}
 use Rattle.area_core.specs.Journals.{is_odd, other, start}
 use Rattle.area_core.proofs.Unwritten.{untouched}
 use Rattle.recover_core.specs.Compactions.{KeepsState, KeepsTwo}
-use Rattle.recover_core.proofs.Compacts.{Copied, rest_as, switched_as, then_live, twice_as, written_as}
+use Rattle.recover_core.proofs.Compacts.{Copied, rest_as, still_as, switched_as, live_after, twice_as, written_as}
+use Rattle.recover_core.proofs.Sizes.{seven_count}
+use Rattle.recover_core.proofs.Walking.{is_long}
 use Rattle.recover_core.proofs.compacting.write_state.Goals as goal
 
 pub returns-in_err-snapshot-clause-two : goal.returns-in_err-snapshot-clause-two
@@ -38,6 +41,7 @@ returns-clause-any_moment g c honest =
       size = c.write_snapshot.ensures.place.0;
       selector = c.write_snapshot.ensures.place.1;
       gate = c.write_snapshot.ensures.place.2;
+      version = c.write_snapshot.ensures.place.3;
       snapshot = c.in_ok-snapshot.snapshot.writer;
       idle = c.in_ok-write_snapshot.ensures.idle honest;
       spells = c.in_ok-snapshot.ensures;
@@ -59,6 +63,7 @@ returns-clause-two g c honest =
       size = c.write_snapshot.ensures.place.0;
       selector = c.write_snapshot.ensures.place.1;
       gate = c.write_snapshot.ensures.place.2;
+      version = c.write_snapshot.ensures.place.3;
       snapshot = c.in_ok-snapshot.snapshot.writer;
       idle = c.in_ok-write_snapshot.ensures.idle honest;
       spells = c.in_ok-snapshot.ensures;
@@ -80,8 +85,22 @@ returns-clause-after g c honest =
       size = c.write_snapshot.ensures.place.0;
       selector = c.write_snapshot.ensures.place.1;
       gate = c.write_snapshot.ensures.place.2;
+      version = c.write_snapshot.ensures.place.3;
       snapshot = c.in_ok-snapshot.snapshot.writer;
       idle = c.in_ok-write_snapshot.ensures.idle honest;
       spells = c.in_ok-snapshot.ensures;
     } in
-    on_ok_weaker c.switch.result (then_live copied (g.D.Disk.images c.switch.new.disk) c.switch.new.self) (c.switch.ensures.after (c.write_snapshot.ensures.honest honest))
+    live_after copied (g.D.Disk.images c.switch.new.disk) c.switch.new.self c.switch.result c.switch.ensures.version (c.switch.ensures.after (c.write_snapshot.ensures.honest honest))
+
+pub returns-in_err-snapshot-clause-any_moment : goal.returns-in_err-snapshot-clause-any_moment
+returns-in_err-snapshot-clause-any_moment g c honest =
+    let first = g.D.Disk.images c.args.disk.now in
+    untouched g.D.Disk c.args.disk.now (g.met.D.Disk.only_now c.args.disk.now) (KeepsState first c.args.area.now c.args.broker.now.state) (still_as first c.args.area.now c.args.broker.now.state)
+
+pub returns-in_err-write_snapshot-clause-full : goal.returns-in_err-write_snapshot-clause-full
+returns-in_err-write_snapshot-clause-full g c =
+    let s = c.args.broker.now.state in
+    let snapshot = c.in_ok-snapshot.snapshot.writer in
+    let never : IsErrOf c.write_snapshot.result areas.Full → ⊥ =
+    (λ is. omega (arith, is_long c.args.area.now.size (length snapshot) (seven_count s snapshot c.in_ok-snapshot.ensures) (c.write_snapshot.ensures.full is).0, ap (λ (l : List ℕ). length l) c.in_ok-snapshot.ensures.spelled, c.requires.fits)) in
+    search (rules, never)

@@ -6,7 +6,7 @@ use Rattle.broker_core.specs.States.{State}
 use Rattle.recover_core.specs.Opens.{HoldsOnlySnapshot, IsUnwritten}
 use Rattle.recover_core.specs.Standing.{StandFor}
 use Rattle.recover_core.specs.Told.{IfFull, IsTooLongFor}
-use Rattle.recover_core.proofs.Opens.{held_now, is_read, Known, then_written, while_unwritten}
+use Rattle.recover_core.proofs.Opens.{header_unwritten, header_written, held_now, is_read, Known, then_written, while_unwritten}
 use Rattle.recover_core.proofs.Stores.{stands}
 use Rattle.recover_core.proofs.Walking.{full_told, if_read, never_full, write_told, written_told}
 use Rattle.recover_core.proofs.opening.open_area.Goals as goal
@@ -85,7 +85,7 @@ returns-in-Ok-clause-stood g c honest =
     let has = c.in_ok-area.ensures.read honest in
     record {
       before = s;
-      stood = stands area.size area.selector has.snapshot has.blocks (g.D.Disk.content c.args.disk.now) s has.at.reads has.leads;
+      stood = stands area.version area.size area.selector has.snapshot has.blocks (g.D.Disk.content c.args.disk.now) s has.at.reads has.leads;
       is = c.in-Ok.ensures.state;
     }
 
@@ -109,3 +109,17 @@ pub returns-in-Err-clause-full : goal.returns-in-Err-clause-full
 returns-in-Err-clause-full g c =
     full_told c.in-Err.fault c.in_ok-area.area.size (length (g.D.Disk.content c.args.disk.now)) c.in_ok-area.broker.state c.in-Err.ensures.refused c.in_ok-area.ensures.least
     (omega (arith, c.in_ok-area.ensures.room, c.read_synced.ensures.size)) c.in_ok-area.ensures.small
+
+pub returns-in_err-area-clause-header : goal.returns-in_err-area-clause-header
+returns-in_err-area-clause-header g c honest =
+    header_unwritten g.D.Disk c.args.disk.now (g.met.D.Disk.only_now c.args.disk.now) c.read_synced.new.disk (c.read_synced.ensures.unwritten honest)
+
+pub returns-in-Ok-clause-header : goal.returns-in-Ok-clause-header
+returns-in-Ok-clause-header g c honest =
+    header_written g.D.Disk c.args.disk.now (g.met.D.Disk.only_now c.args.disk.now) c.read_synced.new.disk c.write_restarted.new.disk (c.read_synced.ensures.unwritten honest)
+    (c.write_restarted.ensures.header (c.read_synced.ensures.honest honest))
+
+pub returns-in-Err-clause-header : goal.returns-in-Err-clause-header
+returns-in-Err-clause-header g c honest =
+    header_written g.D.Disk c.args.disk.now (g.met.D.Disk.only_now c.args.disk.now) c.read_synced.new.disk c.write_restarted.new.disk (c.read_synced.ensures.unwritten honest)
+    (c.write_restarted.ensures.header (c.read_synced.ensures.honest honest))

@@ -22,7 +22,7 @@ loop-more-preserved g c =
           let same = (inv.quiet honest).content in
           subst (λ (l : List ℕ). HasEnded c.read_block.new.area c.read_block.new.broker.state l) same
           (c.in_ok-more.ensures.end (inv.honest honest) is (subst (λ (l : List ℕ). HasWalked c.loop-more.area c.loop-more.broker.state l) (sym same) (inv.walked honest w c.loop-more-test.true)));
-      place = (after.place.0 ∙ inv.place.0, after.place.1 ∙ inv.place.1, after.place.2 ∙ inv.place.2);
+      place = (after.place.0 ∙ inv.place.0, after.place.1 ∙ inv.place.1, after.place.2 ∙ inv.place.2, after.place.3 ∙ inv.place.3);
       broker = c.in_ok-more.ensures.whole;
       quiet = λ honest. quiet_then g.D.Disk c.args.disk.now c.loop-more.disk c.read_block.new.disk (inv.quiet honest) (after.quiet (inv.honest honest));
       size = after.size ∙ inv.size;
@@ -45,7 +45,7 @@ pub loop-more-init : goal.loop-more-init
 loop-more-init g c = record {
   walked = λ honest w is. w;
   ended = λ honest w is. absurd (cc is);
-  place = (refl, refl, refl);
+  place = (refl, refl, refl, refl);
   broker = c.requires.whole;
   quiet = λ honest. quiet_yet g.D.Disk c.args.disk.now (g.met.D.Disk.only_now c.args.disk.now);
   size = refl;

@@ -7,7 +7,7 @@ abbrev pub invariant-loop-more : goal.invariant-loop-more
 invariant-loop-more g l = record {
   walked : g.D.Disk.honest l.fn.disk → HasWalked l.fn.area l.fn.broker.state (g.D.Disk.content l.fn.disk) → l.more ≡ true → HasWalked l.area l.broker.state (g.D.Disk.content l.fn.disk);
   ended : g.D.Disk.honest l.fn.disk → HasWalked l.fn.area l.fn.broker.state (g.D.Disk.content l.fn.disk) → l.more ≡ false → HasEnded l.area l.broker.state (g.D.Disk.content l.fn.disk);
-  place : (l.area.size ≡ l.fn.area.size) × (l.area.selector ≡ l.fn.area.selector) × (l.area.broken ≡ l.fn.area.broken);
+  place : (l.area.size ≡ l.fn.area.size) × (l.area.selector ≡ l.fn.area.selector) × (l.area.broken ≡ l.fn.area.broken) × (l.area.version ≡ l.fn.area.version);
   broker : l.broker.broken ≡ false;
   quiet : g.D.Disk.honest l.fn.disk → Quiet g.D.Disk l.fn.disk l.disk;
   size : length (g.D.Disk.content l.disk) ≡ length (g.D.Disk.content l.fn.disk);

@@ -5,5 +5,5 @@ use Rattle.world_core.proofs.seat.seats.Goals as goal
 
 pub loop-i-preserved : goal.loop-i-preserved
 loop-i-preserved c =
-    let first : Seat = record { own = []; seen = 0 } in
+    let first : Seat = record { own = []; seen = c.args.seen } in
     c.in_ok-push.ensures.items ∙ (λ i. c.loop-i.invariant i ++ c.new.ensures i ∷ []) ∙ replicate_more c.loop-i.i first

@@ -3,4 +3,4 @@ use Rattle.std.proofs.Common.{◌≡◌, [], replicate}
 use Rattle.world_core.proofs.seat.seats.Given as goal
 
 abbrev pub invariant-loop-i : goal.invariant-loop-i
-invariant-loop-i l = l.all.items ≡ replicate l.i (record { own = []; seen = 0 })
+invariant-loop-i l = l.all.items ≡ replicate l.i (record { own = []; seen = l.seen })

@@ -36,7 +36,7 @@ returns-clause-after g c honest snapshot blocks held image is =
     let new = added area batch (c.begins.result + area.gate) (g.D.Disk.content c.args.disk.now) (g.D.Disk.images c.args.disk.now) form room at (g.met.D.Disk.reads c.args.disk.now honest) c.deref.result.now are snapshot blocks held in
     let total : c.in-Some.records ≡ length (records batch) = c.in-Some.ensures.some in
     record {
-      reads = subst (λ (l : List ℕ). Reads area.size area.selector snapshot (blocks ++ batch ∷ []) l) (sym (c.in_ok-put_behind_gate.ensures.stable honest image is)) new.0;
+      reads = subst (λ (l : List ℕ). Reads area.version area.size area.selector snapshot (blocks ++ batch ∷ []) l) (sym (c.in_ok-put_behind_gate.ensures.stable honest image is)) new.0;
       gate = omega (arith, new.1, total);
     }
 

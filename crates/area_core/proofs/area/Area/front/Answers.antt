@@ -1,9 +1,10 @@
-use Rattle.std.proofs.Common.{◌≡◌, ◌+◌, ℕ, List, length, take, drop, sym, ◌∙◌, ap, arith}
+use Rattle.std.proofs.Common.{◌≡◌, ◌+◌, ℕ, List, length, take, drop, IfErr, sym, ◌∙◌, ap, subst, arith, rules}
 use Rattle.std.specs.Int.{w64, to_be_bytes}
+use Rattle.area_core.specs.Areas.{word_of}
 use Rattle.area_core.specs.Journals.{is_odd, start}
 use Rattle.area_core.proofs.Areas.{length-fresh}
-use Rattle.area_core.proofs.Walked.{front_read}
-use Rattle.area_core.proofs.Walked.{quiet_then}
+use Rattle.area_core.specs.Damage.{IsWordTold}
+use Rattle.area_core.proofs.Walked.{front_read, front_told, quiet_then}
 use Rattle.area_core.proofs.area.Area.front.Goals as goal
 
 pub returns-clause-front : goal.returns-clause-front
@@ -12,49 +13,42 @@ returns-clause-front g c honest =
     let base = start c.in_ok-size.size (is_odd c.in_ok-size.selector) in
     let v = c.in_ok-snapshot.snapshot.items in
     let honest_1 = c.header.ensures.honest honest in
-    let honest_2 = c.fetch_number.ensures.honest honest_1 in
+    let honest_2 = c.first_word.ensures.honest honest_1 in
     let same_1 : g.D.Disk.content c.header.new.disk ≡ content = (c.header.ensures.quiet honest).content in
-    let same_2 : g.D.Disk.content c.fetch_number.new.disk ≡ content = (c.fetch_number.ensures.quiet honest_1).content ∙ same_1 in
-    let size : length v ≡ c.in_ok-length.length = c.in_ok-snapshot.ensures.length in
+    let same_2 : g.D.Disk.content c.first_word.new.disk ≡ content = (c.first_word.ensures.quiet honest_1).content ∙ same_1 in
+    let size : length v ≡ c.in_ok-version.length = c.in_ok-snapshot.ensures.length in
     let at : c.begins-base.result ≡ base = c.begins-base.ensures in
-    let first : take 8 (drop base content) ≡ to_be_bytes w64 (length v) =
-    ap (λ (n : ℕ). take 8 (drop n content)) (sym at) ∙ ap (λ (l : List ℕ). take 8 (drop c.begins-base.result l)) (sym same_1) ∙ c.in_ok-length.ensures.number honest_1 ∙ ap (λ (n : ℕ). to_be_bytes w64 n) (sym size) in
+    let version = c.in_ok-version.version in
+    let first : take 8 (drop base content) ≡ to_be_bytes w64 (word_of version (length v)) =
+    ap (λ (n : ℕ). take 8 (drop n content)) (sym at) ∙ ap (λ (l : List ℕ). take 8 (drop c.begins-base.result l)) (sym same_1) ∙ c.in_ok-version.ensures.told honest_1 ∙ ap (λ (n : ℕ). to_be_bytes w64 (word_of version n)) (sym size) in
     let second : take (length v) (drop (base + 8) content) ≡ v =
     ap (λ (n : ℕ). take (length v) (drop (n + 8) content)) (sym at) ∙ ap (λ (l : List ℕ). take (length v) (drop (c.begins-base.result + 8) l)) (sym same_2)
-    ∙ ap (λ (n : ℕ). take n (drop (c.begins-base.result + 8) (g.D.Disk.content c.fetch_number.new.disk))) size ∙ c.in_ok-snapshot.ensures.bytes honest_2 in
+    ∙ ap (λ (n : ℕ). take n (drop (c.begins-base.result + 8) (g.D.Disk.content c.first_word.new.disk))) size ∙ c.in_ok-snapshot.ensures.bytes honest_2 in
     record {
       journal = c.in_ok-size.ensures.journal honest;
       rest = drop (8 + length v) (drop base content);
-      whole = front_read base content v first second;
-      gate = omega (arith, size, length-fresh v);
+      whole = front_read version base content v first second;
+      gate = omega (arith, size, length-fresh version v);
+      seven = omega (arith, size, c.in_ok-version.ensures.seven);
       each = tt;
     }
 
 pub returns-in_err-size-clause-quiet : goal.returns-in_err-size-clause-quiet
 returns-in_err-size-clause-quiet g c honest = c.header.ensures.quiet honest
 
-pub returns-in_err-length-clause-quiet : goal.returns-in_err-length-clause-quiet
-returns-in_err-length-clause-quiet g c honest = quiet_then g.D.Disk c.args.disk.now c.header.new.disk c.fetch_number.new.disk (c.header.ensures.quiet honest) (c.fetch_number.ensures.quiet (c.header.ensures.honest honest))
-
-pub returns-then-length-size-clause-quiet : goal.returns-then-length-size-clause-quiet
-returns-then-length-size-clause-quiet g c honest = quiet_then g.D.Disk c.args.disk.now c.header.new.disk c.fetch_number.new.disk (c.header.ensures.quiet honest) (c.fetch_number.ensures.quiet (c.header.ensures.honest honest))
+pub returns-in_err-version-clause-quiet : goal.returns-in_err-version-clause-quiet
+returns-in_err-version-clause-quiet g c honest = quiet_then g.D.Disk c.args.disk.now c.header.new.disk c.first_word.new.disk (c.header.ensures.quiet honest) (c.first_word.ensures.quiet (c.header.ensures.honest honest))
 
 pub returns-in_err-snapshot-clause-quiet : goal.returns-in_err-snapshot-clause-quiet
-returns-in_err-snapshot-clause-quiet g c honest = quiet_then g.D.Disk c.args.disk.now c.fetch_number.new.disk c.fetch_bytes.new.disk (quiet_then g.D.Disk c.args.disk.now c.header.new.disk c.fetch_number.new.disk (c.header.ensures.quiet honest) (c.fetch_number.ensures.quiet (c.header.ensures.honest honest))) (c.fetch_bytes.ensures.quiet (c.fetch_number.ensures.honest (c.header.ensures.honest honest)))
+returns-in_err-snapshot-clause-quiet g c honest = quiet_then g.D.Disk c.args.disk.now c.first_word.new.disk c.fetch_bytes.new.disk (quiet_then g.D.Disk c.args.disk.now c.header.new.disk c.first_word.new.disk (c.header.ensures.quiet honest) (c.first_word.ensures.quiet (c.header.ensures.honest honest))) (c.fetch_bytes.ensures.quiet (c.first_word.ensures.honest (c.header.ensures.honest honest)))
 
 pub returns-clause-quiet : goal.returns-clause-quiet
-returns-clause-quiet g c honest = quiet_then g.D.Disk c.args.disk.now c.fetch_number.new.disk c.fetch_bytes.new.disk (quiet_then g.D.Disk c.args.disk.now c.header.new.disk c.fetch_number.new.disk (c.header.ensures.quiet honest) (c.fetch_number.ensures.quiet (c.header.ensures.honest honest))) (c.fetch_bytes.ensures.quiet (c.fetch_number.ensures.honest (c.header.ensures.honest honest)))
+returns-clause-quiet g c honest = quiet_then g.D.Disk c.args.disk.now c.first_word.new.disk c.fetch_bytes.new.disk (quiet_then g.D.Disk c.args.disk.now c.header.new.disk c.first_word.new.disk (c.header.ensures.quiet honest) (c.first_word.ensures.quiet (c.header.ensures.honest honest))) (c.fetch_bytes.ensures.quiet (c.first_word.ensures.honest (c.header.ensures.honest honest)))
 
-pub returns-then-length-size-clause-refused : goal.returns-then-length-size-clause-refused
-returns-then-length-size-clause-refused g c honest =
-    let same : g.D.Disk.content c.header.new.disk ≡ g.D.Disk.content c.args.disk.now = (c.header.ensures.quiet honest).content in
-    record {
-      size = c.in_ok-size.size;
-      selector = c.in_ok-size.selector;
-      journal = c.in_ok-size.ensures.journal honest;
-      at = c.begins-base.ensures;
-      count = c.in_ok-length.length;
-      told = ap (λ (l : List ℕ). take 8 (drop c.begins-base.result l)) (sym same) ∙ c.in_ok-length.ensures.number (c.header.ensures.honest honest);
-      word = omega arith;
-      long = omega (arith, c.if-length-size.true);
-    }
+pub returns-in_err-version-clause-refused : goal.returns-in_err-version-clause-refused
+returns-in_err-version-clause-refused g c honest =
+    let content = g.D.Disk.content c.args.disk.now in
+    let base = c.begins-base.result in
+    let same : g.D.Disk.content c.header.new.disk ≡ content = (c.header.ensures.quiet honest).content in
+    front_told c.in_ok-size.size c.in_ok-size.selector base content c.from_residual-in_err-version.result (c.in_ok-size.ensures.journal honest) c.begins-base.ensures
+    (subst (λ (l : List ℕ). IfErr c.from_residual-in_err-version.result (λ fault. IsWordTold fault base c.in_ok-size.size l)) same (search rules))

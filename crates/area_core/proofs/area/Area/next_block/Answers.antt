@@ -15,7 +15,7 @@ returns-then-gate-ne1-clause-block g c honest snapshot blocks past =
     let room : base + it.size ≤ length content = omega (arith, c.requires.room, start_most it.size (is_odd it.selector)) in
     let read : c.fetch.new.into ≡ take 1 (drop (base + it.gate) content) = c.in_ok-fetch.ensures.bytes honest ∙ ap (λ (n : ℕ). take 1 (drop (n + it.gate) content)) c.begins.ensures in
     record {
-      reads = record { journal = past.journal; area = closes it.size base it.gate snapshot blocks past.rest content c.fetch.new.into past.whole past.gate it.within room past.each read c.if-gate-ne1.true };
+      reads = record { journal = past.journal; area = closes it.version it.size base it.gate snapshot blocks past.rest content c.fetch.new.into past.whole past.gate past.seven it.within room past.each read c.if-gate-ne1.true };
       gate = past.gate;
     }
 
@@ -47,8 +47,9 @@ returns-clause-block g c honest snapshot blocks past =
     record {
       journal = past.journal;
       rest = drop (9 + length v) past.rest;
-      whole = block_next base it.gate snapshot blocks past.rest content v cs are past.whole past.gate first second third;
-      gate = omega (arith, past.gate, size, long, length-pushed snapshot blocks cs);
+      whole = block_next it.version base it.gate snapshot blocks past.rest content v cs are past.whole past.gate first second third;
+      gate = omega (arith, past.gate, size, long, length-pushed it.version snapshot blocks cs);
+      seven = past.seven;
       each = all_push IsBlock blocks cs past.each (is_block cs some c.in_ok-commands.ensures.each);
     }
 

@@ -1,6 +1,7 @@
 use Rattle.std.proofs.Common.{ℕ, ◌+◌, ◌%◌, List, [], sym, subst, arith, rules}
 use Rattle.disk_core.proofs.Runs.{weaker}
 use Rattle.disk_core.proofs.Torn.{torn_same}
+use Rattle.area_core.specs.declared.version.Version.TheVariants.{Two}
 use Rattle.area_core.specs.Journals.{Reads}
 use Rattle.area_core.proofs.Areas.{length-fresh}
 use Rattle.area_core.proofs.Switches.{keeps_both, switched}
@@ -21,8 +22,8 @@ returns-clause-after g c honest snapshot blocks next held idle image is =
     let content = g.D.Disk.content c.args.disk.now in
     let here = g.met.D.Disk.reads c.args.disk.now honest in
     record {
-      reads = subst (λ (l : List ℕ). Reads it.size ((it.selector + 1) % 256) next [] l) (sym (c.in_ok-put.ensures.stable honest image is)) (switched it.size it.selector next content (held content here).reads.journal (idle content here).idle);
-      gate = omega (arith, (idle content here).written, length-fresh next);
+      reads = subst (λ (l : List ℕ). Reads Two it.size ((it.selector + 1) % 256) next [] l) (sym (c.in_ok-put.ensures.stable honest image is)) (switched it.size it.selector next content (held content here).reads.journal (idle content here).idle);
+      gate = omega (arith, (idle content here).written, length-fresh Two next);
     }
 
 pub returns-then-self-clause-any_moment : goal.returns-then-self-clause-any_moment

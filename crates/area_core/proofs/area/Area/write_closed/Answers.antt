@@ -1,12 +1,13 @@
-use Rattle.std.proofs.Common.{◌≡◌, ◌+◌, ◌<◌, ◌≤◌, ℕ, List, drop, length, take, sym, ◌∙◌, ap, arith}
-use Rattle.std.proofs.lemmas.List.{length-take-le, take_all}
+use Rattle.std.proofs.Common.{◌≡◌, ◌+◌, ℕ, List, drop, length, take, sym, ◌∙◌, ap, arith}
+use Rattle.std.proofs.lemmas.List.{length-take-le}
 use Rattle.disk_core.specs.Images.{patched}
 use Rattle.disk_core.proofs.Runs.{joined, weaker}
-use Rattle.area_core.specs.Areas.{closed}
+use Rattle.area_core.specs.declared.version.Version.TheVariants.{Two}
+use Rattle.area_core.specs.Areas.{closed_snapshot}
 use Rattle.area_core.specs.Closing.{closing}
 use Rattle.area_core.specs.Journals.{is_odd, other, start}
 use Rattle.area_core.specs.Switches.{KeepsRest}
-use Rattle.area_core.proofs.Areas.{length-closed}
+use Rattle.area_core.proofs.Areas.{length-sealed}
 use Rattle.area_core.proofs.Closings.{closes_next, more_written, patched_on, piece_fits, rest_twice}
 use Rattle.area_core.proofs.Journals.{start_most}
 use Rattle.area_core.proofs.area.Area.write_closed.Goals as goal
@@ -22,15 +23,15 @@ returns-in_err-at-clause-outside g c honest =
 
 pub overflow_add-at : goal.overflow_add-at
 overflow_add-at g c =
-    let whole = closed (g.P.Pieces.coming c.args.pieces.now) in
-    let long : length whole ≡ c.len-total.result + 9 = omega (arith, length-closed (g.P.Pieces.coming c.args.pieces.now), c.loop-at.invariant.total) in
+    let whole = closed_snapshot Two (g.P.Pieces.coming c.args.pieces.now) in
+    let long : length whole ≡ c.len-total.result + 9 = omega (arith, length-sealed Two (g.P.Pieces.coming c.args.pieces.now), c.loop-at.invariant.total) in
     let fits = piece_fits 65536 c.loop-at.at whole (closing c.loop-at.at c.len-total.result (g.P.Pieces.coming c.loop-at.pieces)) (omega arith) (c.loop-at.invariant.left (omega (arith, c.loop-at-test.true))) (omega (arith, long, c.loop-at-test.true)) in
     omega (arith, fits.1, long, c.in_ok-at.ensures.count, c.loop-at.invariant.total, c.requires.fits, c.args.self.now.most)
 
 pub loop-at-smaller : goal.loop-at-smaller
 loop-at-smaller g c =
-    let whole = closed (g.P.Pieces.coming c.args.pieces.now) in
-    let long : length whole ≡ c.len-total.result + 9 = omega (arith, length-closed (g.P.Pieces.coming c.args.pieces.now), c.loop-at.invariant.total) in
+    let whole = closed_snapshot Two (g.P.Pieces.coming c.args.pieces.now) in
+    let long : length whole ≡ c.len-total.result + 9 = omega (arith, length-sealed Two (g.P.Pieces.coming c.args.pieces.now), c.loop-at.invariant.total) in
     let fits = piece_fits 65536 c.loop-at.at whole (closing c.loop-at.at c.len-total.result (g.P.Pieces.coming c.loop-at.pieces)) (omega arith) (c.loop-at.invariant.left (omega (arith, c.loop-at-test.true))) (omega (arith, long, c.loop-at-test.true)) in
     omega (arith, fits.0, c.in_ok-at.ensures.count, c.loop-at-test.true)
 
@@ -43,10 +44,10 @@ loop-at-preserved g c =
     let total : ℕ = c.len-total.result in
     let first = g.D.Disk.images c.args.disk.now in
     let d = g.D.Disk.content c.args.disk.now in
-    let whole = closed (g.P.Pieces.coming c.args.pieces.now) in
+    let whole = closed_snapshot Two (g.P.Pieces.coming c.args.pieces.now) in
     let stream = closing at total (g.P.Pieces.coming c.loop-at.pieces) in
     let left : stream ≡ drop at whole = inv.left (omega (arith, c.loop-at-test.true)) in
-    let long : length whole ≡ total + 9 = omega (arith, length-closed (g.P.Pieces.coming c.args.pieces.now), inv.total) in
+    let long : length whole ≡ total + 9 = omega (arith, length-sealed Two (g.P.Pieces.coming c.args.pieces.now), inv.total) in
     let count : c.in_ok-at.field-0 ≡ length (take 65536 stream) = c.in_ok-at.ensures.count in
     let fits = piece_fits 65536 at whole stream (omega arith) left (omega (arith, long, c.loop-at-test.true)) in
     let written : length (take at whole) ≡ at = length-take-le at whole (omega (arith, long, inv.at)) in
@@ -65,7 +66,7 @@ loop-at-preserved g c =
           (weaker g.D.Disk c.loop-at.disk c.write_next.new.disk _ _ (c.write_next.ensures.outside (inv.honest honest))
           (rest_twice first (g.D.Disk.images c.loop-at.disk) it c.loop-at.self inv.place.0 inv.place.1
           (λ image is. (inv.outside honest).each image (g.met.D.Disk.counts_now c.loop-at.disk (g.D.Disk.moment c.args.disk.now) image (inv.outside honest).later is))));
-      place = (c.write_next.ensures.place.0 ∙ inv.place.0, c.write_next.ensures.place.1 ∙ inv.place.1, c.write_next.ensures.place.2 ∙ inv.place.2);
+      place = (c.write_next.ensures.place.0 ∙ inv.place.0, c.write_next.ensures.place.1 ∙ inv.place.1, c.write_next.ensures.place.2 ∙ inv.place.2, c.write_next.ensures.place.3 ∙ inv.place.3);
       whole = c.in_ok-at.ensures.ok;
       size = c.write_next.ensures.size ∙ inv.size;
       failures = c.in_ok-at.ensures.cause ∙ inv.failures;

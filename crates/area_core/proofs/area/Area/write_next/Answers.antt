@@ -1,4 +1,4 @@
-use Rattle.std.proofs.Common.{◌≡◌, ◌≤◌, ℕ, List, length, take, sym, ◌∙◌, ap, arith, rules}
+use Rattle.std.proofs.Common.{◌≡◌, ℕ, List, length, take, ◌∙◌, ap, arith}
 use Rattle.area_core.specs.Closing.{closing}
 use Rattle.area_core.proofs.Closings.{length-piece}
 use Rattle.area_core.proofs.area.Area.write_next.Goals as goal

@@ -1,5 +1,4 @@
-use Rattle.std.proofs.Common.{ℕ, ◌+◌, ◌≤◌, length, arith}
-use Rattle.disk_core.specs.Images.{Torn}
+use Rattle.std.proofs.Common.{◌+◌, length, arith}
 use Rattle.disk_core.proofs.Runs.{goes_on}
 use Rattle.disk_core.proofs.Torn.{torn_same}
 use Rattle.area_core.specs.Journals.{is_odd, other, start}

@@ -1,10 +1,11 @@
-use Rattle.std.proofs.Common.{rules, ◌≡◌, ℕ, ◌+◌, ◌≤◌, List, [], length, drop, refl, sym, ◌∙◌, subst, ap, arith}
+use Rattle.std.proofs.Common.{rules, ◌≡◌, ℕ, ◌+◌, ◌<◌, ◌≤◌, ◌^◌, List, [], length, drop, refl, sym, ◌∙◌, subst, arith}
 use Rattle.disk_core.specs.Images.{patched}
 use Rattle.disk_core.proofs.Runs.{goes_on, weaker}
 use Rattle.disk_core.proofs.Torn.{torn_same}
-use Rattle.area_core.specs.Areas.{closed, IsArea}
+use Rattle.area_core.specs.declared.version.Version.TheVariants.{Two}
+use Rattle.area_core.specs.Areas.{closed_snapshot, IsArea}
 use Rattle.area_core.specs.Journals.{is_odd, other, start}
-use Rattle.area_core.specs.Switches.{KeepsLive, KeepsRest}
+use Rattle.area_core.specs.Switches.{KeepsRest}
 use Rattle.area_core.proofs.Journals.{start_most}
 use Rattle.area_core.proofs.Switches.{idle_is, idle_moved, rest_live}
 use Rattle.area_core.proofs.Unwritten.{untouched}
@@ -67,11 +68,12 @@ returns-clause-idle g c honest image is =
     let snapshot = g.P.Pieces.coming c.args.snapshot.now in
     let base = start it.size (other (is_odd it.selector)) in
     let within : base ≤ length (g.D.Disk.content c.args.disk.now) = omega (arith, c.requires.room, start_most it.size (other (is_odd it.selector))) in
+    let seven : length snapshot < 2 ^ 56 = search rules in
     let room : length snapshot + 9 ≤ it.size = omega (arith, c.if-size-self.false, c.len-size.ensures, it.idle) in
-    let only : image ≡ patched base (closed snapshot) (g.D.Disk.content c.args.disk.now) = c.in_ok-sync.ensures.stable (c.write_closed.ensures.honest honest) image is ∙ c.in_ok-write_closed.ensures.content honest in
+    let only : image ≡ patched base (closed_snapshot Two snapshot) (g.D.Disk.content c.args.disk.now) = c.in_ok-sync.ensures.stable (c.write_closed.ensures.honest honest) image is ∙ c.in_ok-write_closed.ensures.content honest in
     record {
       idle = idle_moved it c.write_closed.new.self snapshot image c.write_closed.ensures.place.0 c.write_closed.ensures.place.1
-          (subst (λ (l : List ℕ). IsArea it.size snapshot [] (drop base l)) (sym only)
-          (idle_is it.size base base snapshot (closed snapshot) (g.D.Disk.content c.args.disk.now) refl within room refl));
+          (subst (λ (l : List ℕ). IsArea Two it.size snapshot [] (drop base l)) (sym only)
+          (idle_is it.size base base snapshot (closed_snapshot Two snapshot) (g.D.Disk.content c.args.disk.now) refl within seven room refl));
       written = omega (arith, c.len-size.ensures, c.if-size-self.false, it.most, it.idle);
     }

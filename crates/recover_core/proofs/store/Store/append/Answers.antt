@@ -1,13 +1,14 @@
-use Rattle.std.proofs.Common.{◌≡◌, true, sym, ◌∙◌, arith, ⊎_elim}
+use Rattle.std.proofs.Common.{◌≡◌, true, sym, ◌∙◌, ap, arith, ⊎_elim}
 use Rattle.std.proofs.lemmas.Result.{on_ok_weaker}
-use Rattle.area_core.specs.Areas.{commands}
+use Rattle.area_core.specs.Areas.{commands, number}
 use Rattle.disk_core.proofs.Overwritten.{ok_or_err}
 use Rattle.disk_core.proofs.Runs.{weaker}
-use Rattle.recover_core.proofs.Stores.{either, all_after, sound_on}
+use Rattle.recover_core.proofs.Stores.{either, all_after, is_two, sound_on}
 use Rattle.recover_core.proofs.store.Store.append.Goals as goal
 
 pub invariant_of-self : goal.invariant_of-self
 invariant_of-self g c = record {
+  version = ap (λ v. number v) c.append.ensures.place.2 ∙ c.args.self.now.version;
   room = omega (arith, c.args.self.now.room, c.append.ensures.place.0, c.append.ensures.size);
   sound = λ honest shut.
       let it = c.args.self.now in
@@ -22,11 +23,11 @@ pub returns-clause-any_moment : goal.returns-clause-any_moment
 returns-clause-any_moment g c honest s stand =
     let it = c.args.self.now in
     weaker g.D.Disk it.disk c.append.new.disk _ _ (c.append.ensures.any_moment honest)
-    (either it.area (g.D.Disk.images it.disk) (g.D.Disk.content it.disk) (g.met.D.Disk.reads it.disk honest) (it.sound honest (sym c.is_broken.ensures ∙ c.if-is_broken.false)) s stand (commands c.args.batch.now))
+    (either it.area (g.D.Disk.images it.disk) (g.D.Disk.content it.disk) (g.met.D.Disk.reads it.disk honest) (it.sound honest (sym c.is_broken.ensures ∙ c.if-is_broken.false)) s stand (is_two it.area.version it.version) (commands c.args.batch.now))
 
 pub returns-clause-after : goal.returns-clause-after
 returns-clause-after g c honest =
     let it = c.args.self.now in
     on_ok_weaker c.append.result (λ after s stand.
-    all_after it.area (g.D.Disk.images it.disk) (g.D.Disk.content it.disk) (g.met.D.Disk.reads it.disk honest) (it.sound honest (sym c.is_broken.ensures ∙ c.if-is_broken.false)) s stand c.append.new.self (commands c.args.batch.now) (g.D.Disk.images c.append.new.disk) after)
+    all_after it.area (g.D.Disk.images it.disk) (g.D.Disk.content it.disk) (g.met.D.Disk.reads it.disk honest) (it.sound honest (sym c.is_broken.ensures ∙ c.if-is_broken.false)) s stand (is_two it.area.version it.version) c.append.new.self c.append.ensures.place.2 (commands c.args.batch.now) (g.D.Disk.images c.append.new.disk) after)
     (c.append.ensures.after honest)

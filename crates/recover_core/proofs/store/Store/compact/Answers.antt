@@ -5,6 +5,7 @@ use Rattle.recover_core.proofs.store.Store.compact.Goals as goal
 
 pub invariant_of-self : goal.invariant_of-self
 invariant_of-self g c = record {
+  version = c.write_state.ensures.version c.args.self.now.version;
   room = omega (arith, c.write_state.ensures.size.0, c.write_state.ensures.size.1, c.args.self.now.room);
   sound = λ honest whole.
       let was = c.write_state.ensures.was_honest honest in

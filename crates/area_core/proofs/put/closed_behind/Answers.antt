@@ -1,5 +1,5 @@
 use Rattle.std.proofs.Common.{rules}
-use Rattle.area_core.proofs.put.closed.Goals as goal
+use Rattle.area_core.proofs.put.closed_behind.Goals as goal
 
 pub returns : goal.returns
 returns c = search rules
