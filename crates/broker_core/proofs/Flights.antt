@@ -26,7 +26,7 @@ use Rattle.broker_state.specs.Names.{Name}
 use Rattle.broker_state.specs.States.{bytes, one, weight_of_subscription}
 use Rattle.broker_state.specs.Waiting.{is_own}
 use Rattle.broker_core.specs.Prechecks.{bytes_in, bytes_kept, deliveries_in, flight_of, flights_of, has, kept_bytes_in, kept_in, left_by, one_kept, sized}
-use Rattle.broker_operations.specs.Refusals.{all_kept, all_kept_bytes, bytes_there, kept_bytes, kept_one}
+use Rattle.broker_operations.specs.Refusals.{all_kept, all_kept_bytes, refused_bytes, kept_bytes, kept_one}
 use Rattle.broker_state.proofs.Weights.{ones, sum_by-part}
 
 -- what a flight's deliveries before a place have is under the number there
@@ -192,14 +192,14 @@ module _ (own : Bool) where
   one_sized : (m : Message) → one_kept (sized own m) ≡ kept_one own m
   one_sized m = by (is_dropped own m)
     where
-      by : (b : Bool) → elim (if b then None else Some (bytes_there m)) as (λ o. ℕ) [ None ↦ 0 | Some there ↦ 1 ] ≡ (if b then 0 else 1)
+      by : (b : Bool) → elim (if b then None else Some (refused_bytes m)) as (λ o. ℕ) [ None ↦ 0 | Some there ↦ 1 ] ≡ (if b then 0 else 1)
       by true = refl
       by false = refl
 
   bytes_sized : (m : Message) → bytes_kept (sized own m) ≡ kept_bytes own m
   bytes_sized m = by (is_dropped own m)
     where
-      by : (b : Bool) → elim (if b then None else Some (bytes_there m)) as (λ o. ℕ) [ None ↦ 0 | Some there ↦ there ] ≡ (if b then 0 else bytes_there m)
+      by : (b : Bool) → elim (if b then None else Some (refused_bytes m)) as (λ o. ℕ) [ None ↦ 0 | Some there ↦ there ] ≡ (if b then 0 else refused_bytes m)
       by true = refl
       by false = refl
 

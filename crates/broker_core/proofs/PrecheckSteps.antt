@@ -24,7 +24,7 @@ use Rattle.broker_state.specs.States.{State, bytes, held_bytes, held_messages, o
 use Rattle.broker_state.specs.Waiting.{is_own}
 use Rattle.broker_core.specs.Prechecks.{Leads, StandsFor, bytes_in, deliveries_in, flight_of, flights_of, has, kept_bytes_in, kept_in, left_by, sized}
 use Rattle.broker_core.proofs.Flights.{any_flight, copies-after, copies-copied, few_bytes, few_deliveries, first_flight, flights-copied, kept-mapped, kept_bytes-mapped, length-mapped, picked_flight, sum_by-mapped}
-use Rattle.broker_operations.specs.Refusals.{bytes_there}
+use Rattle.broker_operations.specs.Refusals.{refused_bytes}
 use Rattle.broker_state.proofs.Firsts.{picked_some}
 use Rattle.broker_state.proofs.Refusals.{fewer, kept_from, kept_in as kept_state, let_go, nacked_by, nacked_none, sum_kept, weight-kept_in, weight-let_go, weight-with_refused}
 use Rattle.broker_state.proofs.Weights.{ones}
@@ -167,7 +167,7 @@ module _ (session : ℕ) (durables : List (Name × List ℕ)) (subs : List Subsc
 
         after_bytes : held_bytes after ≡ mid_bytes + kept_bytes_in out
         after_bytes =
-            omega (arith, held, stands.bytes, weight-kept_in bytes s session place delivery sub one.1 one.2 stands.queues, gone_bytes, sum_kept (is_dropped (is_own sub)) s.count bytes bytes_there (λ at m. refl) (first_place place) gone, ap kept_bytes_in out_is, kept_bytes-mapped (is_own sub) gone)
+            omega (arith, held, stands.bytes, weight-kept_in bytes s session place delivery sub one.1 one.2 stands.queues, gone_bytes, sum_kept (is_dropped (is_own sub)) s.count bytes refused_bytes (λ at m. refl) (first_place place) gone, ap kept_bytes_in out_is, kept_bytes-mapped (is_own sub) gone)
 
         refused_by : (b : Bool) → nat_le (mid_bytes + kept_bytes_in out) 16777216 ≡ b → nacked Keeps s session place delivery ≡ cond b (Ok after) (Err NoRoom)
         refused_by b is =

@@ -15,11 +15,11 @@ use Rattle.broker_state.specs.Parts.{copies_to}
 use Rattle.broker_state.specs.States.{State, bytes, held_bytes, held_messages}
 use Rattle.broker_state.specs.Names.{Name, name_cmp, text_cmp}
 use Rattle.broker_state.specs.Waiting.{is_own}
-use Rattle.broker_operations.specs.Refusals.{bytes_there}
+use Rattle.broker_operations.specs.Refusals.{refused_bytes}
 
 -- a message's bytes, and those that it has in the queue of refused ones, unless it is dropped once it is refused
 abbrev pub sized : Bool → Message → PrecheckSize
-sized own m = record { bytes = bytes m; refused = if is_dropped own m then None else Some (bytes_there m) }
+sized own m = record { bytes = bytes m; refused = if is_dropped own m then None else Some (refused_bytes m) }
 
 -- a subscription with the sizes of its deliveries in place of their messages
 abbrev pub flight_of : Subscription → PrecheckFlight

@@ -16,7 +16,7 @@ ghost use Rattle.broker_state.specs.Parts.{IsFirst, NonePass, find_room, without
 ghost use Rattle.broker_state.specs.States.{State};
 ghost use Rattle.broker_core.specs.Prechecks.{Leads, StandsFor, bytes_in, deliveries_in, flight_of, flights_of, has, kept_bytes_in, kept_in, left_by, sized};
 
-use broker_operations::{Order, Tables, copies_to, find_room, is_dropped, size_there};
+use broker_operations::{Order, Tables, copies_to, find_room, is_dropped, refused_size};
 use broker_state::{Held, MOST_BYTES, NackRule, Subscription, stand_in_order};
 use command_core::{AckMode, Fault, Member};
 use line_core::{Flight, Message, SettleFault, size};
@@ -51,7 +51,7 @@ fn sized(own: bool, message: &Message) -> PrecheckSize
     let refused = if is_dropped(own, message) {
         None
     } else {
-        Some(size_there(&message.sending) as u32)
+        Some(refused_size(&message.sending) as u32)
     };
     PrecheckSize {
         bytes: size(&message.sending) as u64,

@@ -7,6 +7,7 @@ mod laws;
 mod line_laws;
 mod number_laws;
 mod sound_laws;
+mod worked;
 
 pub use dead_laws::refusals_lose_nothing_else;
 pub use laws::{
@@ -22,3 +23,4 @@ pub use sound_laws::{
     durable_names_stay_bound, limits_are_kept, states_stay_sound,
     subscriptions_stay_within_their_limits,
 };
+pub use worked::refused_messages_are_numbered;

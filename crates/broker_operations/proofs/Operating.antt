@@ -21,7 +21,7 @@ use Rattle.broker_state.specs.Parts.{IsFirst, IsGivenAt, NonePass, but_at, witho
 use Rattle.broker_state.specs.States.{State, bytes, held_bytes, held_messages, one, weight_of}
 use Rattle.broker_state.specs.Waiting.{Shared, is_own, returned}
 use Rattle.broker_operations.specs.Places.{place_for}
-use Rattle.broker_operations.specs.Refusals.{all_kept, all_kept_bytes, bytes_there}
+use Rattle.broker_operations.specs.Refusals.{all_kept, all_kept_bytes, refused_bytes}
 use Rattle.broker_state.proofs.Ending.{same_state, filter-all_others, filter-first, filter-none, filter-others, length-removed, take-removed}
 use Rattle.broker_state.proofs.Firsts.{any_first, any_none, changed_first, picked_first, picked_none}
 use Rattle.broker_state.proofs.Refusals.{fewer, kept_from, kept_in, nacked_by, nacked_none, sum_kept, weight-kept_in, weight-let_go}
@@ -189,7 +189,7 @@ module _ (s : State) (session member delivery : ℕ) where
 
     kept_count : sum_by bytes (kept_from s session member delivery sub) ≡ all_kept_bytes (is_own sub) gone_of
     kept_count =
-        sum_kept (is_dropped (is_own sub)) s.count bytes bytes_there (λ at m. refl) (first_place member) gone_of
+        sum_kept (is_dropped (is_own sub)) s.count bytes refused_bytes (λ at m. refl) (first_place member) gone_of
 
     kept_ones : sum_by one (kept_from s session member delivery sub) ≡ all_kept (is_own sub) gone_of
     kept_ones = sum_kept (is_dropped (is_own sub)) s.count one (λ m. 1) (λ at m. refl) (first_place member) gone_of

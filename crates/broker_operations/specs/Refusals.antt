@@ -5,12 +5,12 @@ use Rattle.line_core.specs.Messages.{size_of}
 use Rattle.broker_state.specs.Dead.{dead_queue, is_dropped}
 
 -- the bytes of a message in the queue of refused ones
-abbrev pub bytes_there : Message → ℕ
-bytes_there m = size_of (record m.sending { destination = dead_queue })
+abbrev pub refused_bytes : Message → ℕ
+refused_bytes m = size_of (record m.sending { destination = dead_queue })
 
 -- what a refused message counts for there: nothing where it is dropped
 abbrev pub kept_bytes : Bool → Message → ℕ
-kept_bytes own m = if is_dropped own m then 0 else bytes_there m
+kept_bytes own m = if is_dropped own m then 0 else refused_bytes m
 
 abbrev pub kept_one : Bool → Message → ℕ
 kept_one own m = if is_dropped own m then 0 else 1

@@ -13,7 +13,7 @@ mod subscribing;
 mod tables;
 
 pub use order::Order;
-pub use refusing::{is_dropped, size_there};
+pub use refusing::{is_dropped, refused_size};
 pub use sending::{copies_to, find_room};
 pub use shared_lines::SharedLines;
 pub use tables::Tables;

@@ -35,16 +35,16 @@ fn dead_queue(alloc: Global) -> Result<Dest, AllocError>
     }
 }
 
-/// Whether a refused message is dropped, where it is said whether its subscription has a line of its own: so it is there,
-/// and where it was refused before.
+/// Whether a refused message is dropped: where its subscription has a line of its own, which `own` says, since it is a
+/// plain one of a topic; and where it was refused before, so that its destination is `/queue/dead` already.
 pub fn is_dropped(own: bool, message: &Message) -> bool
     ensures { result ≡ is_dropped own message.now }
 {
     own || message.sending.destination().as_str() == DEAD_QUEUE
 }
 
-/// The bytes that what was sent has in the queue of refused messages.
-pub fn size_there(sending: &Sending) -> u64
+/// The bytes that what was sent counts for once it was refused and has gone to `/queue/dead`.
+pub fn refused_size(sending: &Sending) -> u64
     ensures size { result ≡ size_of (record sending.now { destination = dead_queue }) }
     ensures small { result < 2 ^ 22 }
 {
@@ -85,7 +85,7 @@ fn kept_bytes(own: bool, message: &Message) -> u64
     if is_dropped(own, message) {
         return 0;
     }
-    size_there(&message.sending)
+    refused_size(&message.sending)
 }
 
 /// The bytes that those of some deliveries which the NACK of one settles count for in the queue of refused messages.
@@ -141,7 +141,7 @@ fn keep_one(
         return Ok(());
     }
     held.messages += 1;
-    held.bytes += size_there(&message.sending);
+    held.bytes += refused_size(&message.sending);
     shared.put_in_queue(alloc, refused(alloc, number, message)?)
 }
 

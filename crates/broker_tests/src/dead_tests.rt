@@ -34,10 +34,7 @@ fn a_dead_message_is_emptied_as_any_other_and_a_second_refusal_drops_it(
         (&[Event::Nack(0, 0)], "1 held"),
         (&LISTEN, "0 MESSAGE d 3.64; 1 held"),
         (&[Event::Nack(0, 1)], "0 held"),
-        (
-            &[Event::Send(0, "/queue/dead")],
-            "0 MESSAGE d 6.0; 1 held",
-        ),
+        (&[Event::Send(0, "/queue/dead")], "0 MESSAGE d 6.0; 1 held"),
         (&[Event::Nack(0, 2)], "0 held"),
     ];
     answers_all(rt.alloc(), &rows)?;
@@ -121,29 +118,36 @@ fn client_refuses_what_came_before_too(rt: HostRuntime) -> Result<(), Fail> {
     answers_all(rt.alloc(), &rows)
 }
 
+/// Refusals in the places 1 and 3.
+const ONE_BY_ONE: [Part<'static>; 4] = [
+    Part::Sends("/queue/dead"),
+    Part::Nacks(1),
+    Part::Acks(0),
+    Part::Nacks(2),
+];
+
+/// Refusals in the places 0 and 1.
+const UP_TO_EACH: [Part<'static>; 2] = [Part::Nacks(0), Part::Nacks(2)];
+
+/// The second of them finds no delivery any more.
+const TWICE: [Part<'static>; 2] = [Part::Nacks(0), Part::Nacks(0)];
+
 #[test]
 fn each_refusal_in_a_transaction_has_places_of_its_own(rt: HostRuntime) -> Result<(), Fail> {
-    let one_by_one = [
-        Part::Sends("/queue/dead"),
-        Part::Nacks(1),
-        Part::Acks(0),
-        Part::Nacks(2),
-    ];
     let events = three_deliveries(AckMode::ClientIndividual);
     let rows: [(&[Event<'_>], &str); 3] = [
         (&events, "0 MESSAGE s 4.0; 3 held"),
-        (&[Event::Together(0, &one_by_one)], "3 held"),
+        (&[Event::Together(0, &ONE_BY_ONE)], "3 held"),
         (
             &LISTEN,
             "0 MESSAGE d 5.0; 0 MESSAGE d 5.80; 0 MESSAGE d 5.112; 3 held",
         ),
     ];
     answers_all(rt.alloc(), &rows)?;
-    let up_to = [Part::Nacks(0), Part::Nacks(2)];
     let events = three_deliveries(AckMode::Client);
     let rows: [(&[Event<'_>], &str); 3] = [
         (&events, "0 MESSAGE s 4.0; 3 held"),
-        (&[Event::Together(0, &up_to)], "3 held"),
+        (&[Event::Together(0, &UP_TO_EACH)], "3 held"),
         (
             &LISTEN,
             "0 MESSAGE d 5.64; 0 MESSAGE d 5.80; 0 MESSAGE d 5.81; 3 held",
@@ -154,7 +158,6 @@ fn each_refusal_in_a_transaction_has_places_of_its_own(rt: HostRuntime) -> Resul
 
 #[test]
 fn a_transaction_that_is_refused_refuses_no_message(rt: HostRuntime) -> Result<(), Fail> {
-    let twice = [Part::Nacks(0), Part::Nacks(0)];
     let events = three_deliveries(AckMode::Client);
     let listen = [
         Event::Connect,
@@ -164,7 +167,7 @@ fn a_transaction_that_is_refused_refuses_no_message(rt: HostRuntime) -> Result<(
     let rows: [(&[Event<'_>], &str); 4] = [
         (&events, "0 MESSAGE s 4.0; 3 held"),
         (
-            &[Event::Together(0, &twice)],
+            &[Event::Together(0, &TWICE)],
             "0 ERROR E11 unknown acknowledgement id ; 3 held",
         ),
         (&listen, "3 held"),
@@ -232,7 +235,10 @@ fn a_refusal_that_finds_no_room_is_refused(rt: HostRuntime) -> Result<(), Fail> 
     let nack = [Event::Nack(0, 0)];
     let full: [(&[Event<'_>], &str); 1] = [(&nack, FULL)];
     answers_filled(rt.alloc(), 2, &full)?;
-    let fits: [(&[Event<'_>], &str); 2] = [(&nack, "256 held"), (&[Event::Nack(0, 1)], FULL)];
+    let fits: [(&[Event<'_>], &str); 2] = [
+        (&nack, "0 MESSAGE s 17.0; 256 held"),
+        (&[Event::Nack(0, 1)], FULL),
+    ];
     answers_filled(rt.alloc(), 3, &fits)
 }
 
@@ -244,16 +250,15 @@ fn room_in_a_transaction_is_looked_for_in_the_place_of_the_refusal(
     let refused: [(&[Event<'_>], &str); 1] = [(&[Event::Together(0, &late)], FULL)];
     answers_filled(rt.alloc(), 0, &refused)?;
     let early = [Part::Acks(1), Part::Nacks(0)];
-    let done: [(&[Event<'_>], &str); 1] = [(&[Event::Together(0, &early)], "255 held")];
+    let done: [(&[Event<'_>], &str); 1] = [(
+        &[Event::Together(0, &early)],
+        "0 MESSAGE s 17.0; 0 MESSAGE s 18.0; 255 held",
+    )];
     answers_filled(rt.alloc(), 0, &done)
 }
 
 /// Carries all out by the rule of version 1, and tells how many messages are held.
-fn held_by_old_rule(
-    alloc: Global,
-    broker: &mut Broker,
-    events: &[Event<'_>],
-) -> Result<u64, Fail> {
+fn held_by_old_rule(alloc: Global, broker: &mut Broker, events: &[Event<'_>]) -> Result<u64, Fail> {
     for event in events {
         let command = command_of(alloc, event)?;
         if broker.count() >= 10_000 {
@@ -264,16 +269,22 @@ fn held_by_old_rule(
     Ok(broker.held().messages)
 }
 
+/// How many messages are held after a delivery, after its NACK, and after a NACK in a transaction.
+fn held_three_times(alloc: Global, broker: &mut Broker) -> Result<(u64, u64, u64), Fail> {
+    let delivered = held_by_old_rule(alloc, broker, &ONE_DELIVERY)?;
+    let refused = held_by_old_rule(alloc, broker, &[Event::Nack(0, 0)])?;
+    let parts = [Part::Sends("/queue/q"), Part::Nacks(1)];
+    let again = [Event::Send(0, "/queue/q"), Event::Together(0, &parts)];
+    let together = held_by_old_rule(alloc, broker, &again)?;
+    Ok((delivered, refused, together))
+}
+
 #[test]
 fn by_the_old_rule_a_refusal_drops_the_message(rt: HostRuntime) -> Result<(), Fail> {
     let mut broker = Broker::new(rt.alloc());
-    let before = held_by_old_rule(rt.alloc(), &mut broker, &ONE_DELIVERY);
-    let plain = held_by_old_rule(rt.alloc(), &mut broker, &[Event::Nack(0, 0)]);
-    let parts = [Part::Sends("/queue/q"), Part::Nacks(1)];
-    let again = [Event::Send(0, "/queue/q"), Event::Together(0, &parts)];
-    let together = held_by_old_rule(rt.alloc(), &mut broker, &again);
+    let held = held_three_times(rt.alloc(), &mut broker);
     drop(broker);
-    assert_eq!(rt; (before?, plain?, together?), (1, 0, 1));
+    assert_eq!(rt; held?, (1, 0, 1));
     Ok(())
 }
 
@@ -309,7 +320,8 @@ fn a_dead_message_says_where_it_is_and_has_its_body(rt: HostRuntime) -> Result<(
     let mut broker = Broker::new(rt.alloc());
     let told = dead_message(rt.alloc(), &mut broker);
     drop(broker);
-    let expected = "MESSAGE subscription:d message-id:3.64 destination:/queue/dead content-length:2 104 105";
+    let expected =
+        "MESSAGE subscription:d message-id:3.64 destination:/queue/dead content-length:2 104 105";
     assert_eq!(rt; told?.as_str(), expected);
     Ok(())
 }
