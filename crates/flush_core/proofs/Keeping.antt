@@ -9,6 +9,7 @@ use Rattle.command_core.specs.Entries.{EntryValue}
 use Rattle.command_core.specs.Outs.{OutValue}
 use Rattle.broker_core.specs.Sound.{IsSound}
 use Rattle.broker_core.specs.States.{BrokerValue, State}
+use Rattle.broker_state.specs.States.{IsInOrder}
 use Rattle.broker_core.specs.Steps.{outs_of, state_after}
 use Rattle.claim_core.specs.Seats.{FlushSeatValue, next_ticket, when_stopped, with_mark}
 use Rattle.recover_core.specs.Standing.{StandFor, Stands, StandsForEither}
@@ -22,7 +23,7 @@ use Rattle.std.specs.Prelude.{filter}
 use Rattle.flush_core.proofs.Sessions.{commands_both, no_entries}
 use Rattle.std.proofs.lemmas.List.{append-nil}
 use Rattle.std.proofs.Math.Seq.{drop-append_seam, take-append_seam}
-use Rattle.flush_core.proofs.Taken.{all_at, at_between, at_more, at_start, between_all, between_from, between_more, between_none, count_after, from_end, length_between, length_commands, outs_under, sound_after, under_more}
+use Rattle.flush_core.proofs.Taken.{all_at, at_between, at_more, at_start, between_all, between_from, between_more, between_none, count_after, from_end, length_between, length_commands, order_after, outs_under, under_more}
 
 -- each image stands for the state at one number
 pub hold_at : (images : List ℕ → Type 0) (opening : State) (seat : FlushSeatValue) (n : ℕ) → seat.published ≤ n → n ≤ next_ticket seat → StandFor images (state_at opening seat n) → HoldBetween images opening seat
@@ -336,9 +337,9 @@ module _ {D : Type 0} (honest : D → Type 0) (images : D → List ℕ → Type 
       let begun : f.seat.base ≤ f.settled = omega (arith, kept.begun, kept.marked) in
       let state : f.broker.state ≡ state_at f.opening f.seat f.settled = ap (λ (b : BrokerValue). b.state) run.broker in
       let all = settled_state f whole kept in
-      let sound : IsSound f.broker.state = subst (λ (s : State). IsSound s) (sym state) (sound_after (take (f.settled - f.seat.base) f.seat.taken) f.opening kept.sound) in
+      let order : IsInOrder f.broker.state = subst (λ (s : State). IsInOrder s) (sym state) (order_after (take (f.settled - f.seat.base) f.seat.taken) f.opening kept.sound.order) in
       let counted : f.broker.state.count ≡ f.settled = ap (λ (s : State). s.count) state ∙ count_at f kept in
-      let new : AreUnder f.stored (outs_of f.broker.state (unsettled f)) = outs_under (unsettled f) f.broker.state f.stored sound (omega (arith, counted, length_between f.seat f.settled f.stored begun kept.settled kept.stored, kept.settled)) in
+      let new : AreUnder f.stored (outs_of f.broker.state (unsettled f)) = outs_under (unsettled f) f.broker.state f.stored order (omega (arith, counted, length_between f.seat f.settled f.stored begun kept.settled kept.stored, kept.settled)) in
       record {
         begun = kept.begun;
         marked = omega (arith, kept.marked, kept.settled);

@@ -28,12 +28,13 @@ pub lacks_room : (area : Area) (images : List ℕ → Type 0) (content : List �
 lacks_room area images content s cs reads sound stand short = ∥∥₁_elim sound ∥∥₁_prop (λ (it : Sound images area). ∥∥₁_elim (stand content reads) ∥∥₁_prop (λ (st : Standing content s).
     let at = it.held content reads in
     ∣ record {
+      version = area.version;
       size = area.size;
       selector = area.selector;
       snapshot = it.snapshot;
       blocks = it.blocks;
       reads = at.reads;
-      leads = leads area.size area.selector it.snapshot it.blocks content s at.reads st;
+      leads = leads area.version area.size area.selector it.snapshot it.blocks content s at.reads st;
       short = omega (arith, short, at.gate);
     } ∣₁))
 
@@ -43,12 +44,13 @@ pub lacks_room_for_state : (area : Area) (images : List ℕ → Type 0) (content
 lacks_room_for_state area images content s reads sound stand none = ∥∥₁_elim sound ∥∥₁_prop (λ (it : Sound images area). ∥∥₁_elim (stand content reads) ∥∥₁_prop (λ (st : Standing content s).
     let at = it.held content reads in
     ∣ record {
+      version = area.version;
       size = area.size;
       selector = area.selector;
       snapshot = it.snapshot;
       blocks = it.blocks;
       reads = at.reads;
-      leads = leads area.size area.selector it.snapshot it.blocks content s at.reads st;
+      leads = leads area.version area.size area.selector it.snapshot it.blocks content s at.reads st;
       none = none;
     } ∣₁))
 

@@ -6,12 +6,12 @@ use Rattle.area_core.specs.Areas.{commands}
 use Rattle.command_core.specs.Commands.{CommandValue}
 use Rattle.command_core.specs.Entries.{EntryValue}
 use Rattle.command_core.specs.Outs.{OutValue}
-use Rattle.broker_core.specs.Sound.{IsSound}
+use Rattle.broker_state.specs.States.{IsInOrder}
 use Rattle.broker_core.specs.States.{State}
 use Rattle.broker_core.specs.Steps.{outs, outs_of, state_after, step}
+use Rattle.broker_state.specs.declared.nack_rule.NackRule.TheVariants.{Keeps}
 use Rattle.broker_laws.proofs.Numbers.{outs_numbered}
-use Rattle.broker_laws.proofs.Ordered.{done_count}
-use Rattle.broker_laws.proofs.SoundSteps.{sound_step}
+use Rattle.broker_laws.proofs.Ordered.{done_count, step_in_order}
 use Rattle.recover_core.proofs.Stores.{after-append}
 use Rattle.claim_core.specs.Seats.{FlushSeatValue, next_ticket}
 use Rattle.flush_core.specs.Batches.{between, from_on, state_at, state_taken, with_more}
@@ -83,17 +83,17 @@ pub count_after : (cs : List CommandValue) (s : State) → (state_after s cs).co
 count_after [] s = omega arith
 count_after (c ∷ cs) s = omega (arith, count_after cs (step s c))
 
-pub sound_after : (cs : List CommandValue) (s : State) → IsSound s → IsSound (state_after s cs)
-sound_after [] s sound = sound
-sound_after (c ∷ cs) s sound = sound_after cs (step s c) (sound_step s c sound)
+pub order_after : (cs : List CommandValue) (s : State) → IsInOrder s → IsInOrder (state_after s cs)
+order_after [] s order = order
+order_after (c ∷ cs) s order = order_after cs (step s c) (step_in_order Keeps s c order)
 
 -- the outputs of commands have their numbers
-pub outs_under : (cs : List CommandValue) (s : State) (n : ℕ) → IsSound s → s.count + length cs ≤ n → AreUnder n (outs_of s cs)
-outs_under [] s n sound few = tt
-outs_under (c ∷ cs) s n sound few =
+pub outs_under : (cs : List CommandValue) (s : State) (n : ℕ) → IsInOrder s → s.count + length cs ≤ n → AreUnder n (outs_of s cs)
+outs_under [] s n order few = tt
+outs_under (c ∷ cs) s n order few =
     all_append (λ (out : OutValue). out.number < n) (outs s c) (outs_of (step s c) cs)
-    (all_weaker (λ (out : OutValue). out.number ≡ s.count) (λ (out : OutValue). out.number < n) (λ out is. omega (arith, is, few)) (outs s c) (outs_numbered s c (done_count s c sound.order)))
-    (outs_under cs (step s c) n (sound_step s c sound) (omega (arith, few)))
+    (all_weaker (λ (out : OutValue). out.number ≡ s.count) (λ (out : OutValue). out.number < n) (λ out is. omega (arith, is, few)) (outs s c) (outs_numbered Keeps s c (done_count Keeps s c order)))
+    (outs_under cs (step s c) n (step_in_order Keeps s c order) (omega (arith, few)))
 
 pub under_more : (n m : ℕ) (outs : List OutValue) → n ≤ m → AreUnder n outs → AreUnder m outs
 under_more n m outs le under = all_weaker (λ (out : OutValue). out.number < n) (λ (out : OutValue). out.number < m) (λ out lt. omega (arith, le, lt)) outs under

@@ -1,6 +1,7 @@
 -- Where a block does not fit into the journal.
 use Rattle.std.specs.Prelude.{◌⊎◌, ◌<◌, ◌≤◌, ◌+◌, ℕ, List, length}
 use Rattle.command_core.specs.Commands.{CommandValue}
+use Rattle.area_core.specs.declared.version.Version.{Version}
 use Rattle.area_core.specs.Areas.{front, records}
 use Rattle.area_core.specs.Journals.{Reads}
 use Rattle.broker_core.specs.States.{State}
@@ -25,25 +26,27 @@ IsTooLong size used cs = size < used + 9 + length (records cs)
 -- The image stands for this state, and its live area is too short for a block of these commands: a gate, eight bytes of
 -- length, the records, and the closed gate behind it.
 pub record LacksRoom (image : List ℕ) (s : State) (cs : List CommandValue) : Type 0 where
+  pub version : Version
   pub size : ℕ
   pub selector : ℕ
   pub snapshot : List ℕ
   pub blocks : List (List CommandValue)
-  pub reads : Reads size selector snapshot blocks image
-  pub leads : Leads snapshot blocks s
-  pub short : size < length (front snapshot blocks) + 10 + length (records cs)
+  pub reads : Reads version size selector snapshot blocks image
+  pub leads : Leads version snapshot blocks s
+  pub short : size < length (front version snapshot blocks) + 10 + length (records cs)
 
 abbrev pub HasNoRoom : List ℕ → State → List CommandValue → Type 0
 HasNoRoom image s cs = ∥ LacksRoom image s cs ∥₁
 
 -- the image stands for this state, of which no snapshot fits into an area of its journal
 pub record LacksRoomForState (image : List ℕ) (s : State) : Type 0 where
+  pub version : Version
   pub size : ℕ
   pub selector : ℕ
   pub snapshot : List ℕ
   pub blocks : List (List CommandValue)
-  pub reads : Reads size selector snapshot blocks image
-  pub leads : Leads snapshot blocks s
+  pub reads : Reads version size selector snapshot blocks image
+  pub leads : Leads version snapshot blocks s
   pub none : HasNoRoomFor size s
 
 abbrev pub HasNoRoomForState : List ℕ → State → Type 0
