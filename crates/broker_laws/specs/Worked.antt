@@ -1,5 +1,4 @@
 use Rattle.std.specs.Prelude.{List, [], ◌∷◌, ℕ, None, codes}
-use Rattle.record_core.specs.declared.ack_mode.AckMode.{AckMode}
 use Rattle.record_core.specs.declared.ack_mode.AckMode.TheVariants.{Client}
 use Rattle.record_core.specs.Sendings.{SendingValue}
 use Rattle.command_core.specs.Commands.{CommandValue}

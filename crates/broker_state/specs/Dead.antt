@@ -73,8 +73,8 @@ abbrev pub nacked : NackRule → State → ℕ → ℕ → ℕ → Result State 
 nacked Drops s session member delivery = acknowledged s session delivery
 nacked Keeps s session member delivery = keeping_from (kept_by_nack s session member delivery) (acknowledged s session delivery)
 
--- What a NACK of a delivery makes of another one of its subscription: it settles it not, or the rule drops its message, or that
--- stands in the queue of refused messages with its headers and body.
+-- What has become of a delivery of a subscription after the NACK of one of them: it is not settled, or the rule drops its
+-- message, or that stands in the queue of refused messages with its headers and body.
 abbrev pub IsStill : State → State → ℕ → Subscription → ℕ × Message → Type 0
 IsStill s t delivery sub d =
     (settles sub.mode delivery d.0 ≡ false) ⊎ (is_dropped (is_own sub) d.1 ≡ true)
