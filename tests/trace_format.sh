@@ -47,7 +47,7 @@ compare() {
         /openat\(.* = 4/ && index($0, folder) { print "its folder is opened" }
         /fsync\(4\) += 0/ { print "its folder is synced" }
         /pwrite64\(3,.*, 41, 32\) += 41/ { print "the front is written" }
-        /pwrite64\(3,.*"STOMPJ01.*, 32, 0\) += 32/ { print "the header is written" }
+        /pwrite64\(3,.*"STOMPJ02.*, 32, 0\) += 32/ { print "the header is written" }
     ' trace >seen
     if ! cmp -s seen wanted; then
         echo "trace_format: the calls for $1 are others than they should be" >&2
