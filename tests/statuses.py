@@ -156,11 +156,16 @@ def crashes(checks):
     checks.run(["script"], 0, printed, NOTHING, given.encode())
 
 
+def word(length):
+    """What an area of the second version begins with: its version, and the length of its snapshot."""
+    return b"\2" + struct.pack(">Q", length)[1:]
+
+
 def formats(checks, folder):
     journal, other = str(folder / "journal"), str(folder / "other")
     checks.run(["format", journal, str(SMALLEST)], 0, NOTHING, NOTHING)
     made = pathlib.Path(journal).read_bytes()
-    front = b"STOMPJ01" + struct.pack(">Q", 4_096) + bytes(16) + struct.pack(">Q", 32) + bytes(33)
+    front = b"STOMPJ02" + struct.pack(">Q", 4_096) + bytes(16) + word(32) + bytes(33)
     checks.expect("the bytes of an empty journal", made == front + bytes(SMALLEST - len(front)), made[:80])
     checks.run(["format", journal, str(SMALLEST)], 1, NOTHING, CANNOT_OPEN)
     for few in (str(SMALLEST - 1), "31", "0"):
@@ -192,9 +197,9 @@ def broken(folder):
         "J1 not a journal": (bytes(64), b"", good[:31], b"STOMPX01" + good[8:]),
         "J7 unknown version": (b"STOMPJ09" + good[8:],),
         "J8 disk too small": (good[:-1], good[:8] + struct.pack(">Q", 4_095) + good[16:], good[:8] + b"\xff" * 8 + good[16:]),
-        # A snapshot whose length is not that of a state, and one that leaves the area.
-        "J2 damaged at 40": (good[:32] + struct.pack(">Q", 31) + good[40:],),
-        "J2 damaged at 32": (good[:32] + struct.pack(">Q", 4_088) + good[40:],),
+        # A snapshot whose length is not that of a state, one that leaves the area, and an area of no version.
+        "J2 damaged at 40": (good[:32] + word(31) + good[40:],),
+        "J2 damaged at 32": (good[:32] + word(4_088) + good[40:], good[:32] + b"\3" + good[33:]),
         # An open gate with an empty block behind it, and with a block that is no record.
         "J2 damaged at 73": (good[:72] + b"\1" + good[73:],),
         "J2 damaged at 81": (good[:72] + b"\1" + struct.pack(">Q", 1) + b"\xff\0" + good[83:],),
@@ -208,7 +213,7 @@ def broken(folder):
 
 
 def shows(checks, folder):
-    shown = "version 1\narea 0\nused 41\ncount 0\nheld 0\n"
+    shown = "version 2\narea 0\nused 41\ncount 0\nheld 0\n"
     before = (folder / "journal").read_bytes()
     checks.run(["show", str(folder / "journal")], 0, shown, NOTHING)
     checks.expect("show writes nothing into the file", (folder / "journal").read_bytes() == before)

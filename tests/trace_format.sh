@@ -50,7 +50,7 @@ compare() {
         /fsync\(4\) += 0/ { print filling ? "its zeros are synced" : "its folder is synced" }
         /write\(4, .*, 8224\) += 8224/ { print "its zeros are written" }
         /pwrite64\(3,.*, 41, 32\) += 41/ { print "the front is written" }
-        /pwrite64\(3,.*"STOMPJ01.*, 32, 0\) += 32/ { print "the header is written" }
+        /pwrite64\(3,.*"STOMPJ02.*, 32, 0\) += 32/ { print "the header is written" }
     ' trace >seen
     if ! cmp -s seen "$3"; then
         echo "trace_format: the calls for $1 are others than they should be" >&2

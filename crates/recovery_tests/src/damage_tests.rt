@@ -12,6 +12,8 @@ enum Patch {
     Bytes(&'static [u8]),
     // A number, in eight bytes.
     Word(u64),
+    // So many bytes of a snapshot, in seven bytes behind the one of the second version.
+    Front(u64),
 }
 
 // Writes these bytes over a disk.
@@ -29,19 +31,25 @@ fn write_patch(rt: &impl Abort, disk: &mut MemDisk, at: u64, patch: Patch) -> Re
             BigEndian::write_u64(&mut word, number);
             write(rt, disk, at, &word)
         }
+        Patch::Front(count) => {
+            let mut word = [0; 8];
+            BigEndian::write_u64(&mut word, count);
+            word[0] = 2;
+            write(rt, disk, at, &word)
+        }
     }
 }
 
 // A journal whose second area is live, from place 4,128 on: the empty state, a block of an Open and a SEND, and two blocks
 // of a SEND each. The gates stand at 4,168, 4,217, 4,255 and 4,293. What is not named here is zero.
 const JOURNAL: [(u64, Patch); 15] = [
-    (0, Patch::Bytes(b"STOMPJ01")),
+    (0, Patch::Bytes(b"STOMPJ02")),
     (8, Patch::Word(4_096)),
     (16, Patch::Bytes(b"\x01")),
     // The first area, as it was formatted.
-    (32, Patch::Word(32)),
+    (32, Patch::Front(32)),
     // The second.
-    (4_128, Patch::Word(32)),
+    (4_128, Patch::Front(32)),
     (4_168, Patch::Bytes(b"\x01")),
     (4_169, Patch::Word(40)),
     (4_177, Patch::Bytes(OPEN)),
@@ -80,20 +88,31 @@ fn a_journal_is_written_as_its_format_says(rt: HostRuntime) -> Result<(), Fail> 
 }
 
 // What is written over the journal, from a place on, and what opening tells then.
-const DAMAGES: [(u64, Patch, &str); 24] = [
+const DAMAGES: [(u64, Patch, &str); 32] = [
     (0, Patch::Bytes(b"X"), "J1 not a journal"),
     (6, Patch::Bytes(b"03"), "J7 unknown version"),
+    (6, Patch::Bytes(b"00"), "J7 unknown version"),
     (8, Patch::Word(4_095), "J8 disk too small"),
     (8, Patch::Word(4_097), "J8 disk too small"),
+    // A name of the first version, which does not decide, and an area of it.
+    (6, Patch::Bytes(b"01"), "4 3"),
+    (4_128, Patch::Bytes(b"\0"), "4 3"),
+    // Bytes that an area of no version begins with, also where the snapshot's length would not fit.
+    (4_128, Patch::Bytes(b"\x01"), "J2 damaged at 4128"),
+    (4_128, Patch::Bytes(b"\x03"), "J2 damaged at 4128"),
+    (4_128, Patch::Bytes(b"\xff"), "J2 damaged at 4128"),
+    (4_128, Patch::Word(u64::MAX), "J2 damaged at 4128"),
+    // As many bytes of a snapshot as seven bytes count.
+    (4_128, Patch::Front((1 << 56) - 1), "J2 damaged at 4128"),
     // Another odd selector, bytes that are not read, and an even selector: the area as it was formatted.
     (16, Patch::Bytes(b"\x7b"), "4 3"),
     (17, Patch::Bytes(&[0xff; 15]), "4 3"),
     (16, Patch::Bytes(b"\x7a"), "0 0"),
     // The snapshot's length: one less, one more, as much as fits, and one more than that.
-    (4_128, Patch::Word(31), "J2 damaged at 4136"),
-    (4_128, Patch::Word(33), "J2 damaged at 4136"),
-    (4_128, Patch::Word(4_087), "J2 damaged at 4136"),
-    (4_128, Patch::Word(4_088), "J2 damaged at 4128"),
+    (4_128, Patch::Front(31), "J2 damaged at 4136"),
+    (4_128, Patch::Front(33), "J2 damaged at 4136"),
+    (4_128, Patch::Front(4_087), "J2 damaged at 4136"),
+    (4_128, Patch::Front(4_088), "J2 damaged at 4128"),
     // A count of more than 2^61 before the blocks; one that is 2^61 behind them; and one more.
     (4_136, Patch::Word((1 << 61) + 1), "J5 count too large"),
     (4_136, Patch::Word((1 << 61) - 4), "2305843009213693952 0"),
@@ -141,7 +160,7 @@ fn what_is_damaged_is_told_with_its_place(rt: HostRuntime) -> Result<(), Fail> {
 const DAMAGES_OF_EMPTY: [(u64, Patch, &str); 5] = [
     (6, Patch::Bytes(b"03"), "J7 unknown version"),
     (8, Patch::Word(4_095), "J8 disk too small"),
-    (32, Patch::Word(31), "J2 damaged at 40"),
+    (32, Patch::Front(31), "J2 damaged at 40"),
     (40, Patch::Word(1 << 61), "2305843009213693952 0"),
     (40, Patch::Word((1 << 61) + 1), "J5 count too large"),
 ];
@@ -259,7 +278,7 @@ fn an_empty_journal_shows_that_it_holds_nothing(rt: HostRuntime) -> Result<(), F
     let mut disk = formatted(rt.alloc())?;
     let empty = shown(rt.alloc(), &mut disk);
     drop(disk);
-    assert_eq!(rt; empty?, [1, 0, 41, 0, 0, 0]);
+    assert_eq!(rt; empty?, [2, 0, 41, 0, 0, 0]);
     Ok(())
 }
 
@@ -267,7 +286,7 @@ fn an_empty_journal_shows_that_it_holds_nothing(rt: HostRuntime) -> Result<(), F
 fn show_again(rt: &impl Abort, alloc: Global, disk: &mut MemDisk) -> Result<(), Fail> {
     for _ in 0..2_u8 {
         let seen = shown(alloc, disk)?;
-        assert_eq!(rt; seen, [1, 1, 166, 4, 3, 27]);
+        assert_eq!(rt; seen, [2, 1, 166, 4, 3, 27]);
     }
     write_patch(rt, disk, 4_136, Patch::Word((1 << 61) + 1))?;
     let refused = shown(alloc, disk);

@@ -7,8 +7,12 @@ mod damage_tests;
 #[cfg(test)]
 mod journals;
 #[cfg(test)]
+mod old_journal_tests;
+#[cfg(test)]
 mod opening_tests;
 #[cfg(test)]
 mod script_tests;
 #[cfg(test)]
 mod stop_tests;
+#[cfg(test)]
+mod version_tests;

@@ -1,0 +1,112 @@
+//! A journal that an older program wrote, whose NACK drops the message.
+use crate::journals::{FILLS, SIZE, opens_as};
+use crate::stop_tests::stopped_opening;
+use disk_core::{Disk, MemDisk};
+use recover_core::read;
+use std::alloc::Global;
+use std::process::Abort;
+use std::test::Fail;
+
+// The bytes of the file that are not zero. It was made on 26 November 2026 with the program of commit ac9e524: `stompd format FILE
+// 8224`, `stompd serve FILE PORT`, and then two WebSocket connections, after whose last frame the server was killed. A block each:
+//
+// - 0: `anna` opens a session, and in 1 listens to `/topic/news` under the durable name `reader`, acknowledging in `client`;
+// - 2: a second session opens, and in 3 sends `first` to `/topic/news`, which is handed to `anna` as delivery 0;
+// - 4: it listens to `/queue/jobs`, acknowledging one by one, and in 5 and 6 sends `x` and `y` there, deliveries 1 and 2;
+// - 7: it refuses delivery 1, and in 8 sends `second` to `/topic/news`, delivery 3.
+const WRITTEN: [(u64, &[u8]); 12] = [
+    (0, b"STOMPJ01\0\0\0\0\0\0\x10\0\x01"),
+    (32, b"\0\0\0\0\0\0\0 \0"),
+    (4_128, b"\0\0\0\0\0\0\0 "),
+    (
+        4_168,
+        b"\x01\0\0\0\0\0\0\0\x13\0\0\0\0\0\0\0\0\0\x01\x01\0\0\0\x04anna",
+    ),
+    (
+        4_196,
+        b"\x01\0\0\0\0\0\0\02\0\0\0\0\0\0\0\0\x01\0\0\0\x011\x03\0\0\0\x04news\0\0\0\x0b/topic/news\x01\x01\0\0\0\x06reader",
+    ),
+    (4_255, b"\x01\0\0\0\0\0\0\0\x0b\0\0\0\0\0\0\0\0\0\x01\0"),
+    (
+        4_275,
+        b"\x01\0\0\0\0\0\0\0)\0\0\0\0\0\0\0\x02\x01\0\0\0\x013\x02\0\0\0\x0b/topic/news\0\0\0\0\0\x05first",
+    ),
+    (
+        4_325,
+        b"\x01\0\0\0\0\0\0\0(\0\0\0\0\0\0\0\x02\x01\0\0\0\x014\x03\0\0\0\x04jobs\0\0\0\x0b/queue/jobs\x02\0",
+    ),
+    (
+        4_374,
+        b"\x01\0\0\0\0\0\0\0 \0\0\0\0\0\0\0\x02\0\x02\0\0\0\x0b/queue/jobs\0\0\0\0\0\x01x",
+    ),
+    (
+        4_415,
+        b"\x01\0\0\0\0\0\0\0 \0\0\0\0\0\0\0\x02\0\x02\0\0\0\x0b/queue/jobs\0\0\0\0\0\x01y",
+    ),
+    (
+        4_456,
+        b"\x01\0\0\0\0\0\0\0\x17\0\0\0\0\0\0\0\x02\x01\0\0\0\x017\x06\0\0\0\0\0\0\0\x01",
+    ),
+    (
+        4_488,
+        b"\x01\0\0\0\0\0\0\0*\0\0\0\0\0\0\0\x02\x01\0\0\0\x018\x02\0\0\0\x0b/topic/news\0\0\0\0\0\x06second",
+    ),
+];
+
+// What is left of that once both sessions have ended: nine commands and four deliveries, no session; `reader` of `anna`, for which both
+// messages to `/topic/news` wait again; and in `/queue/jobs` the message of command 6. That of command 5 was refused, and is gone.
+const RESTARTED: &[u8] = b"\0\0\0\0\0\0\0\x09\0\0\0\0\0\0\0\x04\0\0\0\0\
+\0\0\0\x01\0\0\0\x04anna\0\0\0\x06reader\0\0\0\x0b/topic/news\0\0\0\x02\
+\0\0\0\0\0\0\0\x03\0\0\0\0\0\0\0\x0b/topic/news\0\0\0\0\0\x05first\
+\0\0\0\0\0\0\0\x08\0\0\0\0\0\0\0\x0b/topic/news\0\0\0\0\0\x06second\
+\0\0\0\x01\0\0\0\x0b/queue/jobs\0\0\0\x01\
+\0\0\0\0\0\0\0\x06\0\0\0\0\0\0\0\x0b/queue/jobs\0\0\0\0\0\x01y\
+\0\0\0\0";
+
+fn journal(rt: &impl Abort, alloc: Global) -> Result<MemDisk, Fail> {
+    let mut disk = MemDisk::new(alloc, SIZE)?;
+    for (at, bytes) in WRITTEN {
+        assert!(rt; disk.size() == SIZE && at <= 8_000 && bytes.len() <= 100);
+        disk.write_at(at, bytes)?;
+    }
+    disk.sync()?;
+    disk.crash(None);
+    Ok(disk)
+}
+
+// Its second area is live. Three messages are not acknowledged: the two of the topic, and `y`.
+#[test]
+fn an_older_journal_is_shown(rt: HostRuntime) -> Result<(), Fail> {
+    let mut disk = journal(&rt, rt.alloc())?;
+    let seen = read(rt.alloc(), &mut disk);
+    drop(disk);
+    let seen = seen?;
+    assert_eq!(rt; (seen.version, seen.area, seen.used), (1, 1, 412));
+    assert_eq!(rt; (seen.count, seen.held.messages), (9, 3));
+    Ok(())
+}
+
+// Opening it with so many calls that pass, and then again. Answers whether it was opened at first.
+fn stop_opening(
+    rt: &impl Abort,
+    alloc: Global,
+    passed: u64,
+    fill: Option<u8>,
+) -> Result<bool, Fail> {
+    let disk = journal(rt, alloc)?;
+    let (disk, is_opened) = stopped_opening(alloc, disk, passed, fill)?;
+    let is_left = opens_as(alloc, disk, RESTARTED)?;
+    assert!(rt; is_left, "{passed} calls");
+    Ok(is_opened)
+}
+
+// Its header is read by six calls, its front by two, and each of nine blocks by three, so it is opened by about forty.
+#[test]
+fn a_stop_at_each_call_of_opening_it_leaves_its_state(rt: HostRuntime) -> Result<(), Fail> {
+    for turn in 0..176_u64 {
+        let (passed, fill) = (turn / 4, FILLS[(turn % 4) as usize]);
+        let is_opened = stop_opening(&rt, rt.alloc(), passed, fill)?;
+        assert!(rt; is_opened || passed < 43, "{passed} calls are not enough");
+    }
+    Ok(())
+}
