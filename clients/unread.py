@@ -140,4 +140,4 @@ def an_abandoned_name(broker, checks):
 
 
 if __name__ == "__main__":
-    sys.exit(scenario.run(__doc__, [an_unread_queue, an_abandoned_name, many_places]))
+    sys.exit(scenario.run(__doc__, [many_places, an_unread_queue, an_abandoned_name]))

@@ -98,8 +98,9 @@ def answer(port, asked):
                 data += more
                 if data.startswith(b"HTTP/1.1 101") and data.endswith(b"\r\n\r\n"):
                     break
-        except OSError as error:
-            return f"({error})", data
+        except ConnectionResetError:
+            # What was sent and not read when the server closed the stream resets it, behind the answer.
+            pass
         head, _, body = data.partition(b"\r\n\r\n")
         return head.decode(errors="replace"), body
 
