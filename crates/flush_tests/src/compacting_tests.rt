@@ -309,8 +309,8 @@ fn shown_with_selector(alloc: Global, selector: u8) -> Option<[u64; 4]> {
 
 #[test]
 fn a_stop_with_any_selector_shows_the_same(rt: HostRuntime) -> Result<(), Fail> {
-    assert!(rt; shown_with_selector(rt.alloc(), 0x7a) == Some([1, 0, 3, 0]));
-    assert!(rt; shown_with_selector(rt.alloc(), 0x7b) == Some([1, 1, 3, 0]));
+    assert!(rt; shown_with_selector(rt.alloc(), 0x7a) == Some([2, 0, 3, 0]));
+    assert!(rt; shown_with_selector(rt.alloc(), 0x7b) == Some([2, 1, 3, 0]));
     Ok(())
 }
 
@@ -358,7 +358,7 @@ fn count_after(alloc: Global, sends: u32) -> Option<u64> {
 #[test]
 fn a_block_that_does_not_fit_compacts_first(rt: HostRuntime) -> Result<(), Fail> {
     assert!(rt; area_after(rt.alloc(), 3) == Some(1));
-    assert!(rt; shown_after(rt.alloc(), 4) == Some([1, 0, 1_118, 6, 0]));
+    assert!(rt; shown_after(rt.alloc(), 4) == Some([2, 0, 1_118, 6, 0]));
     assert!(rt; count_after(rt.alloc(), 100) == Some(102));
     Ok(())
 }
@@ -400,6 +400,6 @@ fn a_state_that_leaves_no_room_is_told_and_kept(rt: HostRuntime) -> Result<(), F
     drop(state);
     drop(stored);
     assert!(rt; is_full && is_kept);
-    assert!(rt; seen == Some([1, 0, used, 5, 3]));
+    assert!(rt; seen == Some([2, 0, used, 5, 3]));
     Ok(())
 }

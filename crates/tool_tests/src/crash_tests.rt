@@ -3,8 +3,8 @@ use std::alloc::Global;
 use std::fs::File;
 use std::process::Abort;
 use std::rt::Files;
-use std::time::Clock;
 use std::test::Fail;
+use std::time::Clock;
 
 const CON_0: &str = "0 CONNECT%0Aaccept-version:1.2~";
 

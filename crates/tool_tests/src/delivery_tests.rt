@@ -3,8 +3,8 @@ use std::alloc::Global;
 use std::fs::File;
 use std::process::Abort;
 use std::rt::Files;
-use std::time::Clock;
 use std::test::Fail;
+use std::time::Clock;
 
 const SQ: &str = "SEND%0Adestination:/queue/q%0A%0Ax%00";
 

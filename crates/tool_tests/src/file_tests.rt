@@ -85,7 +85,7 @@ fn write_held(rt: &impl Files<File = File> + Clock, alloc: Global) -> Result<(),
 fn a_journal_file_is_made_and_shown(rt: HostRuntime) -> Result<(), Fail> {
     let alloc = rt.alloc();
     let _ = fs::remove_file(&rt, JOURNAL);
-    let shown = "version 1\narea 0\nused 41\ncount 0\nheld 0\n";
+    let shown = "version 2\narea 0\nused 41\ncount 0\nheld 0\n";
     expect_show(&rt, alloc, 1, "", "stompd: cannot open\n")?;
     expect_format(&rt, alloc, "8223", 1, "stompd: J8 disk too small\n")?;
     expect_format(&rt, alloc, "31", 1, "stompd: J8 disk too small\n")?;
@@ -110,7 +110,7 @@ fn a_journal_file_is_made_and_shown(rt: HostRuntime) -> Result<(), Fail> {
     expect_of(&rt, alloc, &option, b"", (1, "", "stompd: cannot open\n"))?;
     fs::write(&rt, JOURNAL, [0; 64].as_slice())?;
     expect_show(&rt, alloc, 1, "", "stompd: J1 not a journal\n")?;
-    // Used are a snapshot of 32 bytes and a block of 109, each with its length before and its gate behind it: 41 + 118.
+    // This one is of the first version. Used are a snapshot of 32 bytes and a block of 109, each with its length before and its gate behind it: 41 + 118.
     let held = "version 1\narea 0\nused 159\ncount 4\nheld 2\n";
     write_held(&rt, alloc)?;
     expect_show(&rt, alloc, 0, held, "")?;
@@ -122,10 +122,11 @@ const MADE: &str = "stompd_made_file";
 
 // The front of a journal file whose areas have so many bytes: the header, and the first area's empty snapshot and closed gate.
 fn front_of(alloc: Global, area_length: u64) -> Result<Vec<u8>, Fail> {
-    let mut front = Vec::from_slice(alloc, b"STOMPJ01")?;
+    let mut front = Vec::from_slice(alloc, b"STOMPJ02")?;
     front.extend_from_slice(&area_length.to_be_bytes())?;
     front.extend_from_slice(&[0; 16])?;
-    front.extend_from_slice(&[0, 0, 0, 0, 0, 0, 0, 32])?;
+    // The second version, and the length of a snapshot of 32 bytes.
+    front.extend_from_slice(&[2, 0, 0, 0, 0, 0, 0, 32])?;
     front.extend_from_slice(&[0; 33])?;
     Ok(front)
 }

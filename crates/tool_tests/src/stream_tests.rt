@@ -7,8 +7,8 @@ use std::io;
 use std::io::{ErrorKind, Read, Write};
 use std::process::Abort;
 use std::rt::Files;
-use std::time::Clock;
 use std::test::Fail;
+use std::time::Clock;
 use tool_core::tool;
 
 /// A stream that cannot be read or written.
@@ -114,7 +114,10 @@ fn status_of(
 
 const STREAM_FAILED: &str = "stompd: input or output failed\n";
 
-fn expect_no_reading(rt: &(impl Abort + Files<File = File> + Clock), alloc: Global) -> Result<(), Fail> {
+fn expect_no_reading(
+    rt: &(impl Abort + Files<File = File> + Clock),
+    alloc: Global,
+) -> Result<(), Fail> {
     let mut written = Vec::new(alloc);
     let mut told = Vec::new(alloc);
     let status = status_of(rt, alloc, &mut Failing, &mut written, &mut told);
@@ -125,7 +128,10 @@ fn expect_no_reading(rt: &(impl Abort + Files<File = File> + Clock), alloc: Glob
     same
 }
 
-fn expect_no_writing(rt: &(impl Abort + Files<File = File> + Clock), alloc: Global) -> Result<(), Fail> {
+fn expect_no_writing(
+    rt: &(impl Abort + Files<File = File> + Clock),
+    alloc: Global,
+) -> Result<(), Fail> {
     let mut script = SCRIPT;
     let mut told = Vec::new(alloc);
     let status = status_of(rt, alloc, &mut script, &mut Failing, &mut told);

@@ -2,8 +2,8 @@ use std::alloc::Global;
 use std::fs::File;
 use std::process::Abort;
 use std::rt::Files;
-use std::time::Clock;
 use std::test::Fail;
+use std::time::Clock;
 use tool_core::tool;
 
 /// A line in which connection 0 receives a CONNECT. `~` stands for the end of a frame with no body.
@@ -32,7 +32,15 @@ pub fn expect_of(
     let mut written = Vec::new(alloc);
     let mut told = Vec::new(alloc);
     let mut progress = Vec::new(alloc);
-    let ended = tool(rt, alloc, words, &mut reader, &mut written, &mut told, &mut progress);
+    let ended = tool(
+        rt,
+        alloc,
+        words,
+        &mut reader,
+        &mut written,
+        &mut told,
+        &mut progress,
+    );
     let status = ended.status;
     drop(progress);
     let same = compare(rt, status, written.as_slice(), told.as_slice(), wanted);
@@ -389,12 +397,24 @@ fn a_line_has_at_most_1048576_bytes(rt: HostRuntime) -> Result<(), Fail> {
 }
 
 // Runs the program on words that ask for nothing: nothing is read or printed, and something is told.
-fn is_refused(rt: &(impl Abort + Files<File = File> + Clock), alloc: Global, words: &[&str]) -> bool {
+fn is_refused(
+    rt: &(impl Abort + Files<File = File> + Clock),
+    alloc: Global,
+    words: &[&str],
+) -> bool {
     let mut reader = b"flush\n".as_slice();
     let mut written = Vec::new(alloc);
     let mut told = Vec::new(alloc);
     let mut progress = Vec::new(alloc);
-    let ended = tool(rt, alloc, words, &mut reader, &mut written, &mut told, &mut progress);
+    let ended = tool(
+        rt,
+        alloc,
+        words,
+        &mut reader,
+        &mut written,
+        &mut told,
+        &mut progress,
+    );
     let status = ended.status;
     drop(progress);
     let is_silent = written.is_empty() && !told.is_empty();
