@@ -8,6 +8,7 @@ that stop in the midst of their work. Needs Linux and Python 3 alone; the gate d
 - SIGTERM ends it with status 143, SIGINT with 130, SIGHUP with 129, at whatever moment, and no server of it is left.
 - Of two first starts at once on one file one serves, the other ends since the file is locked, and neither replaces the other's journal.
 - What a killed first start has left is not taken for a journal, nor does it stand in the way of the next start.
+- What the server tells on standard error is told while it runs, and the origins that are named are passed on.
 - A server whose journal is full is started again, by the same program; where that is full again within seconds it is not.
 - A build that fails or is broken off ends it.
 
@@ -144,7 +145,7 @@ def words_and_programs(checks):
     for program in (file.parent / "missing", file.parent):
         status, told = Start(program, file, free_port()).end()
         checks.same(f"{program} as the program", (status, told), (1, f"serve: there is no program {program}\n"))
-    for words in ([file, "eighty"], [file, "80", "x"], ["--port"]):
+    for words in ([file, "eighty"], [file, "80", "x"], ["--port"], [file, "80", "--origin"], [file, "80", "--origin", "o", "p"]):
         status, told = Start(checks.program, *words).end()
         checks.check(f"{words} are refused", status == 2 and told.startswith("serve: "), (status, told))
     checks.same("and nothing is made", list(file.parent.iterdir()), [])
@@ -280,6 +281,21 @@ esac""")
     checks.same("and each was a server", count.read_text().split(), ["serve"] * 4)
 
 
+def what_the_server_tells(checks):
+    file = new_file(checks)
+    words, line = file.parent / "words", "stompd: compacted: 3120 bytes won in 2 ms\n"
+    program = checks.stand_in(f"""if [ "$1" = serve ]; then
+    echo "$*" > "{words}"
+    printf '{line[:-1]}\\n' >&2
+fi""")
+    start = Start(program, file, free_port(), "--origin", "http://here:1", "--origin", "null")
+    told = [start.process.stderr.readline() for _ in range(2)]
+    checks.same("what it tells is told while it runs", told[1:], [line])
+    checks.check("and it listens then", start.listens())
+    checks.check("origins are passed on", words.read_text().endswith(" --origin http://here:1 --origin null\n"), words.read_text())
+    checks.same("it ends as ever", start.end(signal.SIGTERM), (143, ""))
+
+
 def builds(checks):
     """A copy of the script stands beside a stand-in for bin/build."""
     top, file, port = pathlib.Path(tempfile.mkdtemp(dir=checks.folder)), new_file(checks), free_port()
@@ -315,6 +331,7 @@ SCENARIOS = [
     a_slow_first_start,
     a_killed_first_start,
     a_full_journal,
+    what_the_server_tells,
     builds,
 ]
 
