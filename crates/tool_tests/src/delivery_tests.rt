@@ -339,3 +339,21 @@ fn each_of_32_connections_has_eight_commands_wait(rt: HostRuntime) -> Result<(),
     drop(script);
     same
 }
+
+#[test]
+fn a_refused_message_is_found_in_the_queue_of_those(rt: HostRuntime) -> Result<(), Fail> {
+    expect_frames(
+        &rt,
+        rt.alloc(),
+        &[
+            "SUBSCRIBE%0Aid:s%0Adestination:/queue/q%0Aack:client~",
+            SQ,
+            "NACK%0Aid:0~",
+            "SUBSCRIBE%0Aid:d%0Adestination:/queue/dead~",
+        ],
+        &[
+            "MESSAGE%0Asubscription:s%0Amessage-id:2.0%0Adestination:/queue/q%0Aack:0%0Acontent-length:1%0A%0Ax%00",
+            "MESSAGE%0Asubscription:d%0Amessage-id:3.64%0Adestination:/queue/dead%0Acontent-length:1%0A%0Ax%00",
+        ],
+    )
+}

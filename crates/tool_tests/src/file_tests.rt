@@ -5,8 +5,8 @@ use std::fs;
 use std::fs::File;
 use std::process::Abort;
 use std::rt::Files;
-use std::time::Clock;
 use std::test::Fail;
+use std::time::Clock;
 
 const JOURNAL: &str = "stompd_journal_file";
 
@@ -74,7 +74,7 @@ fn expect_failures(
 }
 
 // Writes a file with the journal of a disk of 8,224 bytes that holds commands.
-fn write_held(rt: &impl Files<File = File> + Clock, alloc: Global) -> Result<(), Fail> {
+fn write_held(rt: &(impl Files<File = File> + Clock), alloc: Global) -> Result<(), Fail> {
     let mut bytes = Vec::from_slice(alloc, HELD)?;
     bytes.extend_from_slice(&[0; 8_033])?;
     fs::write(rt, JOURNAL, bytes.as_slice())?;
