@@ -1,16 +1,16 @@
 #!/usr/bin/env python3
-"""Tries the wrong bodies that stand beside the gate, those in wrong-bodies/CRATE, each of which the prover must refuse. They have the form of the
+"""Tries the mutants that stand beside the gate, those in mutants/CRATE, each of which the prover must refuse. They have the form of the
 must-fail edits that the gate tries; docs/GATE.md says which stand where. Needs `rt` and Python 3; the gate only looks whether they apply.
 
-    python3 tests/wrong_bodies.py [--applies] [CRATE..]
-    python3 tests/wrong_bodies.py [--applies] --changed COMMIT
+    python3 tests/mutants.py [--applies] [CRATE..]
+    python3 tests/mutants.py [--applies] --changed COMMIT
 
 Without names, it tries those of all crates; with --changed those of the crates whose code, definitions or proofs differ from that commit's, of
-the crates above these, and the wrong bodies that differ themselves. With --applies it proves nothing, and says in less than a second which
+the crates above these, and the mutants that differ themselves. With --applies it proves nothing, and says in less than a second which
 can't be applied: the text that each takes away has to stand in its file once.
 
 A copy of the crates is made, over what the checkout has built, so the checkout stays as it is. A crate that was checked on this machine takes
-half a minute for each wrong body, and another its whole proof first. The environment's RT names the command in place of `rt`.
+half a minute for each mutant, and another its whole proof first. The environment's RT names the command in place of `rt`.
 """
 
 import argparse
@@ -23,7 +23,7 @@ import sys
 import tempfile
 
 TOP = pathlib.Path(__file__).resolve().parent.parent
-FURTHER = TOP / "wrong-bodies"
+FURTHER = TOP / "mutants"
 RT = shlex.split(os.environ.get("RT", "rt"))
 
 
@@ -79,7 +79,7 @@ def hand_over(name, copy):
 def refused(tried):
     """Tries the edits in a copy of the crates, each crate's in turn, and returns how many were not refused."""
     lost = 0
-    with tempfile.TemporaryDirectory(prefix="wrong-bodies-") as room:
+    with tempfile.TemporaryDirectory(prefix="mutants-") as room:
         copy = pathlib.Path(room)
         shutil.copytree(TOP / "crates", copy / "crates", ignore=shutil.ignore_patterns("out", "must-fail"))
         for name in ("crates.txt", "HANDLES"):
@@ -108,12 +108,12 @@ def crates_below():
 
 
 def changed_since(commit):
-    """The wrong bodies to try again: those of the crates that changed and of the crates above them, and those that changed themselves."""
-    words = ["git", "diff", "--name-only", commit, "--", "crates", "wrong-bodies"]
+    """The mutants to try again: those of the crates that changed and of the crates above them, and those that changed themselves."""
+    words = ["git", "diff", "--name-only", commit, "--", "crates", "mutants"]
     ran = subprocess.run(words, cwd=TOP, capture_output=True, text=True)
     if ran.returncode:
         sys.exit(ran.stderr.strip())
-    added = subprocess.run(["git", "ls-files", "--others", "--exclude-standard", "--", "crates", "wrong-bodies"], cwd=TOP, capture_output=True, text=True)
+    added = subprocess.run(["git", "ls-files", "--others", "--exclude-standard", "--", "crates", "mutants"], cwd=TOP, capture_output=True, text=True)
     paths = [pathlib.PurePath(it) for it in [*ran.stdout.splitlines(), *added.stdout.splitlines()]]
     stale = {it.parts[1] for it in paths if it.parts[0] == "crates" and len(it.parts) > 3 and it.parts[2] in ("src", "specs", "proofs")}
     below = crates_below()
@@ -121,7 +121,7 @@ def changed_since(commit):
     while reached != len(stale):
         reached = len(stale)
         stale |= {name for name, names in below.items() if stale & set(names)}
-    own = {TOP / it for it in paths if it.parts[0] == "wrong-bodies"}
+    own = {TOP / it for it in paths if it.parts[0] == "mutants"}
     every = {name: [it for it in edits_of(name) if name in stale or it in own] for name in further()}
     return {name: edits for name, edits in every.items() if edits}
 
@@ -138,12 +138,12 @@ def main():
     words = parser.parse_args()
     unknown = [it for it in words.crates if it not in further()]
     if unknown:
-        print(f"no crate of wrong-bodies/ has the name {unknown[0]}", file=sys.stderr)
+        print(f"no crate of mutants/ has the name {unknown[0]}", file=sys.stderr)
         return 2
     tried = changed_since(words.changed) if words.changed else {name: edits_of(name) for name in words.crates or further()}
     lost = applied(tried) if words.applies else applied(tried) or refused(tried)
     what = "applied" if words.applies else "refused"
-    print(f"{sum(map(len, tried.values()))} wrong bodies of {len(tried)} crates, {lost} not {what}")
+    print(f"{sum(map(len, tried.values()))} mutants of {len(tried)} crates, {lost} not {what}")
     return 1 if lost else 0
 
 
