@@ -60,8 +60,8 @@ fn block_of(alloc: Global, count: u64) -> Result<Vec<u8>, AllocError> {
     }
 }
 
-// A snapshot of the second version with its length and a closed gate: the count, no delivery, the open sessions, each a number and no client's name, of
-// which some stand in these bytes and those between these numbers come behind, and nothing else.
+// A snapshot of the second version with its length and a closed gate: the count, no delivery, the open sessions, each a number
+// and no client's name, of which some stand in these bytes and those between these numbers come behind, and nothing else.
 fn fill_copy(copy: &mut Vec<u8>, stood: &[u8], from: u64, to: u64) -> Result<(), AllocError> {
     let sessions = (stood.len() / 9) as u64;
     let all = sessions.saturating_add(to.saturating_sub(from));
@@ -79,8 +79,8 @@ fn fill_copy(copy: &mut Vec<u8>, stood: &[u8], from: u64, to: u64) -> Result<(),
     copy.extend_from_slice(&[0; 13])
 }
 
-// What a restart leaves is the count alone: 32 bytes, of which the first eight are not zero. A closed gate is behind it, and before
-// it the byte of the second version and how many these are.
+// What a restart leaves is the count alone: 32 bytes, of which the first eight are not zero. A closed gate is behind it, and
+// before it the byte of the second version and how many these are.
 fn front_of(count: u64) -> [u8; 41] {
     let mut front = [0; 41];
     front[..8].copy_from_slice(&32_u64.to_be_bytes());
