@@ -150,7 +150,8 @@ fn an_empty_journal_has_the_bytes_of_its_format(rt: HostRuntime) -> Result<(), F
     Ok(())
 }
 
-// The digits in the name, and the byte that an area begins with: 0 in the first version, 2 in the second. A block has no such byte.
+// The digits in the name, and the byte that an area begins with: 0 in the first version, 2 in the second. A block has no such
+// byte.
 #[test]
 fn each_version_has_its_bytes(rt: HostRuntime) -> Result<(), Fail> {
     let old = header_of(rt.alloc(), Version::One, 4_096)?;

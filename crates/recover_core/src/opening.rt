@@ -128,8 +128,9 @@ fn open_area<D: Disk>(alloc: Global, disk: &mut D) -> Result<(Area, Broker), Ope
 /// live area tells, ends its sessions, writes what is left into the other area as the second version, and makes that one live.
 ///
 /// A stop at any moment leaves a disk that stands for a state with the same restart. After Ok the live area has the snapshot of
-/// the state alone, and is of the second version; the name and the version in the header stay as they are at every moment. A refusal hands the disk back, and it may be opened again; where what was read is the reason, a snapshot
-/// that does not fit among them, nothing was written at any moment.
+/// the state alone, and is of the second version; the name and the version in the header stay as they are at every moment. A
+/// refusal hands the disk back, and it may be opened again; where what was read is the reason, a snapshot that does not fit
+/// among them, nothing was written at any moment.
 pub fn open<D: Disk>(alloc: Global, disk: D) -> Result<Store<D>, (D, OpenFault)>
     ensures any_moment { D.honest disk → IfOk result (λ store.
         LeavesOnly D.moment D.images_since disk (disk_of store) (KeepsRestart (D.images disk))) }

@@ -53,8 +53,9 @@ const WRITTEN: [(u64, &[u8]); 12] = [
     ),
 ];
 
-// What is left of that once both sessions have ended: nine commands and four deliveries, no session; `reader` of `anna`, for which both
-// messages to `/topic/news` wait again; and in `/queue/jobs` the message of command 6. That of command 5 was refused, and is gone.
+// What is left of that once both sessions have ended: nine commands and four deliveries, no session; `reader` of `anna`, for
+// which both messages to `/topic/news` wait again; and in `/queue/jobs` the message of command 6. That of command 5 was
+// refused, and is gone.
 const RESTARTED: &[u8] = b"\0\0\0\0\0\0\0\x09\0\0\0\0\0\0\0\x04\0\0\0\0\
 \0\0\0\x01\0\0\0\x04anna\0\0\0\x06reader\0\0\0\x0b/topic/news\0\0\0\x02\
 \0\0\0\0\0\0\0\x03\0\0\0\0\0\0\0\x0b/topic/news\0\0\0\0\0\x05first\

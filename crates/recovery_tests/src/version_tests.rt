@@ -16,8 +16,9 @@ fn write(rt: &impl Abort, disk: &mut MemDisk, at: u64, bytes: &[u8]) -> Result<(
     Ok(())
 }
 
-// A journal whose name has these digits. Its first area is live and begins with this byte, for its version; it has the empty state
-// and one block: a session opens, listens to `/queue/q`, sends there what it is handed, and refuses that. The records have 87 bytes.
+// A journal whose name has these digits. Its first area is live and begins with this byte, for its version; it has the empty
+// state and one block: a session opens, listens to `/queue/q`, sends there what it is handed, and refuses that. The records
+// have 87 bytes.
 fn journal(rt: &impl Abort, alloc: Global, digits: &[u8], first: u8) -> Result<MemDisk, Fail> {
     let mut disk = MemDisk::new(alloc, SIZE)?;
     write(rt, &mut disk, 0, b"STOMPJ")?;
@@ -33,10 +34,11 @@ fn journal(rt: &impl Abort, alloc: Global, digits: &[u8], first: u8) -> Result<M
     Ok(disk)
 }
 
-// The digits in a journal's name, the byte that its live area begins with, and what opening it tells: how many commands were carried
-// out, and how many messages are held.
+// The digits in a journal's name, the byte that its live area begins with, and what opening it tells: how many commands were
+// carried out, and how many messages are held.
 const JOURNALS: [(&[u8], u8, &str); 7] = [
-    // By the rule of the first version a NACK drops the message, and by that of the second it keeps it. The area decides, not the name.
+    // By the rule of the first version a NACK drops the message, and by that of the second it keeps it. The area decides, not
+    // the name.
     (b"01", 0, "4 0"),
     (b"02", 2, "4 1"),
     (b"01", 2, "4 1"),

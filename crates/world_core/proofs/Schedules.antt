@@ -1,5 +1,5 @@
 -- Each world that a schedule reaches keeps what is kept.
-use Rattle.std.proofs.Common.{◌≡◌, ◌⊎◌, inl, inr, ◌≤◌, ◌<◌, ◌+◌, ◌-◌, ◌*◌, ℕ, Bool, true, false, List, [], ◌∷◌, ◌++◌, drop, length, replicate, Option, None, refl, sym, ◌∙◌, ap, subst, arith, length-append}
+use Rattle.std.proofs.Common.{◌≡◌, inl, inr, ◌≤◌, ◌<◌, ◌+◌, ◌-◌, ◌*◌, ℕ, Bool, true, false, List, [], ◌∷◌, ◌++◌, drop, length, replicate, Option, None, refl, sym, ◌∙◌, ap, subst, arith, length-append}
 use Rattle.std.proofs.lemmas.List.{append-nil, length-replicate}
 use Rattle.std.proofs.lemmas.List.Elements.{All-nil, All-replicate}
 use Rattle.std.specs.List.{AllByRecursion}
@@ -30,7 +30,7 @@ use Rattle.world_core.specs.Events.{Possible, after}
 use Rattle.world_core.specs.Keeping.{IsKept}
 use Rattle.world_core.specs.Promises.{IsPrefixKept}
 use Rattle.world_core.specs.Readings.{IsRead, Reading}
-use Rattle.world_core.specs.Schedules.{FitsOld, Holds, IsFirst, Reaches, crashed, first, first_old, formatted, life_of, old_area, old_journal, one_block, opened_once}
+use Rattle.world_core.specs.Schedules.{FitsOld, Holds, IsFirst, Reaches, first, first_old, formatted, life_of, old_area, old_journal, one_block, opened_once}
 use Rattle.world_core.specs.Worlds.{WorldValue, state_under}
 use Rattle.world_core.proofs.Logs.{none_taken}
 use Rattle.world_core.proofs.DeviceCalls.{crash_keeps, device_call_keeps, open_keeps}

@@ -184,8 +184,9 @@ impl World {
         })
     }
 
-    /// The world of a journal of the first version with two areas of so many bytes each, as after a crash: the empty state and these
-    /// commands in one block, or no block where there are none. `None` where they do not fit. The error is want of memory.
+    /// The world of a journal of the first version with two areas of so many bytes each, as after a crash: the empty state and
+    /// these commands in one block, or no block where there are none. `None` where they do not fit. The error is want of
+    /// memory.
     pub fn new_v1(
         alloc: Global,
         area_bytes: u64,

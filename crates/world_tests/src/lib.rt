@@ -14,3 +14,5 @@ mod schedules;
 mod slow_world;
 #[cfg(test)]
 mod stop_tests;
+#[cfg(test)]
+mod version_tests;

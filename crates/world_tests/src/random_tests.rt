@@ -3,6 +3,7 @@ ghost use Rattle.std.specs.Prelude.{◌≢◌};
 
 use crate::schedules::{AREA, Pick, apply};
 use crate::slow_world::SlowWorld;
+use command_core::{Command, Op};
 use std::alloc::{AllocError, Global};
 use std::process::Abort;
 use std::test::Fail;
@@ -158,14 +159,18 @@ fn take_steps(
     Ok(())
 }
 
+fn open() -> Command {
+    Command::new(0, Op::Open { client_id: None }, None)
+}
+
 fn run(
     rt: &impl Abort,
     alloc: Global,
     world: &mut World,
+    mut slow: SlowWorld,
     from: u64,
     events: u32,
 ) -> Result<(), AllocError> {
-    let mut slow = SlowWorld::new(alloc, world.content())?;
     let done = take_steps(rt, alloc, world, &mut slow, from, events);
     drop(slow);
     done
@@ -175,8 +180,25 @@ fn run(
 fn random_events_do_what_the_description_says(rt: HostRuntime) -> Result<(), Fail> {
     let alloc = rt.alloc();
     let mut world = World::new(alloc, 4_096)?;
-    let done = run(&rt, alloc, &mut world, 20_251_123, 100_000);
+    let slow = SlowWorld::new(alloc, world.content())?;
+    let done = run(&rt, alloc, &mut world, slow, 20_251_123, 100_000);
     drop(world);
+    done?;
+    Ok(())
+}
+
+// A journal of the first version with three commands in a block.
+#[test]
+fn random_events_go_on_from_the_first_version(rt: HostRuntime) -> Result<(), Fail> {
+    let alloc = rt.alloc();
+    let opens = [open(), open(), open()];
+    let Some(mut world) = World::new_v1(alloc, 4_096, &opens)? else {
+        panic!(rt; "three commands don't fit");
+    };
+    let slow = SlowWorld::crashed(alloc, world.content(), 3)?;
+    let done = run(&rt, alloc, &mut world, slow, 20_261_126, 20_000);
+    drop(world);
+    drop(opens);
     done?;
     Ok(())
 }

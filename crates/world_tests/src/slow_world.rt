@@ -60,12 +60,14 @@ fn block_of(alloc: Global, count: u64) -> Result<Vec<u8>, AllocError> {
     }
 }
 
-// A snapshot with its length and a closed gate: the count, no delivery, the open sessions, each a number and no client's name, of
-// which some stand in these bytes and those between these numbers come behind, and nothing else.
+// A snapshot of the second version with its length and a closed gate: the count, no delivery, the open sessions, each a number
+// and no client's name, of which some stand in these bytes and those between these numbers come behind, and nothing else.
 fn fill_copy(copy: &mut Vec<u8>, stood: &[u8], from: u64, to: u64) -> Result<(), AllocError> {
     let sessions = (stood.len() / 9) as u64;
     let all = sessions.saturating_add(to.saturating_sub(from));
-    copy.extend_from_slice(&all.saturating_mul(9).saturating_add(32).to_be_bytes())?;
+    let mut word = all.saturating_mul(9).saturating_add(32).to_be_bytes();
+    word[0] = 2;
+    copy.extend_from_slice(&word)?;
     copy.extend_from_slice(&to.to_be_bytes())?;
     copy.extend_from_slice(&[0; 8])?;
     copy.extend_from_slice(&all.to_be_bytes()[4..])?;
@@ -77,10 +79,12 @@ fn fill_copy(copy: &mut Vec<u8>, stood: &[u8], from: u64, to: u64) -> Result<(),
     copy.extend_from_slice(&[0; 13])
 }
 
-// What a restart leaves is the count alone: 32 bytes, of which the first eight are not zero. A closed gate is behind it.
+// What a restart leaves is the count alone: 32 bytes, of which the first eight are not zero. A closed gate is behind it, and
+// before it the byte of the second version and how many these are.
 fn front_of(count: u64) -> [u8; 41] {
     let mut front = [0; 41];
     front[..8].copy_from_slice(&32_u64.to_be_bytes());
+    front[0] = 2;
     front[8..16].copy_from_slice(&count.to_be_bytes());
     front
 }
@@ -115,6 +119,25 @@ impl SlowWorld {
             content,
             unsynced: (0, 0),
         })
+    }
+
+    /// A world of these bytes whose last life had that many commands, and crashed.
+    pub(crate) fn crashed(
+        alloc: Global,
+        content: &[u8],
+        count: u64,
+    ) -> Result<SlowWorld, AllocError> {
+        let mut world = SlowWorld::new(alloc, content)?;
+        world.base = count;
+        world.taken = count;
+        world.stored = count;
+        world.mark = count;
+        for seat in world.seats.iter_mut() {
+            seat.seen = count;
+        }
+        world.phase = Phase::Crashed;
+        world.place = Place::Broken;
+        Ok(world)
     }
 
     pub(crate) fn claimed(&self) -> u64 {
@@ -249,7 +272,8 @@ impl SlowWorld {
     fn read(&self) -> (usize, u64) {
         let begins = self.live();
         let mut count = number_at(&self.content, begins.saturating_add(8));
-        let size = number_at(&self.content, begins);
+        // The highest byte is the version's.
+        let size = number_at(&self.content, begins) % 72_057_594_037_927_936;
         let mut gate = begins.saturating_add(8).saturating_add(size as usize);
         for _ in 0..AREA {
             if byte_at(&self.content, gate) != 1 {

@@ -1,6 +1,6 @@
 use Rattle.std.proofs.Common.{◌≡◌, ◌++◌, ◌∷◌, [], ℕ, List, length, append_assoc, sym, ◌∙◌, ap}
 use Rattle.std.specs.Int.{w64, to_be_bytes}
-use Rattle.area_core.specs.Areas.{block, counted, records}
+use Rattle.area_core.specs.Areas.{counted}
 use Rattle.world_core.proofs.OldJournals.{block_of_some}
 use Rattle.world_core.proofs.formatting.put_block.Goals as goal
 
