@@ -36,6 +36,12 @@ SWITCHES += ["--disable-background-timer-throttling", "--disable-renderer-backgr
 ENTER = {"key": "Enter", "code": "Enter", "windowsVirtualKeyCode": 13, "text": "\r"}
 TAB = {"key": "Tab", "code": "Tab", "windowsVirtualKeyCode": 9}
 SPACE = {"key": " ", "code": "Space", "windowsVirtualKeyCode": 32, "text": " "}
+DOWN = {"key": "ArrowDown", "code": "ArrowDown", "windowsVirtualKeyCode": 40}
+UP = {"key": "ArrowUp", "code": "ArrowUp", "windowsVirtualKeyCode": 38}
+
+DEAD = "/queue/dead"
+# How many messages a subscription that acknowledges has at most.
+IN_HAND = 16
 
 
 class Target:
@@ -99,21 +105,53 @@ class Page(Target):
     def is_in(self, state, seconds=15):
         return self.comes(f"document.getElementById('state').dataset.state == {state!r}", seconds)
 
-    def states_of(self, text):
-        """The states of the rows that hold that text: a list for each row."""
+    def choose(self, field, key):
+        """Presses a key at a field, as that which chooses another of its values."""
+        self.value(f"document.getElementById({field!r}).focus()")
+        self.press(key)
+
+    def act(self, part, words):
+        """Goes to a button of a list by Tab, and presses it: what its name is, and not only what stands on it."""
+        self.value(f"document.getElementById({part!r}).focus()")
+        for _ in range(2 * IN_HAND):
+            self.press(TAB)
+            if self.value("document.activeElement.ariaLabel") == words:
+                self.press(ENTER)
+                return True
+        return False
+
+    def act_soon(self, part, words):
+        """The same, once there is such a button."""
+        self.comes(f"document.querySelector('#{part} [aria-label=\"{words}\"]') != null")
+        return self.act(part, words)
+
+    def states_of(self, text, part=None):
+        """The states of the rows that hold that text: a list for each row. Without a part of the page, those of all but refused jobs."""
+        rows = f"#{part} li" if part else "li:not(#refused li)"
         return self.value(
-            f"[...document.querySelectorAll('li')].filter(row => row.childNodes[1].textContent == {text!r})"
+            f"[...document.querySelectorAll({rows!r})].filter(row => row.childNodes[1].textContent == {text!r})"
             ".map(row => [...row.querySelectorAll('[data-state]')].map(chip => chip.dataset.state))"
         )
 
-    def rows_come(self, text, states, seconds=15):
+    def rows_come(self, text, states, part=None, seconds=15):
         """Whether there is one row with that text, and in those states, within that time."""
         end = time.monotonic() + seconds
         while time.monotonic() < end:
-            if self.states_of(text) == [states]:
+            if self.states_of(text, part) == [states]:
                 return True
             time.sleep(0.02)
         return False
+
+    def buttons_of(self, text, part):
+        """What stands on the buttons of that row."""
+        return self.value(
+            f"[...document.querySelectorAll('#{part} li')].filter(row => row.childNodes[1].textContent == {text!r})"
+            ".flatMap(row => [...row.querySelectorAll('button')].map(button => button.textContent))"
+        )
+
+    def refused(self):
+        """The texts of the refused jobs that it has in hand."""
+        return self.value("[...document.querySelectorAll('#refused li')].map(row => row.childNodes[1].textContent)")
 
     def look(self, path, width, height):
         """A picture of the page."""
@@ -195,6 +233,112 @@ def they_work(broker, checks, anna, ben):
     anna.toggle("work")
 
 
+def refuse_elsewhere(broker, count, headers):
+    """A worker that is no page refuses jobs of another room; their texts."""
+    worker, texts = Client(broker.port).connect(), [f"{count} elsewhere {number}" for number in range(count)]
+    worker.subscribe("w", "/queue/rooms.kitchen.jobs", "client")
+    for text in texts:
+        (frame,) = worker.publish("/queue/rooms.kitchen.jobs", text, headers)
+        worker.send("NACK", [("id", frame.headers["ack"]), ("receipt", text)])
+        worker.receipt(text)
+    worker.disconnect()
+    return texts
+
+
+def take_dead(broker):
+    """All that waits in /queue/dead, acknowledged: each message's text and its `room`."""
+    operator, found = Client(broker.port).connect(), []
+    waiting = operator.subscribe("o", DEAD, "client-individual")
+    operator.send("SEND", [("destination", DEAD)], "the last one")
+    while not found or found[-1][0] != "the last one":
+        frame = waiting.pop(0) if waiting else operator.receive()
+        found.append((frame.body, frame.headers.get("room")))
+        operator.send("ACK", [("id", frame.headers["ack"])])
+    operator.disconnect()
+    return found[:-1]
+
+
+def a_worker_refuses(broker, checks, anna, ben):
+    ben.choose("pace", DOWN)
+    checks.same("a worker does its jobs by hand", ben.value("document.getElementById('pace').value"), "hand")
+    for job in ("a good one", "a broken one", "a bad one", "a late one"):
+        anna.write("job", job)
+    checks.check("it has them in hand", ben.comes("inHand.length == 4"), ben.value("inHand.length"))
+    checks.same("each with two buttons", ben.buttons_of("a broken one", "jobs"), ["Done", "Refuse"])
+    checks.check("it refuses two, by keyboard", ben.act("jobs", "Refuse: a broken one") and ben.act("jobs", "Refuse: a bad one"))
+    checks.check("who refuses sees so", ben.rows_come("a broken one", ["received", "rejected"]), ben.states_of("a broken one"))
+    checks.check("and so does who has added the job", anna.rows_come("a broken one", ["sent", "receipted", "rejected"]), anna.states_of("a broken one"))
+    checks.check("by whom", anna.value("document.getElementById('jobs').textContent.includes('refused by ben')"))
+    checks.check("the next one is done by keyboard", ben.act("jobs", "Done: a good one"))
+    checks.check("and the other hears it", anna.rows_come("a good one", ["sent", "receipted", "done"]), anna.states_of("a good one"))
+    checks.same("and a job that is neither stays in hand", ben.value("inHand.length"), 1)
+
+
+def an_operator_looks(broker, checks, anna, ben):
+    others = refuse_elsewhere(broker, 1, [("room", "kitchen")]) + refuse_elsewhere(broker, 2, [])
+    anna.toggle("look")
+    expected = ["a broken one", "a bad one", *others]
+    checks.check("who looks sees refused jobs of all rooms", anna.comes(f"document.querySelectorAll('#refused li').length == {len(expected)}"), anna.refused())
+    checks.same("in their order", anna.refused(), expected)
+    checks.same("those of its room with two buttons", anna.buttons_of("a broken one", "refused"), ["Put back", "Discard"])
+    checks.same("those of others with none", [anna.buttons_of(text, "refused") for text in others], [[]] * 3)
+    told = anna.value("document.getElementById('refused').textContent")
+    checks.check("and with their room", "of room kitchen" in told and "of no room" in told, told)
+    checks.check("it puts one back, by keyboard", anna.act("refused", "Put back: a broken one"))
+    checks.check("all hear it", anna.rows_come("a broken one", ["sent", "receipted", "back"]), anna.states_of("a broken one"))
+    checks.check("it is in the worker's hand again", ben.comes("inHand.length == 2"), ben.value("inHand.length"))
+    checks.check("and is done this time", ben.act("jobs", "Done: a broken one"))
+    checks.check("as all hear", anna.rows_come("a broken one", ["sent", "receipted", "done"]), anna.states_of("a broken one"))
+    checks.check("it discards the other", anna.act("refused", "Discard: a bad one"))
+    checks.check("all hear it", ben.rows_come("a bad one", ["received", "discarded"]), ben.states_of("a bad one"))
+    checks.check("one that is refused meanwhile comes", ben.act("jobs", "Refuse: a late one") and anna.rows_come("a late one", [], "refused"), anna.refused())
+    broker.again()
+    checks.check("after a kill the same ones come again", anna.is_in("open") and anna.comes(f"document.querySelectorAll('#refused li').length == {len(others) + 1}"), anna.refused())
+    checks.same("once", anna.refused(), [*others, "a late one"])
+    anna.toggle("look")
+    checks.same("who stops looking has none", anna.refused(), [])
+    left = [(others[0], "kitchen"), *((text, None) for text in others[1:]), ("a late one", "lobby")]
+    checks.same("and those that it left alone are there, once", take_dead(broker), left)
+
+
+def what_is_put_back_is_as_it_was(broker, checks, anna, ben):
+    sent = {"room": "lobby", "key": "k", "colour": "red:green\\"}
+    client = Client(broker.port).connect()
+    client.publish("/queue/rooms.lobby.jobs", "of no page", list(sent.items()))
+    checks.check("a page refuses a job that no page has sent", ben.act_soon("jobs", "Refuse: of no page"))
+    ben.toggle("work")
+    anna.toggle("look")
+    checks.check("another puts it back", anna.act_soon("refused", "Put back: of no page"))
+    checks.check("and sees it no more", anna.comes("document.querySelectorAll('#refused li').length == 0"), anna.refused())
+    (job,) = client.subscribe("w", "/queue/rooms.lobby.jobs", "client-individual")
+    added = {"subscription", "message-id", "destination", "ack", "content-length"}
+    headers = {name: value for name, value in job.headers.items() if name not in added}
+    checks.same("it has all that it was sent with, and nothing else", (job.body, headers), ("of no page", sent))
+    client.send("ACK", [("id", job.headers["ack"])])
+    client.disconnect()
+    anna.toggle("look")
+    ben.toggle("work")
+
+
+def an_operator_has_sixteen(broker, checks, anna, ben):
+    others = refuse_elsewhere(broker, IN_HAND + 1, [("room", "kitchen")])
+    anna.toggle("look")
+    checks.check("who looks has 16", anna.comes(f"document.querySelectorAll('#refused li').length == {IN_HAND}"), anna.refused())
+    time.sleep(0.3)
+    checks.same("the oldest, and no more", anna.refused(), others[:IN_HAND])
+    anna.toggle("look")
+    time.sleep(0.3)
+    checks.same("and all are there, in their order, once it stops", [text for text, _ in take_dead(broker)], others)
+    ben.choose("pace", UP)
+    checks.same("the worker is at a second a job again", ben.value("document.getElementById('pace').value"), "timed")
+    anna.write("job", "refused in time")
+    checks.check("where a job may be refused too", ben.act_soon("jobs", "Refuse: refused in time"))
+    checks.check("and is not done then", anna.rows_come("refused in time", ["sent", "receipted", "rejected"]), anna.states_of("refused in time"))
+    time.sleep(1.5)
+    checks.same("nor later", anna.states_of("refused in time"), [["sent", "receipted", "rejected"]])
+    checks.same("but waits", take_dead(broker), [("refused in time", "lobby")])
+
+
 def they_watch(broker, checks, anna, ben):
     anna.toggle("feed")
     checks.check("numbers are drawn in both pages", all(page.comes("numbers.length > 20") for page in (anna, ben)))
@@ -243,7 +387,7 @@ def a_keyboard_is_enough(broker, checks, anna, ben):
     for _ in range(30):
         anna.press(TAB)
         reached.append(anna.value("document.activeElement.id"))
-    expected = ["port", "name", "room", "go", "leave", "chat", "words", "feed", "rate", "jobs", "job", "ten", "work"]
+    expected = ["port", "name", "room", "go", "leave", "chat", "words", "feed", "rate", "jobs", "job", "ten", "work", "pace", "refused", "look"]
     checks.check("each field and button is reached by Tab", set(expected) <= set(reached), reached)
     named = "[...document.querySelectorAll('input, select, button')].every(one => one.ariaLabel || one.labels?.length || one.textContent.trim())"
     checks.check("and has a name", anna.value(named))
@@ -268,6 +412,10 @@ def a_page_leaves(broker, checks, anna, ben):
 STEPS = [
     they_talk,
     they_work,
+    a_worker_refuses,
+    an_operator_looks,
+    what_is_put_back_is_as_it_was,
+    an_operator_has_sixteen,
     they_watch,
     the_broker_is_killed,
     it_is_sent_again,
@@ -302,7 +450,7 @@ TALK = [
 
 
 def draw_a_room(broker, checks, browser, path):
-    """Two people talk in a room, one of them while the broker is away, and work off ten jobs."""
+    """Two people talk in a room, one of them while the broker is away, and work off ten jobs, of which two are refused."""
     pages = {name: browser.open(PAGE.as_uri() + fragment(broker, name)) for name in ("anna", "ben")}
     for page in pages.values():
         page.call("Emulation.setEmulatedMedia", features=[{"name": "prefers-color-scheme", "value": "light"}])
@@ -322,11 +470,16 @@ def draw_a_room(broker, checks, browser, path):
     pages["anna"].value("document.getElementById('ten').click()")
     for page in pages.values():
         page.toggle("work")
+    for words in ("Refuse: job 2 of ten", "Refuse: job 10 of ten"):
+        button = f"document.querySelector('#jobs [aria-label=\"{words}\"]')"
+        checks.check(words, any(page.comes(f"{button} && ({button}.click(), true)", 0.5) for page in pages.values()))
+    pages["anna"].toggle("look")
+    checks.check("the refused ones are seen", pages["anna"].comes("document.querySelectorAll('#refused li').length == 2"), pages["anna"].refused())
     done = "[...document.querySelectorAll('#jobs li')].filter(row => row.querySelector('[data-state=done]')).length"
     checks.check("five jobs are done", pages["anna"].comes(f"{done} >= 5", 20))
     checks.check("and numbers drawn", pages["anna"].comes("numbers.length > 50", 30))
     pages["anna"].value("document.activeElement.blur(); scrollTo(0, 0)")
-    pages["anna"].look(path, 1200, 850)
+    pages["anna"].look(path, 1200, 1060)
     checks.tell(f"{path} has {path.stat().st_size} bytes")
 
 
