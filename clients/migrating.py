@@ -5,7 +5,7 @@
 
 The journal is made here, byte by byte as docs/JOURNAL.md says (clients/old_journal.py): 8 MB, of which the live area has 3.6 MB of
 commands, with sessions open, messages in hand, durable names, and messages that a NACK has dropped by the old rule. With --old a
-program that knows the first version alone says what it stands for, and serves it.
+program that knows the first version alone says what it stands for, serves it, and at the end refuses what became of it.
 
 Then a server opens a copy of it and is killed by SIGKILL meanwhile, again and again, at least every other time in the midst: the
 new area is begun and the old one is still live, as the file says. After each kill `show` answers the count and what is held as
@@ -131,6 +131,13 @@ def by_the_old_program(program, journal, path, checks):
     with served(program, path) as broker:
         faults = list(faults_of_what_is_there(broker.port, journal))
     checks.same("and serves what it stands for by the old rule", faults, [])
+
+
+def there_is_no_way_back(program, path, checks):
+    """What a program of the first version says of the file once a newer one has opened it."""
+    ended = subprocess.run([program, "show", path], stdout=subprocess.PIPE, stderr=subprocess.PIPE, text=True)
+    told = ended.returncode, ended.stderr.split(" at ")[0]
+    checks.same("the old program refuses what the new one has opened", told, (1, "stompd: J2 damaged"))
 
 
 class Watch:
@@ -288,6 +295,8 @@ def main():
         if words.old:
             by_the_old_program(words.old, journal, path, checks)
         killed(words.program, path, journal, words, chance, checks)
+        if words.old:
+            there_is_no_way_back(words.old, path, checks)
     checks.check("after each kill the same was there, and each message once after the restart", not checks.failed)
     return 1 if checks.failed else 0
 
