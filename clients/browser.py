@@ -320,6 +320,26 @@ def what_is_put_back_is_as_it_was(broker, checks, anna, ben):
     ben.toggle("work")
 
 
+def a_job_comes_twice(broker, checks, anna, ben):
+    client, job = Client(broker.port).connect(), [("room", "lobby"), ("key", "twice")]
+    for _ in range(2):
+        client.publish("/queue/rooms.lobby.jobs", "sent twice", job)
+    checks.check("a worker has both in hand", ben.comes("inHand.length == 2"), ben.value("inHand.length"))
+    checks.same("in one row", ben.states_of("sent twice"), [["received"]])
+    checks.check("it refuses it", ben.act_soon("jobs", "Refuse: sent twice") and ben.rows_come("sent twice", ["received", "rejected"]))
+    checks.same("and has none in hand", ben.value("inHand.length"), 0)
+    checks.same("it is among the refused ones, once", take_dead(broker), [("sent twice", "lobby")])
+    client.publish("/queue/rooms.lobby.jobs", "sent twice", job)
+    checks.check("one that comes again is done", ben.act_soon("jobs", "Done: sent twice") and ben.comes("done.has('twice')"))
+    client.publish("/queue/rooms.lobby.jobs", "sent twice", job)
+    time.sleep(0.3)
+    checks.same("and one that comes after that is acknowledged at once", ben.value("inHand.length"), 0)
+    ben.toggle("work")
+    checks.same("none is left in the queue", client.subscribe("w", "/queue/rooms.lobby.jobs", "client"), [])
+    client.disconnect()
+    ben.toggle("work")
+
+
 def an_operator_has_sixteen(broker, checks, anna, ben):
     others = refuse_elsewhere(broker, IN_HAND + 1, [("room", "kitchen")])
     anna.toggle("look")
@@ -415,6 +435,7 @@ STEPS = [
     a_worker_refuses,
     an_operator_looks,
     what_is_put_back_is_as_it_was,
+    a_job_comes_twice,
     an_operator_has_sixteen,
     they_watch,
     the_broker_is_killed,
