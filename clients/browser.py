@@ -7,15 +7,12 @@
 With --picture it tries nothing, and makes the README's picture of a room. It needs Chromium (Debian: apt-get install chromium) and nothing else: it speaks to it by the DevTools protocol.
 """
 
-import base64
 import functools
 import http.server
 import json
-import os
 import pathlib
 import shutil
 import signal
-import subprocess
 import sys
 import tempfile
 import threading
@@ -23,133 +20,16 @@ import time
 import urllib.parse
 
 import scenario
-from stomp_client import TEXT, Client, WebSocket
+from chromium import BROWSERS, DOWN, ENTER, TAB, UP, Browser
+from stomp_client import Client
 
 TOP = pathlib.Path(__file__).resolve().parent.parent
 PAGE = TOP / "examples" / "rooms.html"
 README = TOP / "README.md"
-BROWSERS = ("chromium", "chromium-browser", "google-chrome")
-SWITCHES = ["--headless=new", "--no-sandbox", "--disable-gpu", "--no-first-run", "--remote-debugging-port=0"]
-# Pages that nobody looks at are to run as those that somebody does.
-SWITCHES += ["--disable-background-timer-throttling", "--disable-renderer-backgrounding", "--disable-backgrounding-occluded-windows"]
 
-ENTER = {"key": "Enter", "code": "Enter", "windowsVirtualKeyCode": 13, "text": "\r"}
-TAB = {"key": "Tab", "code": "Tab", "windowsVirtualKeyCode": 9}
-SPACE = {"key": " ", "code": "Space", "windowsVirtualKeyCode": 32, "text": " "}
-
-
-class Target:
-    """A DevTools connection to a page, or to the browser itself."""
-
-    def __init__(self, port, path):
-        self.socket = WebSocket(port, path=path, timeout=30)
-        self.count = 0
-        self.exceptions = []
-
-    def call(self, method, **parameters):
-        self.count += 1
-        call = {"id": self.count, "method": method, "params": parameters}
-        self.socket.send_message(TEXT, json.dumps(call).encode())
-        while True:
-            answer = json.loads(self.socket.receive_message()[1])
-            if answer.get("method") == "Runtime.exceptionThrown":
-                self.exceptions.append(answer["params"]["exceptionDetails"])
-            if answer.get("id") == self.count:
-                assert "error" not in answer, answer
-                return answer["result"]
-
-
-class Page(Target):
-    def __init__(self, port, target):
-        super().__init__(port, f"/devtools/page/{target}")
-        self.call("Runtime.enable")
-        self.call("Page.enable")
-
-    def value(self, expression):
-        result = self.call("Runtime.evaluate", expression=expression, returnByValue=True, awaitPromise=True)
-        assert "exceptionDetails" not in result, result
-        return result["result"].get("value")
-
-    def comes(self, expression, seconds=10):
-        """Whether it comes true within that time."""
-        end = time.monotonic() + seconds
-        while time.monotonic() < end:
-            if self.value(expression):
-                return True
-            time.sleep(0.02)
-        return False
-
-    def press(self, key):
-        self.call("Input.dispatchKeyEvent", type="keyDown", **key)
-        self.call("Input.dispatchKeyEvent", type="keyUp", **key)
-
-    def write(self, field, text):
-        """Writes into a field and presses Enter, as from a keyboard."""
-        self.value(f"document.getElementById({field!r}).focus()")
-        self.call("Input.insertText", text=text)
-        self.press(ENTER)
-
-    def toggle(self, field):
-        self.value(f"document.getElementById({field!r}).focus()")
-        self.press(SPACE)
-
-    def state(self):
-        return self.value("document.getElementById('state').dataset.state")
-
-    def is_in(self, state, seconds=15):
-        return self.comes(f"document.getElementById('state').dataset.state == {state!r}", seconds)
-
-    def states_of(self, text):
-        """The states of the rows that hold that text: a list for each row."""
-        return self.value(
-            f"[...document.querySelectorAll('li')].filter(row => row.childNodes[1].textContent == {text!r})"
-            ".map(row => [...row.querySelectorAll('[data-state]')].map(chip => chip.dataset.state))"
-        )
-
-    def rows_come(self, text, states, seconds=15):
-        """Whether there is one row with that text, and in those states, within that time."""
-        end = time.monotonic() + seconds
-        while time.monotonic() < end:
-            if self.states_of(text) == [states]:
-                return True
-            time.sleep(0.02)
-        return False
-
-    def look(self, path, width, height):
-        """A picture of the page."""
-        self.call("Emulation.setDeviceMetricsOverride", width=width, height=height, deviceScaleFactor=1, mobile=False)
-        time.sleep(0.5)
-        picture = self.call("Page.captureScreenshot", format="png", captureBeyondViewport=False)
-        path.write_bytes(base64.b64decode(picture["data"]))
-
-
-class Browser:
-    def __init__(self, program, folder):
-        words = [program, *SWITCHES, f"--user-data-dir={folder}/profile", "about:blank"]
-        self.process = subprocess.Popen(words, stdout=subprocess.DEVNULL, stderr=subprocess.DEVNULL)
-        port_file = pathlib.Path(folder) / "profile" / "DevToolsActivePort"
-        self.port, path = self.wait_for(port_file)
-        self.target = Target(self.port, path)
-
-    def wait_for(self, port_file):
-        for _ in range(600):
-            if port_file.exists() and len(port_file.read_text().split("\n")) >= 2:
-                port, path = port_file.read_text().split("\n")[:2]
-                return int(port), path
-            assert self.process.poll() is None, "the browser has ended"
-            time.sleep(0.05)
-        raise AssertionError("the browser does not answer")
-
-    def open(self, url):
-        target = self.target.call("Target.createTarget", url=url)["targetId"]
-        page = Page(self.port, target)
-        # Until it is there, what is asked of it is asked of an empty page.
-        assert page.comes(f"document.readyState == 'complete' && location.href.startsWith({url.split('#')[0]!r})"), url
-        return page
-
-    def close(self):
-        self.target.call("Browser.close")
-        self.process.wait(timeout=20)
+DEAD = "/queue/dead"
+# How many messages a subscription that acknowledges has at most.
+IN_HAND = 16
 
 
 class QuietHandler(http.server.SimpleHTTPRequestHandler):
@@ -193,6 +73,132 @@ def they_work(broker, checks, anna, ben):
     checks.check("ten jobs of one transaction are done by two workers", anna.comes(f"{done} == 11", 20), anna.value(done))
     checks.check("by both of them", anna.value("['anna', 'ben'].every(name => document.getElementById('jobs').textContent.includes('done by ' + name))"))
     anna.toggle("work")
+
+
+def refuse_elsewhere(broker, count, headers):
+    """A worker that is no page refuses jobs of another room; their texts."""
+    worker, texts = Client(broker.port).connect(), [f"{count} elsewhere {number}" for number in range(count)]
+    worker.subscribe("w", "/queue/rooms.kitchen.jobs", "client")
+    for text in texts:
+        (frame,) = worker.publish("/queue/rooms.kitchen.jobs", text, headers)
+        worker.send("NACK", [("id", frame.headers["ack"]), ("receipt", text)])
+        worker.receipt(text)
+    worker.disconnect()
+    return texts
+
+
+def take_dead(broker):
+    """All that waits in /queue/dead, acknowledged: each message's text and its `room`."""
+    operator, found = Client(broker.port).connect(), []
+    waiting = operator.subscribe("o", DEAD, "client-individual")
+    operator.send("SEND", [("destination", DEAD)], "the last one")
+    while not found or found[-1][0] != "the last one":
+        frame = waiting.pop(0) if waiting else operator.receive()
+        found.append((frame.body, frame.headers.get("room")))
+        operator.send("ACK", [("id", frame.headers["ack"])])
+    operator.disconnect()
+    return found[:-1]
+
+
+def a_worker_refuses(broker, checks, anna, ben):
+    ben.choose("pace", DOWN)
+    checks.same("a worker does its jobs by hand", ben.value("document.getElementById('pace').value"), "hand")
+    for job in ("a good one", "a broken one", "a bad one", "a late one"):
+        anna.write("job", job)
+    checks.check("it has them in hand", ben.comes("inHand.length == 4"), ben.value("inHand.length"))
+    checks.same("each with two buttons", ben.buttons_of("a broken one", "jobs"), ["Done", "Refuse"])
+    checks.check("it refuses two, by keyboard", ben.act("jobs", "Refuse: a broken one") and ben.act("jobs", "Refuse: a bad one"))
+    checks.check("who refuses sees so", ben.rows_come("a broken one", ["received", "rejected"]), ben.states_of("a broken one"))
+    checks.check("and so does who has added the job", anna.rows_come("a broken one", ["sent", "receipted", "rejected"]), anna.states_of("a broken one"))
+    checks.check("by whom", anna.value("document.getElementById('jobs').textContent.includes('refused by ben')"))
+    checks.check("the next one is done by keyboard", ben.act("jobs", "Done: a good one"))
+    checks.check("and the other hears it", anna.rows_come("a good one", ["sent", "receipted", "done"]), anna.states_of("a good one"))
+    checks.same("and a job that is neither stays in hand", ben.value("inHand.length"), 1)
+
+
+def an_operator_looks(broker, checks, anna, ben):
+    others = refuse_elsewhere(broker, 1, [("room", "kitchen")]) + refuse_elsewhere(broker, 2, [])
+    anna.toggle("look")
+    expected = ["a broken one", "a bad one", *others]
+    checks.check("who looks sees refused jobs of all rooms", anna.comes(f"document.querySelectorAll('#refused li').length == {len(expected)}"), anna.refused())
+    checks.same("in their order", anna.refused(), expected)
+    checks.same("those of its room with two buttons", anna.buttons_of("a broken one", "refused"), ["Put back", "Discard"])
+    checks.same("those of others with none", [anna.buttons_of(text, "refused") for text in others], [[]] * 3)
+    told = anna.value("document.getElementById('refused').textContent")
+    checks.check("and with their room", "of room kitchen" in told and "of no room" in told, told)
+    checks.check("it puts one back, by keyboard", anna.act("refused", "Put back: a broken one"))
+    checks.check("all hear it", anna.rows_come("a broken one", ["sent", "receipted", "back"]), anna.states_of("a broken one"))
+    checks.check("it is in the worker's hand again", ben.comes("inHand.length == 2"), ben.value("inHand.length"))
+    checks.check("and is done this time", ben.act("jobs", "Done: a broken one"))
+    checks.check("as all hear", anna.rows_come("a broken one", ["sent", "receipted", "done"]), anna.states_of("a broken one"))
+    checks.check("it discards the other", anna.act("refused", "Discard: a bad one"))
+    checks.check("all hear it", ben.rows_come("a bad one", ["received", "discarded"]), ben.states_of("a bad one"))
+    checks.check("one that is refused meanwhile comes", ben.act("jobs", "Refuse: a late one") and anna.rows_come("a late one", [], "refused"), anna.refused())
+    broker.again()
+    checks.check("after a kill the same ones come again", anna.is_in("open") and anna.comes(f"document.querySelectorAll('#refused li').length == {len(others) + 1}"), anna.refused())
+    checks.same("once", anna.refused(), [*others, "a late one"])
+    anna.toggle("look")
+    checks.same("who stops looking has none", anna.refused(), [])
+    left = [(others[0], "kitchen"), *((text, None) for text in others[1:]), ("a late one", "lobby")]
+    checks.same("and those that it left alone are there, once", take_dead(broker), left)
+
+
+def what_is_put_back_is_as_it_was(broker, checks, anna, ben):
+    sent = {"room": "lobby", "key": "k", "colour": "red:green\\"}
+    client = Client(broker.port).connect()
+    client.publish("/queue/rooms.lobby.jobs", "of no page", list(sent.items()))
+    checks.check("a page refuses a job that no page has sent", ben.act_soon("jobs", "Refuse: of no page"))
+    ben.toggle("work")
+    anna.toggle("look")
+    checks.check("another puts it back", anna.act_soon("refused", "Put back: of no page"))
+    checks.check("and sees it no more", anna.comes("document.querySelectorAll('#refused li').length == 0"), anna.refused())
+    (job,) = client.subscribe("w", "/queue/rooms.lobby.jobs", "client-individual")
+    added = {"subscription", "message-id", "destination", "ack", "content-length"}
+    headers = {name: value for name, value in job.headers.items() if name not in added}
+    checks.same("it has all that it was sent with, and nothing else", (job.body, headers), ("of no page", sent))
+    client.send("ACK", [("id", job.headers["ack"])])
+    client.disconnect()
+    anna.toggle("look")
+    ben.toggle("work")
+
+
+def a_job_comes_twice(broker, checks, anna, ben):
+    client, job = Client(broker.port).connect(), [("room", "lobby"), ("key", "twice")]
+    for _ in range(2):
+        client.publish("/queue/rooms.lobby.jobs", "sent twice", job)
+    checks.check("a worker has both in hand", ben.comes("inHand.length == 2"), ben.value("inHand.length"))
+    checks.same("in one row", ben.states_of("sent twice"), [["received"]])
+    checks.check("it refuses it", ben.act_soon("jobs", "Refuse: sent twice") and ben.rows_come("sent twice", ["received", "rejected"]))
+    checks.same("and has none in hand", ben.value("inHand.length"), 0)
+    checks.same("it is among the refused ones, once", take_dead(broker), [("sent twice", "lobby")])
+    client.publish("/queue/rooms.lobby.jobs", "sent twice", job)
+    checks.check("one that comes again is done", ben.act_soon("jobs", "Done: sent twice") and ben.comes("done.has('twice')"))
+    client.publish("/queue/rooms.lobby.jobs", "sent twice", job)
+    time.sleep(0.3)
+    checks.same("and one that comes after that is acknowledged at once", ben.value("inHand.length"), 0)
+    ben.toggle("work")
+    checks.same("none is left in the queue", client.subscribe("w", "/queue/rooms.lobby.jobs", "client"), [])
+    client.disconnect()
+    ben.toggle("work")
+
+
+def an_operator_has_sixteen(broker, checks, anna, ben):
+    others = refuse_elsewhere(broker, IN_HAND + 1, [("room", "kitchen")])
+    anna.toggle("look")
+    checks.check("who looks has 16", anna.comes(f"document.querySelectorAll('#refused li').length == {IN_HAND}"), anna.refused())
+    time.sleep(0.3)
+    checks.same("the oldest, and no more", anna.refused(), others[:IN_HAND])
+    anna.toggle("look")
+    time.sleep(0.3)
+    checks.same("and all are there, in their order, once it stops", [text for text, _ in take_dead(broker)], others)
+    ben.choose("pace", UP)
+    checks.same("the worker is at a second a job again", ben.value("document.getElementById('pace').value"), "timed")
+    anna.write("job", "refused in time")
+    checks.check("where a job may be refused too", ben.act_soon("jobs", "Refuse: refused in time"))
+    checks.check("and is not done then", anna.rows_come("refused in time", ["sent", "receipted", "rejected"]), anna.states_of("refused in time"))
+    time.sleep(1.5)
+    checks.same("nor later", anna.states_of("refused in time"), [["sent", "receipted", "rejected"]])
+    checks.same("but waits", take_dead(broker), [("refused in time", "lobby")])
 
 
 def they_watch(broker, checks, anna, ben):
@@ -243,7 +249,7 @@ def a_keyboard_is_enough(broker, checks, anna, ben):
     for _ in range(30):
         anna.press(TAB)
         reached.append(anna.value("document.activeElement.id"))
-    expected = ["port", "name", "room", "go", "leave", "chat", "words", "feed", "rate", "jobs", "job", "ten", "work"]
+    expected = ["port", "name", "room", "go", "leave", "chat", "words", "feed", "rate", "jobs", "job", "ten", "work", "pace", "refused", "look"]
     checks.check("each field and button is reached by Tab", set(expected) <= set(reached), reached)
     named = "[...document.querySelectorAll('input, select, button')].every(one => one.ariaLabel || one.labels?.length || one.textContent.trim())"
     checks.check("and has a name", anna.value(named))
@@ -268,6 +274,11 @@ def a_page_leaves(broker, checks, anna, ben):
 STEPS = [
     they_talk,
     they_work,
+    a_worker_refuses,
+    an_operator_looks,
+    what_is_put_back_is_as_it_was,
+    a_job_comes_twice,
+    an_operator_has_sixteen,
     they_watch,
     the_broker_is_killed,
     it_is_sent_again,
@@ -302,7 +313,7 @@ TALK = [
 
 
 def draw_a_room(broker, checks, browser, path):
-    """Two people talk in a room, one of them while the broker is away, and work off ten jobs."""
+    """Two people talk in a room, one of them while the broker is away, and work off ten jobs, of which two are refused."""
     pages = {name: browser.open(PAGE.as_uri() + fragment(broker, name)) for name in ("anna", "ben")}
     for page in pages.values():
         page.call("Emulation.setEmulatedMedia", features=[{"name": "prefers-color-scheme", "value": "light"}])
@@ -322,11 +333,16 @@ def draw_a_room(broker, checks, browser, path):
     pages["anna"].value("document.getElementById('ten').click()")
     for page in pages.values():
         page.toggle("work")
+    for words in ("Refuse: job 2 of ten", "Refuse: job 10 of ten"):
+        button = f"document.querySelector('#jobs [aria-label=\"{words}\"]')"
+        checks.check(words, any(page.comes(f"{button} && ({button}.click(), true)", 0.5) for page in pages.values()))
+    pages["anna"].toggle("look")
+    checks.check("the refused ones are seen", pages["anna"].comes("document.querySelectorAll('#refused li').length == 2"), pages["anna"].refused())
     done = "[...document.querySelectorAll('#jobs li')].filter(row => row.querySelector('[data-state=done]')).length"
     checks.check("five jobs are done", pages["anna"].comes(f"{done} >= 5", 20))
     checks.check("and numbers drawn", pages["anna"].comes("numbers.length > 50", 30))
     pages["anna"].value("document.activeElement.blur(); scrollTo(0, 0)")
-    pages["anna"].look(path, 1200, 850)
+    pages["anna"].look(path, 1200, 1060)
     checks.tell(f"{path} has {path.stat().st_size} bytes")
 
 

@@ -200,6 +200,11 @@ def found_in(port, talker):
     return [short(body) for body in kills.take_all(port, talker.queue)]
 
 
+def faults_of_a_talker(port, talker):
+    found = found_in(port, talker)
+    return [*kills.faults_of_a_round([talker], talker, found), *kills.faults_of_order([talker], found)]
+
+
 def under_load(broker, seconds, chance, checks):
     """A server whose journal is full several times a second, for so long."""
     # What its opening wrote is seen by now, and is not told.
@@ -244,8 +249,7 @@ def one_kill(broker, name, chance, aimed):
     within = broker.runs
     join(talkers)
     broker.serve()
-    faults = [fault for one in talkers for fault in kills.faults_of_a_round([one], one, found_in(broker.port, one))]
-    return within, faults
+    return within, [fault for one in talkers for fault in faults_of_a_talker(broker.port, one)]
 
 
 def killed(broker, words, chance, checks):

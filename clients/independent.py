@@ -20,6 +20,9 @@ except ModuleNotFoundError as missing:
     print(f"independent.py needs {package}, which {sys.executable} does not have (Debian: apt-get install {package})", file=sys.stderr)
     sys.exit(2)
 
+# Where refused messages wait.
+DEAD = "/queue/dead"
+
 
 class WebSocketTransport(stomp.transport.BaseTransport):
     """What stomp.py sends by and hears by. That of its own for WebSocket came after the version in Debian 12."""
@@ -147,6 +150,61 @@ def a_queue_in_each_mode(broker, checks):
         checks.same(f"{mode}: {left} left", a_queue(broker.port, mode, settle), (three, left))
     refuse = lambda worker, ack: worker.nack(ack)
     checks.same("client, refused: ['three'] left", a_queue(broker.port, "client", refuse), (three, ["three"]))
+    checks.same("and the others in /queue/dead", [body for body, _ in take_dead(broker.port)], ["one", "two"])
+
+
+def take_dead(port):
+    """What waits in /queue/dead: each message's body and the header `said`, acknowledged."""
+    operator = Connection(port)
+    operator.subscribe(DEAD, id="o", ack="client-individual")
+    operator.send(DEAD, "the last one")
+    found = []
+    while not found or found[-1][0] != "the last one":
+        frame = operator.next()
+        assert frame.headers["destination"] == DEAD, frame
+        found.append((frame.body, frame.headers.get("said")))
+        operator.ack(frame.headers["ack"])
+    operator.leave()
+    return found[:-1]
+
+
+def what_workers_refuse(broker, checks):
+    """a worker refuses jobs, one or all before it; who reads /queue/dead has them as they were sent, once"""
+    take_dead(broker.port)
+    for mode, refused in (("client-individual", ["two"]), ("client", ["one", "two"])):
+        destination, sender, worker = f"/queue/refused.{mode}", Connection(broker.port), Connection(broker.port)
+        for body in ("one", "two", "three"):
+            sender.publish(destination, body, said=f"by:\\{body}\n")
+        worker.subscribe(destination, id="w", ack=mode)
+        frames = [worker.next() for _ in range(3)]
+        worker.nack(frames[1].headers["ack"], receipt="n")
+        assert worker.receipt("n") == []
+        found = take_dead(broker.port)
+        checks.same(f"{mode}: {refused} are in /queue/dead", found, [(body, f"by:\\{body}\n") for body in refused])
+        checks.same("and gone from there once they are acknowledged", take_dead(broker.port), [])
+        worker.ack(frames[2].headers["ack"])
+        sender.leave(), worker.leave()
+
+
+def a_refusal_in_a_transaction(broker, checks):
+    """a refusal and a note of it go out together, or neither; what is refused outlasts a SIGKILL of the broker"""
+    worker = Connection(broker.port)
+    worker.publish("/queue/notes", "job")
+    worker.subscribe("/queue/notes", id="w", ack="client-individual")
+    job = worker.next()
+    worker.subscribe("/topic/notes", id="n", ack="auto", headers={"receipt": "s"})
+    worker.receipt("s")
+    for finish, receipt, heard in ((worker.abort, "a", []), (worker.commit, "c", ["refused"])):
+        name = worker.begin()
+        worker.nack(job.headers["ack"], transaction=name)
+        worker.send("/topic/notes", "refused", headers={"transaction": name})
+        finish(name, headers={"receipt": receipt})
+        checks.same(f"the note comes with a COMMIT alone: {heard}", worker.receipt(receipt), heard)
+        if finish == worker.abort:
+            checks.same("after an ABORT nothing is in /queue/dead", take_dead(broker.port), [])
+    worker.leave()
+    broker.again()
+    checks.same("and the refused job after the COMMIT, and a kill", take_dead(broker.port), [("job", None)])
 
 
 def a_transaction(broker, checks):
@@ -203,6 +261,16 @@ def versions():
     return f"stomp.py {'.'.join(map(str, stomp.__version__))}, websocket-client {websocket.__version__}"
 
 
+SCENARIOS = [
+    a_room_of_two,
+    a_queue_in_each_mode,
+    what_workers_refuse,
+    a_refusal_in_a_transaction,
+    a_transaction,
+    a_durable_subscriber,
+    an_error,
+]
+
 if __name__ == "__main__":
     print(versions(), flush=True)
-    sys.exit(scenario.run(__doc__, [a_room_of_two, a_queue_in_each_mode, a_transaction, a_durable_subscriber, an_error]))
+    sys.exit(scenario.run(__doc__, SCENARIOS))

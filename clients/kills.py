@@ -4,10 +4,12 @@
     python3 clients/kills.py [PROGRAM] [--rounds N] [--seed N] [--senders N]
 
 In each round senders send to one queue, several receipts in flight, every fourth time a transaction; a worker takes from the
-queue and acknowledges; and the broker is killed. It is started again over the same file, and a reader takes all that is there:
+queue, acknowledges most, and refuses every fifth; and the broker is killed. It is started again over the same file, and a reader
+takes all that is there, in the queue and in /queue/dead:
 
 - a message whose receipt came, and that nobody acknowledged, once;
 - a message whose acknowledgement had its receipt, never;
+- a message whose refusal had its receipt, once, in /queue/dead; one whose refusal had none, once, in the one or the other;
 - a message whose receipt did not come, once or never, but the messages of a transaction all or none;
 - the messages of a sender in the order in which it sent them, and nothing that wasn't sent.
 
@@ -25,6 +27,8 @@ import scenario
 from stomp_client import Client, Closed
 
 QUEUE = "/queue/kept"
+# Where refused messages wait.
+DEAD = "/queue/dead"
 # Receipts that a sender has in flight. The broker itself takes 8 commands of a connection at a time.
 IN_FLIGHT = 8
 # What the senders of a round send at most, so that no more than 4,096 messages are held.
@@ -107,26 +111,32 @@ class Sender(Loader):
         group.is_receipted = True
 
 
+def is_refused(body):
+    """Whether the worker refuses it."""
+    return int(body.split(" ")[1]) % 5 == 0
+
+
 class Worker(Loader):
-    """Takes from the queue and acknowledges; keeps how often it had each message, and what was acknowledged."""
+    """Takes from the queue and acknowledges or refuses; keeps how often it had each message, and what was receipted of either."""
 
     def __init__(self, port):
         super().__init__(port)
-        self.had, self.settled = collections.Counter(), set()
+        self.had, self.settled, self.refused = collections.Counter(), set(), set()
 
     def go_on(self):
         self.client.send("SUBSCRIBE", [("id", "w"), ("destination", QUEUE), ("ack", "client-individual")])
         while True:
             frame = self.client.receive()
             if frame.command == "RECEIPT":
-                self.settled.add(frame.headers["receipt-id"])
+                body = frame.headers["receipt-id"]
+                (self.refused if is_refused(body) else self.settled).add(body)
             else:
-                self.acknowledge(frame)
+                self.answer(frame)
 
-    def acknowledge(self, frame):
+    def answer(self, frame):
         assert frame.command == "MESSAGE", frame
         self.had[frame.body] += 1
-        self.client.send("ACK", [("id", frame.headers["ack"]), ("receipt", frame.body)])
+        self.client.send("NACK" if is_refused(frame.body) else "ACK", [("id", frame.headers["ack"]), ("receipt", frame.body)])
         # Slower than the senders, so that something is left in the queue.
         time.sleep(0.001)
 
@@ -165,19 +175,30 @@ def faults_of_a_round(senders, worker, found):
     yield from (f"{body}: handed out {count} times in one session" for body, count in worker.had.items() if count > 1)
     yield from (f"{body}: nobody sent it in this round" for body in [*there, *worker.had] if body not in sent)
     yield from (f"{body}: there although its acknowledgement was receipted" for body in worker.settled if body in there)
+    for group in (group for sender in senders for group in sender.groups):
+        yield from faults_of_a_group(group, there, worker)
+
+
+def faults_of_order(senders, found):
     for sender in senders:
         numbers = [int(body.split(" ")[1]) for body in found if body.startswith(sender.name + " ")]
         if numbers != sorted(numbers):
             yield f"sender {sender.name}: out of order"
-        for group in sender.groups:
-            yield from faults_of_a_group(group, there, worker)
+
+
+def faults_of_refusals(worker, found, dead):
+    """What is wrong with where refused messages were found."""
+    there = set(found) | set(dead)
+    yield from (f"{body}: lost, although it was refused" for body in worker.had if is_refused(body) and body not in there)
+    yield from (f"{body}: not in {DEAD}, although its refusal was receipted" for body in worker.refused if body not in dead)
+    yield from (f"{body}: in {DEAD}, although nobody refused it" for body in dead if not is_refused(body) or body not in worker.had)
 
 
 class Totals:
     """What was seen over all rounds."""
 
     def __init__(self):
-        self.sent = self.receipted = self.unknown = self.unknown_kept = self.settled = self.found = 0
+        self.sent = self.receipted = self.unknown = self.unknown_kept = self.settled = self.refused = self.found = 0
         self.longest_restart = 0.0
 
     def add(self, senders, worker, found):
@@ -189,6 +210,7 @@ class Totals:
             self.unknown += 0 if group.is_receipted else size
             self.unknown_kept += 0 if group.is_receipted else sum(body in kept or body in worker.had for body in group.bodies)
         self.settled += len(worker.settled)
+        self.refused += len(worker.refused)
         self.found += len(found)
 
 
@@ -214,13 +236,15 @@ def one_round(broker, name, chance, count, totals):
     start = time.perf_counter()
     broker.serve()
     totals.longest_restart = max(totals.longest_restart, time.perf_counter() - start)
-    found = take_all(broker.port)
-    totals.add(senders, worker, found)
-    return list(faults_of_a_round(senders, worker, found))
+    found, dead = take_all(broker.port), take_all(broker.port, DEAD)
+    totals.add(senders, worker, found + dead)
+    # Within each of the two a sender's messages stand in order.
+    orders = [fault for there in (found, dead) for fault in faults_of_order(senders, there)]
+    return [*faults_of_a_round(senders, worker, found + dead), *faults_of_refusals(worker, found, dead), *orders]
 
 
 def tell(checks, totals, rounds):
-    checks.tell(f"{totals.sent} messages sent, {totals.receipted} receipted, {totals.settled} acknowledged with a receipt")
+    checks.tell(f"{totals.sent} messages sent, {totals.receipted} receipted, {totals.settled} acknowledged and {totals.refused} refused with a receipt")
     checks.tell(f"of {totals.unknown} without a receipt {totals.unknown_kept} were kept")
     checks.tell(f"{totals.found} found after {rounds} restarts, of which the longest took {totals.longest_restart * 1000:.0f} ms")
 

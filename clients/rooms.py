@@ -1,5 +1,5 @@
 #!/usr/bin/env python3
-"""Rooms, receipts, work queues, transactions and a durable subscriber, with clients that talk to the built program.
+"""Rooms, receipts, work queues, refused messages, transactions and a durable subscriber, with clients that talk to the built program.
 
     python3 clients/rooms.py [PROGRAM]
 """
@@ -9,6 +9,10 @@ import time
 
 import scenario
 from stomp_client import Client
+
+# Where refused messages wait, and the place of the first that a NACK keeps among the messages of its command; 16 for each member of a COMMIT.
+DEAD = "/queue/dead"
+FIRST_KEPT, KEPT_PLACES = 64, 16
 
 
 def bodies(frames):
@@ -92,6 +96,7 @@ def receipts(broker, checks):
     seen = [(frame.command, frame.headers.get("receipt-id")) for frame in heard]
     checks.same("nine receipts in their order", seen, [("RECEIPT", name) for name in names])
     checks.same("and then 1000", code, 1000)
+    checks.same("what was refused meanwhile is in /queue/dead", take_all(broker.port, DEAD), ["y"])
 
 
 def acknowledged_in_auto(broker, checks):
@@ -118,7 +123,7 @@ def acknowledged_in_client(broker, checks):
 
 
 def acknowledged_each(broker, checks):
-    """in client-individual an acknowledgement settles one; a refused one is dropped"""
+    """in client-individual an acknowledgement settles one; a refused one goes to /queue/dead"""
     send_all(broker.port, "/queue/each", ["one", "two", "three", "four"])
     worker = Client(broker.port).connect()
     frames = worker.subscribe("w", "/queue/each", "client-individual")
@@ -127,6 +132,140 @@ def acknowledged_each(broker, checks):
     worker.receipt("n")
     lose(worker)
     checks.same("one and three are there again, in order", take_all(broker.port, "/queue/each"), ["one", "three"])
+    checks.same("the refused one is in /queue/dead", take_all(broker.port, DEAD), ["four"])
+
+
+def worker_of(port, destination, mode, headers=(), client_id=None):
+    """A worker that acknowledges, and the messages that it has at once."""
+    worker = Client(port).connect(client_id)
+    return worker, worker.subscribe("w", destination, mode, headers)
+
+
+def refuse(worker, frame, *headers):
+    """Refuses a message, and answers the frames that came up to the receipt."""
+    worker.send("NACK", [("id", frame.headers["ack"]), *headers, ("receipt", "n")])
+    return worker.receipt("n")
+
+
+def place_of(frame):
+    """The number of the command that made a message, and its place there."""
+    command, place = frame.headers["message-id"].split(".")
+    return int(command), int(place)
+
+
+def an_operator_takes_the_refused(broker, checks):
+    """a worker refuses one of its messages; who reads /queue/dead has it as it was sent, and once it is acknowledged it is gone"""
+    sent = [("content-type", "text/plain"), ("said:by", "one\\two\nthree")]
+    sender = Client(broker.port).connect()
+    for number in range(17):
+        sender.publish("/queue/refused", f"job {number}, öäü", sent)
+    worker, frames = worker_of(broker.port, "/queue/refused", "client-individual")
+    checks.same("refusing one of 16 makes room for the 17th", bodies(refuse(worker, frames[3])), ["job 16, öäü"])
+    operator, dead = worker_of(broker.port, DEAD, "client-individual")
+    checks.same("the refused one is in /queue/dead, and no other", bodies(dead), ["job 3, öäü"])
+    has = dead[0].headers
+    length = f"{len('job 3, öäü'.encode())}"
+    expected = {"subscription": "w", "message-id": has["message-id"], "destination": DEAD, "ack": has["ack"], "content-length": length, **dict(sent)}
+    checks.same("with the headers that it was sent with", has, expected)
+    checks.same("and a number of the NACK's", place_of(dead[0])[1], FIRST_KEPT)
+    checks.check("which came later than the message", place_of(dead[0])[0] > place_of(frames[15])[0], has)
+    operator.send("ACK", [("id", has["ack"]), ("receipt", "a")])
+    operator.receipt("a")
+    lose(operator), lose(worker)
+    checks.same("acknowledged, it is gone", take_all(broker.port, DEAD), [])
+    rest = [f"job {number}, öäü" for number in range(17) if number != 3]
+    checks.same("the others are in their queue again", take_all(broker.port, "/queue/refused"), rest)
+
+
+def refused_with_all_before(broker, checks):
+    """in client a NACK settles all before it, and keeps each"""
+    send_all(broker.port, "/queue/before", ["one", "two", "three", "four"])
+    worker, frames = worker_of(broker.port, "/queue/before", "client")
+    refuse(worker, frames[2])
+    operator, dead = worker_of(broker.port, DEAD, "client")
+    checks.same("three are in /queue/dead, in order", bodies(dead), ["one", "two", "three"])
+    command = place_of(dead[0])[0]
+    places = [(command, FIRST_KEPT + place) for place in range(3)]
+    checks.same("as three places of one command", [place_of(frame) for frame in dead], places)
+    lose(worker), lose(operator)
+    checks.same("the fourth is in its queue again", take_all(broker.port, "/queue/before"), ["four"])
+    checks.same("what the operator has not acknowledged is there again", take_all(broker.port, DEAD), ["one", "two", "three"])
+
+
+def refused_twice(broker, checks):
+    """who refuses a message of /queue/dead drops it"""
+    send_all(broker.port, "/queue/twice", ["one", "two"])
+    worker, frames = worker_of(broker.port, "/queue/twice", "client")
+    refuse(worker, frames[1])
+    operator, dead = worker_of(broker.port, DEAD, "client-individual")
+    checks.same("both are in /queue/dead", bodies(dead), ["one", "two"])
+    checks.same("nothing comes for the one that is refused again", refuse(operator, dead[0]), [])
+    lose(operator)
+    checks.same("and it is gone, and the other is not", take_all(broker.port, DEAD), ["two"])
+    lose(worker)
+
+
+def refused_on_a_topic(broker, checks):
+    """a refused message of a topic is dropped; that of a durable name is kept"""
+    plain, _ = worker_of(broker.port, "/topic/two", "client-individual")
+    durable, _ = worker_of(broker.port, "/topic/two", "client-individual", [("activemq.subscriptionName", "two")], "dora")
+    send_all(broker.port, "/topic/two", ["to both"])
+    refuse(plain, plain.receive())
+    checks.same("the plain one's is not in /queue/dead", take_all(broker.port, DEAD), [])
+    refuse(durable, durable.receive())
+    operator, dead = worker_of(broker.port, DEAD, "client-individual")
+    checks.same("the durable one's is", [(frame.body, frame.headers["destination"]) for frame in dead], [("to both", DEAD)])
+    lose(operator)
+    checks.same("and is taken from there", take_all(broker.port, DEAD), ["to both"])
+    durable.send("UNSUBSCRIBE", [("id", "w"), ("activemq.subscriptionName", "two"), ("receipt", "u")])
+    durable.receipt("u")
+    plain.disconnect(), durable.disconnect()
+
+
+def refused_in_a_transaction(broker, checks):
+    """a NACK of a transaction keeps its message with the COMMIT; where it is aborted, the delivery stands as it was"""
+    send_all(broker.port, "/queue/within", ["one", "two", "three"])
+    worker, frames = worker_of(broker.port, "/queue/within", "client-individual")
+    within = ("transaction", "t")
+    worker.send("BEGIN", [within])
+    worker.send("NACK", [("id", frames[0].headers["ack"]), within])
+    worker.send("ABORT", [within, ("receipt", "a")])
+    worker.receipt("a")
+    checks.same("nothing is in /queue/dead after an ABORT", take_all(broker.port, DEAD), [])
+    worker.send("ACK", [("id", frames[0].headers["ack"]), ("receipt", "a")])
+    checks.same("and the delivery can be acknowledged", worker.receipt("a"), [])
+    worker.send("BEGIN", [within])
+    worker.send("NACK", [("id", frames[1].headers["ack"]), within])
+    worker.send("SEND", [("destination", "/queue/within"), within], "four")
+    worker.send("NACK", [("id", frames[2].headers["ack"]), within, ("receipt", "m")])
+    worker.receipt("m")
+    checks.same("nor is anything before the COMMIT", take_all(broker.port, DEAD), [])
+    worker.send("COMMIT", [within, ("receipt", "c")])
+    checks.same("the message of the same COMMIT comes", bodies(worker.receipt("c")), ["four"])
+    operator, dead = worker_of(broker.port, DEAD, "client-individual")
+    checks.same("both refused ones are in /queue/dead after it", bodies(dead), ["two", "three"])
+    command = place_of(dead[0])[0]
+    places = [(command, FIRST_KEPT + member * KEPT_PLACES) for member in (0, 2)]
+    checks.same("under the COMMIT's number, by the places of their NACKs", [place_of(frame) for frame in dead], places)
+    lose(operator), lose(worker)
+    checks.same("the others are in their queue again", take_all(broker.port, "/queue/within"), ["four"])
+    checks.same("and the refused ones wait", take_all(broker.port, DEAD), ["two", "three"])
+
+
+def refused_before_a_restart(broker, checks):
+    """what waits in /queue/dead outlasts a SIGKILL of the broker, also what an operator has in hand"""
+    send_all(broker.port, "/queue/outlasts", ["one", "two", "three"])
+    worker, frames = worker_of(broker.port, "/queue/outlasts", "client")
+    refuse(worker, frames[1])
+    operator, dead = worker_of(broker.port, DEAD, "client-individual")
+    operator.send("ACK", [("id", dead[0].headers["ack"]), ("receipt", "a")])
+    operator.receipt("a")
+    broker.again()
+    worker.close(), operator.close()
+    checks.same("what was not acknowledged is there, once", take_all(broker.port, DEAD), ["two"])
+    checks.same("and what was not refused is in its queue", take_all(broker.port, "/queue/outlasts"), ["three"])
+    broker.again()
+    checks.same("nothing of it is there after a further restart", take_all(broker.port, DEAD) + take_all(broker.port, "/queue/outlasts"), [])
 
 
 def sixteen_at_once(broker, checks):
@@ -240,6 +379,12 @@ SCENARIOS = [
     acknowledged_in_auto,
     acknowledged_in_client,
     acknowledged_each,
+    an_operator_takes_the_refused,
+    refused_with_all_before,
+    refused_twice,
+    refused_on_a_topic,
+    refused_in_a_transaction,
+    refused_before_a_restart,
     sixteen_at_once,
     two_workers,
     a_transaction,

@@ -1,6 +1,6 @@
 #!/usr/bin/env python3
-"""What nobody reads: a queue, and a durable subscription whose client is away, until no message has room; how that is seen, and how room is
-made again. As the README says it ("To know when you write a client").
+"""What nobody reads: a queue, what workers refuse, and a durable subscription whose client is away, until no message has room; how that is
+seen, and how room is made again. As the README says it ("To know when you write a client").
 
     python3 clients/unread.py [PROGRAM]
 """
@@ -13,6 +13,7 @@ from stomp_client import Client
 
 # As many messages as may be held.
 MOST = 4_096
+DEAD = "/queue/dead"
 NO_ROOM = "E12 no room for the message"
 
 
@@ -114,6 +115,31 @@ def many_places(broker, checks):
     checks.same("and nothing is held at the end", places(broker), ((0, 0), []))
 
 
+def what_workers_refuse(broker, checks):
+    """refused messages count as they did, in another place, until somebody takes them from there"""
+    texts = [f"{number}" for number in range(10)]
+    sender = Client(broker.port).connect()
+    sender.publish_all("/queue/jobs", texts)
+    worker = Client(broker.port).connect()
+    waiting = worker.subscribe("w", "/queue/jobs", "client")
+    worker.send("NACK", [("id", waiting[6].headers["ack"]), ("receipt", "n")])
+    worker.receipt("n")
+    left, refused = size_of("/queue/jobs", texts[7:]), size_of(DEAD, texts[:7])
+    expected = (10, left + refused), [(7, refused, f"queue {DEAD}"), (3, left, "queue /queue/jobs")]
+    checks.same("`held` tells where they are, beside the server", places(broker), expected)
+    worker.send("ACK", [("id", waiting[9].headers["ack"])])
+    worker.disconnect(), sender.disconnect()
+    checks.same("and so it does once nothing else is held, after a restart", (held(broker), places(broker)[1]), (7, [(7, refused, f"queue {DEAD}")]))
+    operator = Client(broker.port).connect()
+    waiting = operator.subscribe("o", DEAD, "client")
+    checks.same("an operator has them all, in order", [frame.body for frame in waiting], texts[:7])
+    operator.send("ACK", [("id", waiting[3].headers["ack"])])
+    operator.send("NACK", [("id", waiting[6].headers["ack"]), ("receipt", "n")])
+    operator.receipt("n")
+    operator.disconnect()
+    checks.same("and nothing is held once they are acknowledged, or refused again", places(broker), ((0, 0), []))
+
+
 def subscribe_durably(broker):
     client = Client(broker.port).connect("away")
     waiting = client.subscribe("d", "/topic/news", "client-individual", [("activemq.subscriptionName", "n")])
@@ -140,4 +166,4 @@ def an_abandoned_name(broker, checks):
 
 
 if __name__ == "__main__":
-    sys.exit(scenario.run(__doc__, [many_places, an_unread_queue, an_abandoned_name]))
+    sys.exit(scenario.run(__doc__, [many_places, what_workers_refuse, an_unread_queue, an_abandoned_name]))

@@ -40,7 +40,11 @@ SCRIPTS = [
     "clients/browser.py",
     "clients/kills.py",
     "clients/compactions.py",
+    "clients/migrating.py",
 ]
+
+# These kill the broker so often as is said.
+KILLING = {"clients/kills.py": "--rounds", "clients/compactions.py": "--kills", "clients/migrating.py": "--kills"}
 
 # With this status a script says that it lacks a package.
 LACKS = 2
@@ -50,7 +54,7 @@ def words_for(script, program, kills):
     if script.endswith(".sh"):
         return ["sh", TOP / script, program]
     python = DEBIAN_PYTHON if script.endswith("/independent.py") and DEBIAN_PYTHON.exists() else sys.executable
-    more = {"clients/kills.py": ["--rounds", str(kills)], "clients/compactions.py": ["--kills", str(kills)]}.get(script, [])
+    more = [KILLING[script], str(kills)] if script in KILLING else []
     return [python, TOP / script, program, *more]
 
 
@@ -63,7 +67,7 @@ def built_program():
 def main():
     parser = argparse.ArgumentParser(description=__doc__, formatter_class=argparse.RawDescriptionHelpFormatter)
     parser.add_argument("program", nargs="?", type=pathlib.Path)
-    parser.add_argument("--kills", type=int, default=100, help="how often clients/kills.py kills the broker (100)")
+    parser.add_argument("--kills", type=int, default=100, help="how often each of the clients that kill the broker does so (100)")
     parser.add_argument("--only", default="", metavar="WORD", help="only the scripts whose path has this word")
     words = parser.parse_args()
     program = words.program.resolve() if words.program else built_program()
