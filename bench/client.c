@@ -105,13 +105,30 @@ int starts(const char *frame, size_t length, const char *word) {
     return length > count && memcmp(frame, word, count) == 0;
 }
 
-// The number that stands behind a header's name.
-long number_of(const char *frame, size_t length, const char *name) {
+const char *said(const char *name, const char *otherwise) {
+    const char *word = getenv(name);
+    return word == NULL ? otherwise : word;
+}
+
+// What stands behind a header's name, up to the end of its line.
+const char *text_of(const char *frame, size_t length, const char *name, int *size) {
     const char *at = memmem(frame, length, name, strlen(name));
     if (at == NULL) {
         fail("no %s in %.*s", name + 1, (int)length, frame);
     }
-    return strtol(at + strlen(name), NULL, 10);
+    at += strlen(name);
+    const char *end = memchr(at, '\n', frame + length - at);
+    if (end == NULL) {
+        fail("a header without a line end");
+    }
+    *size = end - at;
+    return at;
+}
+
+// The number that stands behind a header's name.
+long number_of(const char *frame, size_t length, const char *name) {
+    int size;
+    return strtol(text_of(frame, length, name, &size), NULL, 10);
 }
 
 // The number that the body of a MESSAGE begins with.
@@ -230,17 +247,22 @@ static int all_connected(void) {
 
 // Asks for a WebSocket, and answers whether the server has let it in.
 static int shake_hands(struct connection *one, const struct sockaddr_in *address) {
-    static const char request[] =
-        "GET / HTTP/1.1\r\nHost: localhost\r\nUpgrade: websocket\r\nConnection: Upgrade\r\n"
-        "Sec-WebSocket-Key: dGhlIHNhbXBsZSBub25jZQ==\r\nSec-WebSocket-Version: 13\r\n"
-        "Sec-WebSocket-Protocol: v12.stomp\r\n\r\n";
+    char request[1024];
+    int size = snprintf(request, sizeof request,
+                        "GET %s HTTP/1.1\r\nHost: localhost\r\nUpgrade: websocket\r\nConnection: Upgrade\r\n"
+                        "Sec-WebSocket-Key: dGhlIHNhbXBsZSBub25jZQ==\r\nSec-WebSocket-Version: 13\r\n"
+                        "Sec-WebSocket-Protocol: v12.stomp\r\n\r\n",
+                        said("LOAD_PATH", "/"));
+    if (size >= (int)sizeof request) {
+        fail("too long a path");
+    }
     one->fd = socket(AF_INET, SOCK_STREAM, 0);
     if (one->fd < 0 || connect(one->fd, (const struct sockaddr *)address, sizeof *address) != 0) {
         fail("connect: %s", strerror(errno));
     }
     int yes = 1;
     setsockopt(one->fd, IPPROTO_TCP, TCP_NODELAY, &yes, sizeof yes);
-    if (send(one->fd, request, sizeof request - 1, MSG_NOSIGNAL) != sizeof request - 1) {
+    if (send(one->fd, request, size, MSG_NOSIGNAL) != size) {
         return 0;
     }
     size_t length = 0;
@@ -281,7 +303,7 @@ void open_all(int port, int count) {
     on_message = on_connected;
     for (int at = 0; at < count; at++) {
         open_one(port);
-        add(&connections[at], "CONNECT\naccept-version:1.2\n\n");
+        add(&connections[at], "CONNECT\naccept-version:1.2\n%s\n", said("LOAD_CONNECT", ""));
     }
     write_all();
     wait_for(all_connected, "CONNECTED");

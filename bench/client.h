@@ -40,7 +40,8 @@ void fail(const char *format, ...);
 
 double now(void);
 
-// Opens so many connections with a session each.
+// Opens so many connections with a session each. Where another broker asks for more, the environment says it: LOAD_PATH is
+// the path of the handshake, and LOAD_CONNECT are more header lines of CONNECT, each with its line end.
 void open_all(int port, int count);
 
 // Adds a frame of STOMP, as a masked Text message. The NUL behind it goes with it.
@@ -56,6 +57,12 @@ void pump(int milliseconds);
 void wait_for(int (*is_done)(void), const char *what);
 
 int starts(const char *frame, size_t length, const char *word);
+
+// A word of the environment, or what stands for it where it isn't there.
+const char *said(const char *name, const char *otherwise);
+
+// What stands behind a header's name, and how long that is.
+const char *text_of(const char *frame, size_t length, const char *name, int *size);
 
 // The number that stands behind a header's name, and the one that a body begins with.
 long number_of(const char *frame, size_t length, const char *name);

@@ -2,7 +2,9 @@
 // builds and runs it.
 //
 //     load receipts PORT CONNECTIONS IN_FLIGHT SECONDS     SENDs with receipts to a topic where nobody listens
-//     load latency PORT COUNT PAUSE                        the same, one at a time, so many microseconds after each
+//     load latency PORT COUNT PAUSE [DESTINATION]          the same, one at a time, so many microseconds after each
+//     load kept PORT CONNECTIONS IN_FLIGHT SECONDS         SENDs with receipts to a queue of each connection's own, which
+//                                                          takes and acknowledges what comes there
 //     load fanout PORT SUBSCRIBERS SECONDS                 one sender of a topic, and so many subscribers
 //     load queue PORT PRODUCERS CONSUMERS SECONDS          a work queue, each job acknowledged
 //     load send PORT DESTINATION COUNT BODY                so many SENDs on 31 connections, with bodies of so many bytes
@@ -10,7 +12,8 @@
 //     load syncs FILE COUNT PAUSE                          two writes and two syncs, as for a block, so often, and a pause
 //
 // What comes back is compared with what has to come: receipts in order, each message once. What is not so ends the program
-// with status 1.
+// with status 1. LOAD_SEND in the environment are more header lines of each SEND, each with its line end; client.h has what
+// else is said there. bench/beside_rabbitmq.py loads another broker so.
 
 #include "client.h"
 
@@ -26,6 +29,7 @@ enum {
     MOST_AHEAD = 256,
     // A broker holds 4,096 messages at most.
     MOST_JOBS = 2000,
+    MOST_KEPT = 100,
     JOBS = 1 << 25,
     SAMPLES = 1 << 22,
 };
@@ -33,6 +37,7 @@ enum {
 static double *samples;
 static long sample_count;
 static char body[65537];
+static const char *more_headers;
 
 static void tell(const char *name, double value) {
     printf("%s %.9g\n", name, value);
@@ -85,7 +90,7 @@ static double take_receipt(struct connection *one, const char *frame, size_t len
 // Adds a SEND with the next receipt of its connection.
 static void add_send(struct connection *one, const char *destination, long number) {
     one->stamps[one->asked % MOST_IN_FLIGHT] = now();
-    add(one, "SEND\ndestination:%s\nreceipt:%ld\n\n%ld %s", destination, one->asked, number, body);
+    add(one, "SEND\ndestination:%s\nreceipt:%ld\n%s\n%ld %s", destination, one->asked, more_headers, number, body);
     one->asked++;
 }
 
@@ -134,11 +139,11 @@ static void on_lone_receipt(struct connection *one, const char *frame, size_t le
     take_receipt(one, frame, length);
 }
 
-static void latency(long count, long pause) {
+static void latency(long count, long pause, const char *destination) {
     on_message = on_lone_receipt;
     measuring_to = 1e300;
     for (long number = 0; number < count; number++) {
-        add_send(&connections[0], "/topic/none", number);
+        add_send(&connections[0], destination, number);
         write_all();
         wait_for(all_given, "a receipt");
         if (pause > 0) {
@@ -179,14 +184,38 @@ static int all_subscribed(void) {
     return subscribed == to_subscribe;
 }
 
-static void subscribe(int from, int to, const char *destination, const char *mode) {
+static void add_subscribe(struct connection *one, const char *destination, const char *mode) {
+    add(one, "SUBSCRIBE\nid:s\ndestination:%s\nack:%s\nreceipt:s\n\n", destination, mode);
+}
+
+// Waits until so many receipts of SUBSCRIBEs, or of last SENDs, have come.
+static void wait_for_receipts(int count, const char *what) {
     on_message = on_subscribed;
-    to_subscribe = to - from;
-    for (int at = from; at < to; at++) {
-        add(&connections[at], "SUBSCRIBE\nid:s\ndestination:%s\nack:%s\nreceipt:s\n\n", destination, mode);
-    }
+    subscribed = 0;
+    to_subscribe = count;
     write_all();
-    wait_for(all_subscribed, "receipts of SUBSCRIBE");
+    wait_for(all_subscribed, what);
+}
+
+static void subscribe(int from, int to, const char *destination, const char *mode) {
+    for (int at = from; at < to; at++) {
+        add_subscribe(&connections[at], destination, mode);
+    }
+    wait_for_receipts(to - from, "receipts of SUBSCRIBE");
+}
+
+static void acknowledge(struct connection *one, const char *frame, size_t length) {
+    int size;
+    const char *name = text_of(frame, length, "\nack:", &size);
+    add(one, "ACK\nid:%.*s\n\n", size, name);
+}
+
+// Each connection from there on is still served, so none of its acknowledgements was refused.
+static void see_acknowledged(int from) {
+    for (int at = from; at < connection_count; at++) {
+        add(&connections[at], "SEND\ndestination:/topic/none\nreceipt:end\n\n");
+    }
+    wait_for_receipts(connection_count - from, "the last acknowledgements");
 }
 
 static long heard_messages;
@@ -249,7 +278,7 @@ static void on_job(struct connection *one, const char *frame, size_t length) {
     }
     jobs_done++;
     heard_messages += is_measured(now());
-    add(one, "ACK\nid:%ld\n\n", number_of(frame, length, "\nack:"));
+    acknowledge(one, frame, length);
 }
 
 static int all_jobs_done(void) {
@@ -271,16 +300,58 @@ static void work_queue(double seconds) {
     }
     is_ending = 1;
     wait_for(all_jobs_done, "the last jobs");
-    // Each consumer is still served, so that none of its acknowledgements was refused.
-    on_message = on_subscribed;
-    subscribed = 0;
-    to_subscribe = connection_count - producers;
-    for (int at = producers; at < connection_count; at++) {
-        add(&connections[at], "SEND\ndestination:/topic/none\nreceipt:end\n\n");
+    see_acknowledged(producers);
+    tell("jobs_a_second", heard_messages / seconds);
+    tell_times("receipt", samples, sample_count);
+}
+
+static const char *own_queue(const struct connection *one) {
+    static char name[32];
+    snprintf(name, sizeof name, "/queue/own%d", (int)(one - connections));
+    return name;
+}
+
+static void send_kept(struct connection *one) {
+    while (!is_ending && one->asked - one->given < in_flight && one->asked - one->messages < MOST_KEPT) {
+        add_send(one, own_queue(one), one->asked);
+    }
+}
+
+static void on_kept(struct connection *one, const char *frame, size_t length) {
+    if (starts(frame, length, "MESSAGE\n")) {
+        if (body_of(frame, length) != one->messages++) {
+            fail("not in order: %.*s", (int)length, frame);
+        }
+        acknowledge(one, frame, length);
+    } else {
+        take_receipt(one, frame, length);
+    }
+    send_kept(one);
+}
+
+static int all_taken(void) {
+    for (int at = 0; at < connection_count; at++) {
+        if (connections[at].messages < connections[at].asked) {
+            return 0;
+        }
+    }
+    return all_given();
+}
+
+static void kept(double seconds) {
+    for (int at = 0; at < connection_count; at++) {
+        add_subscribe(&connections[at], own_queue(&connections[at]), "client-individual");
+    }
+    wait_for_receipts(connection_count, "receipts of SUBSCRIBE");
+    on_message = on_kept;
+    for (int at = 0; at < connection_count; at++) {
+        send_kept(&connections[at]);
     }
     write_all();
-    wait_for(all_subscribed, "the last acknowledgements");
-    tell("jobs_a_second", heard_messages / seconds);
+    measure_for(seconds);
+    wait_for(all_taken, "the last messages");
+    see_acknowledged(0);
+    tell("receipts_a_second", counted / seconds);
     tell_times("receipt", samples, sample_count);
 }
 
@@ -361,13 +432,18 @@ int main(int count, char **words) {
     int port = numbers[0];
     samples = calloc(SAMPLES, sizeof *samples);
     set_body(64);
+    more_headers = said("LOAD_SEND", "");
     if (strcmp(mode, "receipts") == 0 && count == 6 && numbers[2] > 0 && numbers[2] <= MOST_IN_FLIGHT) {
         open_all(port, numbers[1]);
         in_flight = numbers[2];
         receipts(numbers[3]);
-    } else if (strcmp(mode, "latency") == 0 && count == 5) {
+    } else if (strcmp(mode, "kept") == 0 && count == 6 && numbers[2] > 0 && numbers[2] <= MOST_IN_FLIGHT) {
+        open_all(port, numbers[1]);
+        in_flight = numbers[2];
+        kept(numbers[3]);
+    } else if (strcmp(mode, "latency") == 0 && (count == 5 || count == 6)) {
         open_all(port, 1);
-        latency(numbers[1], numbers[2]);
+        latency(numbers[1], numbers[2], count == 6 ? words[5] : "/topic/none");
     } else if (strcmp(mode, "fanout") == 0 && count == 5) {
         open_all(port, numbers[1] + 1);
         fan_out(numbers[2]);

@@ -36,16 +36,25 @@ def build_slow_sync(folder):
     return built
 
 
-def make_journal(program, path, area):
+def make_journal(program, path, area, *, sparse=True):
     """A new journal with areas of so many bytes."""
     pathlib.Path(path).unlink(missing_ok=True)
-    subprocess.run([program, "format", "--sparse", path, str(HEADER + 2 * area)], check=True)
+    options = ["--sparse"] if sparse else []
+    done = subprocess.run([program, "format", *options, path, str(HEADER + 2 * area)], capture_output=True, text=True)
+    if done.returncode != 0:
+        sys.exit(f"no journal could be made: {done.stderr.strip()}")
 
 
 def shown(program, path):
     """What `stompd show` says: its numbers by name."""
     done = subprocess.run([program, "show", path], check=True, capture_output=True, text=True)
     return {name: int(value) for name, value in (line.split(" ") for line in done.stdout.splitlines())}
+
+
+def cpu_of(pid):
+    """How many seconds of processor time a process has taken."""
+    fields = pathlib.Path(f"/proc/{pid}/stat").read_text(encoding="ascii").rsplit(") ", 1)[1].split()
+    return (int(fields[11]) + int(fields[12])) / os.sysconf("SC_CLK_TCK")
 
 
 class Server:
@@ -71,8 +80,7 @@ class Server:
 
     def cpu(self):
         """How many seconds of processor time it has taken."""
-        fields = pathlib.Path(f"/proc/{self.process.pid}/stat").read_text(encoding="ascii").rsplit(") ", 1)[1].split()
-        return (int(fields[11]) + int(fields[12])) / os.sysconf("SC_CLK_TCK")
+        return cpu_of(self.process.pid)
 
     def kill(self):
         served = self.process.pid

@@ -1,6 +1,6 @@
-// Makes each fsync take SLOW_SYNC microseconds more, to measure what a slow disk would do, and counts the syncs and the
-// nanoseconds that they took in the file SYNCS_SEEN, two words of 64 bits each. It is put before the C library's fsync by
-// LD_PRELOAD; bench/serve.py builds it and says where.
+// Makes each fsync take SLOW_SYNC microseconds more (0 without it), to measure what a slow disk would do, and counts the
+// syncs and the nanoseconds that they took in the file SYNCS_SEEN, two words of 64 bits each. It is put before the C
+// library's fsync by LD_PRELOAD; bench/serve.py and bench/beside_rabbitmq.py build it and say where.
 
 #define _GNU_SOURCE
 #include <dlfcn.h>
@@ -43,7 +43,9 @@ int fsync(int file) {
     }
     struct timespec pause = {microseconds / 1000000, microseconds % 1000000 * 1000};
     int64_t begun = nanoseconds();
-    nanosleep(&pause, NULL);
+    if (microseconds > 0) {
+        nanosleep(&pause, NULL);
+    }
     int done = below(file);
     __atomic_fetch_add(&seen[0], 1, __ATOMIC_RELAXED);
     __atomic_fetch_add(&seen[1], nanoseconds() - begun, __ATOMIC_RELAXED);
