@@ -342,7 +342,7 @@ def draw_a_room(broker, checks, browser, path):
     checks.check("five jobs are done", pages["anna"].comes(f"{done} >= 5", 20))
     checks.check("and numbers drawn", pages["anna"].comes("numbers.length > 50", 30))
     pages["anna"].value("document.activeElement.blur(); scrollTo(0, 0)")
-    pages["anna"].look(path, 1200, 1060)
+    pages["anna"].look(path, 1200, 1170)
     checks.tell(f"{path} has {path.stat().st_size} bytes")
 
 
