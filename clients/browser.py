@@ -333,7 +333,7 @@ def draw_a_room(broker, checks, browser, path):
     pages["anna"].value("document.getElementById('ten').click()")
     for page in pages.values():
         page.toggle("work")
-    for words in ("Refuse: job 2 of ten", "Refuse: job 10 of ten"):
+    for words in ("Refuse: job 9 of ten", "Refuse: job 10 of ten"):
         button = f"document.querySelector('#jobs [aria-label=\"{words}\"]')"
         checks.check(words, any(page.comes(f"{button} && ({button}.click(), true)", 0.5) for page in pages.values()))
     pages["anna"].toggle("look")
@@ -342,7 +342,7 @@ def draw_a_room(broker, checks, browser, path):
     checks.check("five jobs are done", pages["anna"].comes(f"{done} >= 5", 20))
     checks.check("and numbers drawn", pages["anna"].comes("numbers.length > 50", 30))
     pages["anna"].value("document.activeElement.blur(); scrollTo(0, 0)")
-    pages["anna"].look(path, 1200, 1060)
+    pages["anna"].look(path, 1200, 1170)
     checks.tell(f"{path} has {path.stat().st_size} bytes")
 
 
