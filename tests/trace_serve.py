@@ -218,7 +218,8 @@ def start(journal, live, snapshot):
     journal.sync("recovery's sync")
     journal.reads()
     front, idle = b"", HEAD + AREA * (1 - live)
-    wanted = struct.pack(">Q", len(snapshot)) + snapshot + b"\0"
+    # The highest byte tells the second version.
+    wanted = struct.pack(">Q", 2 << 56 | len(snapshot)) + snapshot + b"\0"
     while len(front) < len(wanted):
         place, data = journal.write("the snapshot")
         check(place == idle + len(front), f"the snapshot is written at {place}")
