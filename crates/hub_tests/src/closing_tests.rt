@@ -1,7 +1,7 @@
 ghost use Rattle.std.specs.Prelude.{◌≡◌, ◌≤◌, IsTrue, OnSome};
 ghost use Rattle.hub_tests.specs.Parties.{AreTogether};
 
-use crate::gates::{Counting, Free, Shut};
+use crate::gates::{Free, Shut};
 use crate::hubs::{HubFlusher, HubRing, HubSeat, Party, SMALL_AREA, close, new_party, party_over};
 use command_core::{Command, Dest, Entry, Op, Sending};
 use disk_core::MemDisk;
@@ -160,35 +160,5 @@ fn run(alloc: Global, breaks: bool) -> Option<([u64; 4], u64)> {
 fn a_flusher_closes_between_its_steps_and_broken(rt: HostRuntime) -> Result<(), Fail> {
     assert_eq!(rt; run(rt.alloc(), false), Some(([0, 4, 3, 2], 2)));
     assert_eq!(rt; run(rt.alloc(), true), Some(([0, 2, 2, 1], 1)));
-    Ok(())
-}
-
-// So many commands, each appended and published in a turn of its own.
-fn flush_each(alloc: Global, party: &mut Party, gate: &Counting, commands: u32) -> Option<u64>
-    requires together { AreTogether party.old.hub party.old.first party.old.second party.old.flusher }
-    requires settled { party.old.flusher.settled ≡ party.old.flusher.stored }
-{
-    let ring = party.hub.ring();
-    for _ in 0..commands {
-        append(alloc, ring, &mut party.first, 1_000)?;
-        flush_loop(alloc, ring, &mut party.flusher, gate, 1).ok()?;
-    }
-    Some(party.flusher.mark())
-}
-
-// The mark then, and what the gate heard of compactions.
-fn compactions(alloc: Global, commands: u32) -> Option<(u64, [u64; 2])> {
-    let mut party = new_party(alloc, SMALL_AREA)?;
-    let gate = Counting::new();
-    let mark = flush_each(alloc, &mut party, &gate, commands)?;
-    Some((mark, gate.heard()))
-}
-
-// Each block has nine bytes beside its record of 1,028, and the snapshot of no session 32 with nine more. So three blocks fit, and
-// each third block from the fourth on compacts first.
-#[test]
-fn each_compaction_is_told_to_the_gate(rt: HostRuntime) -> Result<(), Fail> {
-    assert!(rt; compactions(rt.alloc(), 3) == Some((3, [0, 0])));
-    assert!(rt; compactions(rt.alloc(), 7) == Some((7, [2, 2 * 3 * 1_037])));
     Ok(())
 }

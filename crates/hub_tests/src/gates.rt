@@ -38,39 +38,6 @@ impl<R: Clock> Gate for Pause<R> {
     }
 }
 
-/// Lets each turn pass, and counts the compactions that it hears of, with the bytes that they won.
-#[derive(Drop)]
-pub struct Counting {
-    compactions: AtomicU64,
-    won: AtomicU64,
-}
-
-impl Counting {
-    pub fn new() -> Counting {
-        Counting {
-            compactions: AtomicU64::new(0),
-            won: AtomicU64::new(0),
-        }
-    }
-
-    /// How many it heard of, and how many bytes they won together.
-    pub fn heard(&self) -> [u64; 2] {
-        let compactions = self.compactions.load(Ordering::SeqCst);
-        [compactions, self.won.load(Ordering::SeqCst)]
-    }
-}
-
-impl Gate for Counting {
-    fn pass(&self, _worker: u32, _turn: u64) -> bool {
-        true
-    }
-
-    fn compacted(&self, won: u64) {
-        self.compactions.fetch_add(1, Ordering::SeqCst);
-        self.won.fetch_add(won, Ordering::SeqCst);
-    }
-}
-
 /// Holds up worker 0 until it is opened. Each turn sleeps a millisecond; once it is closed for the flusher that turns no more.
 #[derive(Drop)]
 pub struct Turnstile<R> {
