@@ -77,28 +77,38 @@ def code_of(stream):
         return closed.code
 
 
+def answer_to(port, request):
+    """The status of the answer, behind which the stream ends."""
+    stream = Stream(port)
+    try:
+        stream.write(request)
+    except (BrokenPipeError, ConnectionResetError):
+        # Not all was read before the answer.
+        pass
+    try:
+        while True:
+            stream.fill()
+    except Closed:
+        stream.close()
+    words = bytes(stream.buffer).split(b" ", 2)
+    return int(words[1]) if words[0] == b"HTTP/1.1" else words
+
+
 def no_http(broker, checks):
-    """bytes that are no handshake: the stream ends, with no answer"""
+    """bytes that are no handshake: the status that says why, and the end"""
     head = handshake(broker.port, offer="v12.stomp").decode()
     requests = {
-        "a TLS hello": b"\x16\x03\x01\x02\x00\x01\x00\x01\xfc\x03\x03" + bytes(range(200)),
-        "a line of text": b"hello\r\n\r\n",
-        "STOMP on plain TCP": b"CONNECT\naccept-version:1.2\n\n\0\r\n\r\n",
-        "a GET of a page": b"GET / HTTP/1.1\r\nHost: localhost\r\n\r\n",
-        "version 8 of WebSocket": head.replace("Version: 13", "Version: 8").encode(),
-        "no key": "\r\n".join(line for line in head.split("\r\n") if "-Key" not in line).encode(),
-        "a head of 70,000 bytes": head.replace("\r\n\r\n", "\r\nX: " + "x" * 70_000).encode(),
-        "125 headers": head.replace("\r\n\r\n", "\r\n" + "X: x\r\n" * 119 + "\r\n").encode(),
+        "a TLS hello": (400, b"\x16\x03\x01\x02\x00\x01\x00\x01\xfc\x03\x03" + bytes(range(200))),
+        "a line of text": (400, b"hello\r\n\r\n"),
+        "STOMP on plain TCP": (400, b"CONNECT\naccept-version:1.2\n\n\0\r\n\r\n"),
+        "a GET of a page": (426, b"GET / HTTP/1.1\r\nHost: localhost\r\n\r\n"),
+        "version 8 of WebSocket": (426, head.replace("Version: 13", "Version: 8").encode()),
+        "no key": (400, "\r\n".join(line for line in head.split("\r\n") if "-Key" not in line).encode()),
+        "a head of 70,000 bytes": (431, head.replace("\r\n\r\n", "\r\nX: " + "x" * 70_000).encode()),
+        "125 headers": (431, head.replace("\r\n\r\n", "\r\n" + "X: x\r\n" * 119 + "\r\n").encode()),
     }
-    for name, request in requests.items():
-        stream = Stream(broker.port)
-        try:
-            stream.write(request)
-            code = code_of(stream)
-        except (BrokenPipeError, ConnectionResetError):
-            code = 0
-        checks.same(f"{name}: the end, and no byte before", (code, bytes(stream.buffer)), (0, b""))
-        stream.close()
+    for name, (status, request) in requests.items():
+        checks.same(f"{name}: the status, and the end", answer_to(broker.port, request), status)
     still_served(broker, checks, "these")
 
 
