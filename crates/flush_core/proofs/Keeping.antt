@@ -108,6 +108,12 @@ held_settled {B} seat stored settled journal batch done next_done bytes left wai
   room_is = fits;
 }
 
+-- where all that is stored is executed, none waits to be executed
+pub none_done : {B : Type 0} (seat : FlushSeatValue) (stored settled : ℕ) (journal : Bool) (batch done : List (EntryValue B)) (bytes left waiting room : ℕ) → settled ≡ stored
+    → IsHeld seat stored settled journal batch done bytes left waiting room → commands done ≡ []
+none_done seat stored settled journal batch done bytes left waiting room same held =
+    held.done_is ∙ (ap (λ (n : ℕ). between seat n stored) same ∙ between_none seat stored)
+
 -- the entries that are stored or gathered are those of the commands from the settled number on
 pub all_brought : {B : Type 0} (seat : FlushSeatValue) (stored settled : ℕ) (journal : Bool) (batch done : List (EntryValue B)) (bytes left waiting room : ℕ) → seat.base ≤ settled → settled ≤ stored
     → IsHeld seat stored settled journal batch done bytes left waiting room → commands (done ++ batch) ≡ from_on seat settled
@@ -151,8 +157,8 @@ nothing [] none = refl
 nothing (x ∷ l) none = absurd (omega (arith, none))
 
 -- the batch of none
-pub no_batch : IsBatch []
-no_batch = record { few = omega arith; small = omega arith }
+pub no_batch : (most most_bytes : ℕ) → IsBatch most most_bytes []
+no_batch most most_bytes = record { few = omega arith; small = λ some. absurd (some refl) }
 
 module _ {D : Type 0} (honest : D → Type 0) (images : D → List ℕ → Type 0) where
   pub starts : (f : Flushed D) → f.seat.taken ≡ [] → f.seat.published ≡ f.seat.base → f.stored ≡ f.seat.base → f.settled ≡ f.seat.base
@@ -174,16 +180,15 @@ module _ {D : Type 0} (honest : D → Type 0) (images : D → List ℕ → Type 
         running = λ _. record {
           stands = at f.stored;
           broker = broker ∙ ap (λ (s : State). record { state = s; broken = false }) (sym (same f.settled));
-          batch = subst (λ (l : List CommandValue). IsBatch l) (sym (from_end f.seat f.stored (omega (arith, stored, ap (λ (l : List CommandValue). length l) none)))) no_batch;
           brought = ap (λ (l : List (EntryValue SenderValue)). commands l) brought ∙ sym (from_end f.seat f.settled (omega (arith, settled, ap (λ (l : List CommandValue). length l) none)));
           waiting = subst (λ (l : List OutValue). AreUnder f.settled l) (sym waiting) tt;
         };
       }
 
   -- more is taken
-  pub takes : (f : Flushed D) (seat : FlushSeatValue) (more : List CommandValue) (brought : List (EntryValue SenderValue)) → seat ≡ with_more f.seat more → IsBatch (from_on seat f.stored) → commands brought ≡ from_on seat f.settled → f.broken ≡ false
+  pub takes : (f : Flushed D) (seat : FlushSeatValue) (more : List CommandValue) (brought : List (EntryValue SenderValue)) → seat ≡ with_more f.seat more → commands brought ≡ from_on seat f.settled → f.broken ≡ false
       → IsFlusher honest images f → IsFlusher honest images (record f { seat = seat; brought = brought })
-  takes f seat more brought is batch entries whole kept = subst (λ (s : FlushSeatValue). IsFlusher honest images (record f { seat = s; brought = brought })) (sym is) (record {
+  takes f seat more brought is entries whole kept = subst (λ (s : FlushSeatValue). IsFlusher honest images (record f { seat = s; brought = brought })) (sym is) (record {
     begun = kept.begun;
     marked = kept.marked;
     settled = kept.settled;
@@ -199,7 +204,6 @@ module _ {D : Type 0} (honest : D → Type 0) (images : D → List ℕ → Type 
         record {
           stands = λ h. subst (λ (s : State). StandFor (images f.disk) s) (sym (at_more f.opening f.seat more f.stored kept.stored)) (run.stands h);
           broker = run.broker ∙ ap (λ (s : State). record { state = s; broken = false }) (sym (at_more f.opening f.seat more f.settled settled));
-          batch = subst (λ (s : FlushSeatValue). IsBatch (from_on s f.stored)) is batch;
           brought = subst (λ (s : FlushSeatValue). commands brought ≡ from_on s f.settled) is entries;
           waiting = run.waiting;
         };
@@ -254,7 +258,7 @@ module _ {D : Type 0} (honest : D → Type 0) (images : D → List ℕ → Type 
         each = λ h. hold_at (images next) f.opening f.seat f.stored (omega (arith, kept.marked, kept.settled)) kept.stored (stand h);
         under = kept.under;
         stopped = kept.stopped;
-        running = λ _. record { stands = stand; broker = run.broker; batch = run.batch; brought = run.brought; waiting = run.waiting };
+        running = λ _. record { stands = stand; broker = run.broker; brought = run.brought; waiting = run.waiting };
       }
 
   -- what was won is told
@@ -270,7 +274,7 @@ module _ {D : Type 0} (honest : D → Type 0) (images : D → List ℕ → Type 
         each = kept.each;
         under = kept.under;
         stopped = kept.stopped;
-        running = λ whole. let run = kept.running whole in record { stands = run.stands; broker = run.broker; batch = run.batch; brought = run.brought; waiting = run.waiting };
+        running = λ whole. let run = kept.running whole in record { stands = run.stands; broker = run.broker; brought = run.brought; waiting = run.waiting };
       }
 
   -- all that was taken is stored
@@ -293,7 +297,6 @@ module _ {D : Type 0} (honest : D → Type 0) (images : D → List ℕ → Type 
         running = λ _. record {
           stands = stand;
           broker = run.broker;
-          batch = subst (λ (l : List CommandValue). IsBatch l) (sym (from_end f.seat stored is)) no_batch;
           brought = ap (λ (l : List (EntryValue SenderValue)). commands l) same ∙ run.brought;
           waiting = run.waiting;
         };
@@ -353,7 +356,6 @@ module _ {D : Type 0} (honest : D → Type 0) (images : D → List ℕ → Type 
         running = λ _. record {
           stands = run.stands;
           broker = is ∙ ap (λ (s : State). record { state = s; broken = false }) all;
-          batch = run.batch;
           brought = entries;
           waiting = subst (λ (l : List OutValue). AreUnder f.stored l) (sym outs) (all_append (λ (out : OutValue). out.number < f.stored) f.waiting (outs_of f.broker.state (unsettled f)) (under_more f.settled f.stored f.waiting kept.settled run.waiting) new);
         };
@@ -375,7 +377,7 @@ module _ {D : Type 0} (honest : D → Type 0) (images : D → List ℕ → Type 
             (under_more f.seat.published f.stored f.left (omega (arith, kept.marked, kept.settled)) kept.under)
             (under_kept f.stored p f.waiting (under_more f.settled f.stored f.waiting kept.settled run.waiting)));
         stopped = kept.stopped;
-        running = λ _. record { stands = run.stands; broker = run.broker; batch = run.batch; brought = run.brought; waiting = subst (λ (l : List OutValue). AreUnder f.settled l) (sym none) tt };
+        running = λ _. record { stands = run.stands; broker = run.broker; brought = run.brought; waiting = subst (λ (l : List OutValue). AreUnder f.settled l) (sym none) tt };
       })
 
   -- the outputs are handed out
@@ -390,5 +392,5 @@ module _ {D : Type 0} (honest : D → Type 0) (images : D → List ℕ → Type 
     each = kept.each;
     under = tt;
     stopped = kept.stopped;
-    running = λ whole. let run = kept.running whole in record { stands = run.stands; broker = run.broker; batch = run.batch; brought = run.brought; waiting = run.waiting };
+    running = λ whole. let run = kept.running whole in record { stands = run.stands; broker = run.broker; brought = run.brought; waiting = run.waiting };
   }

@@ -121,12 +121,12 @@ module _ {D : Type 0} (disk : Ghosts D) (f g h : Flushed D) (entries : List (Ent
   pub gathered_stays : gathered g ≡ from_on h.seat f.stored
   gathered_stays = rest_stays g h g.stored fault outcome ∙ ap (λ (x : Flushed D). from_on h.seat x.stored) took
 
-  pub was_full : (g.size < g.used + 9 + length (records (gathered g))) × (h.disk ≡ g.disk) → IsBatch (gathered g) → gathered g ≢ []
-      → (f.size < f.used + 9 + length (records (from_on h.seat f.stored))) × (h.disk ≡ f.disk) × IsBatch (from_on h.seat f.stored) × (from_on h.seat f.stored ≢ [])
-  was_full told batch some = (
+  pub was_full : {most most_bytes : ℕ} → (g.size < g.used + 9 + length (records (gathered g))) × (h.disk ≡ g.disk) → IsBatch most most_bytes (gathered g) → gathered g ≢ []
+      → (f.size < f.used + 9 + length (records (from_on h.seat f.stored))) × (h.disk ≡ f.disk) × IsBatch most most_bytes (from_on h.seat f.stored) × (from_on h.seat f.stored ≢ [])
+  was_full {most} {most_bytes} told batch some = (
     subst (λ (x : Flushed D × List CommandValue). x.0.size < x.0.used + 9 + length (records x.1)) (λ i. (took i, gathered_stays i)) told.0,
     told.1 ∙ ap (λ (x : Flushed D). x.disk) took,
-    subst IsBatch gathered_stays batch,
+    subst (IsBatch most most_bytes) gathered_stays batch,
     λ none. some (gathered_stays ∙ none),
   )
 
@@ -152,5 +152,5 @@ module _ {D : Type 0} (disk : Ghosts D) (f g h : Flushed D) (entries : List (Ent
   pub has_none_left : HasNoRoomLeft (disk.content h.disk) (state_at g.opening g.seat g.stored) (gathered g) → HasNoRoomLeft (disk.content h.disk) (state_at f.opening f.seat f.stored) (from_on h.seat f.stored)
   has_none_left told = subst (λ (z : State × List CommandValue). HasNoRoomLeft (disk.content h.disk) z.0 z.1) (λ i. (before_taking i, gathered_stays i)) told
 
-  pub of_a_batch : IsBatch (gathered g) → gathered g ≢ [] → IsBatch (from_on h.seat f.stored) × (from_on h.seat f.stored ≢ [])
-  of_a_batch batch some = (subst IsBatch gathered_stays batch, λ none. some (gathered_stays ∙ none))
+  pub of_a_batch : {most most_bytes : ℕ} → IsBatch most most_bytes (gathered g) → gathered g ≢ [] → IsBatch most most_bytes (from_on h.seat f.stored) × (from_on h.seat f.stored ≢ [])
+  of_a_batch {most} {most_bytes} batch some = (subst (IsBatch most most_bytes) gathered_stays batch, λ none. some (gathered_stays ∙ none))

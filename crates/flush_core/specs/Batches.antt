@@ -1,5 +1,5 @@
 -- Commands taken from the ring, and batches of them.
-use Rattle.std.specs.Prelude.{◌≤◌, ◌<◌, ◌-◌, ◌++◌, ℕ, List, length, take, drop}
+use Rattle.std.specs.Prelude.{◌≢◌, ◌≤◌, ◌<◌, ◌-◌, ◌++◌, ℕ, List, [], length, take, drop}
 use Rattle.command_core.specs.Commands.{CommandValue}
 use Rattle.area_core.specs.Areas.{records}
 use Rattle.claim_core.specs.Seats.{FlushSeatValue, flushing}
@@ -26,7 +26,7 @@ state_at opening seat n = state_after opening (take (n - seat.base) seat.taken)
 abbrev pub state_taken : State → FlushSeatValue → State
 state_taken opening seat = state_after opening seat.taken
 
--- A batch: at most 32 commands, and all but the last have records of fewer than 262,144 bytes.
-pub record IsBatch (cs : List CommandValue) : Type 0 where
-  pub few : length cs ≤ 32
-  pub small : length (records (take (length cs - 1) cs)) < 262144
+-- A batch: at most so many commands, and where it has a last one, the records of those before it have fewer bytes than that.
+pub record IsBatch (most most_bytes : ℕ) (cs : List CommandValue) : Type 0 where
+  pub few : length cs ≤ most
+  pub small : cs ≢ [] → length (records (take (length cs - 1) cs)) < most_bytes

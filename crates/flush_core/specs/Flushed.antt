@@ -14,7 +14,7 @@ use Rattle.claim_core.specs.Seats.{FlushSeatValue, next_ticket}
 use Rattle.recover_core.specs.declared.store.Store.{Store}
 use Rattle.recover_core.specs.Standing.{Stands, StandFor}
 use Rattle.recover_core.specs.Stores.{disk_of, size_of, used_of}
-use Rattle.flush_core.specs.Batches.{IsBatch, between, from_on, state_at}
+use Rattle.flush_core.specs.Batches.{between, from_on, state_at}
 
 -- A flusher: its disk, the bytes of an area of the journal and those used; its seat at the ring, with the commands taken
 -- and the mark; the state that the journal stood for when the flusher was made; the first number that is not stored, and
@@ -68,12 +68,11 @@ abbrev pub HoldBetween : (List ℕ → Type 0) → State → FlushSeatValue → 
 HoldBetween images opening seat = (c : List ℕ) → images c → ∥ AfterSome opening seat c ∥₁
 
 -- While no step has failed: each image stands for the state after all that is stored, the broker has that after all that
--- is settled, what waits to be stored is one batch, what was brought are the entries of the commands from the settled number
--- on, and no output waits that is not settled.
+-- is settled, what was brought are the entries of the commands from the settled number on, and no output waits that is not
+-- settled.
 pub record IsRunning {D : Type 0} (honest : D → Type 0) (images : D → List ℕ → Type 0) (f : Flushed D) : Type 0 where
   pub stands : honest f.disk → StandFor (images f.disk) (state_at f.opening f.seat f.stored)
   pub broker : f.broker ≡ record { state = state_at f.opening f.seat f.settled; broken = false }
-  pub batch : IsBatch (gathered f)
   pub brought : commands f.brought ≡ from_on f.seat f.settled
   pub waiting : AreUnder f.settled f.waiting
 

@@ -18,7 +18,7 @@ use disk_core::Disk;
 use outbox_core::{Bell, OutSender};
 use std::alloc::Global;
 
-impl<D: Disk, B: Bell> Flusher<D, B> {
+impl<D: Disk, B: Bell, const BATCH: usize, const BATCH_BYTES: u64> Flusher<D, B, BATCH, BATCH_BYTES> {
     /// Writes a snapshot of the state after all that is stored, its sessions included, into the area of the journal that is not
     /// live, and makes that one live. What is gathered waits meanwhile, and sessions go on claiming.
     ///

@@ -19,12 +19,14 @@ use std::alloc::Global;
 use std::marker::Model;
 use std::snapshot::Snapshot;
 
-/// The one that takes commands from a ring, makes them durable, executes them and publishes them.
+/// The one that takes commands from a ring, makes them durable, executes them and publishes them. A block of the journal has
+/// at most `BATCH` of them, and those in front of its last have records of fewer than `BATCH_BYTES` bytes. Both are at least 1,
+/// else it takes none.
 ///
 /// Each image of its disk stands for the state after the commands taken up to some number from the mark on, also once a
 /// step has failed. No output is handed out but under the mark.
 #[derive(Drop)]
-pub struct Flusher<D: Disk, B: Bell> {
+pub struct Flusher<D: Disk, B: Bell, const BATCH: usize, const BATCH_BYTES: u64> {
     pub(crate) journal: Store<D>,
     pub(crate) broker: Broker,
     pub(crate) seat: FlushSeat<OutSender<B>>,
@@ -45,9 +47,13 @@ pub struct Flusher<D: Disk, B: Bell> {
     pub(crate) won: Option<u64>,
 }
 
-impl<D: Disk, B: Bell> Model for Flusher<D, B> {
+impl<D: Disk, B: Bell, const BATCH: usize, const BATCH_BYTES: u64> Model
+    for Flusher<D, B, BATCH, BATCH_BYTES>
+{
     ghost use Rattle.std.specs.Prelude.{◌≡◌, ◌++◌, false, length, vec_capacity};
     ghost use Rattle.recover_core.specs.Stores.{is_broken};
+    ghost use Rattle.area_core.specs.Areas.{commands};
+    ghost use Rattle.flush_core.specs.Batches.{IsBatch};
     ghost use Rattle.flush_core.specs.Flushed.{Flushed, IsFlusher, IsHeld, IsSpare, flushed};
 
     ghost Value = { Flushed D };
@@ -57,10 +63,11 @@ impl<D: Disk, B: Bell> Model for Flusher<D, B> {
     ghost invariant = { λ a. IsFlusher D.honest D.images (flushed a.journal a.seat a.opening.value.state a.stored a.settled (a.done.items ++ a.batch.items) a.broker a.outlet.boxes a.outlet.ended.items a.outlet.past.items a.outlet.waiting.items a.outlet.left.items a.broken a.won)
         × (a.broken ≡ false → IsHeld a.seat a.stored a.settled (is_broken a.journal) a.batch.items a.done.items a.bytes
         (length a.outlet.left.items) (length a.outlet.waiting.items) (vec_capacity a.outlet.left))
-        × (a.broken ≡ false → IsSpare (length a.outlet.spare.items) (length a.outlet.waiting.items) (vec_capacity a.outlet.spare)) };
+        × (a.broken ≡ false → IsSpare (length a.outlet.spare.items) (length a.outlet.waiting.items) (vec_capacity a.outlet.spare))
+        × (a.broken ≡ false → IsBatch BATCH BATCH_BYTES (commands a.batch.items)) };
 }
 
-impl<D: Disk, B: Bell> Flusher<D, B> {
+impl<D: Disk, B: Bell, const BATCH: usize, const BATCH_BYTES: u64> Flusher<D, B, BATCH, BATCH_BYTES> {
     /// A flusher of a journal, the broker of the state that the journal stands for, and the flusher's seat at a ring whose
     /// first ticket is the broker's count. No memory is taken.
     pub fn new(
@@ -68,7 +75,7 @@ impl<D: Disk, B: Bell> Flusher<D, B> {
         journal: Store<D>,
         broker: Broker,
         seat: FlushSeat<OutSender<B>>,
-    ) -> Flusher<D, B>
+    ) -> Flusher<D, B, BATCH, BATCH_BYTES>
         requires whole { (is_broken journal ≡ false) × (broker.broken ≡ false) }
         requires stands { D.honest (disk_of journal) → StandFor (D.images (disk_of journal)) broker.state }
         requires fresh { (seat.taken ≡ []) × (seat.published ≡ seat.base) }
@@ -155,7 +162,7 @@ impl<D: Disk, B: Bell> Flusher<D, B> {
     }
 
     /// The same flusher over a disk that passes so many more calls and then fails.
-    pub fn fuse(self, calls: u64) -> Flusher<FuseDisk<D>, B>
+    pub fn fuse(self, calls: u64) -> Flusher<FuseDisk<D>, B, BATCH, BATCH_BYTES>
         ensures disk { fused result.disk ≡ self.disk }
         ensures calls { calls_left result.disk ≡ calls }
         ensures same { IsSame self result }

@@ -17,69 +17,84 @@ use disk_core::Disk;
 use outbox_core::{Bell, OutSender};
 use std::alloc::AllocError;
 
-/// How many commands a batch may have.
-pub const BATCH_ENTRIES: usize = 32;
+// However small the journal's areas are, a batch whose records have fewer bytes takes a further command.
+const LEAST_BYTES: u64 = 262_144;
 
-/// A batch whose records have as many bytes takes no further command.
-pub const BATCH_BYTES: u64 = 262_144;
-
-// Takes the entries that are ready, one after another, until the batch is full, and answers how many.
-fn take_ready<B: Bell>(
-    ring: &BrokerRing<OutSender<B>>,
-    seat: &mut FlushSeat<OutSender<B>>,
-    batch: &mut Vec<Entry<OutSender<B>>>,
-    bytes: &mut u64,
-) -> u64
-    requires ring { seat.old.ring ≡ ring.now }
-    requires room { BATCH_ENTRIES ≤ vec_capacity batch.old }
-    requires bytes { bytes.old ≡ length (records (commands batch.old.items)) }
-    requires batch { IsBatch (commands batch.old.items) }
-    ensures taken { (more : List (EntryValue SenderValue)) × (length more ≡ result) × (seat.new ≡ with_more seat.old (commands more))
-        × (batch.new.items ≡ batch.old.items ++ more) }
-    ensures bytes { bytes.new ≡ length (records (commands batch.new.items)) }
-    ensures batch { IsBatch (commands batch.new.items) }
-{
-    let mut count = 0;
-    while batch.len() < BATCH_ENTRIES && *bytes < BATCH_BYTES {
-        let Some(entry) = ring.take(seat) else {
-            return count;
-        };
-        *bytes += entry.bytes().len() as u64;
-        batch.push_reserved(entry);
-        count += 1;
+impl<D: Disk, B: Bell, const BATCH: usize, const BATCH_BYTES: u64> Flusher<D, B, BATCH, BATCH_BYTES> {
+    // A batch whose records have as many bytes takes no further command: a quarter of an area, so that one block doesn't fill a
+    // journal that holds little, but not more than a batch may have, and in small areas `LEAST_BYTES`.
+    fn bytes_wanted(&self) -> u64
+        ensures { result ≤ BATCH_BYTES }
+    {
+        let quarter = self.journal.size() / 4;
+        if quarter > LEAST_BYTES {
+            quarter.min(BATCH_BYTES)
+        } else {
+            LEAST_BYTES.min(BATCH_BYTES)
+        }
     }
-    count
-}
 
-// Makes room for a whole batch before the first entry is taken, so that none is lost.
-fn fill<B: Bell>(
-    ring: &BrokerRing<OutSender<B>>,
-    seat: &mut FlushSeat<OutSender<B>>,
-    batch: &mut Vec<Entry<OutSender<B>>>,
-    bytes: &mut u64,
-) -> Result<u64, AllocError>
-    requires ring { seat.old.ring ≡ ring.now }
-    requires bytes { bytes.old ≡ length (records (commands batch.old.items)) }
-    requires batch { IsBatch (commands batch.old.items) }
-    ensures taken { IfOk result (λ count. (more : List (EntryValue SenderValue)) × (length more ≡ count) × (seat.new ≡ with_more seat.old (commands more))
-        × (batch.new.items ≡ batch.old.items ++ more)) }
-    ensures bytes { bytes.new ≡ length (records (commands batch.new.items)) }
-    ensures batch { IsBatch (commands batch.new.items) }
-    ensures refused { OnErr result (seat.new ≡ seat.old) }
-{
-    batch.reserve(BATCH_ENTRIES.saturating_sub(batch.len()))?;
-    Ok(take_ready(ring, seat, batch, bytes))
-}
+    // Takes the entries that are ready, one after another, until the batch is full or has so many bytes, and answers how many.
+    fn take_ready(
+        wanted: u64,
+        ring: &BrokerRing<OutSender<B>>,
+        seat: &mut FlushSeat<OutSender<B>>,
+        batch: &mut Vec<Entry<OutSender<B>>>,
+        bytes: &mut u64,
+    ) -> u64
+        requires wanted { wanted ≤ BATCH_BYTES }
+        requires ring { seat.old.ring ≡ ring.now }
+        requires room { BATCH ≤ vec_capacity batch.old }
+        requires bytes { bytes.old ≡ length (records (commands batch.old.items)) }
+        requires batch { IsBatch BATCH BATCH_BYTES (commands batch.old.items) }
+        ensures taken { (more : List (EntryValue SenderValue)) × (length more ≡ result) × (seat.new ≡ with_more seat.old (commands more))
+            × (batch.new.items ≡ batch.old.items ++ more) }
+        ensures bytes { bytes.new ≡ length (records (commands batch.new.items)) }
+        ensures batch { IsBatch BATCH BATCH_BYTES (commands batch.new.items) }
+    {
+        let mut count = 0;
+        while batch.len() < BATCH && *bytes < wanted {
+            let Some(entry) = ring.take(seat) else {
+                return count;
+            };
+            *bytes += entry.bytes().len() as u64;
+            batch.push_reserved(entry);
+            count += 1;
+        }
+        count
+    }
 
-impl<D: Disk, B: Bell> Flusher<D, B> {
-    /// Takes the next commands in order from the ring, for as long as they are ready, fewer than 32 wait to be stored, and
-    /// the records of these have fewer than 262,144 bytes. Answers how many it took.
+    // Makes room for a whole batch before the first entry is taken, so that none is lost.
+    fn fill(
+        wanted: u64,
+        ring: &BrokerRing<OutSender<B>>,
+        seat: &mut FlushSeat<OutSender<B>>,
+        batch: &mut Vec<Entry<OutSender<B>>>,
+        bytes: &mut u64,
+    ) -> Result<u64, AllocError>
+        requires wanted { wanted ≤ BATCH_BYTES }
+        requires ring { seat.old.ring ≡ ring.now }
+        requires bytes { bytes.old ≡ length (records (commands batch.old.items)) }
+        requires batch { IsBatch BATCH BATCH_BYTES (commands batch.old.items) }
+        ensures taken { IfOk result (λ count. (more : List (EntryValue SenderValue)) × (length more ≡ count) × (seat.new ≡ with_more seat.old (commands more))
+            × (batch.new.items ≡ batch.old.items ++ more)) }
+        ensures bytes { bytes.new ≡ length (records (commands batch.new.items)) }
+        ensures batch { IsBatch BATCH BATCH_BYTES (commands batch.new.items) }
+        ensures refused { OnErr result (seat.new ≡ seat.old) }
+    {
+        batch.reserve(BATCH.saturating_sub(batch.len()))?;
+        Ok(Self::take_ready(wanted, ring, seat, batch, bytes))
+    }
+
+    /// Takes the next commands in order from the ring, for as long as they are ready, fewer than `BATCH` wait to be stored, and
+    /// the records of these have fewer than `BATCH_BYTES` bytes, and, in areas of more than a million, a quarter of an area. Answers
+    /// how many it took.
     ///
     /// `Memory` comes before anything is taken.
     pub fn gather(&mut self, ring: &BrokerRing<OutSender<B>>) -> Result<u64, FlushFault>
         requires ring { self.old.seat.ring ≡ ring.now }
         ensures taken { IfOk result (λ count. (more : List (EntryValue SenderValue)) × (length more ≡ count) × (self.new ≡ taking self.old more)) }
-        ensures batch { IfOk result (λ count. IsBatch (gathered self.new)) }
+        ensures batch { IfOk result (λ count. IsBatch BATCH BATCH_BYTES (gathered self.new)) }
         ensures untouched { OnErr result ((self.new.disk ≡ self.old.disk) × (self.new.seat.taken ≡ self.old.seat.taken)) }
         ensures outcome { IsOutcome self.old self.new result }
         ensures stops { OnErr result ((self.new.broken ≡ true) × (self.new.seat.stopped ≡ true)) }
@@ -88,7 +103,14 @@ impl<D: Disk, B: Bell> Flusher<D, B> {
         if self.broken {
             return Err(FlushFault::Broken);
         }
-        match fill(ring, &mut self.seat, &mut self.batch, &mut self.bytes) {
+        let wanted = self.bytes_wanted();
+        match Self::fill(
+            wanted,
+            ring,
+            &mut self.seat,
+            &mut self.batch,
+            &mut self.bytes,
+        ) {
             Ok(count) => Ok(count),
             Err(refused) => {
                 self.broken = true;

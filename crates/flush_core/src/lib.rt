@@ -15,4 +15,3 @@ mod turning;
 
 pub use faults::FlushFault;
 pub use flusher::Flusher;
-pub use gathering::{BATCH_BYTES, BATCH_ENTRIES};

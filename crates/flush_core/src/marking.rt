@@ -7,7 +7,7 @@ use crate::flusher::Flusher;
 use disk_core::Disk;
 use outbox_core::Bell;
 
-impl<D: Disk, B: Bell> Flusher<D, B> {
+impl<D: Disk, B: Bell, const BATCH: usize, const BATCH_BYTES: u64> Flusher<D, B, BATCH, BATCH_BYTES> {
     /// The mark: every number under it is published. It is known with what a flusher keeps.
     pub fn mark(&self) -> u64
         ensures mark { result ≡ self.now.seat.published }

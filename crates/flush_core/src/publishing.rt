@@ -14,7 +14,7 @@ use disk_core::Disk;
 use outbox_core::{Bell, OutSender};
 use std::mem::replace;
 
-impl<D: Disk, B: Bell> Flusher<D, B> {
+impl<D: Disk, B: Bell, const BATCH: usize, const BATCH_BYTES: u64> Flusher<D, B, BATCH, BATCH_BYTES> {
     /// Raises the mark to all that is stored, which each image of the disk holds, and then gives each outbox the outputs of its
     /// session, in order, until the box is cut. What goes to a session without a box stays for `take_left`. No memory is
     /// taken.

@@ -163,7 +163,7 @@ fn execute_all<B: Bell>(
     Ok(())
 }
 
-impl<D: Disk, B: Bell> Flusher<D, B> {
+impl<D: Disk, B: Bell, const BATCH: usize, const BATCH_BYTES: u64> Flusher<D, B, BATCH, BATCH_BYTES> {
     /// Executes what is stored: the broker's state is then the one after all that is stored, and the outputs wait behind
     /// those that wait already, in the order of their commands. The room is made that `publish` needs.
     pub fn settle(

@@ -19,7 +19,7 @@ use outbox_core::{Bell, OutSender};
 use std::alloc::Global;
 use std::mem::swap;
 
-impl<D: Disk, B: Bell> Flusher<D, B> {
+impl<D: Disk, B: Bell, const BATCH: usize, const BATCH_BYTES: u64> Flusher<D, B, BATCH, BATCH_BYTES> {
     /// Makes the gathered batch durable in one block. Where the block doesn't fit, the journal is compacted first, and not where
     /// it does. Where nothing is gathered it calls no disk and changes nothing.
     ///

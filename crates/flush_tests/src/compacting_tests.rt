@@ -2,11 +2,10 @@
 
 ghost use Rattle.std.specs.Prelude.{◌≡◌, ◌≤◌, IfSome, IsTrue};
 
-use crate::setups::{OPEN, SMALL_AREA, Setup, append, open_both, set_up};
+use crate::setups::{OPEN, SMALL_AREA, Setup, TestFlusher, append, open_both, set_up};
 use broker_core::Broker;
 use disk_core::{Call, FuseDisk, MemDisk};
-use flush_core::{FlushFault, Flusher};
-use outbox_core::Silent;
+use flush_core::FlushFault;
 use recover_core::{open, read, stored_broker};
 use snapshot_core::encode_state;
 use std::alloc::Global;
@@ -148,7 +147,7 @@ struct Compaction {
 // That of a journal with so many messages, over a disk that passes so many calls.
 fn compact(alloc: Global, messages: u32, passed: u64) -> Option<Compaction> {
     let Setup { ring, flusher, .. } = loaded(alloc, messages)?;
-    let mut flusher: Flusher<FuseDisk<MemDisk>, Silent> = flusher.fuse(passed);
+    let mut flusher: TestFlusher<FuseDisk<MemDisk>> = flusher.fuse(passed);
     let is_done = flusher.compact(alloc, &ring).is_ok();
     let state = state_of(alloc, flusher.broker());
     let disk = flusher.into_disk().into_inner();

@@ -18,7 +18,10 @@ pub(crate) type TestRing = BrokerRing<OutSender<Silent>>;
 
 pub(crate) type TestSeat = BrokerSeat<OutSender<Silent>>;
 
-pub(crate) type MemFlusher = Flusher<MemDisk, Silent>;
+/// A flusher whose blocks have at most 32 commands, and go on up to 262,144 bytes.
+pub(crate) type TestFlusher<D> = Flusher<D, Silent, 32, 262_144>;
+
+pub(crate) type MemFlusher = TestFlusher<MemDisk>;
 
 /// The bytes of the smallest area.
 pub(crate) const SMALL_AREA: u64 = 4_096;

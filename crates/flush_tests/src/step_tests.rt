@@ -1,11 +1,10 @@
 ghost use Rattle.std.specs.Prelude.{◌≡◌, IfSome, IsTrue, true, false};
 
-use crate::setups::{MemFlusher, SMALL_AREA, Setup, TestRing, TestSeat, append, open_both, set_up};
+use crate::setups::{MemFlusher, SMALL_AREA, Setup, TestFlusher, TestRing, TestSeat, append, open_both, set_up};
 use claim_core::{NotYet, Refused};
 use command_core::{Out, connected_reply};
 use disk_core::{Call, Disk, FuseDisk, MemDisk};
-use flush_core::{FlushFault, Flusher};
-use outbox_core::Silent;
+use flush_core::FlushFault;
 use std::alloc::{AllocError, Global};
 use std::test::Fail;
 
@@ -217,7 +216,7 @@ fn a_second_gather_takes_more_while_a_batch_waits(rt: HostRuntime) -> Result<(),
 fn fails<D: Disk>(
     alloc: Global,
     ring: &TestRing,
-    flusher: &mut Flusher<D, Silent>,
+    flusher: &mut TestFlusher<D>,
     in_a_turn: bool,
 ) -> bool
     requires ring { flusher.old.seat.ring ≡ ring.now }
@@ -234,7 +233,7 @@ fn fails<D: Disk>(
 }
 
 // Whether each step is refused.
-fn is_refused<D: Disk>(alloc: Global, ring: &TestRing, flusher: &mut Flusher<D, Silent>) -> bool
+fn is_refused<D: Disk>(alloc: Global, ring: &TestRing, flusher: &mut TestFlusher<D>) -> bool
     requires ring { flusher.old.seat.ring ≡ ring.now }
     requires broken { flusher.old.broken ≡ true }
     ensures { IsTrue result → (flusher.new.seat.ring ≡ ring.now) × (flusher.new.broken ≡ true) }
@@ -264,7 +263,7 @@ fn break_off(
         mut second,
         flusher,
     } = opened(alloc)?;
-    let mut flusher: Flusher<FuseDisk<MemDisk>, Silent> = flusher.fuse(passed);
+    let mut flusher: TestFlusher<FuseDisk<MemDisk>> = flusher.fuse(passed);
     if !fails(alloc, &ring, &mut flusher, in_a_turn) || !is_refused(alloc, &ring, &mut flusher) {
         return None;
     }

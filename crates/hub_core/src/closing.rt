@@ -8,9 +8,9 @@ ghost use Rattle.hub_core.specs.Closings.{Closes, closed};
 
 use crate::closed::Closed;
 use crate::hub::Hub;
+use crate::sizes::HubFlusher;
 use claim_core::{BrokerRing, BrokerSeat, FlushSeat, RingEnd};
 use disk_core::Disk;
-use flush_core::Flusher;
 use outbox_core::{Bell, OutSender};
 use std::alloc::AllocError;
 use std::collections::VecDeque;
@@ -26,7 +26,7 @@ impl<D: Disk + Drop, B: Bell> Hub<D, B> {
     pub fn close(
         self,
         seats: Vec<BrokerSeat<OutSender<B>>>,
-        flusher: Flusher<D, B>,
+        flusher: HubFlusher<D, B>,
     ) -> Result<Closed<D>, (D, AllocError)>
         requires flusher { flusher.seat.ring ≡ self.ring }
         requires seats { All (λ seat. seat.ring ≡ self.ring) seats.items }

@@ -4,24 +4,25 @@ ghost use Rattle.std.specs.Prelude.{◌≡◌, [], IfOk, None, OnErr, true, fals
 ghost use Rattle.flush_core.specs.Faults.{IsFlushCaused};
 ghost use Rattle.hub_core.specs.Flushes.{Flushes};
 
-use crate::gate::Gate;
+use crate::pacing::Pacing;
 use claim_core::BrokerRing;
 use disk_core::Disk;
-use flush_core::{FlushFault, Flusher};
+use crate::sizes::HubFlusher;
+use flush_core::FlushFault;
 use outbox_core::{Bell, OutSender};
 use std::alloc::Global;
 
-// What the flusher is to its gate.
+// What the flusher is to its pace.
 const FLUSHER: u32 = u32::MAX;
 
-/// Makes so many turns of the flusher, those that its gate held up counted, and answers the mark then. Outputs of sessions
-/// that have no outbox are dropped. A fault ends it at once, and the gate hears that the flusher has
+/// Makes so many turns of the flusher, those that its pace held up counted, and answers the mark then. Outputs of sessions
+/// that have no outbox are dropped. A fault ends it at once, and the pace hears that the flusher has
 /// stopped: `Device` just where a call of the disk failed.
-pub fn flush_loop<D: Disk, B: Bell, G: Gate>(
+pub fn flush_loop<D: Disk, B: Bell, P: Pacing>(
     alloc: Global,
     ring: &BrokerRing<OutSender<B>>,
-    flusher: &mut Flusher<D, B>,
-    gate: &G,
+    flusher: &mut HubFlusher<D, B>,
+    pace: &P,
     turns: u64,
 ) -> Result<u64, FlushFault>
     requires ring { flusher.old.seat.ring ≡ ring.now }
@@ -32,19 +33,19 @@ pub fn flush_loop<D: Disk, B: Bell, G: Gate>(
     ensures stops { OnErr result ((flusher.new.broken ≡ true) × (flusher.new.seat.stopped ≡ true)) }
 {
     for turn in 0..turns {
-        if gate.pass(FLUSHER, turn) {
-            flush(alloc, ring, flusher, gate)?;
+        if pace.pass(FLUSHER, turn) {
+            flush(alloc, ring, flusher, pace)?;
         }
     }
     Ok(flusher.mark())
 }
 
 // One turn.
-fn flush<D: Disk, B: Bell, G: Gate>(
+fn flush<D: Disk, B: Bell, P: Pacing>(
     alloc: Global,
     ring: &BrokerRing<OutSender<B>>,
-    flusher: &mut Flusher<D, B>,
-    gate: &G,
+    flusher: &mut HubFlusher<D, B>,
+    pace: &P,
 ) -> Result<(), FlushFault>
     requires ring { flusher.old.seat.ring ≡ ring.now }
     requires settled { flusher.old.broken ≡ false → flusher.old.settled ≡ flusher.old.stored }
@@ -56,36 +57,36 @@ fn flush<D: Disk, B: Bell, G: Gate>(
     match flusher.turn(alloc, ring) {
         Ok(_) => {
             drop_left(flusher);
-            tell_mark(gate, before, flusher.mark());
-            tell_compaction(gate, flusher);
+            tell_mark(pace, before, flusher.mark());
+            tell_compaction(pace, flusher);
             Ok(())
         }
         Err(fault) => {
-            gate.stopped();
+            pace.stopped();
             Err(fault)
         }
     }
 }
 
 // Drops the outputs of sessions that have no outbox.
-fn drop_left<D: Disk, B: Bell>(flusher: &mut Flusher<D, B>)
+fn drop_left<D: Disk, B: Bell>(flusher: &mut HubFlusher<D, B>)
     ensures { flusher.new ≡ record flusher.old { left = [] } }
 {
     drop(flusher.take_left());
 }
 
-// Tells the gate where the mark has risen.
-fn tell_mark<G: Gate>(gate: &G, before: u64, mark: u64) {
+// Tells the pace where the mark has risen.
+fn tell_mark<P: Pacing>(pace: &P, before: u64, mark: u64) {
     if before < mark {
-        gate.published(mark);
+        pace.published(mark);
     }
 }
 
-// Tells the gate of the compaction that the turn made, where it made one.
-fn tell_compaction<D: Disk, B: Bell, G: Gate>(gate: &G, flusher: &mut Flusher<D, B>)
+// Tells the pace of the compaction that the turn made, where it made one.
+fn tell_compaction<D: Disk, B: Bell, P: Pacing>(pace: &P, flusher: &mut HubFlusher<D, B>)
     ensures { flusher.new ≡ record flusher.old { won = None } }
 {
     if let Some(won) = flusher.take_won() {
-        gate.compacted(won);
+        pace.compacted(won);
     }
 }

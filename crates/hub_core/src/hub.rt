@@ -13,6 +13,7 @@ ghost use Rattle.recover_core.specs.Stores.{disk_of, is_broken, opened_by};
 ghost use Rattle.recover_core.specs.Told.{IsOpenTold, IsCausedBy};
 ghost use Rattle.hub_core.specs.Hubs.{AreNew, Begins, IsWhole, IsFirst, IsWant, hub};
 
+use crate::sizes::HubFlusher;
 use claim_core::{BrokerRing, BrokerSeat, Ring};
 use disk_core::Disk;
 use flush_core::Flusher;
@@ -30,7 +31,7 @@ pub struct Hub<D: Disk, B: Bell> {
     base: u64,
     // With room for all 32, so that closing needs none.
     seats: VecDeque<BrokerSeat<OutSender<B>>>,
-    flusher: Option<Flusher<D, B>>,
+    flusher: Option<HubFlusher<D, B>>,
 }
 
 impl<D: Disk, B: Bell> Model for Hub<D, B> {
@@ -95,7 +96,7 @@ impl<D: Disk, B: Bell> Hub<D, B> {
         ring: BrokerRing<OutSender<B>>,
         base: u64,
         seats: Vec<BrokerSeat<OutSender<B>>>,
-        flusher: Flusher<D, B>,
+        flusher: HubFlusher<D, B>,
     ) -> Hub<D, B>
         requires seats { AreNew ring base seats.items }
         requires count { length seats.items ≡ 32 }
@@ -127,7 +128,7 @@ impl<D: Disk, B: Bell> Hub<D, B> {
     }
 
     /// The flusher; the first call hands it out. No memory is taken.
-    pub fn flusher(&mut self) -> Option<Flusher<D, B>>
+    pub fn flusher(&mut self) -> Option<HubFlusher<D, B>>
         ensures flusher { result ≡ self.old.flusher }
         ensures rest { self.new ≡ record self.old { flusher = None } }
         ensures first { IfSome result (IsFirst self.old.ring self.old.base) }

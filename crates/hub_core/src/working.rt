@@ -6,27 +6,27 @@ ghost use Rattle.hub_core.specs.Conversations.{Continues, IsConversation};
 
 use crate::connection::{Connection, Stage};
 use crate::ended::Ended;
-use crate::gate::Gate;
+use crate::pacing::Pacing;
 use crate::ringers::Ringers;
 use claim_core::{BrokerRing, BrokerSeat};
 use outbox_core::{Bell, OutSender};
 use std::alloc::Global;
 use ws_core::{Link, LinkFault};
 
-/// Serves one connection to its end, or for so many turns, those that its gate held up counted.
+/// Serves one connection to its end, or for so many turns, those that its pace held up counted.
 ///
 /// A turn does what waits to be done, or else reads once and does what the bytes ask for; then it sends what may leave. An
 /// entry, an outbox or a message that memory refuses is tried again in the next turn.
 ///
 /// What it appends is one conversation: an Open, then commands of the session whose number is the Open's ticket, and
 /// last, where it comes to that, the session's End.
-pub fn worker<B: Bell, M: Ringers<B>, L: Link, G: Gate>(
+pub fn worker<B: Bell, M: Ringers<B>, L: Link, P: Pacing>(
     alloc: Global,
     ring: &BrokerRing<OutSender<B>>,
     seat: &mut BrokerSeat<OutSender<B>>,
     link: &mut L,
     ringers: &M,
-    gate: &G,
+    pace: &P,
     turns: u64,
 ) -> Ended
     requires { seat.old.ring ≡ ring.now }
@@ -34,27 +34,27 @@ pub fn worker<B: Bell, M: Ringers<B>, L: Link, G: Gate>(
     ensures asked { (more : List Pair) × (seat.new.own ≡ seat.old.own ++ more) × IsConversation more }
 {
     let mut connection = Connection::new(alloc);
-    let ended = connection.run(alloc, ring, seat, link, ringers, gate, turns);
+    let ended = connection.run(alloc, ring, seat, link, ringers, pace, turns);
     drop(connection);
     ended
 }
 
 impl<B: Bell> Connection<B> {
-    fn run<M: Ringers<B>, L: Link, G: Gate>(
+    fn run<M: Ringers<B>, L: Link, P: Pacing>(
         &mut self,
         alloc: Global,
         ring: &BrokerRing<OutSender<B>>,
         seat: &mut BrokerSeat<OutSender<B>>,
         link: &mut L,
         ringers: &M,
-        gate: &G,
+        pace: &P,
         turns: u64,
     ) -> Ended
         requires { seat.old.ring ≡ ring.now }
         ensures { Continues self.old.progress seat.old self.new.progress seat.new }
     {
         for turn in 0..turns {
-            self.turn(alloc, ring, seat, link, ringers, gate, turn);
+            self.turn(alloc, ring, seat, link, ringers, pace, turn);
             if let Stage::Over(ended) = self.stage {
                 return ended;
             }
@@ -62,31 +62,31 @@ impl<B: Bell> Connection<B> {
         Ended::Turns
     }
 
-    fn turn<M: Ringers<B>, L: Link, G: Gate>(
+    fn turn<M: Ringers<B>, L: Link, P: Pacing>(
         &mut self,
         alloc: Global,
         ring: &BrokerRing<OutSender<B>>,
         seat: &mut BrokerSeat<OutSender<B>>,
         link: &mut L,
         ringers: &M,
-        gate: &G,
+        pace: &P,
         turn: u64,
     )
         requires { seat.old.ring ≡ ring.now }
         ensures { Continues self.old.progress seat.old self.new.progress seat.new }
     {
         let number = seat.number();
-        if !gate.pass(number, turn) {
+        if !pace.pass(number, turn) {
             return;
         }
         self.read(alloc, link);
         let executed = self.execute(alloc, ring, seat, link, ringers);
         if executed.appended {
-            gate.appended(number);
+            pace.appended(number);
         }
         self.pass_on(alloc, ring, seat, link);
         self.close_link(link);
-        self.wait(gate, number, executed.full);
+        self.wait(pace, number, executed.full);
     }
 
     // Reads where nothing else is to be done first.
@@ -112,15 +112,15 @@ impl<B: Bell> Connection<B> {
         };
     }
 
-    // Leaves it to the gate when to try again, where the window was found full or memory was refused.
-    fn wait<G: Gate>(&self, gate: &G, worker: u32, full: Option<u64>) {
+    // Leaves it to the pace when to try again, where the window was found full or memory was refused.
+    fn wait<P: Pacing>(&self, pace: &P, worker: u32, full: Option<u64>) {
         if let Some(mark) = full
             && self.stage.executes()
         {
-            gate.is_full(worker, mark);
+            pace.wait_for_room(worker, mark);
         }
         if self.is_short() {
-            gate.is_short(worker);
+            pace.wait_for_memory(worker);
         }
     }
 

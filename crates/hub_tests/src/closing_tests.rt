@@ -1,7 +1,7 @@
 ghost use Rattle.std.specs.Prelude.{◌≡◌, ◌≤◌, IsTrue, OnSome};
 ghost use Rattle.hub_tests.specs.Parties.{AreTogether};
 
-use crate::gates::{Free, Shut};
+use crate::paces::{Free, Shut};
 use crate::hubs::{HubFlusher, HubRing, HubSeat, Party, SMALL_AREA, close, new_party, party_over};
 use command_core::{Command, Dest, Entry, Op, Sending};
 use disk_core::MemDisk;
@@ -82,7 +82,7 @@ fn close_and_open(alloc: Global, party: Party) -> Option<([u64; 4], u64)>
     }
 }
 
-// Two commands are published, though not while the gate is shut; a third is taken, and a fourth waits, whose ticket is the
+// Two commands are published, though not while the pace is shut; a third is taken, and a fourth waits, whose ticket is the
 // answer.
 fn stop_within_a_turn(
     alloc: Global,

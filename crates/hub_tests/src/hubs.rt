@@ -11,7 +11,6 @@ ghost use Rattle.hub_tests.specs.Parties.{AreTogether};
 use area_core::format;
 use claim_core::{BrokerRing, BrokerSeat};
 use disk_core::MemDisk;
-use flush_core::Flusher;
 use hub_core::{Closed, Hub};
 use outbox_core::{OutSender, Silent};
 use std::alloc::{AllocError, Global};
@@ -23,7 +22,7 @@ pub type HubRing = BrokerRing<OutSender<Silent>>;
 
 pub type HubSeat = BrokerSeat<OutSender<Silent>>;
 
-pub type HubFlusher = Flusher<MemDisk, Silent>;
+pub type HubFlusher = hub_core::HubFlusher<MemDisk, Silent>;
 
 /// The bytes of a roomy area.
 pub const AREA: u64 = 262_144;

@@ -6,7 +6,7 @@
 #[cfg(test)]
 mod closing_tests;
 #[cfg(test)]
-mod gates;
+mod paces;
 #[cfg(test)]
 mod hubs;
 #[cfg(test)]

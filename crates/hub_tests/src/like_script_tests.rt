@@ -1,7 +1,7 @@
 ghost use Rattle.std.specs.Prelude.{◌≡◌};
 ghost use Rattle.hub_tests.specs.Parties.{AreTogether};
 
-use crate::gates::Pause;
+use crate::paces::Pause;
 use crate::hubs::{
     HubFlusher, HubRing, HubSeat, Party, SMALL_AREA, first_wrong, link_of, new_party,
 };
@@ -21,13 +21,13 @@ fn work<R: Clock>(
     alloc: Global,
     ring: &HubRing,
     seat: &mut HubSeat,
-    gate: &Pause<R>,
+    pace: &Pause<R>,
 ) -> Option<(Ended, Option<usize>)>
     requires { seat.old.ring ≡ ring.now }
 {
     match link_of(alloc, SUBSCRIBER) {
         Some(mut link) => {
-            let ended = worker(alloc, ring, seat, &mut link, &Silent, gate, TURNS);
+            let ended = worker(alloc, ring, seat, &mut link, &Silent, pace, TURNS);
             let wrong = first_wrong(link.sent(), THREE_MESSAGES);
             drop(link);
             Some((ended, wrong))
@@ -40,11 +40,11 @@ fn flush<R: Clock>(
     alloc: Global,
     ring: &HubRing,
     flusher: &mut HubFlusher,
-    gate: &Pause<R>,
+    pace: &Pause<R>,
 ) -> Option<u64>
     requires { (flusher.old.seat.ring ≡ ring.now) × (flusher.old.settled ≡ flusher.old.stored) }
 {
-    flush_loop(alloc, ring, flusher, gate, TURNS).ok()
+    flush_loop(alloc, ring, flusher, pace, TURNS).ok()
 }
 
 // The worker in one thread, and the flusher in another.
@@ -52,7 +52,7 @@ fn work_and_flush<R: Threads + Wait + Clock + Sync>(
     rt: &R,
     alloc: Global,
     party: &mut Party,
-    gate: &Pause<R>,
+    pace: &Pause<R>,
 ) -> (Option<(Ended, Option<usize>)>, Option<u64>)
     requires together { AreTogether party.old.hub party.old.first party.old.second party.old.flusher }
     requires settled { party.old.flusher.settled ≡ party.old.flusher.stored }
@@ -64,21 +64,21 @@ fn work_and_flush<R: Threads + Wait + Clock + Sync>(
         rt,
         || -> Option<(Ended, Option<usize>)>
             requires { seat.now.ring ≡ ring.now }
-        { work(alloc, ring, seat, gate) },
+        { work(alloc, ring, seat, pace) },
         || -> Option<u64>
             requires { (flusher.now.seat.ring ≡ ring.now) × (flusher.now.settled ≡ flusher.now.stored) }
-        { flush(alloc, ring, flusher, gate) },
+        { flush(alloc, ring, flusher, pace) },
     )
 }
 
 fn run<R: Threads + Wait + Clock + Sync>(
     rt: &R,
     alloc: Global,
-    gate: &Pause<R>,
+    pace: &Pause<R>,
 ) -> Option<(Option<(Ended, Option<usize>)>, Option<u64>)> {
     match new_party(alloc, SMALL_AREA) {
         Some(mut party) => {
-            let ran = work_and_flush(rt, alloc, &mut party, gate);
+            let ran = work_and_flush(rt, alloc, &mut party, pace);
             drop(party);
             Some(ran)
         }
@@ -88,8 +88,8 @@ fn run<R: Threads + Wait + Clock + Sync>(
 
 #[test]
 fn worker_like_script(rt: HostRuntime) -> Result<(), Fail> {
-    let gate = Pause { rt: rt.clone()? };
-    let ran = run(&rt, rt.alloc(), &gate);
+    let pace = Pause { rt: rt.clone()? };
+    let ran = run(&rt, rt.alloc(), &pace);
     assert_eq!(rt; ran, Some((Some((Ended::Bad, None)), Some(7))));
     Ok(())
 }

@@ -1,11 +1,11 @@
 ghost use Rattle.std.specs.Prelude.{◌≡◌, false};
 ghost use Rattle.hub_tests.specs.Parties.{AreTogether};
 
-use crate::gates::Pause;
+use crate::paces::Pause;
 use crate::hubs::{AREA, HubFlusher, HubRing, HubSeat, Party, close, new_party, numbers};
 use claim_core::Refused;
 use command_core::{Command, Entry, Op};
-use hub_core::{Gate, flush_loop};
+use hub_core::{Pacing, flush_loop};
 use outbox_core::{OutSender, Silent};
 use std::alloc::Global;
 use std::mem;
@@ -94,11 +94,11 @@ fn append_all<R: Clock>(rt: &R, alloc: Global, ring: &HubRing, seat: &mut HubSea
 }
 
 // Turns until so many commands are published. Where that is asked for, the journal is compacted after each batch.
-fn flush_to<G: Gate>(
+fn flush_to<P: Pacing>(
     alloc: Global,
     ring: &HubRing,
     flusher: &mut HubFlusher,
-    gate: &G,
+    pace: &P,
     wanted: u64,
     compacts: bool,
 )
@@ -109,7 +109,7 @@ fn flush_to<G: Gate>(
 {
     let mut before = flusher.mark();
     for _ in 0..20_000u32 {
-        let Ok(mark) = flush_loop(alloc, ring, flusher, gate, 1) else {
+        let Ok(mark) = flush_loop(alloc, ring, flusher, pace, 1) else {
             return;
         };
         if compacts && before < mark && flusher.compact(alloc, ring).is_err() {
@@ -145,7 +145,7 @@ fn work_and_flush<R: Threads + Clock + Sync>(
     rt: &R,
     alloc: Global,
     party: &mut Party,
-    gate: &Pause<R>,
+    pace: &Pause<R>,
     compacts: bool,
 ) -> (bool, bool)
     requires together { AreTogether party.old.hub party.old.first party.old.second party.old.flusher }
@@ -161,7 +161,7 @@ fn work_and_flush<R: Threads + Clock + Sync>(
         &mut || -> (bool, bool)
             requires { (first.now.ring ≡ ring.now) × (second.now.ring ≡ ring.now) }
         { work_both(rt, alloc, ring, first, second) },
-        &mut || flush_to(alloc, ring, flusher, gate, 2_000, compacts),
+        &mut || flush_to(alloc, ring, flusher, pace, 2_000, compacts),
     );
     rose
 }
@@ -170,12 +170,12 @@ fn work_and_flush<R: Threads + Clock + Sync>(
 fn run<R: Threads + Clock + Sync>(
     rt: &R,
     alloc: Global,
-    gate: &Pause<R>,
+    pace: &Pause<R>,
     compacts: bool,
 ) -> Option<((bool, bool), [u64; 4])> {
     match new_party(alloc, AREA) {
         Some(mut party) => {
-            let rose = work_and_flush(rt, alloc, &mut party, gate, compacts);
+            let rose = work_and_flush(rt, alloc, &mut party, pace, compacts);
             match close(alloc, party) {
                 Some(closed) => {
                     let numbers = numbers(&closed);
@@ -193,14 +193,14 @@ const ALL: Option<((bool, bool), [u64; 4])> = Some(((true, true), [0, 2_000, 2_0
 
 #[test]
 fn two_threads_and_a_flusher_close_with_2000_commands(rt: HostRuntime) -> Result<(), Fail> {
-    let gate = Pause { rt: rt.clone()? };
-    assert_eq!(rt; run(&rt, rt.alloc(), &gate, false), ALL);
+    let pace = Pause { rt: rt.clone()? };
+    assert_eq!(rt; run(&rt, rt.alloc(), &pace, false), ALL);
     Ok(())
 }
 
 #[test]
 fn they_do_with_a_compaction_after_each_batch(rt: HostRuntime) -> Result<(), Fail> {
-    let gate = Pause { rt: rt.clone()? };
-    assert_eq!(rt; run(&rt, rt.alloc(), &gate, true), ALL);
+    let pace = Pause { rt: rt.clone()? };
+    assert_eq!(rt; run(&rt, rt.alloc(), &pace, true), ALL);
     Ok(())
 }

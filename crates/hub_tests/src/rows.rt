@@ -3,7 +3,7 @@
 ghost use Rattle.std.specs.Prelude.{◌≡◌, IfSome};
 ghost use Rattle.hub_tests.specs.Parties.{AreTogether};
 
-use crate::gates::{Awaited, Noting};
+use crate::paces::{Awaited, Noting};
 use crate::hubs::{
     AREA, HubFlusher, HubRing, HubSeat, Party, SMALL_AREA, first_wrong, link_of, new_party,
 };
@@ -22,7 +22,7 @@ pub const TURNS: u64 = 5_000;
 /// often its worker may turn, and whether that is held up; whether the flusher turns from the beginning, or once the window is
 /// full, or once the worker has come to a turn that awaits a mark; and how often memory is refused. Then what is to come of it: how the worker ends, with which code it closes, what it sends (or whether its outbox
 /// overflows: then the journal is roomy, and the messages are counted), how many commands were appended where the journal has
-/// room for them, and what the gate hears (commands, a full window, a flusher that stopped; and that memory was refused).
+/// room for them, and what the pace hears (commands, a full window, a flusher that stopped; and that memory was refused).
 #[derive(Clone, Copy)]
 pub struct Row {
     pub texts: &'static [&'static [u8]],
@@ -88,7 +88,7 @@ fn serve<R: Clock>(
     ring: &HubRing,
     seat: &mut HubSeat,
     row: &Row,
-    gate: &Noting<R>,
+    pace: &Noting<R>,
 ) -> Option<(Ended, Option<u16>)>
     requires { seat.old.ring ≡ ring.now }
 {
@@ -97,7 +97,7 @@ fn serve<R: Clock>(
             let bells = Scarce {
                 left: Cell::new(row.shortage.bells),
             };
-            let ended = worker(alloc, ring, seat, &mut link, &bells, gate, row.turns);
+            let ended = worker(alloc, ring, seat, &mut link, &bells, pace, row.turns);
             let right = is_right(link.link.sent(), row);
             let code = link.code;
             drop(link);
@@ -113,12 +113,12 @@ fn work<R: Clock>(
     ring: &HubRing,
     seat: &mut HubSeat,
     row: &Row,
-    gate: &Noting<R>,
+    pace: &Noting<R>,
 ) -> Option<(Ended, Option<u16>)>
     requires { seat.old.ring ≡ ring.now }
 {
-    let ended = serve(alloc, ring, seat, row, gate);
-    gate.end();
+    let ended = serve(alloc, ring, seat, row, pace);
+    pace.end();
     ended
 }
 
@@ -126,11 +126,11 @@ fn flush<R: Clock>(
     alloc: Global,
     ring: &HubRing,
     flusher: &mut HubFlusher,
-    gate: &Noting<R>,
+    pace: &Noting<R>,
 ) -> Option<u64>
     requires { (flusher.old.seat.ring ≡ ring.now) × (flusher.old.settled ≡ flusher.old.stored) }
 {
-    flush_loop(alloc, ring, flusher, gate, TURNS).ok()
+    flush_loop(alloc, ring, flusher, pace, TURNS).ok()
 }
 
 // The worker in one thread and the flusher in another: how the worker ended, and the mark at the end.
@@ -139,7 +139,7 @@ fn work_and_flush<R: Threads + Wait + Clock + Sync>(
     alloc: Global,
     party: &mut Party,
     row: &Row,
-    gate: &Noting<R>,
+    pace: &Noting<R>,
 ) -> (Option<(Ended, Option<u16>)>, Option<u64>)
     requires together { AreTogether party.old.hub party.old.first party.old.second party.old.flusher }
     requires settled { party.old.flusher.settled ≡ party.old.flusher.stored }
@@ -151,10 +151,10 @@ fn work_and_flush<R: Threads + Wait + Clock + Sync>(
         rt,
         || -> Option<(Ended, Option<u16>)>
             requires { seat.now.ring ≡ ring.now }
-        { work(alloc, ring, seat, row, gate) },
+        { work(alloc, ring, seat, row, pace) },
         || -> Option<u64>
             requires { (flusher.now.seat.ring ≡ ring.now) × (flusher.now.settled ≡ flusher.now.stored) }
-        { flush(alloc, ring, flusher, gate) },
+        { flush(alloc, ring, flusher, pace) },
     )
 }
 
@@ -174,12 +174,12 @@ fn run<R: Threads + Wait + Clock + Sync>(
     rt: &R,
     alloc: Global,
     row: &Row,
-    gate: &Noting<R>,
+    pace: &Noting<R>,
 ) -> Option<(Option<(Ended, Option<u16>)>, Option<u64>)> {
-    gate.begin(row.shut, row.flushes, row.awaits);
+    pace.begin(row.shut, row.flushes, row.awaits);
     match party_of(alloc, row) {
         Some(mut party) => {
-            let ran = work_and_flush(rt, alloc, &mut party, row, gate);
+            let ran = work_and_flush(rt, alloc, &mut party, row, pace);
             drop(party);
             Some(ran)
         }
@@ -195,14 +195,14 @@ pub fn first_wrong_row<R: Threads + Wait + Clock + Sync>(
     rt: &R,
     alloc: Global,
     rows: &[Row],
-    gate: &Noting<R>,
+    pace: &Noting<R>,
 ) -> Option<usize> {
     for (place, row) in rows.iter().enumerate() {
-        let ran = run(rt, alloc, row, gate);
+        let ran = run(rt, alloc, row, pace);
         let heard = (row.heard, row.appended.unwrap_or(0));
         let right = ran == Some((Some((row.ended, row.code)), row.appended))
-            && gate.heard() == heard
-            && gate.was_short() == row.shortage.is_any();
+            && pace.heard() == heard
+            && pace.was_short() == row.shortage.is_any();
         if !right {
             return Some(place);
         }

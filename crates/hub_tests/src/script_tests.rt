@@ -1,4 +1,4 @@
-use crate::gates::{Awaited, Noting};
+use crate::paces::{Awaited, Noting};
 use crate::links::Shortage;
 use crate::rows::{Row, SILENT, first_wrong_row};
 use crate::texts::{
@@ -159,21 +159,21 @@ const SCARCE: [Row; 2] = [
 
 #[test]
 fn each_connection_ends_as_it_should(rt: HostRuntime) -> Result<(), Fail> {
-    let gate = Noting::new(rt.clone()?);
-    assert_eq!(rt; first_wrong_row(&rt, rt.alloc(), &ROWS, &gate), None);
+    let pace = Noting::new(rt.clone()?);
+    assert_eq!(rt; first_wrong_row(&rt, rt.alloc(), &ROWS, &pace), None);
     Ok(())
 }
 
 #[test]
 fn all_that_may_leave_is_sent_in_one_turn(rt: HostRuntime) -> Result<(), Fail> {
-    let gate = Noting::new(rt.clone()?);
-    assert_eq!(rt; first_wrong_row(&rt, rt.alloc(), &[AT_ONCE], &gate), None);
+    let pace = Noting::new(rt.clone()?);
+    assert_eq!(rt; first_wrong_row(&rt, rt.alloc(), &[AT_ONCE], &pace), None);
     Ok(())
 }
 
 #[test]
 fn what_memory_was_refused_for_is_done_in_a_later_turn(rt: HostRuntime) -> Result<(), Fail> {
-    let gate = Noting::new(rt.clone()?);
-    assert_eq!(rt; first_wrong_row(&rt, rt.alloc(), &SCARCE, &gate), None);
+    let pace = Noting::new(rt.clone()?);
+    assert_eq!(rt; first_wrong_row(&rt, rt.alloc(), &SCARCE, &pace), None);
     Ok(())
 }

@@ -1,7 +1,7 @@
 ghost use Rattle.std.specs.Prelude.{◌≡◌};
 ghost use Rattle.hub_tests.specs.Parties.{AreTogether};
 
-use crate::gates::Turnstile;
+use crate::paces::Turnstile;
 use crate::hubs::{AREA, HubFlusher, HubRing, HubSeat, Party, first_wrong, link_of, new_party};
 use hub_core::{Ended, flush_loop, worker};
 use outbox_core::Silent;
@@ -38,13 +38,13 @@ fn serve<R: Clock>(
     alloc: Global,
     ring: &HubRing,
     seat: &mut HubSeat,
-    gate: &Turnstile<R>,
+    pace: &Turnstile<R>,
 ) -> Option<Ended>
     requires { seat.old.ring ≡ ring.now }
 {
     match link_of(alloc, &[CONNECT, SEND, DISCONNECT]) {
         Some(mut link) => {
-            let ended = worker(alloc, ring, seat, &mut link, &Silent, gate, TURNS);
+            let ended = worker(alloc, ring, seat, &mut link, &Silent, pace, TURNS);
             let right = has_receipts(&link);
             drop(link);
             if right { Some(ended) } else { None }
@@ -58,12 +58,12 @@ fn work<R: Clock>(
     alloc: Global,
     ring: &HubRing,
     seat: &mut HubSeat,
-    gate: &Turnstile<R>,
+    pace: &Turnstile<R>,
     then: &AtomicBool,
 ) -> Option<Ended>
     requires { seat.old.ring ≡ ring.now }
 {
-    let ended = serve(alloc, ring, seat, gate);
+    let ended = serve(alloc, ring, seat, pace);
     then.store(true, Ordering::SeqCst);
     ended
 }
@@ -72,11 +72,11 @@ fn flush<R: Clock>(
     alloc: Global,
     ring: &HubRing,
     flusher: &mut HubFlusher,
-    gate: &Turnstile<R>,
+    pace: &Turnstile<R>,
 ) -> Option<u64>
     requires { (flusher.old.seat.ring ≡ ring.now) × (flusher.old.settled ≡ flusher.old.stored) }
 {
-    flush_loop(alloc, ring, flusher, gate, TURNS).ok()
+    flush_loop(alloc, ring, flusher, pace, TURNS).ok()
 }
 
 // Both workers.
@@ -86,7 +86,7 @@ fn work_both<R: Threads + Wait + Clock + Sync>(
     ring: &HubRing,
     first: &mut HubSeat,
     second: &mut HubSeat,
-    gate: &Turnstile<R>,
+    pace: &Turnstile<R>,
 ) -> (Option<Ended>, Option<Ended>)
     requires { (first.old.ring ≡ ring.now) × (second.old.ring ≡ ring.now) }
 {
@@ -94,10 +94,10 @@ fn work_both<R: Threads + Wait + Clock + Sync>(
         rt,
         || -> Option<Ended>
             requires { first.now.ring ≡ ring.now }
-        { work(alloc, ring, first, gate, &gate.finished) },
+        { work(alloc, ring, first, pace, &pace.finished) },
         || -> Option<Ended>
             requires { second.now.ring ≡ ring.now }
-        { work(alloc, ring, second, gate, &gate.opened) },
+        { work(alloc, ring, second, pace, &pace.opened) },
     )
 }
 
@@ -106,7 +106,7 @@ fn work_and_flush<R: Threads + Wait + Clock + Sync>(
     rt: &R,
     alloc: Global,
     party: &mut Party,
-    gate: &Turnstile<R>,
+    pace: &Turnstile<R>,
 ) -> ((Option<Ended>, Option<Ended>), Option<u64>)
     requires together { AreTogether party.old.hub party.old.first party.old.second party.old.flusher }
     requires settled { party.old.flusher.settled ≡ party.old.flusher.stored }
@@ -119,21 +119,21 @@ fn work_and_flush<R: Threads + Wait + Clock + Sync>(
         rt,
         || -> (Option<Ended>, Option<Ended>)
             requires { (first.now.ring ≡ ring.now) × (second.now.ring ≡ ring.now) }
-        { work_both(rt, alloc, ring, first, second, gate) },
+        { work_both(rt, alloc, ring, first, second, pace) },
         || -> Option<u64>
             requires { (flusher.now.seat.ring ≡ ring.now) × (flusher.now.settled ≡ flusher.now.stored) }
-        { flush(alloc, ring, flusher, gate) },
+        { flush(alloc, ring, flusher, pace) },
     )
 }
 
 fn run<R: Threads + Wait + Clock + Sync>(
     rt: &R,
     alloc: Global,
-    gate: &Turnstile<R>,
+    pace: &Turnstile<R>,
 ) -> Option<((Option<Ended>, Option<Ended>), Option<u64>)> {
     match new_party(alloc, AREA) {
         Some(mut party) => {
-            let ran = work_and_flush(rt, alloc, &mut party, gate);
+            let ran = work_and_flush(rt, alloc, &mut party, pace);
             drop(party);
             Some(ran)
         }
@@ -143,12 +143,12 @@ fn run<R: Threads + Wait + Clock + Sync>(
 
 #[test]
 fn two_sessions_at_once(rt: HostRuntime) -> Result<(), Fail> {
-    let gate = Turnstile {
+    let pace = Turnstile {
         rt: rt.clone()?,
         opened: AtomicBool::new(false),
         finished: AtomicBool::new(false),
     };
-    let ran = run(&rt, rt.alloc(), &gate);
+    let ran = run(&rt, rt.alloc(), &pace);
     assert_eq!(rt; ran, Some(((Some(Ended::Bye), Some(Ended::Bye)), Some(6))));
     Ok(())
 }

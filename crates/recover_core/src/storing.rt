@@ -28,6 +28,13 @@ impl<D: Disk> Store<D> {
         self.opened.take()
     }
 
+    /// How many bytes each of the journal's two areas has.
+    pub fn size(&self) -> u64
+        ensures { result ≡ size_of self.now }
+    {
+        self.area.size()
+    }
+
     /// How many bytes of the live area are used: those up to its first closed gate, and that gate.
     pub fn used(&self) -> u64
         ensures { result ≡ used_of self.now }

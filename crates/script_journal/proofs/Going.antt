@@ -15,6 +15,7 @@ use Rattle.recover_core.proofs.Stores.{after-append}
 use Rattle.flush_core.specs.declared.faults.FlushFault.{FlushFault}
 use Rattle.flush_core.specs.declared.faults.FlushFault.TheVariants.{Device, Full, Broken, Memory}
 use Rattle.flush_core.specs.Batches.{IsBatch, from_on, state_at, state_taken, with_more}
+use Rattle.script_journal.specs.declared.sizes.TheConstants.{BATCH, BATCH_BYTES}
 use Rattle.flush_core.specs.Flushed.{Flushed}
 use Rattle.flush_core.specs.Outcomes.{IsTurn, IsTurned, TurnFalls, turned_boxes, turned_outs}
 use Rattle.flush_core.specs.Room.{HasNoRoom}
@@ -150,7 +151,7 @@ module _ {D : Type 0} where
       }
 
   -- a turn whose block has no room, behind those that went
-  pub filled : (f g h : Flushed D) (more : List CommandValue) (was now : List ℕ) → HasGone f g more → TurnFalls g h → now ≡ was → IsBatch (from_on h.seat g.stored) → from_on h.seat g.stored ≢ []
+  pub filled : (f g h : Flushed D) (more : List CommandValue) (was now : List ℕ) → HasGone f g more → TurnFalls g h → now ≡ was → IsBatch BATCH BATCH_BYTES (from_on h.seat g.stored) → from_on h.seat g.stored ≢ []
       → HasNoRoom was (state_at g.opening g.seat g.stored) (from_on h.seat g.stored) → HasFilled f h now
   filled f g h more was now gone fell same batch some room =
       let next = fell.taken.0 in
@@ -163,7 +164,7 @@ module _ {D : Type 0} where
         batch = next;
         base = fell.base ∙ ap (λ (s : FlushSeatValue). s.base) gone.seat;
         taken = fell.taken.1 ∙ (ap (λ (s : FlushSeatValue). s.taken ++ next) gone.seat ∙ append_assoc f.seat.taken more next);
-        is_batch = subst IsBatch rest batch;
+        is_batch = subst (IsBatch BATCH BATCH_BYTES) rest batch;
         some = λ none. some (rest ∙ none);
         no_room = subst (λ (image : List ℕ). HasNoRoom image (state_after f.broker.state more) next) (sym same)
             (subst (λ (z : State × List CommandValue). HasNoRoom was z.0 z.1) (λ i. (state i, rest i)) room);

@@ -4,6 +4,7 @@ use Rattle.command_core.specs.Commands.{CommandValue}
 use Rattle.broker_core.specs.Steps.{outs_of, state_after}
 use Rattle.claim_core.specs.Seats.{next_ticket, with_mark}
 use Rattle.flush_core.specs.Batches.{IsBatch, state_taken, with_more}
+use Rattle.script_journal.specs.declared.sizes.TheConstants.{BATCH, BATCH_BYTES}
 use Rattle.flush_core.specs.Flushed.{Flushed}
 use Rattle.flush_core.specs.Room.{HasNoRoom}
 
@@ -49,6 +50,6 @@ pub record HasFilled {D : Type 0} (old new : Flushed D) (image : List ℕ) : Typ
   pub batch : List CommandValue
   pub base : new.seat.base ≡ old.seat.base
   pub taken : new.seat.taken ≡ old.seat.taken ++ (done ++ batch)
-  pub is_batch : IsBatch batch
+  pub is_batch : IsBatch BATCH BATCH_BYTES batch
   pub some : batch ≢ []
   pub no_room : HasNoRoom image (state_after old.broker.state done) batch

@@ -6,6 +6,7 @@ use Rattle.broker_core.specs.States.{State}
 use Rattle.broker_core.specs.Steps.{state_after}
 use Rattle.claim_core.specs.Seats.{SessionSeatValue}
 use Rattle.flush_core.specs.Batches.{IsBatch}
+use Rattle.script_journal.specs.declared.sizes.TheConstants.{BATCH, BATCH_BYTES}
 use Rattle.flush_core.specs.Flushed.{Flushed}
 use Rattle.flush_core.specs.Room.{HasNoRoom}
 use Rattle.recover_core.specs.Standing.{Stands}
@@ -50,6 +51,6 @@ pub record IsFull (s : State) (commands : List CommandValue) (image : List ℕ) 
   pub batch : List CommandValue
   pub behind : List CommandValue
   pub split : commands ≡ (done ++ batch) ++ behind
-  pub is_batch : IsBatch batch
+  pub is_batch : IsBatch BATCH BATCH_BYTES batch
   pub some : batch ≢ []
   pub no_room : HasNoRoom image (state_after s done) batch

@@ -15,6 +15,7 @@ ghost use Rattle.script_journal.specs.Faults.{IsCausedBy, IsWantOfMemory};
 ghost use Rattle.script_journal.specs.Journals.{IsFull, IsMade, KeepFront};
 ghost use Rattle.script_journal.specs.Placed.{AreOwn, IsReadBy, commands_of};
 
+use crate::sizes::ScriptFlusher;
 use crate::turning::go;
 use crate::waiting::{ScriptRing, ScriptSeat, Waiting};
 use area_core::AreaFault;
@@ -36,7 +37,7 @@ use std::mem;
 pub struct Journal<D: Disk> {
     ring: ScriptRing,
     seats: Vec<ScriptSeat>,
-    flusher: Flusher<D, Silent>,
+    flusher: ScriptFlusher<D>,
     // False once a step failed.
     whole: bool,
 }

@@ -10,10 +10,10 @@ ghost use Rattle.script_journal.specs.Journals.{IsFull, KeepFront};
 ghost use Rattle.script_journal.specs.Placed.{AgreeAll, AreOwn, AreSeatsOf, commands_of};
 
 use crate::appending::append_all;
+use crate::sizes::ScriptFlusher;
 use crate::waiting::{ScriptRing, ScriptSeat, Waiting};
 use disk_core::Disk;
-use flush_core::{FlushFault, Flusher};
-use outbox_core::Silent;
+use flush_core::FlushFault;
 use std::alloc::Global;
 
 // Turns until so many commands are taken, which are then stored, carried out and published.
@@ -23,7 +23,7 @@ use std::alloc::Global;
 fn take_all<D: Disk>(
     alloc: Global,
     ring: &ScriptRing,
-    flusher: &mut Flusher<D, Silent>,
+    flusher: &mut ScriptFlusher<D>,
     count: u64,
 ) -> Result<(), FlushFault>
     requires ring { flusher.old.seat.ring ≡ ring.now }
@@ -55,7 +55,7 @@ fn take_all<D: Disk>(
 fn take_until_stop<D: Disk>(
     alloc: Global,
     ring: &ScriptRing,
-    flusher: &mut Flusher<D, Silent>,
+    flusher: &mut ScriptFlusher<D>,
     count: u64,
 ) -> Result<bool, FlushFault>
     requires ring { flusher.old.seat.ring ≡ ring.now }
@@ -97,7 +97,7 @@ pub fn go<D: Disk>(
     alloc: Global,
     ring: &ScriptRing,
     seats: &mut Vec<ScriptSeat>,
-    flusher: &mut Flusher<D, Silent>,
+    flusher: &mut ScriptFlusher<D>,
     waiting: Vec<Waiting>,
 ) -> Result<bool, FlushFault>
     requires ring { flusher.old.seat.ring ≡ ring.now }
@@ -129,7 +129,7 @@ pub fn go<D: Disk>(
 pub fn compare_all<D: Disk>(
     ring: &ScriptRing,
     seats: &mut Vec<ScriptSeat>,
-    flusher: &mut Flusher<D, Silent>,
+    flusher: &mut ScriptFlusher<D>,
 )
     requires ring { flusher.old.seat.ring ≡ ring.now }
     requires seats { AreSeatsOf ring.now seats.old.items }

@@ -1,7 +1,7 @@
 //! How the threads of a server wait for one another.
 
 use crate::teller::{Compaction, Teller};
-use hub_core::Gate;
+use hub_core::Pacing;
 use std::io::Write;
 use std::sync::Wait;
 use std::sync::atomic::{AtomicBool, AtomicU64, Ordering};
@@ -114,7 +114,7 @@ impl<T: Wait + Clock> Pace<T> {
     }
 }
 
-impl<T: Wait + Clock> Gate for Pace<T> {
+impl<T: Wait + Clock> Pacing for Pace<T> {
     fn pass(&self, worker: u32, _turn: u64) -> bool {
         if worker == u32::MAX {
             self.await_commands();
@@ -127,11 +127,11 @@ impl<T: Wait + Clock> Gate for Pace<T> {
         self.wake_flusher();
     }
 
-    fn is_full(&self, _worker: u32, mark: u64) {
+    fn wait_for_room(&self, _worker: u32, mark: u64) {
         self.await_mark(mark);
     }
 
-    fn is_short(&self, _worker: u32) {
+    fn wait_for_memory(&self, _worker: u32) {
         thread::sleep(&self.rt, Duration::from_millis(SHORTAGE));
     }
 

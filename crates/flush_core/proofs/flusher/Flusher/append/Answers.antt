@@ -13,15 +13,17 @@ use Rattle.flush_core.proofs.StoreFaults.{caused_so, fell_so, only_full, same_fa
 use Rattle.broker_core.specs.States.{State}
 use Rattle.broker_core.specs.Steps.{state_after}
 use Rattle.command_core.specs.Commands.{CommandValue}
+use Rattle.command_core.specs.Entries.{EntryValue}
+use Rattle.outbox_core.specs.Boxes.{SenderValue}
 use Rattle.recover_core.specs.Standing.{StandFor, StandsForEither}
-use Rattle.flush_core.specs.Batches.{from_on, state_at, state_taken}
+use Rattle.flush_core.specs.Batches.{IsBatch, from_on, state_at, state_taken}
 use Rattle.recover_core.specs.Stores.{disk_of, size_of, used_of}
 use Rattle.flush_core.specs.Flushed.{Flushed, flushed, gathered}
 use Rattle.flush_core.specs.Outcomes.{IsOutcome, storing}
 use Rattle.flush_core.specs.Room.{HasNoRoom}
 use Rattle.flush_core.proofs.Room.{lacks_room}
 use Rattle.flush_core.proofs.Turns.{unstored}
-use Rattle.flush_core.proofs.Keeping.{all_stored, hold_either, held_stored, store_fails, stored_brought, stores}
+use Rattle.flush_core.proofs.Keeping.{all_stored, hold_either, held_stored, no_batch, none_done, store_fails, stored_brought, stores}
 use Rattle.flush_core.proofs.Taken.{all_at, at_rest, length_commands}
 use Rattle.flush_core.proofs.flusher.Flusher.append.Goals as goal
 
@@ -43,6 +45,7 @@ invariant_of-self g c =
       λ w. held_stored it.seat it.stored c.next-self-inside.result it.settled _ _ it.batch.items it.done.items c.swap.new.x.items c.swap.new.y.items it.bytes _ _ _
           (λ i. (c.swap.ensures.x_after i).items) (λ i. (c.swap.ensures.y_after i).items) c.next-self-inside.ensures.next c.next-self-inside.ensures.most c.in-Ok.ensures.ok settled (omega (arith, kept.begun, kept.marked, kept.settled)) (c.self.invariant.1 w),
       c.self.invariant.2,
+      λ w. subst (IsBatch g.row.BATCH g.row.BATCH_BYTES) (sym (ap (λ (l : List (EntryValue SenderValue)). commands l) (λ i. (c.swap.ensures.x_after i).items) ∙ none_done it.seat it.stored it.settled _ it.batch.items it.done.items _ _ _ _ settled (c.self.invariant.1 c.if-self.false))) (no_batch g.row.BATCH g.row.BATCH_BYTES),
     )
 
 pub invariant_of-self-in-Err : goal.invariant_of-self-in-Err
@@ -60,6 +63,7 @@ invariant_of-self-in-Err g c =
           (λ image among. subst (λ (t : State). StandsForEither s t image)
           (ap (λ (l : List CommandValue). state_after s l) is ∙ at_rest opening it.seat it.stored)
           (leaves.each image (g.met.D.Disk.counts_now c.append.new.self.disk (g.D.Disk.moment it.journal.disk) image leaves.later among)))) kept,
+      λ w. absurd (cc w),
       λ w. absurd (cc w),
       λ w. absurd (cc w),
     )

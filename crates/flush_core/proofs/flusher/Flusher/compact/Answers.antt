@@ -30,6 +30,7 @@ invariant_of-self g c =
       compacts g.D.Disk.honest g.D.Disk.images f c.compact.new.self.disk _ _ _ c.if-self.false stand kept,
       λ w. let held = c.self.invariant.1 w in record { whole = c.in-Ok.ensures.ok; batch_is = held.batch_is; bytes_is = held.bytes_is; done_is = held.done_is; few = held.few; room_is = held.room_is },
       c.self.invariant.2,
+      c.self.invariant.3,
     )
 
 pub invariant_of-self-in-Err : goal.invariant_of-self-in-Err
@@ -45,6 +46,7 @@ invariant_of-self-in-Err g c =
     (λ t image le among. g.met.D.Disk.counts_now c.compact.new.self.disk t image le among) in (
       store_fails g.D.Disk.honest g.D.Disk.images f c.stop.new.seat c.compact.new.self.disk _ _ c.stop.ensures
           (λ h. hold_at (g.D.Disk.images c.compact.new.self.disk) it.opening.value.state it.seat it.stored (omega (arith, kept.marked, kept.settled)) kept.stored (stand h)) kept,
+      λ w. absurd (cc w),
       λ w. absurd (cc w),
       λ w. absurd (cc w),
     )

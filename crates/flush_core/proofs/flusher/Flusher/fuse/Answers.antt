@@ -23,7 +23,6 @@ invariant_of-result g c =
         running = λ whole. let run = kept.running whole in record {
           stands = subst (λ (d : g.row.D.Denot). g.D.Disk.honest d → StandFor (g.D.Disk.images d) (state_at opening it.seat it.stored)) (sym same) run.stands;
           broker = run.broker;
-          batch = run.batch;
           brought = run.brought;
           waiting = run.waiting;
         };

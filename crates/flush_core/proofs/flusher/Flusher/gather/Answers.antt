@@ -27,9 +27,10 @@ invariant_of-self g c =
     let begun : it.seat.base ≤ it.settled = omega (arith, kept.begun, kept.marked) in
     let now = held_more it.seat c.fill.new.seat more it.stored it.settled _ it.batch.items it.done.items c.fill.new.batch.items it.bytes c.fill.new.bytes _ _ _ seat is c.fill.ensures.bytes kept.settled kept.stored begun held in
     let brought = all_brought c.fill.new.seat it.stored it.settled _ c.fill.new.batch.items it.done.items c.fill.new.bytes _ _ _ (omega (arith, begun, ap (λ (s : FlushSeatValue). s.base) seat)) kept.settled now in (
-      takes g.D.Disk.honest g.D.Disk.images f c.fill.new.seat more (it.done.items ++ c.fill.new.batch.items) seat (subst (λ (l : List CommandValue). IsBatch l) is c.fill.ensures.batch) brought c.if-self.false kept,
+      takes g.D.Disk.honest g.D.Disk.images f c.fill.new.seat more (it.done.items ++ c.fill.new.batch.items) seat brought c.if-self.false kept,
       λ _. now,
       c.self.invariant.2,
+      λ _. c.fill.ensures.batch,
     )
 
 pub invariant_of-self-in-Err : goal.invariant_of-self-in-Err
@@ -38,6 +39,7 @@ invariant_of-self-in-Err g c =
     let f = flushed it.journal it.seat it.opening.value.state it.stored it.settled (it.done.items ++ it.batch.items) it.broker it.outlet.boxes it.outlet.ended.items it.outlet.past.items it.outlet.waiting.items it.outlet.left.items it.broken it.won in (
       fails g.D.Disk.honest g.D.Disk.images f c.stop.new.seat (it.done.items ++ c.fill.new.batch.items) it.broker it.outlet.boxes it.outlet.ended.items it.outlet.past.items it.outlet.waiting.items it.outlet.left.items
           (c.stop.ensures ∙ ap (λ (s : FlushSeatValue). when_stopped s) c.in-Err.ensures.refused) refl c.self.invariant.0,
+      λ w. absurd (cc w),
       λ w. absurd (cc w),
       λ w. absurd (cc w),
     )
@@ -51,7 +53,7 @@ returns-in-Ok-clause-batch g c =
     let is : commands c.fill.new.batch.items ≡ from_on c.fill.new.seat it.stored =
     ap (λ (l : List (EntryValue SenderValue)). commands l) took.3 ∙ (commands_both it.batch.items took.0
     ∙ (ap (λ (l : List CommandValue). l ++ more) held.batch_is ∙ (sym (from_more it.seat more it.stored c.self.invariant.0.stored) ∙ ap (λ (s : FlushSeatValue). from_on s it.stored) (sym took.2)))) in
-    subst (λ (l : List CommandValue). IsBatch l) is c.fill.ensures.batch
+    subst (IsBatch g.row.BATCH g.row.BATCH_BYTES) is c.fill.ensures.batch
 
 pub returns-then-self-clause-taken : goal.returns-then-self-clause-taken
 returns-then-self-clause-taken g c = tt

@@ -37,6 +37,7 @@ invariant_of-self g c =
       λ w. held_marked it.seat c.raise.new.seat it.stored it.stored it.settled _ it.batch.items it.done.items it.bytes _ _ _ _ _ _ c.raise.ensures
           (λ some. omega (arith, waiting, c.give.new.self.left.ok.0, c.give.new.self.left.ok.1)) (c.self.invariant.1 w),
       λ w. record { none = ap (λ (l : List OutValue). length l) c.give.ensures.none.1; room_is = omega (arith, waiting) },
+      c.self.invariant.3,
     )
 
 pub returns-clause-published : goal.returns-clause-published

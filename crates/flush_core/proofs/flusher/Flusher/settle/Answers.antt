@@ -35,6 +35,7 @@ invariant_of-self g c =
           c.execute_all.ensures.left c.if-self.false c.self.invariant.0,
       λ w. held_settled it.seat it.stored it.settled _ it.batch.items it.done.items now.done.items it.bytes _ _ _ _ _ _ did.done did.room held,
       λ w. record { none = did.spare.0; room_is = did.spare.1 },
+      c.self.invariant.3,
     )
 
 pub invariant_of-self-in-Err : goal.invariant_of-self-in-Err
@@ -44,6 +45,7 @@ invariant_of-self-in-Err g c =
     let now = c.execute_all.new in (
       fails g.D.Disk.honest g.D.Disk.images f c.stop.new.seat (now.done.items ++ it.batch.items) now.broker now.outlet.boxes now.outlet.ended.items now.outlet.past.items now.outlet.waiting.items now.outlet.left.items
           c.stop.ensures c.execute_all.ensures.left c.self.invariant.0,
+      λ w. absurd (cc w),
       λ w. absurd (cc w),
       λ w. absurd (cc w),
     )

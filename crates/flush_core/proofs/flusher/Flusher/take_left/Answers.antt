@@ -13,4 +13,5 @@ invariant_of-self g c =
       λ w. held_marked it.seat it.seat it.seat.published it.stored it.settled _ it.batch.items it.done.items it.bytes _ _ _ _ _ _ refl
           (λ some. omega (arith, some, ap (λ (l : List OutValue). length l) none)) (c.self.invariant.1 w),
       c.self.invariant.2,
+      c.self.invariant.3,
     )

@@ -3,17 +3,16 @@ use Rattle.command_core.specs.Entries.{EntryValue}
 use Rattle.outbox_core.specs.Boxes.{SenderValue}
 use Rattle.area_core.specs.Areas.{commands, records}
 use Rattle.flush_core.specs.Batches.{IsBatch, with_more}
-use Rattle.flush_core.specs.declared.gathering.TheConstants.{BATCH_ENTRIES}
-use Rattle.flush_core.proofs.gathering.take_ready.Given as goal
+use Rattle.flush_core.proofs.flusher.Flusher.take_ready.Given as goal
 
 abbrev pub invariant-loop-seat : goal.invariant-loop-seat
 invariant-loop-seat g l = record {
   taken : (more : List (EntryValue SenderValue)) × (length more ≡ l.count) × (l.seat ≡ with_more l.fn.seat (commands more)) × (l.batch.items ≡ l.fn.batch.items ++ more);
   few : l.count ≤ length l.batch.items;
-  room : BATCH_ENTRIES ≤ vec_capacity l.batch;
+  room : g.row.BATCH ≤ vec_capacity l.batch;
   bytes : l.bytes ≡ length (records (commands l.batch.items));
-  batch : IsBatch (commands l.batch.items);
+  batch : IsBatch g.row.BATCH g.row.BATCH_BYTES (commands l.batch.items);
 }
 
 abbrev pub decreases-loop-seat : goal.decreases-loop-seat
-decreases-loop-seat g l = BATCH_ENTRIES - length l.batch.items
+decreases-loop-seat g l = g.row.BATCH - length l.batch.items

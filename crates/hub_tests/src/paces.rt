@@ -1,6 +1,6 @@
 //! Gates that let threads wait for one another.
 
-use hub_core::Gate;
+use hub_core::Pacing;
 use std::sync::atomic::{AtomicBool, AtomicU64, Ordering};
 use std::thread;
 use std::time::{Clock, Duration};
@@ -9,7 +9,7 @@ use std::time::{Clock, Duration};
 #[derive(Drop)]
 pub struct Free;
 
-impl Gate for Free {
+impl Pacing for Free {
     fn pass(&self, _worker: u32, _turn: u64) -> bool {
         true
     }
@@ -19,7 +19,7 @@ impl Gate for Free {
 #[derive(Drop)]
 pub struct Shut;
 
-impl Gate for Shut {
+impl Pacing for Shut {
     fn pass(&self, _worker: u32, _turn: u64) -> bool {
         false
     }
@@ -31,7 +31,7 @@ pub struct Pause<R> {
     pub rt: R,
 }
 
-impl<R: Clock> Gate for Pause<R> {
+impl<R: Clock> Pacing for Pause<R> {
     fn pass(&self, _worker: u32, _turn: u64) -> bool {
         thread::sleep(&self.rt, Duration::from_millis(1));
         true
@@ -46,7 +46,7 @@ pub struct Turnstile<R> {
     pub finished: AtomicBool,
 }
 
-impl<R: Clock> Gate for Turnstile<R> {
+impl<R: Clock> Pacing for Turnstile<R> {
     fn pass(&self, worker: u32, _turn: u64) -> bool {
         if self.finished.load(Ordering::SeqCst) {
             return false;
@@ -63,7 +63,7 @@ pub struct Awaited {
     pub mark: u64,
 }
 
-/// The gate of worker 0 and of a flusher, which notes what it hears. Each turn sleeps a millisecond. The flusher is held up
+/// The pace of worker 0 and of a flusher, which notes what it hears. Each turn sleeps a millisecond. The flusher is held up
 /// until it is let go, or the worker has found its window full, or awaits a mark, or has ended; then that one turns no more. A
 /// worker whose window is full is held up until the mark has risen, or will rise no more.
 #[derive(Drop)]
@@ -154,7 +154,7 @@ impl<R: Clock> Noting<R> {
     }
 }
 
-impl<R: Clock> Gate for Noting<R> {
+impl<R: Clock> Pacing for Noting<R> {
     fn pass(&self, worker: u32, turn: u64) -> bool {
         if self.ended.load(Ordering::SeqCst) {
             return worker == u32::MAX;
@@ -174,7 +174,7 @@ impl<R: Clock> Gate for Noting<R> {
         self.appended.store(true, Ordering::SeqCst);
     }
 
-    fn is_full(&self, _worker: u32, mark: u64) {
+    fn wait_for_room(&self, _worker: u32, mark: u64) {
         self.full.store(true, Ordering::SeqCst);
         self.waits.store(true, Ordering::SeqCst);
         self.flushes.store(true, Ordering::SeqCst);
@@ -184,7 +184,7 @@ impl<R: Clock> Gate for Noting<R> {
         }
     }
 
-    fn is_short(&self, _worker: u32) {
+    fn wait_for_memory(&self, _worker: u32) {
         self.short.store(true, Ordering::SeqCst);
     }
 

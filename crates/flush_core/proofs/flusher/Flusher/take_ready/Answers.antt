@@ -1,6 +1,6 @@
 use Rattle.std.proofs.Common.{arith, rules}
 use Rattle.std.proofs.lemmas.Grind.{common_steps}
-use Rattle.flush_core.proofs.gathering.take_ready.Goals as goal
+use Rattle.flush_core.proofs.flusher.Flusher.take_ready.Goals as goal
 
 pub push_reserved-requires : goal.push_reserved-requires
 push_reserved-requires g c = search rules
