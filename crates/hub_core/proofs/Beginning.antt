@@ -5,6 +5,7 @@ use Rattle.disk_core.specs.declared.disk.Disk.{Ghosts}
 use Rattle.atomic_table.specs.Seated.{TableId}
 use Rattle.broker_core.specs.Operations.{restarted}
 use Rattle.broker_core.specs.States.{State, BrokerValue}
+use Rattle.limits_core.specs.declared.TheConstants.{SEATS}
 use Rattle.claim_core.specs.Seats.{SessionSeatValue, FlushSeatValue, new_flushing}
 use Rattle.std.specs.declared.alloc.AllocError.{AllocError}
 use Rattle.area_core.specs.declared.faults.AreaFault.TheVariants as areas
@@ -23,7 +24,7 @@ pub some_of : {X : Type 0} (o : Option X) (x : X) (P : X → Type 0) → Some x 
 some_of o x P e p = let At : Option _ → Type 0 = λ k. IfSome k P in subst At (sym e) p
 
 pub first : {D : Type 0} {disk : Ghosts D} (f : Flushed D) (store : Store D disk) (seat : FlushSeatValue) (broker : BrokerValue) (ring : TableId) (base : ℕ)
-    → f ≡ flushed store seat broker.state seat.base seat.base [] broker [] [] [] [] [] false None → seat ≡ new_flushing ring base 32 → broker.broken ≡ false → IsFirst ring base f
+    → f ≡ flushed store seat broker.state seat.base seat.base [] broker [] [] [] [] [] false None → seat ≡ new_flushing ring base SEATS → broker.broken ≡ false → IsFirst ring base f
 first f store seat broker ring base is seat_is whole =
     let base_is : seat.base ≡ base = ap (λ (s : FlushSeatValue). s.base) seat_is in
     let broker_is : f.broker ≡ broker = ap (λ (x : Flushed _). x.broker) is in
@@ -45,7 +46,7 @@ first f store seat broker ring base is seat_is whole =
     as_parts b s e w = λ i. record { state = sym e i; broken = w i }
 
 pub whole : {D : Type 0} (h : HubValue D) (f : Flushed D) (ring : TableId) (base : ℕ) (seats : List SessionSeatValue)
-    → h ≡ hub ring base seats (Some f) → IsFirst ring base f → length seats ≡ 32 → ((k : ℕ) (seat : SessionSeatValue) → slice_get seats k ≡ Some seat → seat.number ≡ k) → IsWhole h f
+    → h ≡ hub ring base seats (Some f) → IsFirst ring base f → length seats ≡ SEATS → ((k : ℕ) (seat : SessionSeatValue) → slice_get seats k ≡ Some seat → seat.number ≡ k) → IsWhole h f
 whole h f ring base seats is is_first count numbers =
     let At : HubValue _ → Type 0 = λ x. IsWhole x f in
     subst At (sym is) (record { flusher = refl; first = is_first; count = count; numbers = numbers })

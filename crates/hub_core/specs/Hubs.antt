@@ -2,6 +2,7 @@
 use Rattle.std.specs.Prelude.{◌≡◌, ◌≤◌, ◌^◌, ℕ, List, [], ◌∷◌, ◌++◌, Option, Some, None, false, length, slice_get, All, IfSome}
 use Rattle.atomic_table.specs.Seated.{TableId}
 use Rattle.broker_core.specs.States.{BrokerValue}
+use Rattle.limits_core.specs.declared.TheConstants.{SEATS}
 use Rattle.claim_core.specs.Seats.{SessionSeatValue, new_session, new_flushing}
 use Rattle.area_core.specs.declared.faults.AreaFault.TheVariants as areas
 use Rattle.recover_core.specs.declared.faults.OpenFault.{OpenFault}
@@ -22,9 +23,9 @@ hub ring base seats flusher = record { ring = ring; base = base; seats = seats; 
 abbrev pub AreNew : TableId → ℕ → List SessionSeatValue → Type 0
 AreNew ring base seats = All (λ (seat : SessionSeatValue). seat ≡ new_session ring base seat.number) seats
 
--- a flusher that has done nothing yet: its seat is that of a new ring with 32 sessions' seats
+-- a flusher that has done nothing yet: its seat is that of a new ring with all sessions' seats
 pub record IsFirst {D : Type 0} (ring : TableId) (base : ℕ) (f : Flushed D) : Type 0 where
-  pub seat : f.seat ≡ new_flushing ring base 32
+  pub seat : f.seat ≡ new_flushing ring base SEATS
   pub stored : f.stored ≡ base
   pub settled : f.settled ≡ base
   pub broker : f.broker ≡ record { state = f.opening; broken = false }
@@ -39,11 +40,11 @@ pub record IsFirst {D : Type 0} (ring : TableId) (base : ℕ) (f : Flushed D) : 
 abbrev pub IsHub : {D : Type 0} → HubValue D → Type 0
 IsHub h = AreNew h.ring h.base h.seats × ((f : Flushed _) → h.flusher ≡ Some f → IsFirst h.ring h.base f)
 
--- a hub from which nothing was handed out: 32 seats, each with its place as its number, and that flusher
+-- a hub from which nothing was handed out: all seats, each with its place as its number, and that flusher
 pub record IsWhole {D : Type 0} (h : HubValue D) (f : Flushed D) : Type 0 where
   pub flusher : h.flusher ≡ Some f
   pub first : IsFirst h.ring h.base f
-  pub count : length h.seats ≡ 32
+  pub count : length h.seats ≡ SEATS
   pub numbers : (k : ℕ) (seat : SessionSeatValue) → slice_get h.seats k ≡ Some seat → seat.number ≡ k
 
 -- memory was refused

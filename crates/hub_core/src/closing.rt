@@ -11,6 +11,7 @@ use crate::hub::Hub;
 use crate::sizes::HubFlusher;
 use claim_core::{BrokerRing, BrokerSeat, FlushSeat, RingEnd};
 use disk_core::Disk;
+use limits_core::SEATS;
 use outbox_core::{Bell, OutSender};
 use std::alloc::AllocError;
 use std::collections::VecDeque;
@@ -19,7 +20,7 @@ use world_core::shown_worlds_hold;
 impl<D: Disk + Drop, B: Bell> Hub<D, B> {
     /// Ends the hub, with its flusher, broken or not, and each seat that was handed out; the others it has itself. What
     /// the flusher did not take is dropped, and so are outputs that wait. Where memory is refused the disk comes back as
-    /// it is; no memory is taken for a hub's own 32 seats.
+    /// it is; no memory is taken for a hub's own seats.
     ///
     /// Contracts then know the world that ring, seats and flusher show: what is promised of the core of all interleavings
     /// is so of it.
@@ -33,7 +34,7 @@ impl<D: Disk + Drop, B: Bell> Hub<D, B> {
         requires all { length seats.items + length self.seats ≡ flusher.seat.seats }
         ensures closes { IfOk result (λ closed. (history : List CommandValue)
             × Closes D.honest D.images (self.seats ++ seats.items) flusher history closed) }
-        ensures own { flusher.seat.seats ≤ 32 → IsOk result }
+        ensures own { flusher.seat.seats ≤ SEATS → IsOk result }
         ensures refused { IfErr result (λ back. back.0 ≡ flusher.disk) }
     {
         shown_worlds_hold::<D>();

@@ -17,19 +17,20 @@ use crate::sizes::HubFlusher;
 use claim_core::{BrokerRing, BrokerSeat, Ring};
 use disk_core::Disk;
 use flush_core::Flusher;
+use limits_core::SEATS;
 use outbox_core::{Bell, OutSender};
 use recover_core::{OpenFault, Store};
 use std::alloc::Global;
 use std::collections::VecDeque;
 use std::marker::Model;
 
-/// An opened journal with a ring before it: the seats of 32 sessions, and the flusher, each to be handed out once.
+/// An opened journal with a ring before it: the seats of `SEATS` sessions, and the flusher, each to be handed out once.
 /// Contracts see which ring it is, its first ticket, and what was not handed out.
 #[derive(Drop)]
 pub struct Hub<D: Disk, B: Bell> {
     ring: BrokerRing<OutSender<B>>,
     base: u64,
-    // With room for all 32, so that closing needs none.
+    // With room for all, so that closing needs none.
     seats: VecDeque<BrokerSeat<OutSender<B>>>,
     flusher: Option<HubFlusher<D, B>>,
 }
@@ -43,7 +44,7 @@ impl<D: Disk, B: Bell> Model for Hub<D, B> {
 
     ghost view = { λ a. hub a.ring a.base a.seats.items a.flusher };
 
-    ghost invariant = { λ a. IsHub (hub a.ring a.base a.seats.items a.flusher) × (32 ≤ deque_capacity a.seats) };
+    ghost invariant = { λ a. IsHub (hub a.ring a.base a.seats.items a.flusher) × (SEATS ≤ deque_capacity a.seats) };
 }
 
 impl<D: Disk, B: Bell> Hub<D, B> {
@@ -99,7 +100,7 @@ impl<D: Disk, B: Bell> Hub<D, B> {
         flusher: HubFlusher<D, B>,
     ) -> Hub<D, B>
         requires seats { AreNew ring base seats.items }
-        requires count { length seats.items ≡ 32 }
+        requires count { length seats.items ≡ SEATS }
         requires flusher { IsFirst ring base flusher }
         ensures { result ≡ hub ring base seats.items (Some flusher) }
     {
@@ -142,7 +143,7 @@ impl<D: Disk + Drop, B: Bell> Hub<D, B> {
     pub(crate) fn into_seats(self) -> (BrokerRing<OutSender<B>>, VecDeque<BrokerSeat<OutSender<B>>>)
         ensures parts { (result.0 ≡ self.ring) × (result.1.items ≡ self.seats) }
         ensures seated { All (λ seat. seat.ring ≡ self.ring) self.seats }
-        ensures room { 32 ≤ deque_capacity result.1 }
+        ensures room { SEATS ≤ deque_capacity result.1 }
     {
         let Hub {
             ring,
