@@ -106,3 +106,31 @@ module _ {D : Type 0} (disk : Ghosts D) where
         waiting = ap (λ (f : Flushed D). f.waiting) end;
         left = ap (λ (f : Flushed D). f.left) end ∙ (λ i. old.left ++ unboxed (stands i) (outs i));
       }
+
+-- a turn whose commands are taken and stored fails where executing them does
+module _ {D : Type 0} (old took did new : Flushed D) (entries : List (EntryValue SenderValue)) (next : D) (size used : ℕ) (won : Option ℕ)
+    (whole : old.broken ≡ false) (took_is : took ≡ taking old entries) (did_is : did ≡ storing took next size used won) where
+  did_all : did ≡ storing (taking old entries) next size used won
+  did_all = did_is ∙ ap (λ (f : Flushed D). storing f next size used won) took_is
+
+  turn_falls : Falls did new → TurnFalls old new
+  turn_falls fell =
+      let seat : new.seat ≡ when_stopped (with_more old.seat (commands entries)) = fell.seat ∙ ap (λ (f : Flushed D). when_stopped f.seat) did_all in
+      record {
+        was = whole;
+        now = fell.now;
+        stopped = ap (λ (s : FlushSeatValue). s.stopped) seat;
+        ring = ap (λ (s : FlushSeatValue). s.ring) seat;
+        base = ap (λ (s : FlushSeatValue). s.base) seat;
+        seats = ap (λ (s : FlushSeatValue). s.seats) seat;
+        published = ap (λ (s : FlushSeatValue). s.published) seat;
+        taken = (commands entries, ap (λ (s : FlushSeatValue). s.taken) seat);
+        opening = fell.opening ∙ ap (λ (f : Flushed D). f.opening) did_all;
+        left = fell.left ∙ ap (λ (f : Flushed D). f.left) did_all;
+      }
+
+  pub settle_falls : {X : Type 0} (fault : FlushFault) → did.broken ≡ false → IsOutcome {X = Unit {0}} did new (Err fault) → IsTurn {X = X} old new (Err fault)
+  settle_falls Device sound outcome = turn_falls outcome
+  settle_falls Full sound outcome = turn_falls outcome
+  settle_falls (Memory refused) sound outcome = turn_falls outcome
+  settle_falls Broken sound outcome = absurd (false≢true (sym sound ∙ outcome.0))

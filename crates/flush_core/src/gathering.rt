@@ -1,6 +1,6 @@
 //! Taking commands from the ring.
 
-ghost use Rattle.std.specs.Prelude.{◌≡◌, ◌<◌, ◌≤◌, ◌++◌, List, IfOk, IfErr, OnErr, true, length, vec_capacity};
+ghost use Rattle.std.specs.Prelude.{◌≡◌, ◌<◌, ◌≤◌, ◌^◌, ◌++◌, List, IfOk, IfErr, OnErr, true, length, vec_capacity};
 ghost use Rattle.command_core.specs.Entries.{EntryValue};
 ghost use Rattle.outbox_core.specs.Boxes.{SenderValue};
 ghost use Rattle.area_core.specs.Areas.{commands, records};
@@ -24,7 +24,8 @@ impl<D: Disk, B: Bell, const BATCH: usize, const BATCH_BYTES: u64> Flusher<D, B,
     // A batch whose records have as many bytes takes no further command: a quarter of an area, so that one block doesn't fill a
     // journal that holds little, but not more than a batch may have, and in small areas `LEAST_BYTES`.
     fn bytes_wanted(&self) -> u64
-        ensures { result ≤ BATCH_BYTES }
+        ensures wanted { result ≤ BATCH_BYTES }
+        ensures most { result ≤ 2 ^ 62 }
     {
         let quarter = self.journal.size() / 4;
         if quarter > LEAST_BYTES {
@@ -43,6 +44,7 @@ impl<D: Disk, B: Bell, const BATCH: usize, const BATCH_BYTES: u64> Flusher<D, B,
         bytes: &mut u64,
     ) -> u64
         requires wanted { wanted ≤ BATCH_BYTES }
+        requires most { wanted ≤ 2 ^ 62 }
         requires ring { seat.old.ring ≡ ring.now }
         requires room { BATCH ≤ vec_capacity batch.old }
         requires bytes { bytes.old ≡ length (records (commands batch.old.items)) }
@@ -73,6 +75,7 @@ impl<D: Disk, B: Bell, const BATCH: usize, const BATCH_BYTES: u64> Flusher<D, B,
         bytes: &mut u64,
     ) -> Result<u64, AllocError>
         requires wanted { wanted ≤ BATCH_BYTES }
+        requires most { wanted ≤ 2 ^ 62 }
         requires ring { seat.old.ring ≡ ring.now }
         requires bytes { bytes.old ≡ length (records (commands batch.old.items)) }
         requires batch { IsBatch BATCH BATCH_BYTES (commands batch.old.items) }

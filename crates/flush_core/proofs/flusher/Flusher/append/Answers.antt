@@ -23,7 +23,7 @@ use Rattle.flush_core.specs.Outcomes.{IsOutcome, storing}
 use Rattle.flush_core.specs.Room.{HasNoRoom}
 use Rattle.flush_core.proofs.Room.{lacks_room}
 use Rattle.flush_core.proofs.Turns.{unstored}
-use Rattle.flush_core.proofs.Keeping.{all_stored, hold_either, held_stored, no_batch, none_done, store_fails, stored_brought, stores}
+use Rattle.flush_core.proofs.Keeping.{all_stored, hold_either, held_stored, no_batch, none_done, nothing, store_fails, stored_brought, stores}
 use Rattle.flush_core.proofs.Taken.{all_at, at_rest, length_commands}
 use Rattle.flush_core.proofs.flusher.Flusher.append.Goals as goal
 
@@ -308,3 +308,17 @@ returns-in-Ok-clause-cause g c =
     let after = g.D.Disk.failures c.append.new.self.disk in
     subst (λ (f : Flushed g.row.D.Denot). after ≡ g.D.Disk.failures f.disk) c.self.view_is
     (subst (λ (r : Result (Unit {0}) AreaFault). IsCaused {T = Unit {0}} (g.D.Disk.failures it.journal.disk) after r) c.in-Ok.is c.append.ensures.cause)
+
+pub returns-then-is_empty-clause-used : goal.returns-then-is_empty-clause-used
+returns-then-is_empty-clause-used g c =
+    let it = c.self.inside in
+    let zero : it.batch.len ≡ 0 = eqb-true it.batch.len 0 (sym c.is_empty.ensures ∙ c.if-is_empty.true) in
+    let none : commands it.batch.items ≡ [] = ap (λ (l : List (EntryValue SenderValue)). commands l) (nothing it.batch.items (omega (arith, zero, it.batch.ok.0))) in
+    λ some. absurd (some (subst (λ (f : Flushed g.row.D.Denot). gathered f ≡ []) c.self.view_is (sym (c.self.invariant.1 c.if-self.false).batch_is ∙ none)))
+
+pub returns-in-Ok-clause-used : goal.returns-in-Ok-clause-used
+returns-in-Ok-clause-used g c some =
+    let it = c.self.inside in
+    let is : commands c.deref.result.now ≡ from_on it.seat it.stored = ap (λ l. commands l) c.deref.ensures.value ∙ (c.self.invariant.1 c.if-self.false).batch_is in
+    subst (λ (f : Flushed g.row.D.Denot). used_of c.append.new.self ≡ f.used + 9 + length (records (gathered f))) c.self.view_is
+    (subst (λ (l : List CommandValue). used_of c.append.new.self ≡ used_of it.journal + 9 + length (records l)) is c.in-Ok.ensures.used)

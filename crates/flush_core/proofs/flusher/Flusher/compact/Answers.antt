@@ -1,19 +1,25 @@
-use Rattle.std.proofs.Common.{◌∙◌, ◌≡◌, ◌++◌, Err, ap, arith, subst, sym, false}
+use Rattle.std.proofs.Common.{◌∙◌, ◌≡◌, ◌++◌, ◌-◌, Err, Result, Some, ap, arith, refl, subst, sym, false, true}
 use Rattle.disk_core.specs.Moments.{LeavesOnly}
 use Rattle.area_core.specs.Puts.{Each}
+use Rattle.area_core.specs.Steps.{IsCaused}
 use Rattle.area_core.specs.declared.faults.AreaFault.{AreaFault}
-use Rattle.broker_core.specs.States.{State}
+use Rattle.area_core.specs.declared.faults.AreaFault.TheVariants as area
+use Rattle.claim_core.specs.Seats.{when_stopped}
+use Rattle.broker_core.specs.States.{BrokerValue, State}
 use Rattle.recover_core.specs.Compactions.{HasNoRoomFor, HoldsItAlone}
 use Rattle.recover_core.specs.Standing.{StandFor, Stands}
 use Rattle.recover_core.specs.Stores.{disk_of, size_of, used_of}
+use Rattle.flush_core.specs.declared.faults.FlushFault.{FlushFault}
 use Rattle.flush_core.specs.declared.faults.FlushFault.TheVariants.{Full}
+use Rattle.flush_core.specs.Faults.{IsFlushCaused}
+use Rattle.flush_core.specs.Outcomes.{IsOutcome, compacted}
 use Rattle.flush_core.specs.Batches.{state_at}
 use Rattle.flush_core.specs.Flushed.{Flushed, flushed}
-use Rattle.flush_core.specs.Room.{HasNoRoomForState}
+use Rattle.flush_core.specs.Room.{HasNoRoomForState, used_afresh}
 use Rattle.flush_core.proofs.Compactions.{leaves_state, stand_then, stored_state}
 use Rattle.flush_core.proofs.Keeping.{compacts, hold_at, store_fails}
 use Rattle.flush_core.proofs.Room.{lacks_room_for_state}
-use Rattle.flush_core.proofs.StoreFaults.{only_full, same_fault}
+use Rattle.flush_core.proofs.StoreFaults.{caused_so, fell_so, only_full, same_fault}
 use Rattle.flush_core.proofs.flusher.Flusher.compact.Goals as goal
 
 pub invariant_of-self : goal.invariant_of-self
@@ -113,3 +119,61 @@ returns-in-Err-clause-no_room g c honest is =
     (lacks_room_for_state it.journal.area (g.D.Disk.images it.journal.disk) (g.D.Disk.content it.journal.disk) s (g.met.D.Disk.reads it.journal.disk was)
     (it.journal.sound was (c.self.invariant.1 c.if-self.false).whole) ((kept.running c.if-self.false).stands was)
     (subst (λ (s : State). HasNoRoomFor (size_of it.journal) s) same told.0)))
+
+pub returns-then-self-clause-stops : goal.returns-then-self-clause-stops
+returns-then-self-clause-stops g c = subst (λ (f : Flushed g.row.D.Denot). (f.broken ≡ true) × (f.seat.stopped ≡ true)) c.self.view_is (c.if-self.true, c.self.invariant.0.stopped c.if-self.true)
+
+pub compact-requires-clause-whole : goal.compact-requires-clause-whole
+compact-requires-clause-whole g c = ap (λ (b : BrokerValue). b.broken) (c.self.invariant.0.running c.if-self.false).broker
+
+pub compact-requires-clause-stands : goal.compact-requires-clause-stands
+compact-requires-clause-stands g c = λ h w.
+    let it = c.self.inside in
+    let f = flushed it.journal it.seat it.opening.value.state it.stored it.settled (it.done.items ++ it.batch.items) it.broker it.outlet.boxes it.outlet.ended.items it.outlet.past.items it.outlet.waiting.items it.outlet.left.items it.broken it.won in
+    let kept = c.self.invariant.0 in
+    let settled : it.settled ≡ it.stored = subst (λ (f : Flushed g.row.D.Denot). f.settled ≡ f.stored) (sym c.self.view_is) (c.requires.settled (ap (λ (f : Flushed g.row.D.Denot). f.broken) (sym c.self.view_is) ∙ c.if-self.false)) in
+    let same : it.broker.state ≡ state_at it.opening.value.state it.seat it.stored = stored_state g.D.Disk.honest g.D.Disk.images f kept c.if-self.false settled in
+    subst (λ (s : State). StandFor (g.D.Disk.images it.journal.disk) s) (sym same) ((kept.running c.if-self.false).stands h)
+
+pub returns-in-Ok-clause-honest : goal.returns-in-Ok-clause-honest
+returns-in-Ok-clause-honest g c = subst (λ (f : Flushed g.row.D.Denot). g.D.Disk.honest f.disk → g.D.Disk.honest c.compact.new.self.disk) c.self.view_is c.compact.ensures.honest
+
+pub returns-in-Ok-clause-was_honest : goal.returns-in-Ok-clause-was_honest
+returns-in-Ok-clause-was_honest g c = subst (λ (f : Flushed g.row.D.Denot). g.D.Disk.honest c.compact.new.self.disk → g.D.Disk.honest f.disk) c.self.view_is c.compact.ensures.was_honest
+
+pub returns-in-Err-clause-outcome : goal.returns-in-Err-clause-outcome
+returns-in-Err-clause-outcome g c =
+    let it = c.self.inside in
+    let now = c.args.self.now in
+    let new = flushed c.compact.new.self c.stop.new.seat it.opening.value.state it.stored it.settled (it.done.items ++ it.batch.items) it.broker it.outlet.boxes it.outlet.ended.items it.outlet.past.items it.outlet.waiting.items it.outlet.left.items true it.won in
+    let whole : c.in-Err.fault ≡ area.Broken → ⊥ = λ is. absurd (cc (c.compact.ensures.sound (c.in-Err.is ∙ ap (λ (fault : AreaFault). Err fault) is), (c.self.invariant.1 c.if-self.false).whole)) in
+    subst (λ (fault : FlushFault). IsOutcome {X = Unit {0}} now new (Err fault)) (sym c.from.ensures)
+    (fell_so c.in-Err.fault now new whole (record {
+      was = ap (λ (f : Flushed g.row.D.Denot). f.broken) (sym c.self.view_is) ∙ c.if-self.false;
+      now = refl;
+      seat = c.stop.ensures ∙ ap (λ (f : Flushed g.row.D.Denot). when_stopped f.seat) c.self.view_is;
+      stored = ap (λ (f : Flushed g.row.D.Denot). f.stored) c.self.view_is;
+      opening = ap (λ (f : Flushed g.row.D.Denot). f.opening) c.self.view_is;
+      left = ap (λ (f : Flushed g.row.D.Denot). f.left) c.self.view_is;
+    }))
+
+pub returns-in-Err-clause-cause : goal.returns-in-Err-clause-cause
+returns-in-Err-clause-cause g c =
+    let it = c.self.inside in
+    let before = g.D.Disk.failures it.journal.disk in
+    let after = g.D.Disk.failures c.compact.new.self.disk in
+    subst (λ (f : Flushed g.row.D.Denot). IsFlushCaused {T = Unit {0}} (g.D.Disk.failures f.disk) after (Err c.from.result)) c.self.view_is
+    (subst (λ (fault : FlushFault). IsFlushCaused {T = Unit {0}} before after (Err fault)) (sym c.from.ensures)
+    (caused_so c.in-Err.fault before after (subst (λ (r : Result (Unit {0}) AreaFault). IsCaused {T = Unit {0}} before after r) c.in-Err.is c.compact.ensures.cause)))
+
+pub returns-in-Ok-clause-compacted : goal.returns-in-Ok-clause-compacted
+returns-in-Ok-clause-compacted g c =
+    let it = c.self.inside in
+    let f = flushed it.journal it.seat it.opening.value.state it.stored it.settled (it.done.items ++ it.batch.items) it.broker it.outlet.boxes it.outlet.ended.items it.outlet.past.items it.outlet.waiting.items it.outlet.left.items it.broken it.won in
+    let settled : it.settled ≡ it.stored = subst (λ (f : Flushed g.row.D.Denot). f.settled ≡ f.stored) (sym c.self.view_is) (c.requires.settled (ap (λ (f : Flushed g.row.D.Denot). f.broken) (sym c.self.view_is) ∙ c.if-self.false)) in
+    let s = state_at it.opening.value.state it.seat it.stored in
+    let same : it.broker.state ≡ s = stored_state g.D.Disk.honest g.D.Disk.images f c.self.invariant.0 c.if-self.false settled in
+    let afresh : used_of c.compact.new.self ≡ used_afresh s = c.in-Ok.ensures.used ∙ ap (λ (s : State). used_afresh s) same in
+    let won : c.saturating_sub-won.result ≡ used_of it.journal - used_afresh s = omega (arith, c.saturating_sub-won.ensures, c.used-before.ensures, c.used.ensures, afresh) in
+    (λ i. record f { disk = disk_of c.compact.new.self; size = c.in-Ok.ensures.size i; used = afresh i; won = Some (won i) })
+    ∙ ap (λ (f : Flushed g.row.D.Denot). compacted f (disk_of c.compact.new.self) (used_afresh (state_at f.opening f.seat f.stored))) c.self.view_is

@@ -36,4 +36,5 @@ invariant_of-result g c =
         room_is = held.room_is;
       },
       c.self.invariant.2,
+      c.self.invariant.3,
     )

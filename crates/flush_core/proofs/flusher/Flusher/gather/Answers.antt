@@ -123,3 +123,9 @@ returns-in-Err-clause-stops g c = (refl, ap (λ (s : FlushSeatValue). s.stopped)
 
 pub returns-in-Err-clause-fault : goal.returns-in-Err-clause-fault
 returns-in-Err-clause-fault g c = tt
+
+pub fill-requires-clause-bytes : goal.fill-requires-clause-bytes
+fill-requires-clause-bytes g c = (c.self.invariant.1 c.if-self.false).bytes_is
+
+pub fill-requires-clause-batch : goal.fill-requires-clause-batch
+fill-requires-clause-batch g c = c.self.invariant.3 c.if-self.false

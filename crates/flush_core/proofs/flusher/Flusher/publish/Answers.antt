@@ -5,7 +5,7 @@ use Rattle.claim_core.specs.Seats.{FlushSeatValue}
 use Rattle.command_core.specs.Outs.{OutValue}
 use Rattle.recover_core.specs.Standing.{StandFor}
 use Rattle.flush_core.specs.Batches.{state_at}
-use Rattle.flush_core.specs.Flushed.{Flushed, flushed}
+use Rattle.flush_core.specs.Flushed.{AreUnder, Flushed, flushed}
 use Rattle.flush_core.specs.Outcomes.{publishing, standing}
 use Rattle.flush_core.proofs.Keeping.{held_marked, publishes}
 use Rattle.flush_core.proofs.flusher.Flusher.publish.Goals as goal
@@ -57,3 +57,11 @@ returns-clause-held g c =
     let whole : it.broken ≡ false = ap (λ (f : Flushed g.row.D.Denot). f.broken) c.self.view_is ∙ c.requires.whole in
     subst (λ (s : FlushSeatValue). g.D.Disk.honest it.journal.disk → StandFor (g.D.Disk.images it.journal.disk) (state_at it.opening.value.state s s.published)) (sym c.raise.ensures)
     (c.self.invariant.0.running whole).stands
+
+pub give-requires-clause-under : goal.give-requires-clause-under
+give-requires-clause-under g c =
+    let it = c.self.inside in
+    let whole : it.broken ≡ false = ap (λ (f : Flushed g.row.D.Denot). f.broken) c.self.view_is ∙ c.requires.whole in
+    let settled : it.settled ≡ it.stored = subst (λ (f : Flushed g.row.D.Denot). f.settled ≡ f.stored) (sym c.self.view_is) c.requires.settled in
+    subst (λ (s : FlushSeatValue). AreUnder s.published it.outlet.waiting.items) (sym c.raise.ensures)
+    (subst (λ n. AreUnder n it.outlet.waiting.items) settled (c.self.invariant.0.running whole).waiting)

@@ -1,5 +1,6 @@
 use Rattle.std.proofs.Common.{arith, ap, refl, subst, sym, true, ◌∙◌, ◌++◌, ◌≡◌, Err, List, Result, false}
 use Rattle.area_core.specs.Areas.{commands}
+use Rattle.broker_core.specs.States.{BrokerValue}
 use Rattle.broker_core.specs.Steps.{outs_of, state_after}
 use Rattle.command_core.specs.Commands.{CommandValue}
 use Rattle.command_core.specs.Entries.{EntryValue}
@@ -121,3 +122,9 @@ pub returns-in-Err-clause-fault : goal.returns-in-Err-clause-fault
 returns-in-Err-clause-fault g c =
     let memory : IsMemory {T = Unit {0}} (Err c.in-Err.fault) = subst (λ (r : Result (Unit {0}) FlushFault). IsMemory {T = Unit {0}} r) c.in-Err.is c.execute_all.ensures.fault in
     needs_memory c.in-Err.fault memory
+
+pub execute_all-requires-clause-whole : goal.execute_all-requires-clause-whole
+execute_all-requires-clause-whole g c = ap (λ (b : BrokerValue). b.broken) (c.self.invariant.0.running c.if-self.false).broker
+
+pub execute_all-requires-clause-none : goal.execute_all-requires-clause-none
+execute_all-requires-clause-none g c = (c.self.invariant.2 c.if-self.false).none

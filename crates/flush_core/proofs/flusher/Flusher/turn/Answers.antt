@@ -165,3 +165,41 @@ returns-clause-idle g c none =
 
 pub returns-then-is_broken-clause-idle : goal.returns-then-is_broken-clause-idle
 returns-then-is_broken-clause-idle g c = λ none. tt
+
+pub store-requires : goal.store-requires
+store-requires g c =
+    let took = c.in_ok-count.ensures.taken in (
+      search rules,
+      ap (λ (f : Flushed g.row.D.Denot). f.seat.ring) took.2 ∙ c.requires.ring,
+      λ whole. subst (λ (f : Flushed g.row.D.Denot). f.settled ≡ f.stored) (sym took.2) (c.requires.settled c.in_ok-count.ensures.outcome.0),
+    )
+
+pub returns-in_err-settle-clause-outcome : goal.returns-in_err-settle-clause-outcome
+returns-in_err-settle-clause-outcome g c =
+    let took = c.in_ok-count.ensures.taken in
+    let p = err_from_is_err_and c.from_residual-in_err-settle.result c.from_residual-in_err-settle.ensures.1 in
+    let is : c.from_residual-in_err-settle.result ≡ Err c.in_err-settle.field-0.0 = cc (p.1, p.2) in
+    subst (λ (r : Result ℕ FlushFault). IsTurn c.args.self.now c.settle.new.self r) (sym is)
+    (settle_falls c.args.self.now c.gather.new.self c.store.new.self c.settle.new.self took.0 _ _ _ _ c.in_ok-count.ensures.outcome.0 took.2 c.in_ok-store.ensures.stored
+    c.in_err-settle.field-0.0 c.in_ok-store.ensures.outcome.1 c.in_err-settle.ensures.outcome)
+
+pub returns-in_err-settle-clause-cause : goal.returns-in_err-settle-clause-cause
+returns-in_err-settle-clause-cause g c =
+    let took = c.in_ok-count.ensures.taken in
+    let p = err_from_is_err_and c.from_residual-in_err-settle.result c.from_residual-in_err-settle.ensures.1 in
+    let is : c.from_residual-in_err-settle.result ≡ Err c.in_err-settle.field-0.0 = cc (p.1, p.2) in
+    subst (λ (r : Result ℕ FlushFault). IsFlushCaused (g.D.Disk.failures c.args.self.now.disk) (g.D.Disk.failures c.settle.new.self.disk) r) (sym is)
+    (caused_none c.in_err-settle.field-0.0 (g.D.Disk.failures c.args.self.now.disk) (g.D.Disk.failures c.settle.new.self.disk) c.in_err-settle.ensures.fault
+    (ap (λ d. g.D.Disk.failures d) c.settle.ensures.untouched ∙ (c.in_ok-store.ensures.cause ∙ ap (λ (f : Flushed g.row.D.Denot). g.D.Disk.failures f.disk) took.2)))
+
+pub returns-clause-after : goal.returns-clause-after
+returns-clause-after g c = λ honest.
+    let took = c.in_ok-count.ensures.taken in
+    let did = c.in_ok-store.ensures.stored in
+    let settled = c.in_ok-settle.ensures.settled in
+    let published = c.publish.ensures.published in
+    let opened : c.publish.new.self.opening ≡ c.gather.new.self.opening = ap (λ (f : Flushed g.row.D.Denot). f.opening) published ∙ (ap (λ (f : Flushed g.row.D.Denot). f.opening) settled ∙ ap (λ (f : Flushed g.row.D.Denot). f.opening) did) in
+    let taken : c.publish.new.self.seat.taken ≡ c.gather.new.self.seat.taken = ap (λ (f : Flushed g.row.D.Denot). f.seat.taken) published ∙ (ap (λ (f : Flushed g.row.D.Denot). f.seat.taken) settled ∙ ap (λ (f : Flushed g.row.D.Denot). f.seat.taken) did) in
+    subst (λ d. StandFor (g.D.Disk.images d) (state_taken c.publish.new.self.opening c.publish.new.self.seat)) (sym (ap (λ (f : Flushed g.row.D.Denot). f.disk) published ∙ c.settle.ensures.untouched))
+    (subst (λ (s : State). StandFor (g.D.Disk.images c.store.new.self.disk) s) (sym (λ i. state_after (opened i) (taken i)))
+    (c.in_ok-store.ensures.after (subst (λ (f : Flushed g.row.D.Denot). g.D.Disk.honest f.disk) (sym took.2) honest)))
