@@ -55,8 +55,8 @@ needs_memory Broken want = tt
 needs_memory (Memory refused) want = tt
 
 -- a step that reaches no disk has failed, and no call of the disk has
-pub caused_none : {X : Type 0} (fault : FlushFault) (before now : ℕ) → NeedsNoDisk {T = Unit {0}} (Err fault) → now ≡ before → IsFlushCaused {T = X} before now (Err fault)
-caused_none Device before now none same = absurd none
-caused_none Full before now none same = absurd none
-caused_none Broken before now none same = same
-caused_none (Memory refused) before now none same = same
+pub caused_none : (X : Type 0) (fault : FlushFault) (before now : ℕ) → NeedsNoDisk {T = Unit {0}} (Err fault) → now ≡ before → IsFlushCaused {T = X} before now (Err fault)
+caused_none X Device before now none same = absurd none
+caused_none X Full before now none same = absurd none
+caused_none X Broken before now none same = same
+caused_none X (Memory refused) before now none same = same

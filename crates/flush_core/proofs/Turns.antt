@@ -1,5 +1,6 @@
 -- A turn: what a stop within it leaves.
 use Rattle.std.proofs.Common.{◌≤◌, ◌-◌, ◌++◌, length, length-append, refl, ◌≡◌, inl, false, ℕ, List, Option, Err, sym, ◌∙◌, ap, subst, arith}
+use Rattle.std.proofs.lemmas.Bool.{false≢true}
 use Rattle.disk_core.specs.declared.disk.Disk.{Ghosts}
 use Rattle.disk_core.specs.Moments.{LeavesOnly}
 use Rattle.broker_core.specs.States.{State}
@@ -7,13 +8,13 @@ use Rattle.broker_core.specs.Steps.{outs_of, state_after}
 use Rattle.area_core.specs.Areas.{commands}
 use Rattle.command_core.specs.Entries.{EntryValue}
 use Rattle.outbox_core.specs.Boxes.{SenderValue}
-use Rattle.claim_core.specs.Seats.{FlushSeatValue, next_ticket, with_mark}
+use Rattle.claim_core.specs.Seats.{FlushSeatValue, next_ticket, when_stopped, with_mark}
 use Rattle.recover_core.specs.Standing.{StandsForEither}
 use Rattle.flush_core.specs.declared.faults.FlushFault.{FlushFault}
 use Rattle.flush_core.specs.declared.faults.FlushFault.TheVariants.{Device, Full, Broken, Memory}
 use Rattle.flush_core.specs.Batches.{from_on, state_at, state_taken, with_more}
 use Rattle.flush_core.specs.Flushed.{Flushed, IsFlusher, unsettled}
-use Rattle.flush_core.specs.Outcomes.{Falls, IsOutcome, IsTurned, publishing, settling, standing, stored_entries, storing, taking, turned_boxes, turned_outs}
+use Rattle.flush_core.specs.Outcomes.{Falls, IsOutcome, IsTurn, IsTurned, TurnFalls, publishing, settling, standing, stored_entries, storing, taking, turned_boxes, turned_outs}
 use Rattle.flush_core.specs.Sessions.{boxes_after, ended_of}
 use Rattle.outbox_core.specs.Giving.{AreGiven, Kept, unboxed, without}
 use Rattle.command_core.specs.Commands.{CommandValue}
@@ -129,8 +130,8 @@ module _ {D : Type 0} (old took did new : Flushed D) (entries : List (EntryValue
         left = fell.left ∙ ap (λ (f : Flushed D). f.left) did_all;
       }
 
-  pub settle_falls : {X : Type 0} (fault : FlushFault) → did.broken ≡ false → IsOutcome {X = Unit {0}} did new (Err fault) → IsTurn {X = X} old new (Err fault)
-  settle_falls Device sound outcome = turn_falls outcome
-  settle_falls Full sound outcome = turn_falls outcome
-  settle_falls (Memory refused) sound outcome = turn_falls outcome
-  settle_falls Broken sound outcome = absurd (false≢true (sym sound ∙ outcome.0))
+  pub settle_falls : (X : Type 0) (fault : FlushFault) → did.broken ≡ false → IsOutcome {X = Unit {0}} did new (Err fault) → IsTurn {X = X} old new (Err fault)
+  settle_falls X Device sound outcome = turn_falls outcome
+  settle_falls X Full sound outcome = turn_falls outcome
+  settle_falls X (Memory refused) sound outcome = turn_falls outcome
+  settle_falls X Broken sound outcome = absurd (false≢true (sym sound ∙ outcome.0))

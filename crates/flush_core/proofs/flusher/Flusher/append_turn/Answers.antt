@@ -1,11 +1,18 @@
-use Rattle.std.proofs.Common.{◌∙◌, ◌≡◌, [], Err, ap, refl, sym, true}
+use Rattle.std.proofs.Common.{rules, ◌∙◌, ◌≡◌, [], ℕ, Result, Err, ap, refl, subst, sym, true}
 use Rattle.std.proofs.lemmas.Bool.{false≢true}
 use Rattle.std.proofs.lemmas.Result.{err_from_is_err_and}
 use Rattle.flush_core.specs.declared.faults.FlushFault.{FlushFault}
 use Rattle.flush_core.specs.declared.faults.FlushFault.TheVariants.{Full}
+use Rattle.broker_core.specs.States.{State}
+use Rattle.broker_core.specs.Steps.{state_after}
+use Rattle.recover_core.specs.Standing.{StandFor}
+use Rattle.flush_core.specs.Batches.{state_taken}
+use Rattle.flush_core.specs.Faults.{IsFlushCaused}
 use Rattle.flush_core.specs.Flushed.{Flushed, gathered}
+use Rattle.flush_core.specs.Outcomes.{IsTurn}
+use Rattle.flush_core.proofs.StoreFaults.{caused_none}
 use Rattle.flush_core.proofs.Room.{gathered_stays, had_no_room, still_published, still_unsettled, was_full}
-use Rattle.flush_core.proofs.Turns.{failed_keeps, stored, turned, unstored}
+use Rattle.flush_core.proofs.Turns.{failed_keeps, settle_falls, stored, turned, unstored}
 use Rattle.flush_core.proofs.flusher.Flusher.append_turn.Goals as goal
 
 pub returns-in_err-count-clause-any_moment : goal.returns-in_err-count-clause-any_moment
@@ -139,8 +146,10 @@ pub append-requires : goal.append-requires
 append-requires g c =
     let took = c.in_ok-count.ensures.taken in (
       search rules,
-      ap (λ (f : Flushed g.row.D.Denot). f.seat.ring) took.2 ∙ c.requires.ring,
-      λ whole. subst (λ (f : Flushed g.row.D.Denot). f.settled ≡ f.stored) (sym took.2) (c.requires.settled c.in_ok-count.ensures.outcome.0),
+      (
+        ap (λ (f : Flushed g.row.D.Denot). f.seat.ring) took.2 ∙ c.requires.ring,
+        λ whole. subst (λ (f : Flushed g.row.D.Denot). f.settled ≡ f.stored) (sym took.2) (c.requires.settled c.in_ok-count.ensures.outcome.0),
+      ),
     )
 
 pub returns-in_err-settle-clause-outcome : goal.returns-in_err-settle-clause-outcome
@@ -150,7 +159,7 @@ returns-in_err-settle-clause-outcome g c =
     let is : c.from_residual-in_err-settle.result ≡ Err c.in_err-settle.field-0.0 = cc (p.1, p.2) in
     subst (λ (r : Result ℕ FlushFault). IsTurn c.args.self.now c.settle.new.self r) (sym is)
     (settle_falls c.args.self.now c.gather.new.self c.append.new.self c.settle.new.self took.0 _ _ _ _ c.in_ok-count.ensures.outcome.0 took.2 c.in_ok-append.ensures.stored
-    c.in_err-settle.field-0.0 c.in_ok-append.ensures.outcome.1 c.in_err-settle.ensures.outcome)
+    ℕ c.in_err-settle.field-0.0 c.in_ok-append.ensures.outcome.1 c.in_err-settle.ensures.outcome)
 
 pub returns-in_err-settle-clause-cause : goal.returns-in_err-settle-clause-cause
 returns-in_err-settle-clause-cause g c =
@@ -158,7 +167,7 @@ returns-in_err-settle-clause-cause g c =
     let p = err_from_is_err_and c.from_residual-in_err-settle.result c.from_residual-in_err-settle.ensures.1 in
     let is : c.from_residual-in_err-settle.result ≡ Err c.in_err-settle.field-0.0 = cc (p.1, p.2) in
     subst (λ (r : Result ℕ FlushFault). IsFlushCaused (g.D.Disk.failures c.args.self.now.disk) (g.D.Disk.failures c.settle.new.self.disk) r) (sym is)
-    (caused_none c.in_err-settle.field-0.0 (g.D.Disk.failures c.args.self.now.disk) (g.D.Disk.failures c.settle.new.self.disk) c.in_err-settle.ensures.fault
+    (caused_none ℕ c.in_err-settle.field-0.0 (g.D.Disk.failures c.args.self.now.disk) (g.D.Disk.failures c.settle.new.self.disk) c.in_err-settle.ensures.fault
     (ap (λ d. g.D.Disk.failures d) c.settle.ensures.untouched ∙ (c.in_ok-append.ensures.cause ∙ ap (λ (f : Flushed g.row.D.Denot). g.D.Disk.failures f.disk) took.2)))
 
 pub returns-clause-after : goal.returns-clause-after
