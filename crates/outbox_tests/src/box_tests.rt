@@ -31,6 +31,7 @@ const BOTH: BoxSize = BoxSize {
 // An output takes two numbers of 64 bits and an address, and the places of a server's box, with those of 64 numbers by which
 // its taker tells what it took, less than 120,000 bytes.
 const _: () = prove!(size_of::<Out>() == 24);
+
 const _: () = prove!(4_608 * size_of::<Out>() + 64 * size_of::<u64>() < 120_000);
 
 // What a taker got, an item by its number.
@@ -53,11 +54,7 @@ fn output(alloc: Global, number: u64, bytes: usize) -> Result<Out, AllocError> {
 }
 
 // Gives outputs of 100 bytes with the numbers from 0 on, and answers how many of so many the box took.
-pub fn fill<B: Bell>(
-    alloc: Global,
-    sender: &mut OutSender<B>,
-    most: u64,
-) -> Result<u64, AllocError>
+pub fn fill<B: Bell>(alloc: Global, sender: &mut OutSender<B>, most: u64) -> Result<u64, AllocError>
     ensures { IfOk result (λ count. count ≡ most → sender.new.box ≡ sender.old.box) }
 {
     for number in 0..most {
@@ -188,6 +185,8 @@ fn a_box_that_was_found_empty_has_all_its_room(rt: HostRuntime) -> Result<(), Fa
         assert!(rt; takes_all(&mut taker, 4_608));
         assert_eq!(rt; look(&mut taker), Got::Empty);
     }
+    assert_eq!(rt; back(alloc, &mut sender, 0, 460_800)?, None);
+    assert_eq!(rt; look(&mut taker), Got::Item(0));
     assert_eq!(rt; fill(alloc, &mut sender, 4_609)?, 4_608);
     Ok(())
 }
