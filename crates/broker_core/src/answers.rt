@@ -12,7 +12,8 @@ pub fn answer_open(alloc: Global, number: u64, outs: &mut Vec<Out>) -> Result<()
     ensures { OnOk result (outs.new.items ≡ outs.old.items ++ outs_to number number (connected number ∷ [])) }
 {
     let frame = connected_reply(alloc, number)?;
-    outs.push(Out::new(number, number, frame))?;
+    let out = Out::new(alloc, number, number, frame)?;
+    outs.push(out)?;
     Ok(())
 }
 
@@ -28,7 +29,8 @@ pub fn answer_done(
 {
     if let Some(id) = receipt {
         let frame = receipt_reply(alloc, id)?;
-        outs.push(Out::new(number, session, frame))?;
+        let out = Out::new(alloc, number, session, frame)?;
+        outs.push(out)?;
     }
     Ok(())
 }
@@ -45,7 +47,8 @@ pub fn answer_refused(
     ensures { OnOk result (outs.new.items ≡ outs.old.items ++ outs_to number session (error_frame fault receipt ∷ [])) }
 {
     let frame = error_reply(alloc, fault, receipt)?;
-    outs.push(Out::new(number, session, frame))?;
+    let out = Out::new(alloc, number, session, frame)?;
+    outs.push(out)?;
     Ok(())
 }
 

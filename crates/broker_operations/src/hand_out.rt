@@ -48,7 +48,7 @@ fn reply(
         sending,
     } = message;
     let frame = message_reply(alloc, &sub.id, name.command, name.place, ack, sending)?;
-    Ok(Out::new(number, sub.session, frame))
+    Out::new(alloc, number, sub.session, frame)
 }
 
 /// A message is unacknowledged by that number of its delivery.

@@ -21,7 +21,8 @@ fn delivery(entry: &Entry<()>) -> Option<u64> {
 // A CONNECTED that the command of that number gives.
 pub fn output(alloc: Global, number: u64) -> Result<Out, Fail> {
     let frame = connected_reply(alloc, 3)?;
-    Ok(Out::new(number, 3, frame))
+    let out = Out::new(alloc, number, 3, frame)?;
+    Ok(out)
 }
 
 // What an append answered, with the delivery of the entry where that came back.

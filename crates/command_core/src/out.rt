@@ -1,18 +1,21 @@
 //! What the broker answers.
 
-ghost use Rattle.std.specs.Prelude.{◌≡◌};
+ghost use Rattle.std.specs.Prelude.{◌≡◌, IfOk};
 ghost use Rattle.frame_core.specs.Writable.{Writable};
 
 use frame_core::Frame;
+use std::alloc::{AllocError, Global};
 use std::marker::Model;
 
 /// An output: a frame that a command gives, and the session that it goes to. Contracts see it as its three parts. Its
 /// frame can be written.
+///
+/// It takes 24 bytes where it waits, since its frame is in a box.
 #[derive(Drop)]
 pub struct Out {
     number: u64,
     session: u64,
-    frame: Frame,
+    frame: Box<Frame>,
 }
 
 impl Model for Out {
@@ -21,22 +24,23 @@ impl Model for Out {
 
     ghost Value = { OutValue };
 
-    ghost view = { λ a. record { number = a.number; session = a.session; frame = a.frame } };
+    ghost view = { λ a. record { number = a.number; session = a.session; frame = a.frame.value } };
 
-    ghost invariant = { λ a. Writable a.frame };
+    ghost invariant = { λ a. Writable a.frame.value };
 }
 
 impl Out {
-    /// No memory is taken.
-    pub fn new(number: u64, session: u64, frame: Frame) -> Out
+    /// Takes memory for the frame's box; where that is refused, the frame is let go.
+    pub fn new(alloc: Global, number: u64, session: u64, frame: Frame) -> Result<Out, AllocError>
         requires { Writable frame }
-        ensures { result ≡ record { number = number; session = session; frame = frame } }
+        ensures { IfOk result (λ out. out ≡ record { number = number; session = session; frame = frame }) }
     {
-        Out {
+        let frame = Box::new(alloc, frame)?;
+        Ok(Out {
             number,
             session,
             frame,
-        }
+        })
     }
 
     /// The number of the command that gives it.
@@ -61,11 +65,11 @@ impl Out {
         &self.frame
     }
 
-    /// The frame, which moves: no memory is taken.
+    /// The frame, which moves out of its box: no memory is taken.
     pub fn into_frame(self) -> Frame
         ensures value { result ≡ self.frame }
         ensures form { Writable self.frame }
     {
-        self.frame
+        Box::into_inner(self.frame)
     }
 }

@@ -91,12 +91,11 @@ fn leave(
     requires { seat.old.ring ≡ ring.now }
     ensures { seat.new.ring ≡ ring.now }
 {
-    match connected_reply(alloc, 0) {
-        Ok(frame) => match ring.release(seat, Out::new(number, 0, frame)) {
-            Ok(released) => Some(Ok(released.number())),
-            Err((_, not_yet)) => Some(Err(not_yet)),
-        },
-        Err(_) => None,
+    let frame = connected_reply(alloc, 0).ok()?;
+    let out = Out::new(alloc, number, 0, frame).ok()?;
+    match ring.release(seat, out) {
+        Ok(released) => Some(Ok(released.number())),
+        Err((_, not_yet)) => Some(Err(not_yet)),
     }
 }
 

@@ -6,7 +6,12 @@ use Rattle.std.proofs.Math.Seq.{take-append-add}
 use Rattle.std.proofs.lemmas.List.Elements.{filter-append}
 use Rattle.command_core.specs.Outs.{OutValue}
 use Rattle.outbox_core.specs.Boxes.{CutsOff, SenderValue, when_cut, with_given}
+use Rattle.outbox_core.specs.Weights.{Overfill}
 use Rattle.outbox_core.specs.Giving.{AreGiven, GivesTo, IsGiven, Kept, box_of, to_session, unboxed, with_all}
+
+-- a box has no room for more than so many of the outputs
+abbrev Full : List OutValue → SenderValue → ℕ → Type 0
+Full outs old number = ((old.cut ≡ true) × (number ≡ 0)) ⊎ ((old.cut ≡ false) × (number < length outs) × Overfill old.size (old.given ++ take (number + 1) outs))
 
 -- a box that is cut stays as it is
 same_cut : (s : SenderValue) → s.cut ≡ true → when_cut s ≡ s
@@ -28,20 +33,20 @@ given_none s = by_cut s.cut refl
     by_cut true is = inr (record { number = 0; full = inl (is, refl); cut = inl (sym (ap when_cut (with_none s) ∙ same_cut s is)) })
 
 -- an output is handed back
-handed_back : (s t : SenderValue) (out : OutValue) → (s.cut ≡ true) ⊎ (512 ≤ length s.given) → CutsOff s t → IsGiven (out ∷ []) s t
+handed_back : (s t : SenderValue) (out : OutValue) → (s.cut ≡ true) ⊎ Overfill s.size (s.given ++ out ∷ []) → CutsOff s t → IsGiven (out ∷ []) s t
 handed_back s t out full cut = by_cut s.cut refl full
   where
     off : CutsOff (with_all s []) t
     off = subst (λ (r : SenderValue). CutsOff r t) (sym (with_none s)) cut
 
-    by_cut : (b : Bool) → s.cut ≡ b → (s.cut ≡ true) ⊎ (512 ≤ length s.given) → IsGiven (out ∷ []) s t
+    by_cut : (b : Bool) → s.cut ≡ b → (s.cut ≡ true) ⊎ Overfill s.size (s.given ++ out ∷ []) → IsGiven (out ∷ []) s t
     by_cut true is _ = inr (record { number = 0; full = inl (is, refl); cut = off })
     by_cut false is (inl other) = absurd (cc (is, other))
-    by_cut false is (inr many) = inr (record { number = 0; full = inr (is, omega arith, omega (arith, many)); cut = off })
+    by_cut false is (inr over) = inr (record { number = 0; full = inr (is, omega arith, over); cut = off })
 
 -- an output is given or handed back, as a box answers
 pub answered : (r : Result (Unit {0}) OutValue) (s t : SenderValue) (out : OutValue) → OnOk r ((s.cut ≡ false) × (t ≡ with_given s out))
-    → IfErr r (λ _. (s.cut ≡ true) ⊎ (512 ≤ length s.given)) → IfErr r (λ same. (same ≡ out) × CutsOff s t) → IsGiven (out ∷ []) s t
+    → IfErr r (λ _. (s.cut ≡ true) ⊎ Overfill s.size (s.given ++ out ∷ [])) → IfErr r (λ same. (same ≡ out) × CutsOff s t) → IsGiven (out ∷ []) s t
 answered (Ok _) s t out given full back = inl given
 answered (Err _) s t out given full back = handed_back s t out full back.1
 
@@ -59,13 +64,19 @@ given_more xs ys s t u (inl one) (inr after) = inr (record {
     same = ap (λ (r : SenderValue). with_all r (take after.number ys)) one.1
         ∙ (λ i. record s { given = (append_assoc s.given xs (take after.number ys) ∙ ap (λ (l : List OutValue). s.given ++ l) (sym (take-append-add xs ys after.number))) i })
 
-    given : length t.given ≡ length s.given + length xs
-    given = ap (λ (r : SenderValue). length r.given) one.1 ∙ length-append s.given xs
+    given : t.given ++ take (after.number + 1) ys ≡ s.given ++ take (length xs + after.number + 1) (xs ++ ys)
+    given = ap (λ (r : SenderValue). r.given ++ take (after.number + 1) ys) one.1
+        ∙ (append_assoc s.given xs (take (after.number + 1) ys)
+        ∙ (ap (λ (l : List OutValue). s.given ++ l) (sym (take-append-add xs ys (after.number + 1)))
+        ∙ ap (λ (k : ℕ). s.given ++ take k (xs ++ ys)) (omega arith)))
 
-    fuller : ((t.cut ≡ true) × (after.number ≡ 0)) ⊎ ((t.cut ≡ false) × (after.number < length ys) × (512 ≤ length t.given + after.number))
-        → ((s.cut ≡ true) × (length xs + after.number ≡ 0)) ⊎ ((s.cut ≡ false) × (length xs + after.number < length (xs ++ ys)) × (512 ≤ length s.given + (length xs + after.number)))
+    fuller : Full ys t after.number → Full (xs ++ ys) s (length xs + after.number)
     fuller (inl cut) = absurd (cc (cut.0, ap (λ (r : SenderValue). r.cut) one.1, one.0))
-    fuller (inr full) = inr (one.0, omega (arith, full.1, length-append xs ys), omega (arith, full.2, given))
+    fuller (inr full) = inr (
+      one.0,
+      omega (arith, full.1, length-append xs ys),
+      subst (λ (l : List OutValue). Overfill s.size l) given (subst (λ (r : SenderValue). Overfill r.size (t.given ++ take (after.number + 1) ys)) one.1 full.2),
+    )
 given_more xs ys s t u (inr before) (inl other) = absurd (cc (is_cut (with_all s (take before.number xs)) t before.cut, other.0))
 given_more xs ys s t u (inr before) (inr after) = inr (record {
   number = before.number;
@@ -79,14 +90,17 @@ given_more xs ys s t u (inr before) (inr after) = inr (record {
     few : before.number ≤ length xs
     few = by_full before.full
       where
-        by_full : ((s.cut ≡ true) × (before.number ≡ 0)) ⊎ ((s.cut ≡ false) × (before.number < length xs) × (512 ≤ length s.given + before.number)) → before.number ≤ length xs
+        by_full : Full xs s before.number → before.number ≤ length xs
         by_full (inl none) = omega (arith, none.1)
         by_full (inr full) = omega (arith, full.1)
 
-    fuller : ((s.cut ≡ true) × (before.number ≡ 0)) ⊎ ((s.cut ≡ false) × (before.number < length xs) × (512 ≤ length s.given + before.number))
-        → ((s.cut ≡ true) × (before.number ≡ 0)) ⊎ ((s.cut ≡ false) × (before.number < length (xs ++ ys)) × (512 ≤ length s.given + before.number))
+    fuller : Full xs s before.number → Full (xs ++ ys) s before.number
     fuller (inl none) = inl none
-    fuller (inr full) = inr (full.0, omega (arith, full.1, length-append xs ys), full.2)
+    fuller (inr full) = inr (
+      full.0,
+      omega (arith, full.1, length-append xs ys),
+      subst (λ (l : List OutValue). Overfill s.size (s.given ++ l)) (sym (take-append-le (before.number + 1) xs ys (omega (arith, full.1)))) full.2,
+    )
 
     here : CutsOff (with_all s (take before.number (xs ++ ys))) t
     here = subst (λ (l : List OutValue). CutsOff (with_all s l) t) (sym (take-append-le before.number xs ys few)) before.cut
@@ -96,8 +110,7 @@ given_more xs ys s t u (inr before) (inr after) = inr (record {
         (sym (is ∙ (ap (λ (k : ℕ). when_cut (with_all t (take k ys))) none ∙ (ap when_cut (with_none t) ∙ same_cut t cut)))) here
     stays m none (inr is) = inr is
 
-    off : ((t.cut ≡ true) × (after.number ≡ 0)) ⊎ ((t.cut ≡ false) × (after.number < length ys) × (512 ≤ length t.given + after.number))
-        → CutsOff (with_all s (take before.number (xs ++ ys))) u
+    off : Full ys t after.number → CutsOff (with_all s (take before.number (xs ++ ys))) u
     off (inl none) = stays after.number none.1 after.cut
     off (inr full) = absurd (cc (full.0, cut))
 

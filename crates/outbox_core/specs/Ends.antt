@@ -1,31 +1,47 @@
--- The ends of an outbox by the ends of the ring below.
-use Rattle.std.specs.Prelude.{◌≡◌, true, false}
+-- The ends of an outbox by the ends of the two rings below.
+use Rattle.std.specs.Prelude.{◌≡◌, ◌+◌, ◌≤◌, ℕ}
+use Rattle.std.specs.List.{sum}
 use Rattle.std.specs.declared.alloc.Global.{Global}
 use Rattle.command_core.specs.Outs.{OutValue}
+use Rattle.rtrb.specs.Ends.{capacity_of}
 use Rattle.rtrb.specs.Ring.{producer_capacity, sent, received, known_items, all_sent}
 use Rattle.rtrb.specs.declared.consumer.Consumer.{Consumer}
 use Rattle.rtrb.specs.declared.end.End.{End}
 use Rattle.rtrb.specs.declared.finished.Finished.{Finished}
-use Rattle.outbox_core.specs.declared.sender.End as sending
-use Rattle.outbox_core.specs.declared.sender.End.TheVariants.{Open, Cut, Gone}
-use Rattle.outbox_core.specs.Boxes.{BoxId, SenderValue, gone, TakerValue, FinishedValue}
+use Rattle.rtrb.specs.declared.producer.Producer.{Producer}
+use Rattle.outbox_core.specs.declared.size.BoxSize.{BoxSize}
+use Rattle.outbox_core.specs.Boxes.{BoxId, GivenValue, RingId, TakerValue}
+use Rattle.outbox_core.specs.Weights.{weight}
 
-abbrev pub box_of : {P : Type 0} → End OutValue Global P → BoxId
-box_of end = record { words = end.words; slots = end.slots; names = end.names }
+abbrev pub ring_of : {T P : Type 0} → End T Global P → RingId
+ring_of end = record { words = end.words; slots = end.slots; names = end.names }
 
-abbrev pub sender_value : sending.End → SenderValue
-sender_value (Open producer) = record { box = box_of producer.end; given = sent producer; cut = false }
-sender_value (Cut finished) = record { box = box_of finished.end; given = all_sent finished; cut = true }
-sender_value Gone = gone
+module _ {P Q : Type 0} where
+  abbrev pub box_of : End OutValue Global P → End ℕ Global Q → BoxId
+  box_of outputs credits = record { outputs = ring_of outputs; credits = ring_of credits }
 
--- an open box has room for 512 outputs
-abbrev pub HasRoom : sending.End → Type 0
-HasRoom (Open producer) = producer_capacity producer ≡ 512
-HasRoom (Cut finished) = Unit {0}
-HasRoom Gone = Unit {0}
+  abbrev pub open_value : Producer OutValue Global P → Consumer ℕ Global Q → BoxSize → GivenValue
+  open_value outputs credits size = record { box = box_of outputs.end credits.end; size = size; given = sent outputs }
 
-abbrev pub taker_value : {P : Type 0} → Consumer OutValue Global P → TakerValue
-taker_value consumer = record { box = box_of consumer.end; taken = received consumer; seen = known_items consumer }
+  abbrev pub finished_value : Finished OutValue Global P → Consumer ℕ Global Q → BoxSize → GivenValue
+  finished_value outputs credits size = record { box = box_of outputs.end credits.end; size = size; given = all_sent outputs }
 
-abbrev pub finished_value : {P : Type 0} → Finished OutValue Global P → FinishedValue
-finished_value all = record { box = box_of all.end; given = all_sent all }
+  abbrev pub taker_value : Consumer OutValue Global P → Producer ℕ Global Q → TakerValue
+  taker_value outputs credits = record { box = box_of outputs.end credits.end; taken = received outputs; seen = known_items outputs }
+
+  -- What is free of an open box: so many of its bytes that what was given and they are no fewer than the box's bytes, and no
+  -- more than these and all credits.
+  pub record HasFree (outputs : Producer OutValue Global P) (credits : Consumer ℕ Global Q) (size : BoxSize) (free : ℕ) : Type 0 where
+    pub places : producer_capacity outputs ≡ size.outputs
+    pub part : free ≤ size.bytes
+    pub least : size.bytes ≤ weight (sent outputs) + free
+    pub most : weight (sent outputs) + free ≤ size.bytes + sum (received credits)
+
+  -- what was given to a finished box is no more than its bytes and all credits
+  pub record HadRoom (outputs : Finished OutValue Global P) (credits : Consumer ℕ Global Q) (size : BoxSize) : Type 0 where
+    pub places : capacity_of outputs.end ≡ size.outputs
+    pub most : weight (all_sent outputs) ≤ size.bytes + sum (received credits)
+
+  -- no more is credited and owed than was taken
+  abbrev pub Owes : Consumer OutValue Global P → Producer ℕ Global Q → ℕ → Type 0
+  Owes outputs credits owed = sum (sent credits) + owed ≤ weight (received outputs)

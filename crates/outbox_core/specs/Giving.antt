@@ -1,10 +1,11 @@
 -- What becomes of boxes that are kept by session, and given outputs.
-use Rattle.std.specs.Prelude.{◌≡◌, ◌==◌, ◌+◌, ◌<◌, ◌≤◌, ◌⊎◌, ℕ, List, ◌++◌, true, false, Option, Some, None, is_none, filter, fold, length, take}
+use Rattle.std.specs.Prelude.{◌≡◌, ◌==◌, ◌+◌, ◌<◌, ◌⊎◌, ℕ, List, ◌++◌, true, false, Option, Some, None, is_none, filter, fold, length, take}
 use Rattle.std.specs.BTreeMap.{insert_entry, is_at}
 use Rattle.std.specs.Map.{lookup, remove_entry}
 use Rattle.std.specs.Ordering.{nat_cmp}
 use Rattle.command_core.specs.Outs.{OutValue}
 use Rattle.outbox_core.specs.Boxes.{CutsOff, SenderValue}
+use Rattle.outbox_core.specs.Weights.{Overfill}
 
 -- boxes with the numbers of their sessions, which rise
 abbrev pub Kept : Type 0
@@ -35,10 +36,10 @@ abbrev pub with_all : SenderValue → List OutValue → SenderValue
 with_all box outs = record box { given = box.given ++ outs }
 
 -- A box is cut once it was given so many of the outputs: none where it was cut before; else those in front of the first that
--- it had no room for, which no box has of its first 512.
+-- it had no room for, with which all that was ever given overfills it.
 pub record CutAfter (outs : List OutValue) (old new : SenderValue) : Type 0 where
   pub number : ℕ
-  pub full : ((old.cut ≡ true) × (number ≡ 0)) ⊎ ((old.cut ≡ false) × (number < length outs) × (512 ≤ length old.given + number))
+  pub full : ((old.cut ≡ true) × (number ≡ 0)) ⊎ ((old.cut ≡ false) × (number < length outs) × Overfill old.size (old.given ++ take (number + 1) outs))
   pub cut : CutsOff (with_all old (take number outs)) new
 
 -- A box was given outputs in their order: all of them, or those until it was cut.

@@ -1,4 +1,6 @@
+pub mod Weights
 pub mod Boxes
 pub mod Ends
+pub mod Senders
 pub mod Takes
 pub mod Giving

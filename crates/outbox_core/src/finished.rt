@@ -1,20 +1,26 @@
 //! A box whose sending end has finished.
 
+use crate::size::BoxSize;
 use command_core::Out;
+use rtrb::Consumer;
 use std::marker::Model;
 
-/// What is left of a sending end that has finished. It can move to the taker's thread. Contracts see which box it is of and
-/// all that was given.
+/// What is left of a sending end that has finished. It can move to the taker's thread. Contracts see which box it is of, its
+/// size and all that was given.
 #[derive(Drop)]
 pub struct Finished {
-    pub(crate) end: rtrb::Finished<Out>,
+    pub(crate) outputs: rtrb::Finished<Out>,
+    pub(crate) credits: Consumer<u64>,
+    pub(crate) size: BoxSize,
 }
 
 impl Model for Finished {
-    ghost use Rattle.outbox_core.specs.Boxes.{FinishedValue};
-    ghost use Rattle.outbox_core.specs.Ends.{finished_value};
+    ghost use Rattle.outbox_core.specs.Boxes.{GivenValue};
+    ghost use Rattle.outbox_core.specs.Ends.{HadRoom, finished_value};
 
-    ghost Value = { FinishedValue };
+    ghost Value = { GivenValue };
 
-    ghost view = { λ a. finished_value a.end };
+    ghost view = { λ a. finished_value a.outputs a.credits a.size };
+
+    ghost invariant = { λ a. HadRoom a.outputs a.credits a.size };
 }

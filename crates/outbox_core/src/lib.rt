@@ -1,18 +1,23 @@
 //! Outboxes: what the flusher gives to a session goes through a box of a fixed size, in order, and nobody waits; and all boxes of
-//! a flusher, by session: each is given the outputs of its session, and no others.
+//! a flusher, by session: each is given the outputs of its session, and no others. A box's size is how many outputs may wait in
+//! it, and how many bytes of them.
 
 #![tactic(auto)]
 
 mod bell;
 mod boxes;
 mod finished;
+mod open_end;
 mod opening;
 mod sender;
+mod size;
 mod taker;
+mod weight;
 
 pub use bell::{Bell, Silent};
 pub use boxes::Boxes;
 pub use finished::Finished;
 pub use opening::outbox;
-pub use sender::{OUTBOX_OUTPUTS, OutSender};
+pub use sender::OutSender;
+pub use size::BoxSize;
 pub use taker::{OutTaker, Taken};

@@ -3,22 +3,42 @@
 ghost use Rattle.std.specs.Prelude.{◌≡◌, [], IfOk, false};
 
 use crate::bell::Bell;
-use crate::sender::{End, OUTBOX_OUTPUTS, OutSender};
+use crate::open_end::{CREDITS, OpenEnd};
+use crate::sender::{End, OutSender};
+use crate::size::BoxSize;
 use crate::taker::OutTaker;
 use rtrb::RingBuffer;
 use std::alloc::{AllocError, Global};
 
-/// A new box, open and empty, with room for 512 outputs: the end that gives, which rings that bell, and the end that takes.
-/// No other call of a box takes memory.
-pub fn outbox<B: Bell>(alloc: Global, bell: B) -> Result<(OutSender<B>, OutTaker), AllocError>
+/// A new box, open and empty, of that size: the end that gives, which rings that bell, and the end that takes. It takes the
+/// memory of all its places. No other call of a box takes memory.
+pub fn outbox<B: Bell>(
+    alloc: Global,
+    bell: B,
+    size: BoxSize,
+) -> Result<(OutSender<B>, OutTaker), AllocError>
     ensures one_box { IfOk result (λ ends. ends.0.box ≡ ends.1.box) }
+    ensures size { IfOk result (λ ends. ends.0.size ≡ size) }
     ensures sender { IfOk result (λ ends. (ends.0.given ≡ []) × (ends.0.cut ≡ false)) }
     ensures taker { IfOk result (λ ends. (ends.1.taken ≡ []) × (ends.1.seen ≡ [])) }
 {
-    let (producer, consumer) = RingBuffer::new(alloc, OUTBOX_OUTPUTS)?;
+    let (outputs, taken) = RingBuffer::new(alloc, size.outputs)?;
+    let (told, credits) = RingBuffer::new(alloc, CREDITS)?;
+    let open = OpenEnd {
+        outputs,
+        credits,
+        size,
+        free: size.bytes,
+    };
     let sender = OutSender {
-        end: End::Open(producer),
+        end: End::Open(open),
         bell,
     };
-    Ok((sender, OutTaker { end: consumer }))
+    let taker = OutTaker {
+        outputs: taken,
+        credits: told,
+        owed: 0,
+        share: size.bytes / 32 + 1,
+    };
+    Ok((sender, taker))
 }

@@ -1,35 +1,32 @@
 //! The sending end of an outbox.
 
-ghost use Rattle.std.specs.Prelude.{◌≡◌, ◌≤◌, ◌⊎◌, length, OnOk, IfErr, IfSome, true, false};
+ghost use Rattle.std.specs.Prelude.{◌≡◌, ◌⊎◌, ◌++◌, ◌∷◌, [], OnOk, IfErr, IfSome, true, false};
 ghost use Rattle.outbox_core.specs.Boxes.{CutsOff, with_given};
-ghost use Rattle.outbox_core.specs.Ends.{HasRoom, sender_value};
+ghost use Rattle.outbox_core.specs.Senders.{sender_value};
+ghost use Rattle.outbox_core.specs.Weights.{Overfill};
 
 use crate::bell::Bell;
 use crate::finished::Finished;
+use crate::open_end::OpenEnd;
 use command_core::Out;
-use rtrb::{Producer, PushError};
 use std::marker::Model;
 use std::mem::replace;
 
-/// How many outputs a box has room for.
-pub const OUTBOX_OUTPUTS: usize = 512;
-
-// The end of the ring below; once the box is cut what is left of that end, and nothing where the taker was gone by then.
+// The open end; once the box is cut what is left of it, and nothing where the taker was gone by then.
 #[derive(Drop)]
 pub(crate) enum End {
-    Open(Producer<Out>),
-    Cut(rtrb::Finished<Out>),
+    Open(OpenEnd),
+    Cut(Finished),
     Gone,
 }
 
 impl End {
     // Drops the end, so that the taker hears of it.
     fn cut(self) -> End
-        ensures room { HasRoom result }
-        ensures cut { CutsOff (sender_value self) (sender_value result) }
+        ensures { CutsOff (sender_value self) (sender_value result) }
     {
         match self {
-            End::Open(producer) => match producer.finish() {
+            End::Open(open) => match open.finish() {
                 Some(finished) => End::Cut(finished),
                 None => End::Gone,
             },
@@ -38,8 +35,8 @@ impl End {
     }
 }
 
-/// The end of an outbox that gives. A box is cut, for good, by an output that finds it full: its taker gets what is in it,
-/// and then hears of the cut. Contracts see which box it is, what was given, and whether the box is cut.
+/// The end of an outbox that gives. A box is cut, for good, by an output that it has no room for: its taker gets what is in
+/// it, and then hears of the cut. Contracts see which box it is, its size, what was given, and whether the box is cut.
 ///
 /// It can move to another thread. Dropped, it ends the box, and rings.
 pub struct OutSender<B: Bell> {
@@ -49,55 +46,48 @@ pub struct OutSender<B: Bell> {
 
 impl<B: Bell> Model for OutSender<B> {
     ghost use Rattle.outbox_core.specs.Boxes.{SenderValue};
-    ghost use Rattle.outbox_core.specs.Ends.{HasRoom, sender_value};
+    ghost use Rattle.outbox_core.specs.Senders.{sender_value};
 
     ghost Value = { SenderValue };
 
     ghost view = { λ a. sender_value a.end };
-
-    ghost invariant = { λ a. HasRoom a.end };
 }
 
 impl<B: Bell> OutSender<B> {
-    /// Puts an output into the box, last, and rings. A full box hands it back and is cut from then on, and rings too; a cut
-    /// box hands back each output. No memory is taken.
+    /// Puts an output into the box, last, and rings. A box that has no room for it hands it back and is cut from then on, and
+    /// rings too; a cut box hands back each output. No memory is taken.
     ///
-    /// A box that is not cut hands nothing back before 512 outputs were given. That it has room again once its taker took
-    /// some is shown by tests, since its taker may be in another thread.
+    /// A box that is not cut takes whatever it has room for beside all that was ever given. That it has room again once its
+    /// taker took some is shown by tests, since its taker may be in another thread. What the taker took and has not told is up
+    /// to a 32nd of the box's bytes, and nothing once it found the box empty.
     pub fn give(&mut self, out: Out) -> Result<(), Out>
         ensures given { OnOk result ((self.old.cut ≡ false) × (self.new ≡ with_given self.old out)) }
-        ensures full { IfErr result (λ _. (self.old.cut ≡ true) ⊎ (512 ≤ length self.old.given)) }
+        ensures full { IfErr result (λ _. (self.old.cut ≡ true) ⊎ Overfill self.old.size (self.old.given ++ out ∷ [])) }
         ensures back { IfErr result (λ same. (same ≡ out) × CutsOff self.old self.new) }
     {
-        let End::Open(producer) = &mut self.end else {
+        let End::Open(open) = &mut self.end else {
             return Err(out);
         };
-        let pushed = producer.push(out);
-        if pushed.is_err() {
+        let put = open.put(out);
+        if put.is_err() {
             self.end = replace(&mut self.end, End::Gone).cut();
         }
         self.bell.ring();
-        match pushed {
-            Ok(()) => Ok(()),
-            Err(PushError::Full(out)) => Err(out),
-        }
+        put
     }
 
     /// Ends the box and rings, and shows what was given. `None` where the box was cut, or its taker is gone. No memory is
     /// taken.
     pub fn finish(self) -> Option<Finished>
-        ensures { IfSome result (λ all. (self.cut ≡ false) × (all ≡ record { box = self.box; given = self.given })) }
+        ensures { IfSome result (λ all. (self.cut ≡ false) × (all ≡ record { box = self.box; size = self.size; given = self.given })) }
     {
         let OutSender { end, bell } = self;
         let finished = match end {
-            End::Open(producer) => producer.finish(),
+            End::Open(open) => open.finish(),
             End::Cut(_) | End::Gone => None,
         };
         bell.ring();
-        match finished {
-            Some(end) => Some(Finished { end }),
-            None => None,
-        }
+        finished
     }
 }
 

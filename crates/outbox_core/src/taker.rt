@@ -1,13 +1,15 @@
 //! The taking end of an outbox.
 
-ghost use Rattle.std.specs.Prelude.{◌≡◌, ◌++◌, length, false};
+ghost use Rattle.std.specs.Prelude.{◌≡◌, ◌+◌, ◌≤◌, ◌++◌, length, false};
 ghost use Rattle.outbox_core.specs.Takes.{Takes};
+ghost use Rattle.outbox_core.specs.Weights.{Fits, weight_of};
 
 use crate::bell::Bell;
 use crate::finished::Finished;
 use crate::sender::{End, OutSender};
+use crate::weight::weigh;
 use command_core::Out;
-use rtrb::Consumer;
+use rtrb::{Consumer, Producer};
 use std::marker::Model;
 
 /// What a taker got.
@@ -25,16 +27,34 @@ pub enum Taken {
 /// was seen to wait.
 #[derive(Drop)]
 pub struct OutTaker {
-    pub(crate) end: Consumer<Out>,
+    pub(crate) outputs: Consumer<Out>,
+    // By it the sending end is told how much was taken.
+    pub(crate) credits: Producer<u64>,
+    // The bytes of what was taken that the sending end was not told of.
+    pub(crate) owed: u64,
+    // From how many on it is told at once.
+    pub(crate) share: u64,
 }
 
 impl Model for OutTaker {
     ghost use Rattle.outbox_core.specs.Boxes.{TakerValue};
-    ghost use Rattle.outbox_core.specs.Ends.{taker_value};
+    ghost use Rattle.outbox_core.specs.Ends.{Owes, taker_value};
 
     ghost Value = { TakerValue };
 
-    ghost view = { λ a. taker_value a.end };
+    ghost view = { λ a. taker_value a.outputs a.credits };
+
+    ghost invariant = { λ a. Owes a.outputs a.credits a.owed };
+}
+
+// What is owed once an output was taken.
+fn owed_with(owed: u64, out: &Out) -> u64
+    ensures { (owed ≤ result) × (result ≤ owed + weight_of out.now) }
+{
+    match weigh(out) {
+        Some(weight) => owed.saturating_add(weight),
+        None => u64::MAX,
+    }
 }
 
 impl OutTaker {
@@ -45,25 +65,42 @@ impl OutTaker {
     pub fn next(&mut self) -> Taken
         ensures { Takes self.old result self.new }
     {
-        let gone = self.end.is_abandoned();
-        let Ok(out) = self.end.pop() else {
+        let gone = self.outputs.is_abandoned();
+        let Ok(out) = self.outputs.pop() else {
+            self.tell_from(1);
             return if gone { Taken::Cut } else { Taken::Empty };
         };
+        self.owed = owed_with(self.owed, &out);
+        self.tell_from(self.share);
         Taken::Item(out)
     }
 
+    // Tells the sending end what was taken, where that is so many bytes at least, and there is room to tell it.
+    fn tell_from(&mut self, least: u64)
+        ensures { self.new ≡ self.old }
+    {
+        let owed = self.owed;
+        if owed >= least && self.credits.push(owed).is_ok() {
+            self.owed = 0;
+        }
+    }
+
     /// How many outputs wait, beside the sending end of the same box, which is not cut. What was taken, and then what waits, is
-    /// what was given. No memory is taken.
+    /// what was given, and the box has room for what waits. No memory is taken.
     pub fn beside<B: Bell>(&mut self, sender: &mut OutSender<B>) -> usize
         requires one_box { sender.old.box ≡ self.old.box }
         requires whole { sender.old.cut ≡ false }
         ensures all { self.new.taken ++ self.new.seen ≡ sender.new.given }
         ensures waits { result ≡ length self.new.seen }
+        ensures fits { Fits sender.old.size self.new.seen }
         ensures same { (self.new.box ≡ self.old.box) × (self.new.taken ≡ self.old.taken) }
         ensures sender { sender.new ≡ sender.old }
     {
         match &mut sender.end {
-            End::Open(producer) => self.end.slots_beside(producer),
+            End::Open(open) => {
+                open.credits.slots_beside(&mut self.credits);
+                self.outputs.slots_beside(&mut open.outputs)
+            }
             End::Cut(_) | End::Gone => unreachable!(),
         }
     }
@@ -73,9 +110,11 @@ impl OutTaker {
         requires one_box { finished.box ≡ self.old.box }
         ensures all { self.new.taken ++ self.new.seen ≡ finished.given }
         ensures waits { result ≡ length self.new.seen }
+        ensures fits { Fits finished.size self.new.seen }
         ensures same { (self.new.box ≡ self.old.box) × (self.new.taken ≡ self.old.taken) }
     {
         let mut finished = finished;
-        self.end.slots_after(&mut finished.end)
+        finished.credits.slots_beside(&mut self.credits);
+        self.outputs.slots_after(&mut finished.outputs)
     }
 }

@@ -1,12 +1,38 @@
 ghost use Rattle.std.specs.Prelude.{◌≡◌, IfOk};
 
 use command_core::{Out, connected_reply};
-use outbox_core::{Bell, OUTBOX_OUTPUTS, OutSender, OutTaker, Silent, Taken, outbox};
+use frame_core::{Bytes, Frame, Headers, Verb};
+use outbox_core::{Bell, BoxSize, OutSender, OutTaker, Silent, Taken, outbox};
 use std::alloc::{AllocError, Global};
 use std::cell::{Cell, RefCell};
+use std::mem::size_of;
 use std::sync::Arc;
 use std::sync::atomic::{AtomicU64, Ordering};
 use std::test::Fail;
+
+/// A box of 512 outputs, whatever they count for.
+pub const MANY: BoxSize = BoxSize {
+    outputs: 512,
+    bytes: u64::MAX,
+};
+
+// A box of 1,000 bytes.
+const LIGHT: BoxSize = BoxSize {
+    outputs: 512,
+    bytes: 1_000,
+};
+
+// A box of 4,608 outputs of 100 bytes.
+const BOTH: BoxSize = BoxSize {
+    outputs: 4_608,
+    bytes: 460_800,
+};
+
+// An output takes two numbers of 64 bits and an address, and the places of a server's box, with those of 64 numbers by which
+// its taker tells what it took, less than 120,000 bytes.
+const _: () = prove!(size_of::<Out>() == 24);
+
+const _: () = prove!(4_608 * size_of::<Out>() + 64 * size_of::<u64>() < 120_000);
 
 // What a taker got, an item by its number.
 #[derive(Clone, Copy, Debug, PartialEq, Eq)]
@@ -16,32 +42,38 @@ enum Got {
     Cut,
 }
 
-// A CONNECTED that the command of that number gives.
-fn output(alloc: Global, number: u64) -> Result<Out, AllocError> {
-    let frame = connected_reply(alloc, 3)?;
-    Ok(Out::new(number, 3, frame))
+// A MESSAGE of a body of so many bytes and no headers, that the command of that number gives. It counts for its body.
+fn output(alloc: Global, number: u64, bytes: usize) -> Result<Out, AllocError> {
+    let body = Bytes::new(vec![in alloc; b'x'; bytes]?);
+    let frame = Frame {
+        verb: Verb::Message,
+        headers: Headers::new(Vec::new(alloc)),
+        body,
+    };
+    Out::new(alloc, number, 3, frame)
 }
 
-// Gives outputs with the numbers from 0 on, and answers how many of 512 the box took.
-pub fn fill<B: Bell>(alloc: Global, sender: &mut OutSender<B>) -> Result<u64, AllocError>
-    ensures { IfOk result (λ count. count ≡ 512 → sender.new.box ≡ sender.old.box) }
+// Gives outputs of 100 bytes with the numbers from 0 on, and answers how many of so many the box took.
+pub fn fill<B: Bell>(alloc: Global, sender: &mut OutSender<B>, most: u64) -> Result<u64, AllocError>
+    ensures { IfOk result (λ count. count ≡ most → sender.new.box ≡ sender.old.box) }
 {
-    for number in 0..512u64 {
-        let out = output(alloc, number)?;
+    for number in 0..most {
+        let out = output(alloc, number, 100)?;
         if sender.give(out).is_err() {
             return Ok(number);
         }
     }
-    Ok(512)
+    Ok(most)
 }
 
-// The number of an output that comes back.
+// The number of an output of so many bytes that comes back.
 fn back<B: Bell>(
     alloc: Global,
     sender: &mut OutSender<B>,
     number: u64,
+    bytes: usize,
 ) -> Result<Option<u64>, AllocError> {
-    let out = output(alloc, number)?;
+    let out = output(alloc, number, bytes)?;
     match sender.give(out) {
         Ok(()) => Ok(None),
         Err(out) => Ok(Some(out.number())),
@@ -56,9 +88,9 @@ fn look(taker: &mut OutTaker) -> Got {
     }
 }
 
-// Whether the next outputs have the numbers from 0 to 511.
-fn takes_all(taker: &mut OutTaker) -> bool {
-    for number in 0..512u64 {
+// Whether the next outputs have the numbers from 0 on, so many of them.
+fn takes_all(taker: &mut OutTaker, count: u64) -> bool {
+    for number in 0..count {
         if look(taker) != Got::Item(number) {
             return false;
         }
@@ -69,36 +101,135 @@ fn takes_all(taker: &mut OutTaker) -> bool {
 #[test]
 fn the_513th_output_comes_back_and_cuts_the_box(rt: HostRuntime) -> Result<(), Fail> {
     let alloc = rt.alloc();
-    let (mut sender, mut taker) = outbox(alloc, Silent)?;
-    assert_eq!(rt; OUTBOX_OUTPUTS, 512);
-    assert_eq!(rt; fill(alloc, &mut sender)?, 512);
-    assert_eq!(rt; back(alloc, &mut sender, 512)?, Some(512));
-    assert_eq!(rt; back(alloc, &mut sender, 513)?, Some(513));
-    assert!(rt; takes_all(&mut taker));
+    let (mut sender, mut taker) = outbox(alloc, Silent, MANY)?;
+    assert_eq!(rt; fill(alloc, &mut sender, 512)?, 512);
+    assert_eq!(rt; back(alloc, &mut sender, 512, 0)?, Some(512));
+    assert_eq!(rt; back(alloc, &mut sender, 513, 0)?, Some(513));
+    assert!(rt; takes_all(&mut taker, 512));
     assert_eq!(rt; look(&mut taker), Got::Cut);
-    assert_eq!(rt; back(alloc, &mut sender, 514)?, Some(514));
+    assert_eq!(rt; back(alloc, &mut sender, 514, 0)?, Some(514));
     assert!(rt; sender.finish().is_none());
+    Ok(())
+}
+
+#[test]
+fn a_server_has_boxes_of_4608_outputs_and_32_mib(rt: HostRuntime) -> Result<(), Fail> {
+    let alloc = rt.alloc();
+    assert_eq!(rt; BoxSize::SERVER.bytes, 33_554_432);
+    let (mut sender, mut taker) = outbox(alloc, Silent, BoxSize::SERVER)?;
+    assert_eq!(rt; fill(alloc, &mut sender, 4_608)?, 4_608);
+    assert_eq!(rt; back(alloc, &mut sender, 4_608, 0)?, Some(4_608));
+    assert!(rt; takes_all(&mut taker, 4_608));
+    assert_eq!(rt; look(&mut taker), Got::Cut);
+    Ok(())
+}
+
+#[test]
+fn an_output_that_passes_the_bytes_comes_back(rt: HostRuntime) -> Result<(), Fail> {
+    let alloc = rt.alloc();
+    let (mut sender, mut taker) = outbox(alloc, Silent, LIGHT)?;
+    assert_eq!(rt; back(alloc, &mut sender, 0, 400)?, None);
+    assert_eq!(rt; back(alloc, &mut sender, 1, 600)?, None);
+    assert_eq!(rt; back(alloc, &mut sender, 2, 0)?, None);
+    assert_eq!(rt; back(alloc, &mut sender, 3, 1)?, Some(3));
+    assert!(rt; takes_all(&mut taker, 3));
+    assert_eq!(rt; look(&mut taker), Got::Cut);
+    let (mut sender, mut taker) = outbox(alloc, Silent, LIGHT)?;
+    assert_eq!(rt; back(alloc, &mut sender, 0, 400)?, None);
+    assert_eq!(rt; back(alloc, &mut sender, 1, 601)?, Some(1));
+    assert_eq!(rt; back(alloc, &mut sender, 2, 0)?, Some(2));
+    assert!(rt; takes_all(&mut taker, 1));
+    assert_eq!(rt; look(&mut taker), Got::Cut);
+    Ok(())
+}
+
+// Whether a box of so many bytes takes the CONNECTED of session 3.
+fn takes_connected(alloc: Global, bytes: u64) -> Result<bool, AllocError> {
+    let size = BoxSize { outputs: 1, bytes };
+    let (mut sender, _taker) = outbox(alloc, Silent, size)?;
+    let frame = connected_reply(alloc, 3)?;
+    let out = Out::new(alloc, 3, 3, frame)?;
+    Ok(sender.give(out).is_ok())
+}
+
+// It has version:1.2, session:3 and heart-beat:0,0: 10, 8 and 13 bytes without the colons.
+#[test]
+fn headers_count_for_their_names_and_values(rt: HostRuntime) -> Result<(), Fail> {
+    assert!(rt; takes_connected(rt.alloc(), 31)?);
+    assert!(rt; !takes_connected(rt.alloc(), 30)?);
     Ok(())
 }
 
 #[test]
 fn a_full_box_has_room_once_an_output_is_taken(rt: HostRuntime) -> Result<(), Fail> {
     let alloc = rt.alloc();
-    let (mut sender, mut taker) = outbox(alloc, Silent)?;
-    assert_eq!(rt; fill(alloc, &mut sender)?, 512);
+    let (mut sender, mut taker) = outbox(alloc, Silent, MANY)?;
+    assert_eq!(rt; fill(alloc, &mut sender, 512)?, 512);
     assert_eq!(rt; look(&mut taker), Got::Item(0));
-    assert_eq!(rt; back(alloc, &mut sender, 512)?, None);
+    assert_eq!(rt; back(alloc, &mut sender, 512, 100)?, None);
     assert_eq!(rt; look(&mut taker), Got::Item(1));
+    let (mut sender, mut taker) = outbox(alloc, Silent, LIGHT)?;
+    assert_eq!(rt; fill(alloc, &mut sender, 10)?, 10);
+    assert_eq!(rt; look(&mut taker), Got::Item(0));
+    assert_eq!(rt; back(alloc, &mut sender, 10, 100)?, None);
+    assert_eq!(rt; back(alloc, &mut sender, 11, 1)?, Some(11));
+    Ok(())
+}
+
+#[test]
+fn a_box_that_was_found_empty_has_all_its_room(rt: HostRuntime) -> Result<(), Fail> {
+    let alloc = rt.alloc();
+    let (mut sender, mut taker) = outbox(alloc, Silent, BOTH)?;
+    for _ in 0..3u32 {
+        assert_eq!(rt; fill(alloc, &mut sender, 4_608)?, 4_608);
+        assert!(rt; takes_all(&mut taker, 4_608));
+        assert_eq!(rt; look(&mut taker), Got::Empty);
+    }
+    assert_eq!(rt; back(alloc, &mut sender, 0, 460_800)?, None);
+    assert_eq!(rt; look(&mut taker), Got::Item(0));
+    assert_eq!(rt; fill(alloc, &mut sender, 4_609)?, 4_608);
+    Ok(())
+}
+
+// All is taken and the box not found empty: of its 460,800 bytes 446,400 are free at least, which is 31 of 32.
+#[test]
+fn of_what_was_taken_a_32nd_may_not_be_free_yet(rt: HostRuntime) -> Result<(), Fail> {
+    let alloc = rt.alloc();
+    let (mut sender, mut taker) = outbox(alloc, Silent, BOTH)?;
+    assert_eq!(rt; fill(alloc, &mut sender, 4_608)?, 4_608);
+    assert!(rt; takes_all(&mut taker, 4_608));
+    for _ in 0..3u32 {
+        assert_eq!(rt; fill(alloc, &mut sender, 4_464)?, 4_464);
+        assert!(rt; takes_all(&mut taker, 4_464));
+    }
+    Ok(())
+}
+
+// The body of each is 100 bytes, and the box has 150.
+#[test]
+fn who_gives_when_the_last_was_taken_is_never_cut(rt: HostRuntime) -> Result<(), Fail> {
+    let alloc = rt.alloc();
+    let size = BoxSize {
+        outputs: 4,
+        bytes: 150,
+    };
+    let (mut sender, mut taker) = outbox(alloc, Silent, size)?;
+    for number in 0..10_000u64 {
+        assert_eq!(rt; back(alloc, &mut sender, number, 100)?, None);
+        assert_eq!(rt; look(&mut taker), Got::Item(number));
+    }
+    assert_eq!(rt; back(alloc, &mut sender, 10_000, 100)?, None);
+    assert_eq!(rt; back(alloc, &mut sender, 10_001, 100)?, Some(10_001));
     Ok(())
 }
 
 #[test]
 fn an_open_box_is_empty_and_a_finished_one_is_cut(rt: HostRuntime) -> Result<(), Fail> {
     let alloc = rt.alloc();
-    let (mut sender, mut taker) = outbox(alloc, Silent)?;
+    let (mut sender, mut taker) = outbox(alloc, Silent, MANY)?;
     assert_eq!(rt; look(&mut taker), Got::Empty);
-    assert_eq!(rt; back(alloc, &mut sender, 0)?, None);
-    assert_eq!(rt; back(alloc, &mut sender, 1)?, None);
+    assert_eq!(rt; back(alloc, &mut sender, 0, 0)?, None);
+    assert_eq!(rt; back(alloc, &mut sender, 1, 1)?, None);
     assert_eq!(rt; look(&mut taker), Got::Item(0));
     assert!(rt; sender.finish().is_some());
     assert_eq!(rt; look(&mut taker), Got::Item(1));
@@ -121,7 +252,7 @@ impl Bell for Counted {
 
 // Ends a box that rings this bell.
 fn finish_one(alloc: Global, bell: Counted) -> Result<bool, AllocError> {
-    let (sender, _taker) = outbox(alloc, bell)?;
+    let (sender, _taker) = outbox(alloc, bell, MANY)?;
     Ok(sender.finish().is_some())
 }
 
@@ -132,12 +263,12 @@ fn a_box_rings_when_it_is_given_something_cut_dropped_or_finished(
     let alloc = rt.alloc();
     let rings = Arc::new(alloc, AtomicU64::new(0))?;
     let theirs = Arc::try_clone(&rings)?;
-    let (mut sender, _taker) = outbox(alloc, Counted { rings: theirs })?;
-    assert_eq!(rt; fill(alloc, &mut sender)?, 512);
+    let (mut sender, _taker) = outbox(alloc, Counted { rings: theirs }, MANY)?;
+    assert_eq!(rt; fill(alloc, &mut sender, 512)?, 512);
     assert_eq!(rt; rings.load(Ordering::SeqCst), 512);
-    assert_eq!(rt; back(alloc, &mut sender, 512)?, Some(512));
+    assert_eq!(rt; back(alloc, &mut sender, 512, 100)?, Some(512));
     assert_eq!(rt; rings.load(Ordering::SeqCst), 513);
-    assert_eq!(rt; back(alloc, &mut sender, 513)?, Some(513));
+    assert_eq!(rt; back(alloc, &mut sender, 513, 100)?, Some(513));
     assert_eq!(rt; rings.load(Ordering::SeqCst), 513);
     drop(sender);
     assert_eq!(rt; rings.load(Ordering::SeqCst), 514);
@@ -193,14 +324,15 @@ fn find_at_ring(alloc: Global, way: Way) -> Result<Option<Got>, AllocError> {
             taker: &place,
             found: &found,
         },
+        MANY,
     )?;
-    fill(alloc, &mut sender)?;
+    fill(alloc, &mut sender, 512)?;
     drop(place.try_replace(Some(taker)));
     match way {
         Way::Dropped => drop(sender),
         Way::Finished => drop(sender.finish()),
         Way::Cut => {
-            back(alloc, &mut sender, 512)?;
+            back(alloc, &mut sender, 512, 100)?;
             drop(place.try_replace(None));
             drop(sender);
         }

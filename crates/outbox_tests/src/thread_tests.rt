@@ -1,6 +1,6 @@
 ghost use Rattle.std.specs.Prelude.{◌≡◌, ◌≤◌, IfSome};
 
-use crate::box_tests::fill;
+use crate::box_tests::{MANY, fill};
 use outbox_core::{Finished, OutSender, OutTaker, Silent, Taken, outbox};
 use std::alloc::Global;
 use std::test::Fail;
@@ -11,7 +11,7 @@ fn give_all(alloc: Global, sender: OutSender<Silent>) -> Option<Finished>
     ensures { IfSome result (λ finished. finished.box ≡ sender.box) }
 {
     let mut sender = sender;
-    match fill(alloc, &mut sender) {
+    match fill(alloc, &mut sender, 512) {
         Ok(512) => sender.finish(),
         _ => None,
     }
@@ -57,7 +57,7 @@ fn give_and_take<R: Threads>(
 #[test]
 fn box_between_threads(rt: HostRuntime) -> Result<(), Fail> {
     let alloc = rt.alloc();
-    let (sender, taker) = outbox(alloc, Silent)?;
+    let (sender, taker) = outbox(alloc, Silent, MANY)?;
     assert_eq!(rt; give_and_take(&rt, alloc, sender, taker), Some(512));
     Ok(())
 }

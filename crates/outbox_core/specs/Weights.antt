@@ -1,0 +1,26 @@
+-- What outputs count for where they wait, and how much of that a box has room for.
+use Rattle.std.specs.Prelude.{◌+◌, ◌<◌, ◌≤◌, ◌⊎◌, List, ℕ, length}
+use Rattle.std.specs.List.{sum_by}
+use Rattle.command_core.specs.Outs.{OutValue}
+use Rattle.outbox_core.specs.declared.size.BoxSize.{BoxSize}
+
+-- the bytes of a header
+abbrev pub header_bytes : List ℕ × List ℕ → ℕ
+header_bytes h = length h.0 + length h.1
+
+-- the bytes that an output counts for: those of its body, and of its headers' names and values
+abbrev pub weight_of : OutValue → ℕ
+weight_of out = length out.frame.body + sum_by header_bytes out.frame.headers
+
+-- and those of outputs
+abbrev pub weight : List OutValue → ℕ
+weight outs = sum_by weight_of outs
+
+-- a box of that size has room for them
+pub record Fits (size : BoxSize) (outs : List OutValue) : Type 0 where
+  pub few : length outs ≤ size.outputs
+  pub light : weight outs ≤ size.bytes
+
+-- it has no room for them: they are too many, or too heavy
+abbrev pub Overfill : BoxSize → List OutValue → Type 0
+Overfill size outs = (size.outputs < length outs) ⊎ (size.bytes < weight outs)

@@ -1,0 +1,103 @@
+//! The sending end of a box that is not cut.
+
+ghost use Rattle.std.specs.Prelude.{◌≡◌, ◌+◌, ◌-◌, ◌≤◌, ◌++◌, ◌∷◌, [], OnOk, IfErr, IfSome, SomeIff};
+ghost use Rattle.std.specs.List.{sum};
+ghost use Rattle.rtrb.specs.Ring.{SameConsumer, received};
+ghost use Rattle.outbox_core.specs.Weights.{Overfill, weight_of};
+
+use crate::finished::Finished;
+use crate::size::BoxSize;
+use crate::weight::weigh;
+use command_core::Out;
+use rtrb::{Consumer, Producer, PushError};
+use std::marker::Model;
+
+/// For how many credits there is room.
+pub(crate) const CREDITS: usize = 64;
+
+/// What is free once all credits that are there were added to it; no more than so many bytes.
+fn collect(credits: &mut Consumer<u64>, free: u64, bytes: u64) -> u64
+    requires { free ≤ bytes }
+    ensures ring { SameConsumer credits.old credits.new }
+    ensures free { (free ≤ result) × (result ≤ bytes) }
+    ensures counted { result + sum (received credits.old) ≤ free + sum (received credits.new) }
+{
+    let mut sum = free;
+    for _ in 0..CREDITS {
+        let Ok(credit) = credits.pop() else {
+            return sum;
+        };
+        sum = sum.saturating_add(credit).min(bytes);
+    }
+    sum
+}
+
+/// What is left of so many bytes once an output takes its own, or `None` where it counts for more.
+fn without(free: u64, out: &Out) -> Option<u64>
+    ensures { SomeIff result (weight_of out.now ≤ free) (free - weight_of out.now) }
+{
+    free.checked_sub(weigh(out)?)
+}
+
+/// The sending end of a box that is not cut. Contracts see which box it is of, its size and what was given.
+#[derive(Drop)]
+pub(crate) struct OpenEnd {
+    pub(crate) outputs: Producer<Out>,
+    // The taker tells by it how much it took.
+    pub(crate) credits: Consumer<u64>,
+    pub(crate) size: BoxSize,
+    // How many of the box's bytes are free, as far as this end was told.
+    pub(crate) free: u64,
+}
+
+impl Model for OpenEnd {
+    ghost use Rattle.outbox_core.specs.Boxes.{GivenValue};
+    ghost use Rattle.outbox_core.specs.Ends.{HasFree, open_value};
+
+    ghost Value = { GivenValue };
+
+    ghost view = { λ a. open_value a.outputs a.credits a.size };
+
+    ghost invariant = { λ a. HasFree a.outputs a.credits a.size a.free };
+}
+
+impl OpenEnd {
+    /// Puts an output in, last, or hands it back where there is no room for it. No memory is taken.
+    pub(crate) fn put(&mut self, out: Out) -> Result<(), Out>
+        ensures given { OnOk result (self.new ≡ record self.old { given = self.old.given ++ out ∷ [] }) }
+        ensures back { IfErr result (λ same. (same ≡ out) × (self.new ≡ self.old)) }
+        ensures full { IfErr result (λ _. Overfill self.old.size (self.old.given ++ out ∷ [])) }
+    {
+        self.free = collect(&mut self.credits, self.free, self.size.bytes);
+        let Some(left) = without(self.free, &out) else {
+            return Err(out);
+        };
+        match self.outputs.push(out) {
+            Ok(()) => {
+                self.free = left;
+                Ok(())
+            }
+            Err(PushError::Full(out)) => Err(out),
+        }
+    }
+
+    /// Ends the box, and shows what was given; `None` where the taker is gone.
+    pub(crate) fn finish(self) -> Option<Finished>
+        ensures { IfSome result (λ all. all ≡ self) }
+    {
+        let OpenEnd {
+            outputs,
+            credits,
+            size,
+            free: _,
+        } = self;
+        let Some(outputs) = outputs.finish() else {
+            return None;
+        };
+        Some(Finished {
+            outputs,
+            credits,
+            size,
+        })
+    }
+}
