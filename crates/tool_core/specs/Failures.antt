@@ -18,9 +18,9 @@ use Rattle.engine_core.specs.declared.fault.ScriptFault.TheVariants as scripts
 use Rattle.disk_core.specs.Memory.{Memory}
 use Rattle.journal_files.specs.Held.{ShowsHeld}
 use Rattle.journal_files.specs.declared.journal_files.ShowFault.TheVariants as shows
-use Rattle.tool_core.specs.CommandLines.{AskFor}
-use Rattle.tool_core.specs.declared.command_line.Subcommand.{Subcommand}
-use Rattle.tool_core.specs.declared.command_line.Subcommand.TheVariants as asks
+use Rattle.words_core.specs.CommandLines.{AskFor}
+use Rattle.words_core.specs.declared.command_line.Subcommand.{Subcommand}
+use Rattle.words_core.specs.declared.command_line.Subcommand.TheVariants as asks
 use Rattle.tool_core.specs.declared.program.FileFault.{FileFault}
 use Rattle.tool_core.specs.declared.program.FileFault.TheVariants as files
 use Rattle.tool_core.specs.declared.program.Failure.{Failure}

@@ -6,10 +6,9 @@ ghost use Rattle.broker_core.specs.States.{empty_state};
 ghost use Rattle.recover_core.specs.Standing.{Stands};
 ghost use Rattle.journal_files.specs.Held.{ShowsHeld};
 ghost use Rattle.journal_files.specs.JournalFiles.{Shows};
-ghost use Rattle.tool_core.specs.CommandLines.{AsksForScript};
+ghost use Rattle.words_core.specs.CommandLines.{AsksForScript};
 ghost use Rattle.tool_core.specs.Failures.{IsDone, RunsToEnd, StopsBy, IsBeforehand, IsOfScript, IsTold, Tells, status_of, version_line};
 
-use crate::command_line::{Refused, Subcommand, subcommand_of};
 use crate::making::make_journal;
 use crate::telling::end_by;
 use area_core::{FormatFault, format};
@@ -25,6 +24,7 @@ use std::io::{Read, Write};
 use std::rt::Files;
 use std::time::Clock;
 use std::{fmt, io};
+use words_core::{Refused, Subcommand, subcommand_of};
 
 /// The status where the program did what it was asked for.
 pub const DONE: u8 = 0;
