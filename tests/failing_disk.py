@@ -8,6 +8,7 @@ Python 3 alone; the gate does not run it.
 - Where a write or a sync of `stompd format` fails, it ends with status 1 and one line, and the file is gone again. Where the
   file system has no room for its zeros, the line says so.
 - Where a read of `stompd show` fails, it is `J3 device failed`, and nothing is printed.
+- Where the file of `stompd serve` can't be locked, it ends with `cannot open`, and the file is as it was.
 - Where a write or a sync of `stompd serve` fails while it opens its journal, it ends with `J3 device failed` and does not
   say that it listens.
 - Where one of a block's fails, the server ends so, and the block's command gets no receipt; the commands before it are in
@@ -150,6 +151,14 @@ def showing(checks):
         checks.was_injected(what)
 
 
+def locking(checks):
+    what, path = "serve without its lock", make(checks, "not-locked")
+    before = pathlib.Path(path).read_bytes()
+    checks.same(what, run(checks.words("flock", 1, "serve", path, str(free_port()))), (1, "", CANNOT_OPEN))
+    checks.was_injected(what)
+    checks.same(f"{what}: the file is as it was", pathlib.Path(path).read_bytes() == before, True)
+
+
 def opening(checks):
     """Recovery syncs, writes the snapshot and syncs, and writes the selector and syncs."""
     for call, numbers in (("fsync", (1, 2, 3)), ("pwrite64", (1, 2))):
@@ -228,7 +237,7 @@ def main():
         sys.exit(2)
     with tempfile.TemporaryDirectory() as name:
         checks = Checks(str(program), pathlib.Path(name).resolve())
-        for part in (formatting, filling, progress, showing, opening, storing, asleep):
+        for part in (formatting, filling, progress, showing, locking, opening, storing, asleep):
             part(checks)
     if checks.failed:
         sys.exit(f"failing_disk: {checks.failed} of {checks.count} are wrong")

@@ -4,7 +4,8 @@ docs/JOURNAL.md says. No contract can know this. Needs strace and Python 3 alone
 
     python3 tests/trace_serve.py [PROGRAM]
 
-- The file is locked before it is opened for its bytes.
+- The file is opened once, and its lock is that of the descriptor that is read and written. It is had before the file's size is
+  looked at, and before anything is read or written.
 - A start is a sync, the snapshot of the restart into the area that is not live, a sync, the selector and a sync, and only
   then `listening`.
 - A block is one write of its length, its records and a closed gate, a sync, one write of one byte that opens the gate
@@ -35,7 +36,7 @@ from stomp_client import Client  # noqa: E402
 
 AREA = 65_536
 HEAD = 32
-CALLS = "openat,flock,pread64,pwrite64,pwritev,write,writev,sendto,sendmsg,fsync,fdatasync,ftruncate"
+CALLS = "openat,flock,?fstat,?newfstatat,?statx,pread64,pwrite64,pwritev,write,writev,sendto,sendmsg,fsync,fdatasync,ftruncate"
 
 
 class Wrong(Exception):
@@ -174,13 +175,16 @@ class Journal:
 
     def __init__(self, calls, path):
         opened = [call for call in calls if call.name == "openat" and path.encode() == call.data()]
-        check(len(opened) == 2, "the file is not opened twice: for its lock, and for its bytes")
-        locks = [call for call in calls if call.name == "flock" and call.descriptor() == opened[0].answer]
-        check(len(locks) == 1 and locks[0].answer == 0, "the file is not locked")
-        check(opened[0].begun < locks[0].begun < opened[1].begun, "the file is opened before it is locked")
-        self.file = opened[1].answer
+        check(len(opened) == 1, "the file is not opened once: its lock is not that of what is read and written")
+        self.file = opened[0].answer
+        own = [call for call in calls if call.name != "openat" and call.descriptor() == self.file and call.begun > opened[0].begun]
+        check(bool(own) and own[0].name == "flock", "the file is not locked before all else")
+        check(own[0].answer == 0 and "LOCK_EX" in own[0].words, "the file's exclusive lock is not had")
+        sizes = [call for call in own if call.name in ("fstat", "newfstatat", "statx")]
+        check(len(sizes) == 1 and sizes[0].begun > own[0].ended, "the file's size is not looked at behind the lock")
+        check(not any(call.name == "flock" for call in own[1:]), "the file's lock is taken again or given up")
         names = ("pread64", "pwrite64", "pwritev", "write", "writev", "fsync", "fdatasync", "ftruncate")
-        self.calls = [call for call in calls if call.name in names and call.descriptor() == self.file and call.begun > opened[1].begun]
+        self.calls = [call for call in own if call.name in names]
         self.at = 0
 
     def has_next(self, count=1):

@@ -7,3 +7,4 @@ pub mod Puts
 pub mod Reading
 pub mod Steps
 pub mod Switches
+pub mod Texts

@@ -4,24 +4,39 @@ ghost use Rattle.std.specs.Prelude.{◌≡◌};
 
 use disk_core::DeviceFault;
 use std::alloc::AllocError;
-use thiserror::Error;
+use std::{error, fmt};
 
 /// Why an area took nothing.
-#[derive(Debug, Drop, Error)]
+#[derive(Debug, Drop)]
 pub enum AreaFault {
     /// The disk failed.
-    #[error("J3 device failed")]
     Device,
     /// The block or snapshot doesn't fit into the area, with the gate behind it.
-    #[error("J4 journal full")]
     Full,
     /// A step failed before.
-    #[error("J6 store broken")]
     Broken,
     /// Memory was refused.
-    #[error("no memory")]
     Memory(AllocError),
 }
+
+/// The text for the user.
+impl fmt::Display for AreaFault {
+    ghost use Rattle.std.specs.Prelude.{Some};
+    ghost use Rattle.area_core.specs.Texts.{area_text};
+
+    ghost output = { λ fault. Some (area_text fault) };
+
+    fn fmt<W: fmt::Write>(&self, f: &mut fmt::Formatter<W>) -> fmt::Result {
+        match self {
+            AreaFault::Device => f.write_str("J3 device failed"),
+            AreaFault::Full => f.write_str("J4 journal full"),
+            AreaFault::Broken => f.write_str("J6 store broken"),
+            AreaFault::Memory(_) => f.write_str("no memory"),
+        }
+    }
+}
+
+impl error::Error for AreaFault {}
 
 impl From<AllocError> for AreaFault {
     ghost use Rattle.std.specs.Prelude.{◌≡◌};
@@ -46,27 +61,42 @@ impl From<DeviceFault> for AreaFault {
 }
 
 /// Why a disk was not read as a journal.
-#[derive(Debug, Drop, Error)]
+#[derive(Debug, Drop)]
 pub enum ReadFault {
     /// It has fewer than 32 bytes, or another name.
-    #[error("J1 not a journal")]
     NotAJournal,
     /// What stands at that place of the disk is no length that fits, or no record.
-    #[error("J2 damaged at {0}")]
     Damaged(u64),
     /// The disk failed.
-    #[error("J3 device failed")]
     Device,
     /// Another version of the format.
-    #[error("J7 unknown version")]
     UnknownVersion,
     /// The header tells areas of fewer than 4,096 bytes, or more than the disk has.
-    #[error("J8 disk too small")]
     TooSmall,
     /// Memory was refused.
-    #[error("no memory")]
     Memory(AllocError),
 }
+
+/// The text for the user.
+impl fmt::Display for ReadFault {
+    ghost use Rattle.std.specs.Prelude.{Some};
+    ghost use Rattle.area_core.specs.Texts.{read_text};
+
+    ghost output = { λ fault. Some (read_text fault) };
+
+    fn fmt<W: fmt::Write>(&self, f: &mut fmt::Formatter<W>) -> fmt::Result {
+        match self {
+            ReadFault::NotAJournal => f.write_str("J1 not a journal"),
+            ReadFault::Damaged(place) => write!(f, "J2 damaged at {place}"),
+            ReadFault::Device => f.write_str("J3 device failed"),
+            ReadFault::UnknownVersion => f.write_str("J7 unknown version"),
+            ReadFault::TooSmall => f.write_str("J8 disk too small"),
+            ReadFault::Memory(_) => f.write_str("no memory"),
+        }
+    }
+}
+
+impl error::Error for ReadFault {}
 
 impl From<AllocError> for ReadFault {
     ghost use Rattle.std.specs.Prelude.{◌≡◌};
@@ -91,18 +121,33 @@ impl From<DeviceFault> for ReadFault {
 }
 
 /// Why a disk was not formatted.
-#[derive(Debug, Drop, Error)]
+#[derive(Debug, Drop)]
 pub enum FormatFault {
     /// The areas would have fewer than 4,096 bytes, or more than the disk has.
-    #[error("J8 disk too small")]
     TooSmall,
     /// The disk failed.
-    #[error("J3 device failed")]
     Device,
     /// Memory was refused.
-    #[error("no memory")]
     Memory(AllocError),
 }
+
+/// The text for the user.
+impl fmt::Display for FormatFault {
+    ghost use Rattle.std.specs.Prelude.{Some};
+    ghost use Rattle.area_core.specs.Texts.{format_text};
+
+    ghost output = { λ fault. Some (format_text fault) };
+
+    fn fmt<W: fmt::Write>(&self, f: &mut fmt::Formatter<W>) -> fmt::Result {
+        match self {
+            FormatFault::TooSmall => f.write_str("J8 disk too small"),
+            FormatFault::Device => f.write_str("J3 device failed"),
+            FormatFault::Memory(_) => f.write_str("no memory"),
+        }
+    }
+}
+
+impl error::Error for FormatFault {}
 
 impl From<AllocError> for FormatFault {
     ghost use Rattle.std.specs.Prelude.{◌≡◌};

@@ -3,23 +3,36 @@ ghost use Rattle.std.specs.Prelude.{◌≡◌, replicate, IfOk, ⊤};
 
 use crate::faults::count;
 use crate::{DeviceFault, Disk};
-use std::fs::{File, OpenOptions};
-use std::io;
+use std::fs::{File, OpenOptions, TryLockError};
 use std::os::unix::fs::FileExt;
 use std::path::Path;
 use std::rt::Files;
-use thiserror::Error;
+use std::{error, fmt, io};
 
 /// Why a file is not opened as a disk.
-#[derive(Debug, Drop, Error)]
+#[derive(Debug, Drop)]
 pub enum OpenError {
     /// What was to be made is there already, as a file or as something else.
-    #[error("cannot open")]
     Exists,
-    /// The system refuses to open, make, size or sync it.
-    #[error("cannot open")]
+    /// Somebody else has the file's lock, or the exclusive one was asked for and somebody shares it.
+    Locked,
+    /// The system refuses to open, make, lock, size or sync it.
     System(io::Error),
 }
+
+/// The text for the user, whom the cause does not help: it is one for all.
+impl fmt::Display for OpenError {
+    ghost use Rattle.std.specs.Prelude.{Some};
+    ghost use Rattle.disk_core.specs.File.{open_error_text};
+
+    ghost output = { λ error. Some (open_error_text error) };
+
+    fn fmt<W: fmt::Write>(&self, f: &mut fmt::Formatter<W>) -> fmt::Result {
+        f.write_str("cannot open")
+    }
+}
+
+impl error::Error for OpenError {}
 
 impl From<io::Error> for OpenError {
     fn from(error: io::Error) -> Self {
@@ -35,8 +48,8 @@ impl From<io::Error> for OpenError {
 ///
 /// Of its content and images nothing is claimed, since no contract knows what a file holds: it is
 /// never honest. A sync asks the system to have the bytes and the size on the device (`fsync`).
-/// Nothing keeps another process from writing the file. A range that the file no longer has fails
-/// to be read.
+/// Nothing keeps another process from writing the file: a lock is between those that ask for it. A
+/// range that the file no longer has fails to be read.
 #[derive(Drop)]
 pub struct FileDisk {
     file: File,
@@ -77,7 +90,28 @@ impl FileDisk {
     pub fn open<R: Files<File = File>>(rt: &R, path: &str) -> Result<FileDisk, OpenError>
         ensures { IfOk result (λ disk. file_failures disk ≡ 0) }
     {
-        let file = OpenOptions::new().read(true).write(true).open(rt, path)?;
+        FileDisk::over(opened(rt, path)?)
+    }
+
+    /// The same, with the exclusive lock of the file, which is taken before the file's size is
+    /// looked at: `Locked` where somebody else has it. The lock is that of the open file that the
+    /// disk reads and writes, so it is there for as long as the disk is. Nothing of the file is
+    /// read or written, and where it is not opened no lock is kept.
+    pub fn open_locked<R: Files<File = File>>(rt: &R, path: &str) -> Result<FileDisk, OpenError>
+        ensures { IfOk result (λ disk. file_failures disk ≡ 0) }
+    {
+        let file = opened(rt, path)?;
+        match file.try_lock() {
+            Ok(()) => FileDisk::over(file),
+            Err(TryLockError::WouldBlock) => Err(OpenError::Locked),
+            Err(TryLockError::Error(error)) => Err(OpenError::System(error)),
+        }
+    }
+
+    // A disk in that file, of the size that it has now.
+    fn over(file: File) -> Result<FileDisk, OpenError>
+        ensures { IfOk result (λ disk. file_failures disk ≡ 0) }
+    {
         let size = file.metadata()?.len();
         Ok(FileDisk {
             file,
@@ -85,6 +119,11 @@ impl FileDisk {
             failures: 0,
         })
     }
+}
+
+// The file that is there, for reading and writing.
+fn opened<R: Files<File = File>>(rt: &R, path: &str) -> io::Result<File> {
+    OpenOptions::new().read(true).write(true).open(rt, path)
 }
 
 // Sizes a new file, and syncs it and the folder that has its name.

@@ -1,9 +1,5 @@
 //! Why a script does not run to its end.
 
-ghost use Rattle.std.specs.Prelude.{◌≡◌};
-ghost use Rattle.engine_core.specs.FaultTexts.{IsNotDamaged, TellsNoPlace, area_text, open_fault_text, storing_text, read_text};
-
-use area_core::{AreaFault, ReadFault};
 use broker_core::BrokerFault;
 use flush_core::FlushFault;
 use recover_core::OpenFault;
@@ -110,68 +106,14 @@ impl fmt::Display for ScriptFault {
             ScriptFault::Memory(_) => f.write_str("no memory"),
             ScriptFault::NotUnderstood { line } => write!(f, "line {line} not understood"),
             ScriptFault::CountTooLarge => f.write_str("J5 count too large"),
-            ScriptFault::Opening(OpenFault::Read(ReadFault::Damaged(place))) => {
-                write!(f, "J2 damaged at {place}")
-            }
-            ScriptFault::Opening(fault) => f.write_str(opening_text(fault)),
-            ScriptFault::Storing(fault) => f.write_str(storing_text(fault)),
+            ScriptFault::Opening(fault) => write!(f, "{fault}"),
+            ScriptFault::Storing(fault) => write!(f, "{fault}"),
             ScriptFault::Input | ScriptFault::Output => f.write_str("input or output failed"),
         }
     }
 }
 
 impl error::Error for ScriptFault {}
-
-// What is told of a disk that was not read, except of a damaged one.
-fn read_text(fault: &ReadFault) -> &'static str
-    requires { IsNotDamaged fault.now }
-    ensures { result.now ≡ read_text fault.now }
-{
-    match fault {
-        ReadFault::NotAJournal => "J1 not a journal",
-        ReadFault::Damaged(_) => "J2 damaged",
-        ReadFault::Device => "J3 device failed",
-        ReadFault::UnknownVersion => "J7 unknown version",
-        ReadFault::TooSmall => "J8 disk too small",
-        ReadFault::Memory(_) => "no memory",
-    }
-}
-
-/// What is told of a journal that was not opened, but for a damaged one, of which the place is told too.
-pub fn opening_text(fault: &OpenFault) -> &'static str
-    requires { TellsNoPlace fault.now }
-    ensures { result.now ≡ open_fault_text fault.now }
-{
-    match fault {
-        OpenFault::Read(fault) => read_text(fault),
-        OpenFault::CountTooLarge => "J5 count too large",
-        OpenFault::Area(fault) => area_text(fault),
-    }
-}
-
-/// What is told of commands that were not stored.
-pub fn storing_text(fault: &FlushFault) -> &'static str
-    ensures { result.now ≡ storing_text fault.now }
-{
-    match fault {
-        FlushFault::Device => "J3 device failed",
-        FlushFault::Full => "J4 journal full",
-        FlushFault::Broken => "J6 store broken",
-        FlushFault::Memory(_) => "no memory",
-    }
-}
-
-// What is told of an area that was not written.
-fn area_text(fault: &AreaFault) -> &'static str
-    ensures { result.now ≡ area_text fault.now }
-{
-    match fault {
-        AreaFault::Device => "J3 device failed",
-        AreaFault::Full => "J4 journal full",
-        AreaFault::Broken => "J6 store broken",
-        AreaFault::Memory(_) => "no memory",
-    }
-}
 
 impl From<QueueFault> for ScriptFault {
     ghost use Rattle.engine_core.specs.OfQueue.{of_queue};

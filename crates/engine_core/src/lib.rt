@@ -12,7 +12,7 @@ mod script;
 mod so_far;
 mod worked;
 
-pub use fault::{ScriptFault, opening_text, storing_text};
+pub use fault::ScriptFault;
 pub use laws::{
     a_line_too_far_prints_nothing, a_script_has_one_text, a_script_that_prints_has_not_failed,
 };

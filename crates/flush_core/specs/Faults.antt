@@ -1,5 +1,5 @@
 -- The flusher's faults, by the faults of what it stands on.
-use Rattle.std.specs.Prelude.{Result, Ok, Err, ℕ, ◌≡◌}
+use Rattle.std.specs.Prelude.{List, Result, Ok, Err, ℕ, codes, ◌≡◌}
 use Rattle.disk_core.specs.Faults.{IsOneMore}
 use Rattle.area_core.specs.declared.faults.AreaFault.{AreaFault}
 use Rattle.area_core.specs.declared.faults.AreaFault.TheVariants as area
@@ -7,6 +7,13 @@ use Rattle.broker_core.specs.declared.fault.BrokerFault.{BrokerFault}
 use Rattle.broker_core.specs.declared.fault.BrokerFault.TheVariants as broker
 use Rattle.flush_core.specs.declared.faults.FlushFault.{FlushFault}
 use Rattle.flush_core.specs.declared.faults.FlushFault.TheVariants.{Device, Full, Broken, Memory}
+
+-- what the user is told of commands that were not stored
+abbrev pub flush_text : FlushFault → List ℕ
+flush_text Device = codes "J3 device failed"
+flush_text Full = codes "J4 journal full"
+flush_text Broken = codes "J6 store broken"
+flush_text (Memory refused) = codes "no memory"
 
 -- what the store's fault is told as
 abbrev pub of_area : AreaFault → FlushFault

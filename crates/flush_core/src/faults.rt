@@ -5,24 +5,39 @@ ghost use Rattle.std.specs.Prelude.{◌≡◌};
 use area_core::AreaFault;
 use broker_core::BrokerFault;
 use std::alloc::AllocError;
-use thiserror::Error;
+use std::{error, fmt};
 
 /// Why a step of the flusher failed. After each of these it is broken and its ring is stopped.
-#[derive(Debug, Drop, Error)]
+#[derive(Debug, Drop)]
 pub enum FlushFault {
     /// The disk failed.
-    #[error("J3 device failed")]
     Device,
     /// The block of the batch doesn't fit into the journal, with the gate behind it.
-    #[error("J4 journal full")]
     Full,
     /// A step failed before.
-    #[error("J6 store broken")]
     Broken,
     /// Memory was refused.
-    #[error("no memory")]
     Memory(AllocError),
 }
+
+/// The text for the user.
+impl fmt::Display for FlushFault {
+    ghost use Rattle.std.specs.Prelude.{Some};
+    ghost use Rattle.flush_core.specs.Faults.{flush_text};
+
+    ghost output = { λ fault. Some (flush_text fault) };
+
+    fn fmt<W: fmt::Write>(&self, f: &mut fmt::Formatter<W>) -> fmt::Result {
+        match self {
+            FlushFault::Device => f.write_str("J3 device failed"),
+            FlushFault::Full => f.write_str("J4 journal full"),
+            FlushFault::Broken => f.write_str("J6 store broken"),
+            FlushFault::Memory(_) => f.write_str("no memory"),
+        }
+    }
+}
+
+impl error::Error for FlushFault {}
 
 impl From<AllocError> for FlushFault {
     ghost use Rattle.std.specs.Prelude.{◌≡◌};

@@ -4,6 +4,7 @@ use Rattle.std.specs.Fmt.{decimal}
 use Rattle.std.specs.Io.KnownBytes.{Appends}
 use Rattle.recover_core.specs.declared.seen.Seen.{Seen}
 use Rattle.recover_core.specs.Seen.{IsSeen}
+use Rattle.recover_core.specs.Texts.{open_text}
 use Rattle.recover_core.specs.Told.{IsStateRefused}
 use Rattle.journal_files.specs.declared.journal_files.ShowFault.{ShowFault}
 use Rattle.journal_files.specs.declared.journal_files.ShowFault.TheVariants.{Output, Read}
@@ -26,3 +27,8 @@ ShowsOf content before after = (seen : Seen) × IsSeen seen content × Appends b
 abbrev pub IsShowTold : ShowFault → List ℕ → Type 0
 IsShowTold (Read fault) content = IsStateRefused fault content
 IsShowTold Output content = (seen : Seen) × IsSeen seen content
+
+-- what the user is told of a journal of which nothing is shown, or not all
+abbrev pub show_text : ShowFault → List ℕ
+show_text (Read fault) = open_text fault
+show_text Output = codes "input or output failed"

@@ -8,9 +8,8 @@ ghost use Rattle.journal_files.specs.JournalFiles.{IsShowTold, Shows, ShowsOf, t
 use disk_core::Disk;
 use recover_core::{OpenFault, Seen, read};
 use std::alloc::Global;
-use std::io;
 use std::io::Write;
-use thiserror::Error;
+use std::{error, fmt, io};
 
 /// The least length of an area, in bytes.
 const LEAST_AREA: u64 = 4_096;
@@ -19,15 +18,30 @@ const LEAST_AREA: u64 = 4_096;
 const HEADER: u64 = 32;
 
 /// Why nothing was shown of a journal, or not all.
-#[derive(Debug, Drop, Error)]
+#[derive(Debug, Drop)]
 pub enum ShowFault {
     /// It was not read as a journal.
-    #[error("{0}")]
     Read(OpenFault),
     /// What it shows was not written.
-    #[error("input or output failed")]
     Output,
 }
+
+/// The text for the user.
+impl fmt::Display for ShowFault {
+    ghost use Rattle.std.specs.Prelude.{Some};
+    ghost use Rattle.journal_files.specs.JournalFiles.{show_text};
+
+    ghost output = { λ fault. Some (show_text fault) };
+
+    fn fmt<W: fmt::Write>(&self, f: &mut fmt::Formatter<W>) -> fmt::Result {
+        match self {
+            ShowFault::Read(fault) => write!(f, "{fault}"),
+            ShowFault::Output => f.write_str("input or output failed"),
+        }
+    }
+}
+
+impl error::Error for ShowFault {}
 
 /// How many bytes each of the two areas of a journal has in a file of so many bytes: they share what the header leaves, of which
 /// one byte may be left over. `None` where they would have fewer than 4,096 bytes each.

@@ -349,6 +349,39 @@ fn a_file_that_is_no_disk_is_not_opened(rt: HostRuntime) -> Result<(), Fail> {
     Ok(())
 }
 
+const LOCKED: &str = "journal_tests_disk_locked";
+
+// What a disk with the lock of its file leaves to others: it is not locked twice, and opened without the lock.
+fn beside_the_lock(rt: &HostRuntime, disk: &mut FileDisk) -> Result<[u8; 6], Fail> {
+    let again = FileDisk::open_locked(rt, LOCKED);
+    assert!(rt; matches!(again, Err(OpenError::Locked)));
+    write_some(rt, disk)?;
+    let mut other = FileDisk::open(rt, LOCKED)?;
+    let bytes = read(rt, &mut other);
+    drop(other);
+    Ok(bytes?)
+}
+
+// The lock is there for as long as the disk is, and no longer.
+#[test]
+fn a_file_has_one_disk_with_its_lock(rt: HostRuntime) -> Result<(), Fail> {
+    let _ = fs::remove_file(&rt, LOCKED);
+    let missing = FileDisk::open_locked(&rt, LOCKED);
+    assert!(rt; matches!(missing, Err(OpenError::System(_))));
+    drop(FileDisk::create(&rt, LOCKED, 6)?);
+    let mut disk = FileDisk::open_locked(&rt, LOCKED)?;
+    let bytes = beside_the_lock(&rt, &mut disk);
+    let size = disk.size();
+    drop(disk);
+    assert_eq!(rt; bytes?, [0, 5, 6, 0, 0, 9]);
+    assert_eq!(rt; size, 6);
+    let later = FileDisk::open_locked(&rt, LOCKED);
+    assert!(rt; later.is_ok());
+    drop(later);
+    fs::remove_file(&rt, LOCKED)?;
+    Ok(())
+}
+
 #[test]
 fn a_file_that_is_cut_short_fails(rt: HostRuntime) -> Result<(), Fail> {
     let path = "journal_tests_disk_cut";

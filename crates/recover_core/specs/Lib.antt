@@ -3,6 +3,7 @@ pub mod Seen
 pub mod Sound
 pub mod Standing
 pub mod Stores
+pub mod Texts
 pub mod Told
 pub mod Walks
 pub mod Compactions

@@ -5,21 +5,36 @@ ghost use Rattle.std.specs.Prelude.{◌≡◌};
 use area_core::{AreaFault, ReadFault};
 use disk_core::DeviceFault;
 use std::alloc::AllocError;
-use thiserror::Error;
+use std::{error, fmt};
 
 /// Why a journal was not opened.
-#[derive(Debug, Drop, Error)]
+#[derive(Debug, Drop)]
 pub enum OpenFault {
     /// It could not be read.
-    #[error("{0}")]
     Read(ReadFault),
     /// The disk stands for a state after more than 2^61 commands.
-    #[error("J5 count too large")]
     CountTooLarge,
     /// Outside of reading: the disk failed, memory was refused, or the snapshot of the state after the restart does not fit.
-    #[error("{0}")]
     Area(AreaFault),
 }
+
+/// The text for the user.
+impl fmt::Display for OpenFault {
+    ghost use Rattle.std.specs.Prelude.{Some};
+    ghost use Rattle.recover_core.specs.Texts.{open_text};
+
+    ghost output = { λ fault. Some (open_text fault) };
+
+    fn fmt<W: fmt::Write>(&self, f: &mut fmt::Formatter<W>) -> fmt::Result {
+        match self {
+            OpenFault::Read(fault) => write!(f, "{fault}"),
+            OpenFault::CountTooLarge => f.write_str("J5 count too large"),
+            OpenFault::Area(fault) => write!(f, "{fault}"),
+        }
+    }
+}
+
+impl error::Error for OpenFault {}
 
 impl From<ReadFault> for OpenFault {
     ghost use Rattle.std.specs.Prelude.{◌≡◌};

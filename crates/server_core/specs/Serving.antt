@@ -4,6 +4,7 @@ use Rattle.std.specs.List.{AllByRecursion}
 use Rattle.std.specs.Fmt.{decimal}
 use Rattle.atomic_table.specs.Seated.{TableId}
 use Rattle.claim_core.specs.Seats.{SessionSeatValue}
+use Rattle.claim_core.specs.declared.sizes.TheConstants.{SEATS}
 use Rattle.disk_core.specs.declared.file.FileDisk.{FileDisk}
 use Rattle.flush_core.specs.Flushed.{Flushed}
 use Rattle.hub_core.specs.Hubs.{HubValue, IsWhole}
@@ -42,10 +43,10 @@ IsServer s = IsReady s.ring s.flusher × AreAt s.ring s.seats
 abbrev pub IsNewHub : HubValue FileDisk → Type 0
 IsNewHub h = (f : Flushed FileDisk) × IsWhole h f
 
--- a server at that port before its first worker: 32 seats wait, and the flusher has taken nothing
+-- a server at that port before its first worker: the seats of all workers wait, and the flusher has taken nothing
 pub record IsOpened (port : ℕ) (s : ServerValue) : Type 0 where
   pub port_is : s.port ≡ port
-  pub seats : length s.seats ≡ 32
+  pub seats : length s.seats ≡ SEATS
   pub fresh : s.flusher.seat.taken ≡ []
 
 -- a worker got one of the seats, which wait no more

@@ -1,5 +1,9 @@
 //! What wakes a worker that waits for its socket.
 
+ghost use Rattle.std.specs.Prelude.{◌≡◌, IfOk};
+ghost use Rattle.std.specs.Arc.{arc_value};
+ghost use Rattle.server_core.specs.Streams.{rung_by};
+
 use hub_core::Ringers;
 use mio::{Registry, Token, Waker};
 use outbox_core::Bell;
@@ -73,12 +77,16 @@ pub struct BellRope(Arc<Doorbell>);
 
 impl BellRope {
     /// One that rings that doorbell. No memory is taken.
-    pub(crate) fn new(bell: Arc<Doorbell>) -> BellRope {
+    pub(crate) fn new(bell: Arc<Doorbell>) -> BellRope
+        ensures { rung_by result ≡ arc_value bell }
+    {
         BellRope(bell)
     }
 
     /// Another rope to the same doorbell.
-    pub(crate) fn another(&self) -> Result<BellRope, AllocError> {
+    pub(crate) fn another(&self) -> Result<BellRope, AllocError>
+        ensures { IfOk result (λ rope. rung_by rope ≡ rung_by self.now) }
+    {
         Ok(BellRope(self.0.clone()?))
     }
 
@@ -95,7 +103,9 @@ impl Bell for BellRope {
 }
 
 impl Ringers<BellRope> for BellRope {
-    fn bell(&self) -> Result<BellRope, AllocError> {
+    fn bell(&self) -> Result<BellRope, AllocError>
+        ensures { IfOk result (λ rope. rung_by rope ≡ rung_by self.now) }
+    {
         self.0.wanted.store(true, Ordering::SeqCst);
         Ok(BellRope(self.0.clone()?))
     }

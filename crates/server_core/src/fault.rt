@@ -1,32 +1,51 @@
 //! Why a server does not serve.
 
+use disk_core::OpenError;
 use flush_core::FlushFault;
 use recover_core::OpenFault;
 use std::alloc::AllocError;
-use thiserror::Error;
+use std::{error, fmt};
 
 /// Why a server was not started, or has ended. A journal that was opened holds all that was acknowledged.
-#[derive(Debug, Drop, Error)]
+#[derive(Debug, Drop)]
 pub enum ServeFault {
-    /// The file or the port could not be opened: the file is missing or served by another server, or the port is taken.
-    #[error("cannot open")]
-    CannotOpen,
+    /// The file was not opened: it is missing, or another server has its lock, or the system refuses it.
+    File(OpenError),
+    /// The port was not opened: it is taken, or the system refuses it.
+    Port,
     /// The journal was not opened.
-    #[error("{0}")]
     Opening(OpenFault),
     /// Memory was refused while the server was started.
-    #[error("no memory")]
     Memory,
     /// The system starts no more threads.
-    #[error("cannot start a thread")]
     Threads,
     /// That it listens could not be written.
-    #[error("input or output failed")]
     Output,
     /// A step of the flusher failed: nothing more is acknowledged.
-    #[error("{0}")]
     Flushing(FlushFault),
 }
+
+/// The text for the user.
+impl fmt::Display for ServeFault {
+    ghost use Rattle.std.specs.Prelude.{Some};
+    ghost use Rattle.server_core.specs.Faults.{serve_text};
+
+    ghost output = { λ fault. Some (serve_text fault) };
+
+    fn fmt<W: fmt::Write>(&self, f: &mut fmt::Formatter<W>) -> fmt::Result {
+        match self {
+            ServeFault::File(error) => write!(f, "{error}"),
+            ServeFault::Port => f.write_str("cannot open"),
+            ServeFault::Opening(fault) => write!(f, "{fault}"),
+            ServeFault::Memory => f.write_str("no memory"),
+            ServeFault::Threads => f.write_str("cannot start a thread"),
+            ServeFault::Output => f.write_str("input or output failed"),
+            ServeFault::Flushing(fault) => write!(f, "{fault}"),
+        }
+    }
+}
+
+impl error::Error for ServeFault {}
 
 impl From<AllocError> for ServeFault {
     fn from(_: AllocError) -> ServeFault {

@@ -1,9 +1,12 @@
 //! A server and its workers.
 
-ghost use Rattle.std.specs.Prelude.{◌≡◌, ◌≢◌, ◌+◌, [], true, length, IfOk, OnOk, OnErr, MatchOption};
+ghost use Rattle.std.specs.Prelude.{◌≡◌, ◌≢◌, ◌+◌, [], true, length, IfOk, IfErr, OnOk, OnErr, MatchOption};
 ghost use Rattle.std.specs.Arc.{arc_value};
 ghost use Rattle.std.specs.Io.KnownBytes.{Appends};
+ghost use Rattle.std.specs.Net.Tcp.{stream_raw_fd};
+ghost use Rattle.server_core.specs.Faults.{IsNotStarted};
 ghost use Rattle.server_core.specs.Serving.{AreAt, IsReady, IsNewHub, IsOpened, HandsOut, IsEnd, announced};
+ghost use Rattle.server_core.specs.Streams.{bell_of, rung_by, socket_of};
 ghost use Rattle.server_core.specs.declared.fault.ServeFault.TheVariants.{Output};
 
 use crate::doorbell::BellRope;
@@ -25,7 +28,7 @@ use std::net::{Net, TcpListener, TcpStream};
 use std::sync::{Arc, Wait};
 use std::thread::Threads;
 use std::time::{Clock, Duration};
-use std::{io, mem, thread};
+use std::{io, thread};
 use ws_core::WsLink;
 
 type ServerHub = Hub<FileDisk, BellRope>;
@@ -65,8 +68,6 @@ pub struct Server<R: Drop> {
     port: u16,
     seats: Vec<ServerSeat>,
     flusher: ServerFlusher,
-    // While it is there no other server serves the same file.
-    lock: Option<File>,
 }
 
 impl<R: Drop> Model for Server<R> {
@@ -103,9 +104,10 @@ impl<R> Server<R>
 where
     R: Files<File = File> + Net<Listener = TcpListener, Stream = TcpStream> + Wait + Clone + Drop,
 {
-    /// Opens the journal in a file, and the port at 127.0.0.1. Pages of these origins are served alone; where none is named, all
-    /// are. `CannotOpen` where the file or the port can't be opened, or where another server has the file, of which nothing is
-    /// read then; `Opening` where the journal is refused.
+    /// Opens the journal in a file, whose lock the server has from then on until its flusher is gone, and the port at 127.0.0.1.
+    /// Pages of these origins are served alone; where none is named, all are. `File` where the file can't be opened, or another
+    /// server has its lock: nothing of it is read or written then. `Opening` where the journal is refused, and `Port` where the
+    /// port can't be opened: what opening a journal leaves is said there. No lock is kept of a refusal.
     pub fn open(
         alloc: Global,
         rt: &R,
@@ -115,37 +117,10 @@ where
     ) -> Result<Server<R>, ServeFault>
         ensures { IfOk result (IsOpened port) }
     {
-        match lock_of(rt, path) {
-            Some(lock) => Server::locked(alloc, rt, path, port, origins, lock),
-            None => {
-                drop(origins);
-                Err(ServeFault::CannotOpen)
-            }
-        }
-    }
-
-    // The same over a file that is locked; the server keeps the lock.
-    fn locked(
-        alloc: Global,
-        rt: &R,
-        path: &str,
-        port: u16,
-        origins: Vec<Vec<u8>>,
-        lock: File,
-    ) -> Result<Server<R>, ServeFault>
-        ensures { IfOk result (IsOpened port) }
-    {
         match open_hub(alloc, rt, path) {
-            Ok(hub) => match Server::over(alloc, rt, hub, port, origins) {
-                Ok(server) => Ok(server.keeping(lock)),
-                Err(fault) => {
-                    drop(lock);
-                    Err(fault)
-                }
-            },
+            Ok(hub) => Server::over(alloc, rt, hub, port, origins),
             Err(fault) => {
                 drop(origins);
-                drop(lock);
                 Err(fault)
             }
         }
@@ -171,7 +146,7 @@ where
                 drop(refused);
                 drop(origins);
                 drop(hub);
-                Err(ServeFault::CannotOpen)
+                Err(ServeFault::Port)
             }
         }
     }
@@ -200,18 +175,9 @@ impl<R: Wait + Clone + Drop> Server<R> {
                 return Err(fault);
             }
         }
-        match hub.flusher() {
-            Some(flusher) => {
-                let ring = hub.into_ring();
-                Server::flushing(alloc, rt, ring, door, port, seats, flusher)
-            }
-            None => {
-                drop(seats);
-                drop(hub);
-                drop(door);
-                Err(ServeFault::CannotOpen)
-            }
-        }
+        let flusher = hub.flusher().unwrap();
+        let ring = hub.into_ring();
+        Server::flushing(alloc, rt, ring, door, port, seats, flusher)
     }
 
     // The server, of all its parts.
@@ -226,7 +192,7 @@ impl<R: Wait + Clone + Drop> Server<R> {
     ) -> Result<Server<R>, ServeFault>
         requires ready { IsReady ring flusher }
         requires seated { AreAt ring seats.items }
-        requires count { length seats.items ≡ 32 }
+        requires count { length seats.items ≡ SEATS }
         requires fresh { flusher.seat.taken ≡ [] }
         ensures { IfOk result (IsOpened port) }
     {
@@ -236,7 +202,6 @@ impl<R: Wait + Clone + Drop> Server<R> {
                 port,
                 seats,
                 flusher,
-                lock: None,
             }),
             Err(fault) => {
                 drop(seats);
@@ -248,20 +213,12 @@ impl<R: Wait + Clone + Drop> Server<R> {
 }
 
 impl<R: Drop> Server<R> {
-    // The server, which keeps that lock.
-    fn keeping(self, lock: File) -> Server<R>
-        ensures { result ≡ self }
-    {
-        let mut server = self;
-        drop(mem::replace(&mut server.lock, Some(lock)));
-        server
-    }
-
-    /// The next worker, which is to be run in a thread of its own; `None` once all 32 are handed out. Where memory is
+    /// The next worker, which is to be run in a thread of its own; `None` once all are handed out. Where memory is
     /// refused, nothing has changed.
     pub fn next_worker(&mut self) -> Result<Option<Worker<R>>, ServeFault>
         ensures next { IfOk result (λ next. MatchOption next ((self.old.seats ≡ []) × (self.new ≡ self.old)) (HandsOut self.old self.new)) }
         ensures refused { OnErr result (self.new ≡ self.old) }
+        ensures memory { IfErr result (λ fault. fault ≡ ServeFault.Memory) }
     {
         let shared = match self.shared.clone() {
             Ok(shared) => shared,
@@ -289,11 +246,12 @@ where
         + Sync
         + 'static,
 {
-    /// Starts all workers, each in a thread of its own. `Threads` where the system starts no more: those that were started
-    /// go on.
+    /// Starts all workers, each in a thread of its own. `Threads` where the system starts no more, and `Memory` where that is
+    /// refused: those that were started go on.
     pub fn start_workers(&mut self, rt: &R, alloc: Global) -> Result<(), ServeFault>
         ensures all { OnOk result (self.new.seats ≡ []) }
         ensures same { self.new ≡ record self.old { seats = self.new.seats } }
+        ensures refused { IfErr result IsNotStarted }
     {
         for _seat in 0..self.seats.len() {
             start_worker(rt, alloc, self)?;
@@ -303,12 +261,15 @@ where
 
     /// Starts the thread that tells an operator of each compaction of the journal, a line each: the bytes that it won, and the
     /// milliseconds of the flusher's turn that made it. No other thread waits for it; where the writer takes nothing, up to 64
-    /// lines wait, and more are left out. `Threads` where the system starts no more.
+    /// lines wait, and more are left out. `Threads` where the system starts no more, and `Memory` where that is refused: nothing
+    /// was written then.
     pub fn start_teller<W: Write + Drop + Send + 'static>(
         &self,
         rt: &R,
         writer: W,
-    ) -> Result<(), ServeFault> {
+    ) -> Result<(), ServeFault>
+        ensures { IfErr result IsNotStarted }
+    {
         let Ok(shared) = self.shared.clone() else {
             drop(writer);
             return Err(ServeFault::Memory);
@@ -335,7 +296,7 @@ impl<R: Wait + Clock + Drop> Server<R> {
         ServeFault::Flushing(flush(alloc, &self.shared, &mut self.flusher))
     }
 
-    /// Ends the server: the outboxes go with the flusher, which wakes the workers that wait for their sockets; those that
+    /// Ends the server: outboxes, disk and lock go with the flusher, which wakes the workers that wait for their sockets; those that
     /// waited for the mark were woken by the failed step. All have a second to tell their clients that the broker stops.
     pub fn close(self) {
         let Server {
@@ -343,13 +304,11 @@ impl<R: Wait + Clock + Drop> Server<R> {
             port: _,
             seats,
             flusher,
-            lock,
         } = self;
         drop(flusher);
         thread::sleep(&shared.rt, Duration::from_millis(FAREWELL));
         drop(shared);
         drop(seats);
-        drop(lock);
     }
 }
 
@@ -380,6 +339,7 @@ where
         + 'static,
     ensures one { server.old.seats ≢ [] → OnOk result (length server.old.seats ≡ length server.new.seats + 1) }
     ensures same { server.new ≡ record server.old { seats = server.new.seats } }
+    ensures refused { IfErr result IsNotStarted }
 {
     let Some(worker) = server.next_worker()? else {
         return Ok(());
@@ -390,22 +350,7 @@ where
     }
 }
 
-// The file, locked, for as long as it is kept. `None` where it can't be opened, or somebody else has it locked.
-fn lock_of<R: Files<File = File>>(rt: &R, path: &str) -> Option<File> {
-    let Ok(file) = File::open(rt, path) else {
-        return None;
-    };
-    match file.try_lock() {
-        Ok(()) => Some(file),
-        Err(refused) => {
-            drop(refused);
-            drop(file);
-            None
-        }
-    }
-}
-
-// The hub over the journal in a file.
+// The hub over the journal in a file, whose lock its disk has.
 fn open_hub<R: Files<File = File>>(
     alloc: Global,
     rt: &R,
@@ -413,8 +358,9 @@ fn open_hub<R: Files<File = File>>(
 ) -> Result<ServerHub, ServeFault>
     ensures { IfOk result IsNewHub }
 {
-    let Ok(disk) = FileDisk::open(rt, path) else {
-        return Err(ServeFault::CannotOpen);
+    let disk = match FileDisk::open_locked(rt, path) {
+        Ok(disk) => disk,
+        Err(error) => return Err(ServeFault::File(error)),
     };
     match Hub::open(alloc, disk) {
         Ok(hub) => Ok(hub),
@@ -424,9 +370,9 @@ fn open_hub<R: Files<File = File>>(
 
 // Adds all seats of a hub, the first one first.
 fn add_seats(seats: &mut Vec<ServerSeat>, hub: &mut ServerHub) -> Result<(), ServeFault>
-    requires all { length hub.old.seats ≡ 32 }
+    requires all { length hub.old.seats ≡ SEATS }
     ensures rest { hub.new ≡ record hub.old { seats = hub.new.seats } }
-    ensures count { OnOk result (length seats.new.items ≡ length seats.old.items + 32) }
+    ensures count { OnOk result (length seats.new.items ≡ length seats.old.items + SEATS) }
     ensures seats { AreAt hub.old.ring seats.old.items → OnOk result (AreAt hub.old.ring seats.new.items) }
 {
     for _seat in 0..SEATS {
@@ -526,7 +472,10 @@ fn stream_of<R: Net + Clock + Clone + Drop>(
     alloc: Global,
     rt: &R,
     socket: TcpStream,
-) -> io::Result<(SocketStream<R>, BellRope)> {
+) -> io::Result<(SocketStream<R>, BellRope)>
+    ensures socket { IfOk result (λ both. socket_of both.0 ≡ stream_raw_fd socket) }
+    ensures bell { IfOk result (λ both. rung_by both.1 ≡ bell_of both.0) }
+{
     let rt = rt.clone()?;
     let stream = SocketStream::new(alloc, rt, socket)?;
     let rope = stream.rope()?;

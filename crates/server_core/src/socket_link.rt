@@ -16,8 +16,13 @@ pub struct SocketLink<S> {
 }
 
 impl<S: Read + Write + Drop> SocketLink<S> {
+    ghost use Rattle.std.specs.Prelude.{◌≡◌, IfOk};
+    ghost use Rattle.server_core.specs.Streams.{rung_by};
+
     /// That link, over the socket whose doorbell this rope rings.
-    pub(crate) fn new(link: WsLink<S>, rope: &BellRope) -> Result<SocketLink<S>, AllocError> {
+    pub(crate) fn new(link: WsLink<S>, rope: &BellRope) -> Result<SocketLink<S>, AllocError>
+        ensures { IfOk result (λ made. (made.link ≡ link) × (rung_by made.rope ≡ rung_by rope.now)) }
+    {
         match rope.another() {
             Ok(rope) => Ok(SocketLink { link, rope }),
             Err(refused) => {

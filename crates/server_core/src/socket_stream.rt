@@ -1,5 +1,7 @@
 //! A socket that is read and written by one worker, which waits for it.
 
+ghost use Rattle.std.specs.Prelude.{◌≡◌};
+
 use crate::doorbell::{BellRope, Doorbell};
 use mio::event::Event;
 use mio::net::TcpStream;
@@ -35,11 +37,13 @@ fn ends_a_read(event: &Event) -> bool {
 }
 
 // Has the poll look at the socket, with a doorbell beside it, and makes room for what it tells.
-fn waits(
+fn watch(
     alloc: Global,
     poll: &Poll,
     socket: &mut TcpStream,
-) -> io::Result<(Events<Global>, Arc<Doorbell>)> {
+) -> io::Result<(Events<Global>, Arc<Doorbell>)>
+    ensures { socket.new ≡ socket.old }
+{
     let interests = Interest::READABLE | Interest::WRITABLE;
     poll.registry().register(socket, SOCKET, interests)?;
     let bell = Doorbell::new(poll.registry(), BELL)?;
@@ -70,17 +74,22 @@ pub struct SocketStream<T> {
 }
 
 impl<T: Net + Clock + Drop> SocketStream<T> {
-    ghost use Rattle.std.specs.Prelude.{IfOk};
+    ghost use Rattle.std.specs.Prelude.{◌≡◌, IfOk};
     ghost use Rattle.std.specs.Counts.{IsPrefixLen};
+    ghost use Rattle.std.specs.Net.Tcp.{stream_raw_fd};
+    ghost use Rattle.server_core.specs.Streams.{bell_of, rung_by, socket_of};
 
-    /// The stream of a socket that was just accepted. What is written leaves at once (no delay by Nagle's algorithm).
-    pub fn new(alloc: Global, rt: T, socket: net::TcpStream) -> io::Result<SocketStream<T>> {
+    /// The stream of a socket that was just accepted. What is written leaves at once (no delay by Nagle's algorithm). Where the
+    /// system refuses what it waits by, or memory is refused, the socket is closed.
+    pub fn new(alloc: Global, rt: T, socket: net::TcpStream) -> io::Result<SocketStream<T>>
+        ensures { IfOk result (λ stream. socket_of stream ≡ stream_raw_fd socket) }
+    {
         socket.set_nodelay(true)?;
         socket.set_nonblocking(true)?;
         let since = Instant::now(&rt)?;
         let poll = Poll::new(&rt)?;
         let mut socket = TcpStream::from_std(socket);
-        match waits(alloc, &poll, &mut socket) {
+        match watch(alloc, &poll, &mut socket) {
             Ok((events, bell)) => Ok(SocketStream {
                 socket,
                 poll,
@@ -95,8 +104,10 @@ impl<T: Net + Clock + Drop> SocketStream<T> {
         }
     }
 
-    /// What ends a wait of its reads.
-    pub fn rope(&self) -> io::Result<BellRope> {
+    /// What ends a wait of its reads: it rings this stream's doorbell.
+    pub fn rope(&self) -> io::Result<BellRope>
+        ensures { IfOk result (λ rope. rung_by rope ≡ bell_of self.now) }
+    {
         Ok(BellRope::new(self.bell.clone()?))
     }
 

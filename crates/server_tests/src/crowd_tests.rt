@@ -14,6 +14,9 @@ const PORT: u16 = 47_629;
 
 const JOURNAL: &str = "server_with_a_crowd";
 
+// How many connections are served at once (README.md).
+const AT_ONCE: usize = 32;
+
 // A client that is CONNECTED. It waits for ten seconds at most.
 fn greeted(rt: &HostRuntime, alloc: Global) -> Option<Client<HostRuntime>> {
     match Client::connect(rt, alloc, PORT) {
@@ -49,12 +52,12 @@ fn greet(
     wanted
 }
 
-// The same of the first and of 31 more, and then the first sends until the server ends.
+// The same of the first and of the others, and then the first sends until the server ends.
 fn crowd(rt: &HostRuntime, alloc: Global) -> usize {
     match greeted(rt, alloc) {
         Some(mut first) => {
             let mut others = Vec::new(alloc);
-            let count = greet(rt, alloc, &mut others, 31);
+            let count = greet(rt, alloc, &mut others, AT_ONCE - 1);
             let filled = fill(alloc, &mut first);
             drop(others);
             drop(first);
@@ -101,9 +104,9 @@ where
 }
 
 #[test]
-fn clients_are_served_at_once_up_to_32(rt: HostRuntime) -> Result<(), Fail> {
+fn clients_are_served_at_once_up_to_the_limit(rt: HostRuntime) -> Result<(), Fail> {
     let ran = run(&rt, &rt, rt.alloc());
     let _ = fs::remove_file(&rt, JOURNAL);
-    assert_eq!(rt; ran, Some((32, true)));
+    assert_eq!(rt; ran, Some((AT_ONCE, true)));
     Ok(())
 }

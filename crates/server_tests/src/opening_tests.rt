@@ -1,4 +1,5 @@
 use crate::journals::make_journal;
+use disk_core::OpenError;
 use recover_core::OpenFault;
 use server_core::{ServeFault, Server};
 use std::alloc::Global;
@@ -54,7 +55,7 @@ fn a_journal_has_one_server_at_a_time(rt: HostRuntime) -> Result<(), Fail> {
     let second = second_fault(&rt, rt.alloc(), path);
     let later = fault_of(&rt, rt.alloc(), path);
     let _ = fs::remove_file(&rt, path);
-    assert!(rt; matches!(second, Some(ServeFault::CannotOpen)));
+    assert!(rt; matches!(second, Some(ServeFault::File(OpenError::Locked))));
     assert!(rt; later.is_none());
     Ok(())
 }
@@ -64,7 +65,7 @@ fn a_server_wants_a_file(rt: HostRuntime) -> Result<(), Fail> {
     let path = "server_without_a_file";
     let _ = fs::remove_file(&rt, path);
     let fault = fault_of(&rt, rt.alloc(), path);
-    assert!(rt; matches!(fault, Some(ServeFault::CannotOpen)));
+    assert!(rt; matches!(fault, Some(ServeFault::File(OpenError::System(_)))));
     Ok(())
 }
 
@@ -86,7 +87,7 @@ fn a_server_wants_a_port_at_which_nobody_listens(rt: HostRuntime) -> Result<(), 
     let fault = fault_of(&rt, rt.alloc(), path);
     drop(other);
     let _ = fs::remove_file(&rt, path);
-    assert!(rt; matches!(fault, Some(ServeFault::CannotOpen)));
+    assert!(rt; matches!(fault, Some(ServeFault::Port)));
     Ok(())
 }
 

@@ -10,7 +10,8 @@ use std::process::ExitCode;
 use std::sync::Wait;
 use std::time::Clock;
 use std::{env, io};
-use tool_core::{BAD_COMMAND_LINE, Failure, Subcommand, end_by, subcommand_of, tool};
+use tool_core::{BAD_COMMAND_LINE, Failure, end_by, tool};
+use words_core::{Subcommand, subcommand_of};
 
 /// Runs the program on its arguments, standard input, standard output and standard error.
 fn main(rt: HostRuntime) -> ExitCode {

@@ -1,4 +1,1 @@
-mod Asking
-mod Giving
 mod Nothing
-pub mod Words

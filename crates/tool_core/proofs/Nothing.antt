@@ -12,10 +12,10 @@ use Rattle.engine_core.specs.declared.fault.ScriptFault.TheVariants as scripts
 use Rattle.disk_core.specs.Memory.{Memory}
 use Rattle.engine_core.proofs.Performing.{restart_is}
 use Rattle.engine_core.specs.Runs.{IsToldAtOnce, Stops, StopsOver}
-use Rattle.tool_core.specs.CommandLines.{AskFor}
+use Rattle.words_core.specs.CommandLines.{AskFor}
 use Rattle.tool_core.specs.Failures.{RunsToEnd, IsAtOnce, IsBeforehand, IsDone, StopsBy, Tells, version_line}
-use Rattle.tool_core.specs.declared.command_line.Subcommand.{Subcommand}
-use Rattle.tool_core.specs.declared.command_line.Subcommand.TheVariants.{Version}
+use Rattle.words_core.specs.declared.command_line.Subcommand.{Subcommand}
+use Rattle.words_core.specs.declared.command_line.Subcommand.TheVariants.{Version}
 use Rattle.tool_core.specs.declared.program.Failure.{Failure}
 use Rattle.tool_core.specs.declared.program.Failure.TheVariants.{CommandLine, Number, Script, Format, File, Server}
 

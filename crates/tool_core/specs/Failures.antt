@@ -4,11 +4,12 @@ use Rattle.clap.specs.Values.{kind_of}
 use Rattle.clap.specs.declared.error.Error.{Error}
 use Rattle.clap.specs.declared.error.kind.ErrorKind.TheVariants.{OutOfMemory}
 use Rattle.engine_core.specs.Scripts.{IsScript}
-use Rattle.area_core.specs.declared.faults.FormatFault.{FormatFault}
 use Rattle.area_core.specs.declared.faults.FormatFault.TheVariants as formats
-use Rattle.server_core.specs.declared.fault.ServeFault.{ServeFault}
-use Rattle.server_core.specs.declared.fault.ServeFault.TheVariants as servers
-use Rattle.engine_core.specs.FaultTexts.{fault_text, open_fault_text, storing_text}
+use Rattle.area_core.specs.Texts.{format_text}
+use Rattle.disk_core.specs.File.{open_error_text}
+use Rattle.engine_core.specs.FaultTexts.{fault_text}
+use Rattle.journal_files.specs.JournalFiles.{Shows, show_text}
+use Rattle.server_core.specs.Faults.{serve_text}
 use Rattle.broker_core.specs.States.{empty_state}
 use Rattle.engine_core.specs.Runs.{Stops}
 use Rattle.engine_core.specs.declared.fault.ScriptFault.{ScriptFault}
@@ -16,11 +17,10 @@ use Rattle.engine_core.specs.declared.fault.ScriptFault.TheVariants.{Opening}
 use Rattle.engine_core.specs.declared.fault.ScriptFault.TheVariants as scripts
 use Rattle.disk_core.specs.Memory.{Memory}
 use Rattle.journal_files.specs.Held.{ShowsHeld}
-use Rattle.journal_files.specs.JournalFiles.{Shows}
 use Rattle.journal_files.specs.declared.journal_files.ShowFault.TheVariants as shows
-use Rattle.tool_core.specs.CommandLines.{AskFor}
-use Rattle.tool_core.specs.declared.command_line.Subcommand.{Subcommand}
-use Rattle.tool_core.specs.declared.command_line.Subcommand.TheVariants as asks
+use Rattle.words_core.specs.CommandLines.{AskFor}
+use Rattle.words_core.specs.declared.command_line.Subcommand.{Subcommand}
+use Rattle.words_core.specs.declared.command_line.Subcommand.TheVariants as asks
 use Rattle.tool_core.specs.declared.program.FileFault.{FileFault}
 use Rattle.tool_core.specs.declared.program.FileFault.TheVariants as files
 use Rattle.tool_core.specs.declared.program.Failure.{Failure}
@@ -108,12 +108,6 @@ StopsBy (File fault) unread left before after = (left ≡ unread) × (fault ≢ 
 StopsBy (Server fault) unread left before after = Untouched unread left before after
 StopsBy Number unread left before after = Untouched unread left before after
 
--- what is told of a journal that was not made
-abbrev pub format_text : FormatFault → List ℕ
-format_text formats.TooSmall = codes "J8 disk too small"
-format_text formats.Device = codes "J3 device failed"
-format_text (formats.Memory refused) = codes "no memory"
-
 -- it is told that the bytes are too few for a journal
 abbrev pub IsTooShort : {T : Type 0} → Result T FileFault → Type 0
 IsTooShort (Err (files.Format formats.TooSmall)) = Unit {0}
@@ -121,20 +115,10 @@ IsTooShort _ = ⊥
 
 -- what is told of a journal file that was not made, or not shown
 abbrev pub file_text : FileFault → List ℕ
-file_text files.CannotOpen = codes "cannot open"
+file_text (files.Open error) = open_error_text error
 file_text files.NoSpace = codes "no space left for the file"
 file_text (files.Format fault) = format_text fault
-file_text (files.Show (shows.Read fault)) = open_fault_text fault
-file_text (files.Show shows.Output) = codes "input or output failed"
-
--- what is told of a server that was not started, or has ended
-abbrev pub server_text : ServeFault → List ℕ
-server_text servers.CannotOpen = codes "cannot open"
-server_text (servers.Opening fault) = open_fault_text fault
-server_text servers.Memory = codes "no memory"
-server_text servers.Threads = codes "cannot start a thread"
-server_text servers.Output = codes "input or output failed"
-server_text (servers.Flushing fault) = storing_text fault
+file_text (files.Show fault) = show_text fault
 
 -- the one line of a fault
 abbrev pub line_of : List ℕ → List ℕ
@@ -147,7 +131,7 @@ IsTold Number before after = after ≡ before
 IsTold (Script fault) before after = Appends before after (line_of (fault_text fault))
 IsTold (Format fault) before after = Appends before after (line_of (format_text fault))
 IsTold (File fault) before after = Appends before after (line_of (file_text fault))
-IsTold (Server fault) before after = Appends before after (line_of (server_text fault))
+IsTold (Server fault) before after = Appends before after (line_of (serve_text fault))
 
 -- the failure tells of a refused command line, or of want of memory there
 abbrev pub Tells : Error → Failure → Type 0

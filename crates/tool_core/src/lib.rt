@@ -2,12 +2,9 @@
 
 #![tactic(auto)]
 
-mod command_line;
-mod given;
 mod making;
 mod program;
 mod telling;
 
-pub use command_line::{Refused, Subcommand, subcommand_of};
 pub use program::{BAD_COMMAND_LINE, DONE, Ended, FAILED, Failure, FileFault, run, tool};
 pub use telling::end_by;

@@ -44,8 +44,9 @@ pub fn make_journal<R: Files<File = File> + Clock, P: Write>(
     let Some(area) = area_in(bytes) else {
         return Err(FileFault::Format(FormatFault::TooSmall));
     };
-    let Ok(mut disk) = FileDisk::create(rt, path, bytes) else {
-        return Err(FileFault::CannotOpen);
+    let mut disk = match FileDisk::create(rt, path, bytes) {
+        Ok(disk) => disk,
+        Err(error) => return Err(FileFault::Open(error)),
     };
     let filled = if is_sparse {
         Ok(())

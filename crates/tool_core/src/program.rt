@@ -6,25 +6,25 @@ ghost use Rattle.broker_core.specs.States.{empty_state};
 ghost use Rattle.recover_core.specs.Standing.{Stands};
 ghost use Rattle.journal_files.specs.Held.{ShowsHeld};
 ghost use Rattle.journal_files.specs.JournalFiles.{Shows};
-ghost use Rattle.tool_core.specs.CommandLines.{AsksForScript};
+ghost use Rattle.words_core.specs.CommandLines.{AsksForScript};
 ghost use Rattle.tool_core.specs.Failures.{IsDone, RunsToEnd, StopsBy, IsBeforehand, IsOfScript, IsTold, Tells, status_of, version_line};
 
-use crate::command_line::{Refused, Subcommand, subcommand_of};
 use crate::making::make_journal;
 use crate::telling::end_by;
 use area_core::{FormatFault, format};
 use clap::error::ErrorKind;
-use disk_core::{FileDisk, MemDisk};
+use disk_core::{FileDisk, MemDisk, OpenError};
 use engine_core::{ScriptFault, run_script};
 use journal_files::{ShowFault, show, show_held};
 use server_core::ServeFault;
 use std::alloc::{AllocError, Global};
 use std::convert::AsStr;
 use std::fs::File;
-use std::io;
 use std::io::{Read, Write};
 use std::rt::Files;
 use std::time::Clock;
+use std::{fmt, io};
+use words_core::{Refused, Subcommand, subcommand_of};
 
 /// The status where the program did what it was asked for.
 pub const DONE: u8 = 0;
@@ -45,13 +45,30 @@ const HEADER: u64 = 32;
 #[derive(Drop)]
 pub enum FileFault {
     /// The file could not be made or opened, or it is there already and was to be made.
-    CannotOpen,
+    Open(OpenError),
     /// The file system has no room for all of the file. It is not there.
     NoSpace,
     /// It would be too small for a journal, or no journal was written into it.
     Format(FormatFault),
     /// It was not shown.
     Show(ShowFault),
+}
+
+/// The text for the user.
+impl fmt::Display for FileFault {
+    ghost use Rattle.std.specs.Prelude.{Some};
+    ghost use Rattle.tool_core.specs.Failures.{file_text};
+
+    ghost output = { λ fault. Some (file_text fault) };
+
+    fn fmt<W: fmt::Write>(&self, f: &mut fmt::Formatter<W>) -> fmt::Result {
+        match self {
+            FileFault::Open(error) => write!(f, "{error}"),
+            FileFault::NoSpace => f.write_str("no space left for the file"),
+            FileFault::Format(fault) => write!(f, "{fault}"),
+            FileFault::Show(fault) => write!(f, "{fault}"),
+        }
+    }
 }
 
 /// Why the program did not do what it was asked for.
@@ -198,8 +215,9 @@ fn show_file<R: Files<File = File>, W: Write>(
     ensures ok { OnOk result (Shows (W.contents writer.old) (W.contents writer.new)) }
     ensures err { IfErr result (λ fault. fault ≢ FileFault.Show ShowFault.Output → writer.new ≡ writer.old) }
 {
-    let Ok(mut disk) = FileDisk::open(rt, path) else {
-        return Err(FileFault::CannotOpen);
+    let mut disk = match FileDisk::open(rt, path) {
+        Ok(disk) => disk,
+        Err(error) => return Err(FileFault::Open(error)),
     };
     match show(alloc, &mut disk, writer) {
         Ok(()) => Ok(()),
@@ -217,8 +235,9 @@ fn held_file<R: Files<File = File>, W: Write>(
     ensures ok { OnOk result (ShowsHeld (W.contents writer.old) (W.contents writer.new)) }
     ensures err { IfErr result (λ fault. fault ≢ FileFault.Show ShowFault.Output → writer.new ≡ writer.old) }
 {
-    let Ok(mut disk) = FileDisk::open(rt, path) else {
-        return Err(FileFault::CannotOpen);
+    let mut disk = match FileDisk::open(rt, path) {
+        Ok(disk) => disk,
+        Err(error) => return Err(FileFault::Open(error)),
     };
     match show_held(alloc, &mut disk, writer) {
         Ok(()) => Ok(()),

@@ -1,5 +1,6 @@
 use crate::start_tests::HELD;
 use crate::words_tests::expect_of;
+use disk_core::FileDisk;
 use std::alloc::{Alloc, Global};
 use std::fs;
 use std::fs::File;
@@ -115,6 +116,33 @@ fn a_journal_file_is_made_and_shown(rt: HostRuntime) -> Result<(), Fail> {
     write_held(&rt, alloc)?;
     expect_show(&rt, alloc, 0, held, "")?;
     fs::remove_file(&rt, JOURNAL)?;
+    Ok(())
+}
+
+const SERVED: &str = "stompd_served_file";
+
+// What is printed of an empty journal in that file.
+fn expect_shown_and_held(
+    rt: &(impl Abort + Files<File = File> + Clock),
+    alloc: Global,
+) -> Result<(), Fail> {
+    let shown = "version 2\narea 0\nused 41\ncount 0\nheld 0\n";
+    let held = "messages 0 of 4096\nbytes 0 of 16777216\n";
+    expect_of(rt, alloc, &["stompd", "show", SERVED], b"", (0, shown, ""))?;
+    expect_of(rt, alloc, &["stompd", "held", SERVED], b"", (0, held, ""))
+}
+
+// A server has the lock of its file: who only reads the journal asks for none.
+#[test]
+fn a_journal_is_shown_while_its_file_is_locked(rt: HostRuntime) -> Result<(), Fail> {
+    let _ = fs::remove_file(&rt, SERVED);
+    let format = ["stompd", "format", SERVED, "8224"];
+    expect_of(&rt, rt.alloc(), &format, b"", (0, "", ""))?;
+    let disk = FileDisk::open_locked(&rt, SERVED)?;
+    let seen = expect_shown_and_held(&rt, rt.alloc());
+    drop(disk);
+    seen?;
+    fs::remove_file(&rt, SERVED)?;
     Ok(())
 }
 

@@ -1,7 +1,7 @@
 use Rattle.std.proofs.Common.{◌∙◌, ◌∷◌, [], ap, arith, sym}
 use Rattle.std.proofs.lemmas.Grind.{common_steps}
-use Rattle.tool_core.proofs.Words.{pair}
-use Rattle.tool_core.proofs.command_line.is_alone.Goals as goal
+use Rattle.words_core.proofs.Words.{pair}
+use Rattle.words_core.proofs.command_line.is_alone.Goals as goal
 
 pub returns-in-len2-clause-asked : goal.returns-in-len2-clause-asked
 returns-in-len2-clause-asked g c = grind (arith, common_steps)

@@ -2,7 +2,7 @@
 
 ghost use Rattle.std.specs.Prelude.{◌≡◌, ◌∷◌, [], List, ℕ, IfOk, IfSome, IsNone, OnOk, bytes_eq, codes, drop, false, map, nat_eq, true};
 ghost use Rattle.std.specs.List.{starts_with};
-ghost use Rattle.tool_core.specs.CommandLines.{given_by, given_from, joined, words_of};
+ghost use Rattle.words_core.specs.CommandLines.{given_by, given_from, joined, words_of};
 
 use std::alloc::{AllocError, Global};
 use std::convert::AsStr;

@@ -1,8 +1,8 @@
 -- Words that ask for nothing that the program does.
 use Rattle.std.proofs.Common.{◌≡◌, ◌≢◌, ◌∙◌, ◌≤◌, ◌<◌, ◌^◌, List, [], ◌∷◌, ℕ, ap, arith, bytes_eq, codes, false, length, refl, subst, sym, true}
-use Rattle.tool_core.specs.CommandLines.{AreFileAndNumber, AskFor, AskForNothing, AskNothingWith, AskWith, IsNumber, Words, given_by}
-use Rattle.tool_core.specs.declared.command_line.Subcommand.{Subcommand}
-use Rattle.tool_core.specs.declared.command_line.Subcommand.TheVariants.{Script, Version, Format, Show, Held, Serve}
+use Rattle.words_core.specs.CommandLines.{AreFileAndNumber, AskFor, AskForNothing, AskNothingWith, AskWith, IsNumber, Words, given_by}
+use Rattle.words_core.specs.declared.command_line.Subcommand.{Subcommand}
+use Rattle.words_core.specs.declared.command_line.Subcommand.TheVariants.{Script, Version, Format, Show, Held, Serve}
 
 same_test : (a b : List ℕ) → a ≡ b → bytes_eq a b ≡ bytes_eq b b
 same_test a b e = ap (λ x. bytes_eq x b) e

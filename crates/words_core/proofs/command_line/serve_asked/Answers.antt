@@ -1,7 +1,7 @@
 use Rattle.std.proofs.Common.{◌≡◌, ◌<◌, ◌^◌, List, ℕ, ap, map, refl, subst, sym}
-use Rattle.tool_core.specs.CommandLines.{AreFileAndNumber, words_of}
-use Rattle.tool_core.proofs.Asking.{no_serve}
-use Rattle.tool_core.proofs.command_line.serve_asked.Goals as goal
+use Rattle.words_core.specs.CommandLines.{AreFileAndNumber, words_of}
+use Rattle.words_core.proofs.Asking.{no_serve}
+use Rattle.words_core.proofs.command_line.serve_asked.Goals as goal
 
 pub returns-in-None-clause-none : goal.returns-in-None-clause-none
 returns-in-None-clause-none c e =

@@ -1,8 +1,8 @@
 //! What the words of a command line ask for.
 
 ghost use Rattle.std.specs.Prelude.{◌≡◌, ◌≢◌, ◌<◌, ◌≤◌, ◌^◌, ◌∷◌, ◌↔◌, [], List, ℕ, IfNone, IfOk, IfSome, IsErrOf, IsNone, IsTrue, codes, length, true, map, Ok};
-ghost use Rattle.tool_core.specs.CommandLines.{AreFileAndNumber, AskFor, AskForAlone, AskForNothing, AskNothingWith, AskWith, AsksForScript, IsNumber, words_of};
-ghost use Rattle.tool_core.specs.declared.command_line.Subcommand.TheVariants.{Script, Version};
+ghost use Rattle.words_core.specs.CommandLines.{AreFileAndNumber, AskFor, AskForAlone, AskForNothing, AskNothingWith, AskWith, AsksForScript, IsNumber, words_of};
+ghost use Rattle.words_core.specs.declared.command_line.Subcommand.TheVariants.{Script, Version};
 
 use crate::given::{Given, given_by};
 use clap::{Arg, ArgAction, ArgMatches, Command, Error};
@@ -209,8 +209,8 @@ fn asked_with<'a>(name: &str, given: Given<'a>) -> Option<Subcommand<'a>>
         return serve_asked(given);
     }
     let asked = match name {
-        "script" => script_asked(&given),
-        "--version" => version_asked(&given),
+        "script" => asked_alone(&given, Subcommand::Script),
+        "--version" => asked_alone(&given, Subcommand::Version),
         "format" => format_asked(&given),
         "show" => show_asked(&given),
         "held" => held_asked(&given),
@@ -220,23 +220,13 @@ fn asked_with<'a>(name: &str, given: Given<'a>) -> Option<Subcommand<'a>>
     asked
 }
 
-fn script_asked<'a>(given: &Given<'_>) -> Option<Subcommand<'a>>
-    ensures some { IfSome result (AskWith (codes "script") (words_of given.now)) }
-    ensures none { IsNone result → AskNothingWith (codes "script") (words_of given.now) }
+/// What a word alone asks for, behind which no argument may stand.
+fn asked_alone<'a>(given: &Given<'_>, asked: Subcommand<'a>) -> Option<Subcommand<'a>>
+    ensures some { IfSome result (λ it. (it ≡ asked.entry) × ((words_of given.now).arguments ≡ [])) }
+    ensures none { IsNone result → (words_of given.now).arguments ≢ [] }
 {
     if given.arguments.is_empty() {
-        Some(Subcommand::Script)
-    } else {
-        None
-    }
-}
-
-fn version_asked<'a>(given: &Given<'_>) -> Option<Subcommand<'a>>
-    ensures some { IfSome result (AskWith (codes "--version") (words_of given.now)) }
-    ensures none { IsNone result → AskNothingWith (codes "--version") (words_of given.now) }
-{
-    if given.arguments.is_empty() {
-        Some(Subcommand::Version)
+        Some(asked)
     } else {
         None
     }

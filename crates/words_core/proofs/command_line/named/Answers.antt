@@ -1,6 +1,6 @@
 use Rattle.std.proofs.Common.{◌∙◌, ◌∷◌, ◌-◌, ap, arith, drop, length, map, sym, take}
-use Rattle.tool_core.proofs.Words.{named}
-use Rattle.tool_core.proofs.command_line.named.Goals as goal
+use Rattle.words_core.proofs.Words.{named}
+use Rattle.words_core.proofs.command_line.named.Goals as goal
 
 pub returns-clause-some : goal.returns-clause-some
 returns-clause-some g c =

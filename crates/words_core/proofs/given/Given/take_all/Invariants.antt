@@ -1,6 +1,6 @@
 use Rattle.std.proofs.Common.{◌≡◌, drop, map}
-use Rattle.tool_core.specs.CommandLines.{given_by, given_from, joined, words_of}
-use Rattle.tool_core.proofs.given.Given.take_all.Given as goal
+use Rattle.words_core.specs.CommandLines.{given_by, given_from, joined, words_of}
+use Rattle.words_core.proofs.given.Given.take_all.Given as goal
 
 abbrev pub invariant-loop-word : goal.invariant-loop-word
 invariant-loop-word g l =

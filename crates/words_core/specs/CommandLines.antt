@@ -2,11 +2,11 @@
 use Rattle.std.specs.Prelude.{◌≡◌, ◌<◌, ◌^◌, List, [], ◌∷◌, ◌++◌, ◌||◌, ℕ, Bool, true, false, bytes_eq, codes, cond, drop, map, nat_eq}
 use Rattle.std.specs.List.{starts_with}
 use Rattle.std.specs.Str.Parse.{IsNumeral, digits_value}
-use Rattle.tool_core.specs.declared.command_line.Subcommand.{Subcommand}
-use Rattle.tool_core.specs.declared.command_line.Subcommand.TheVariants.{Script, Version, Format, Show, Held, Serve}
-use Rattle.tool_core.specs.declared.given.Given.{Given}
-use Rattle.tool_core.specs.declared.given.Place.{Place}
-use Rattle.tool_core.specs.declared.given.Place.TheVariants.{Free, Value, Behind}
+use Rattle.words_core.specs.declared.command_line.Subcommand.{Subcommand}
+use Rattle.words_core.specs.declared.command_line.Subcommand.TheVariants.{Script, Version, Format, Show, Held, Serve}
+use Rattle.words_core.specs.declared.given.Given.{Given}
+use Rattle.words_core.specs.declared.given.Place.{Place}
+use Rattle.words_core.specs.declared.given.Place.TheVariants.{Free, Value, Behind}
 
 -- the words are the program's name and this one
 abbrev pub AskForAlone : List ℕ → List (List ℕ) → Type 0

@@ -1,0 +1,3 @@
+mod Asking
+mod Giving
+pub mod Words
