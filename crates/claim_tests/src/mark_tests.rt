@@ -6,12 +6,7 @@ use std::alloc::Global;
 use std::test::Fail;
 
 // Appends eight entries, which acknowledge their own tickets, and answers whether these are the eight from `first` on.
-fn appends_eight(
-    alloc: Global,
-    ring: &EightsRing,
-    seat: &mut EightsSeat,
-    first: u64,
-) -> bool
+fn appends_eight(alloc: Global, ring: &EightsRing, seat: &mut EightsSeat, first: u64) -> bool
     requires { seat.old.ring ≡ ring.now }
     ensures { seat.new.ring ≡ ring.now }
 {
