@@ -4,13 +4,14 @@ use Rattle.outbox_core.specs.Boxes.{SenderValue, TakerValue}
 use Rattle.hub_core.specs.declared.progress.Role.{Role}
 use Rattle.hub_core.specs.declared.progress.Role.TheVariants.{Opens, Talks, Ends}
 
--- both ends of one box, to which nothing was given
+-- both ends of one box, to which nothing was given, with room for 4,608 outputs and 32 MiB of them
 pub record AreEnds (sender : Option SenderValue) (taker : Option TakerValue) : Type 0 where
   pub giving : SenderValue
   pub taking : TakerValue
   pub sender_is : sender ≡ Some giving
   pub taker_is : taker ≡ Some taking
   pub one_box : giving.box ≡ taking.box
+  pub size : giving.size ≡ record { outputs = 4608; bytes = 33554432 }
   pub none_given : giving.given ≡ []
   pub none_taken : taking.taken ≡ []
 

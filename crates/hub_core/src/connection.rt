@@ -15,7 +15,7 @@ use crate::kept::Kept;
 use crate::progress::{Progress, Role};
 use crate::ringers::Ringers;
 use command_core::{Command, Entry, HeaderText, Op};
-use outbox_core::{Bell, OutSender, OutTaker, outbox};
+use outbox_core::{Bell, BoxSize, OutSender, OutTaker, outbox};
 use session_core::{Act, Session};
 use std::alloc::{AllocError, Global};
 use std::mem;
@@ -185,6 +185,6 @@ fn box_for<B: Bell, M: Ringers<B>>(
     if role != Role::Opens {
         return Ok((None, None));
     }
-    let (sender, taker) = outbox(alloc, ringers.bell()?)?;
+    let (sender, taker) = outbox(alloc, ringers.bell()?, BoxSize::SERVER)?;
     Ok((Some(sender), Some(taker)))
 }

@@ -17,8 +17,8 @@ use crate::socket_stream::SocketStream;
 use crate::teller::Teller;
 use claim_core::{BrokerRing, BrokerSeat, SEATS};
 use disk_core::FileDisk;
-use flush_core::{FlushFault, Flusher};
-use hub_core::{Hub, flush_loop, worker};
+use flush_core::FlushFault;
+use hub_core::{Hub, HubFlusher, flush_loop, worker};
 use outbox_core::OutSender;
 use std::alloc::Global;
 use std::fs::{File, Files};
@@ -33,7 +33,7 @@ use ws_core::WsLink;
 
 type ServerHub = Hub<FileDisk, BellRope>;
 
-type ServerFlusher = Flusher<FileDisk, BellRope>;
+type ServerFlusher = HubFlusher<FileDisk, BellRope>;
 
 type ServerRing = BrokerRing<OutSender<BellRope>>;
 
