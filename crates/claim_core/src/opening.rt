@@ -46,8 +46,8 @@ impl<B, const SEATS: usize, const WINDOW: usize, const PLACES: usize> Ring<
             seats: SEATS as u64,
             window: WINDOW as u64,
         };
-        let (table, place) = Table::vacant(alloc, words.as_mut_slice(), PLACES, &limits)?;
-        Ok((Ring { table }, FlushSeat::new(place, base)))
+        let (table, table_seat) = Table::vacant(alloc, words.as_mut_slice(), PLACES, &limits)?;
+        Ok((Ring { table }, FlushSeat::new(table_seat, base)))
     }
 
     // All seats of sessions, in the order of their numbers, into a list with room for them.

@@ -13,7 +13,7 @@ use crate::steps::{
     claim, deal, free, gather, hand_back, hold, load_mark, load_stop, load_tail, raise, ready,
     stand_in, stop,
 };
-use crate::views::{Board, Place};
+use crate::views::{Board, TableSeat};
 use command_core::Entry;
 use std::alloc::{AllocError, Global};
 use std::marker::Model;
@@ -23,7 +23,7 @@ use std::mem;
 /// commands with their tickets, the mark that it read last, and whether its last append found the ring stopped.
 #[derive(Drop)]
 pub struct SessionSeat<B, const WINDOW: usize> {
-    pub(crate) place: Place<B>,
+    pub(crate) table_seat: TableSeat<B>,
     // Its own tickets that are not under the mark it read last.
     waits: Vec<u64>,
     number: u32,
@@ -35,9 +35,9 @@ impl<B, const WINDOW: usize> Model for SessionSeat<B, WINDOW> {
 
     ghost Value = { SessionSeatValue };
 
-    ghost view = { λ a. session_value a.place.table_id a.number a.place.me.0 };
+    ghost view = { λ a. session_value a.table_seat.table_id a.number a.table_seat.me.0 };
 
-    ghost invariant = { λ a. IsSession WINDOW a.place.me a.waits.items (vec_capacity a.waits) };
+    ghost invariant = { λ a. IsSession WINDOW a.table_seat.me a.waits.items (vec_capacity a.waits) };
 }
 
 impl<B, const WINDOW: usize> SessionSeat<B, WINDOW> {
@@ -49,11 +49,11 @@ impl<B, const WINDOW: usize> SessionSeat<B, WINDOW> {
     }
 
     // The seat at the table, to be taken back.
-    pub(crate) fn into_place(self) -> Place<B>
+    pub(crate) fn into_table_seat(self) -> TableSeat<B>
         ensures ring { result.table_id ≡ self.ring }
         ensures knows { result.me ≡ (Claims (claimer_from self), []) }
     {
-        self.place
+        self.table_seat
     }
 
     // Whether the flusher has stopped the ring.
@@ -61,7 +61,7 @@ impl<B, const WINDOW: usize> SessionSeat<B, WINDOW> {
         requires fits { IsAt self.old.ring board.now.table_id }
         ensures { self.new ≡ with_stop self.old result }
     {
-        load_stop(board, &mut self.place) == 1
+        load_stop(board, &mut self.table_seat) == 1
     }
 
     // Reads the mark, and lets the open tickets under it go.
@@ -70,7 +70,7 @@ impl<B, const WINDOW: usize> SessionSeat<B, WINDOW> {
         ensures seen { self.new ≡ with_seen self.old result }
         ensures no_less { self.old.seen ≤ result }
     {
-        let mark = load_mark(board, &mut self.place);
+        let mark = load_mark(board, &mut self.table_seat);
         self.waits.retain(|ticket| *ticket >= mark);
         mark
     }
@@ -91,9 +91,9 @@ impl<B, const WINDOW: usize> SessionSeat<B, WINDOW> {
         ensures unseen { self.old.seen ≤ result }
         ensures last { IsLast result self.old.own }
     {
-        let ticket = claim(board, &mut self.place, &entry);
+        let ticket = claim(board, &mut self.table_seat, &entry);
         let place = (ticket % places) as usize;
-        ready(board, &mut self.place, ticket, place, entry);
+        ready(board, &mut self.table_seat, ticket, place, entry);
         self.waits.push_reserved(ticket);
         ticket
     }
@@ -103,7 +103,7 @@ impl<B, const WINDOW: usize> SessionSeat<B, WINDOW> {
 /// commands that it has taken, the mark, whether it has stopped the ring, and how many sessions' seats there are.
 #[derive(Drop)]
 pub struct FlushSeat<B> {
-    place: Place<B>,
+    table_seat: TableSeat<B>,
     base: u64,
     // The ticket after those taken.
     next: u64,
@@ -115,19 +115,19 @@ impl<B> Model for FlushSeat<B> {
 
     ghost Value = { FlushSeatValue };
 
-    ghost view = { λ a. flush_value a.place.table_id a.place.me.0 };
+    ghost view = { λ a. flush_value a.table_seat.table_id a.table_seat.me.0 };
 
-    ghost invariant = { λ a. IsFlush a.place.me a.base a.next a.mark };
+    ghost invariant = { λ a. IsFlush a.table_seat.me a.base a.next a.mark };
 }
 
 impl<B> FlushSeat<B> {
     // The seat of a new ring, which has dealt none.
-    pub(crate) fn new(place: Place<B>, base: u64) -> FlushSeat<B>
-        requires { (place.me ≡ (Owns (owning base [] false base false 0 []), [])) × (base ≤ 2 ^ 61) }
-        ensures { result ≡ new_flushing place.table_id base 0 }
+    pub(crate) fn new(table_seat: TableSeat<B>, base: u64) -> FlushSeat<B>
+        requires { (table_seat.me ≡ (Owns (owning base [] false base false 0 []), [])) × (base ≤ 2 ^ 61) }
+        ensures { result ≡ new_flushing table_seat.table_id base 0 }
     {
         FlushSeat {
-            place,
+            table_seat,
             base,
             next: base,
             mark: base,
@@ -147,9 +147,9 @@ impl<B> FlushSeat<B> {
         ensures dealt { IfOk result (λ seat. seat ≡ new_session self.old.ring self.old.base number) }
     {
         let waits = Vec::with_capacity(alloc, WINDOW)?;
-        let place = deal(board, &mut self.place);
+        let table_seat = deal(board, &mut self.table_seat);
         Ok(SessionSeat {
-            place,
+            table_seat,
             waits,
             number,
         })
@@ -180,11 +180,11 @@ impl<B> FlushSeat<B> {
     {
         let ticket = self.next;
         let place = (ticket % places) as usize;
-        if hold(board, &mut self.place, ticket, place) != 3 * ticket + 1 {
+        if hold(board, &mut self.table_seat, ticket, place) != 3 * ticket + 1 {
             return None;
         }
-        let entry = board.exchange(&mut self.place, place, None);
-        free(board, &mut self.place, ticket, place, places);
+        let entry = board.exchange(&mut self.table_seat, place, None);
+        free(board, &mut self.table_seat, ticket, place, places);
         self.next = ticket + 1;
         entry
     }
@@ -194,7 +194,7 @@ impl<B> FlushSeat<B> {
         requires mark { (self.old.published ≤ mark) × (mark ≤ next_ticket self.old) }
         ensures { self.new ≡ with_mark self.old mark }
     {
-        raise(board, &mut self.place, mark);
+        raise(board, &mut self.table_seat, mark);
         self.mark = mark;
     }
 
@@ -202,7 +202,7 @@ impl<B> FlushSeat<B> {
         requires fits { IsAt self.old.ring board.now.table_id }
         ensures { self.new ≡ when_stopped self.old }
     {
-        stop(board, &mut self.place);
+        stop(board, &mut self.table_seat);
     }
 
     // Takes a session's seat back, learns what is known of both, and hands it out again.
@@ -217,11 +217,11 @@ impl<B> FlushSeat<B> {
         ensures flush { self.new ≡ self.old }
         ensures agree { Agree seat.old self.old }
     {
-        let nobody = stand_in(board, &mut self.place);
-        let place = mem::replace(&mut seat.place, nobody);
-        gather(board, &mut self.place, place);
-        let _tail = load_tail(board, &mut self.place);
-        seat.place = hand_back(board, &mut self.place);
+        let nobody = stand_in(board, &mut self.table_seat);
+        let table_seat = mem::replace(&mut seat.table_seat, nobody);
+        gather(board, &mut self.table_seat, table_seat);
+        let _tail = load_tail(board, &mut self.table_seat);
+        seat.table_seat = hand_back(board, &mut self.table_seat);
     }
 
     // Takes all sessions' seats back and reads the next ticket.
@@ -236,17 +236,17 @@ impl<B> FlushSeat<B> {
         ensures { (log : List CommandValue) × Ends seats.items self log result }
     {
         let FlushSeat {
-            mut place,
+            mut table_seat,
             base,
             next,
             mark,
         } = self;
         for seat in seats {
-            gather(board, &mut place, seat.into_place());
+            gather(board, &mut table_seat, seat.into_table_seat());
         }
         RingEnd {
             base,
-            claimed: load_tail(board, &mut place),
+            claimed: load_tail(board, &mut table_seat),
             taken: next,
             mark,
         }

@@ -11,7 +11,7 @@ ghost use Rattle.claim_core.specs.Steps.{saw_mark, saw_stop, claimed, readied, t
 use crate::plays::{
     Claim, Deal, End, Free, Gather, HandBack, Raise, Ready, SeeMark, SeeStop, StandIn, Stop, Take,
 };
-use crate::views::{Board, Place, Told};
+use crate::views::{Board, TableSeat, Told};
 use command_core::Entry;
 use std::marker::Brand;
 
@@ -25,7 +25,7 @@ const STOP: usize = 2;
 const FIRST_PLACE: usize = 3;
 
 // A session's seat loads the mark.
-pub fn load_mark<B>(board: &Board<B>, seat: &mut Place<B>) -> u64
+pub fn load_mark<B>(board: &Board<B>, seat: &mut TableSeat<B>) -> u64
     requires claimer { (c : Claimer) × (seat.old.me.0 ≡ Claims c) }
     requires fits { IsAt seat.old.table_id board.now.table_id }
     ensures ring { seat.new.table_id ≡ seat.old.table_id }
@@ -35,7 +35,7 @@ pub fn load_mark<B>(board: &Board<B>, seat: &mut Place<B>) -> u64
 }
 
 // A session's seat loads the stop word.
-pub fn load_stop<B>(board: &Board<B>, seat: &mut Place<B>) -> u64
+pub fn load_stop<B>(board: &Board<B>, seat: &mut TableSeat<B>) -> u64
     requires claimer { (c : Claimer) × (seat.old.me.0 ≡ Claims c) }
     requires fits { IsAt seat.old.table_id board.now.table_id }
     ensures ring { seat.new.table_id ≡ seat.old.table_id }
@@ -45,7 +45,7 @@ pub fn load_stop<B>(board: &Board<B>, seat: &mut Place<B>) -> u64
 }
 
 // The addition tells no value, so the command that the ticket is claimed for comes by a type.
-fn claim_as<B, C: Told>(board: &Board<B>, seat: &mut Place<B>, entry: &Entry<B>) -> u64
+fn claim_as<B, C: Told>(board: &Board<B>, seat: &mut TableSeat<B>, entry: &Entry<B>) -> u64
     requires fits { IsAt seat.old.table_id board.now.table_id }
     requires told { C.command ≡ Some entry.now.command }
     requires may { MayClaim board.now.key.window seat.old.me.0 }
@@ -57,7 +57,7 @@ fn claim_as<B, C: Told>(board: &Board<B>, seat: &mut Place<B>, entry: &Entry<B>)
 }
 
 // Claims the next ticket for the entry, and takes its place.
-pub fn claim<B>(board: &Board<B>, seat: &mut Place<B>, entry: &Entry<B>) -> u64
+pub fn claim<B>(board: &Board<B>, seat: &mut TableSeat<B>, entry: &Entry<B>) -> u64
     requires fits { IsAt seat.old.table_id board.now.table_id }
     requires may { MayClaim board.now.key.window seat.old.me.0 }
     ensures ring { seat.new.table_id ≡ seat.old.table_id }
@@ -67,7 +67,7 @@ pub fn claim<B>(board: &Board<B>, seat: &mut Place<B>, entry: &Entry<B>) -> u64
 }
 
 // Puts the entry into the place of the pending ticket, and makes it ready.
-pub fn ready<B>(board: &Board<B>, seat: &mut Place<B>, ticket: u64, place: usize, entry: Entry<B>)
+pub fn ready<B>(board: &Board<B>, seat: &mut TableSeat<B>, ticket: u64, place: usize, entry: Entry<B>)
     requires fits { IsAt seat.old.table_id board.now.table_id }
     requires place { IsPlaceOf ticket place board.now.table_id.slots × (3 * ticket + 1 < 2 ^ 64) }
     requires claimed { MayFill ticket place entry seat.old.me }
@@ -82,7 +82,7 @@ pub fn ready<B>(board: &Board<B>, seat: &mut Place<B>, ticket: u64, place: usize
 }
 
 // The flusher's seat takes the place of the next ticket, where that is ready: then the answer is 3 * ticket + 1.
-pub fn hold<B>(board: &Board<B>, seat: &mut Place<B>, ticket: u64, place: usize) -> u64
+pub fn hold<B>(board: &Board<B>, seat: &mut TableSeat<B>, ticket: u64, place: usize) -> u64
     requires fits { IsAt seat.old.table_id board.now.table_id }
     requires place { IsPlaceOf ticket place board.now.table_id.slots × (3 * ticket + 2 < 2 ^ 64) }
     requires owner { (o : Owner) × (seat.old.me.0 ≡ Owns o) × (o.held ≡ false) × (ticket ≡ next_of o) }
@@ -93,7 +93,7 @@ pub fn hold<B>(board: &Board<B>, seat: &mut Place<B>, ticket: u64, place: usize)
 }
 
 // Frees the place of the ticket that was taken last, for the ticket of the next round.
-pub fn free<B>(board: &Board<B>, seat: &mut Place<B>, ticket: u64, place: usize, places: u64)
+pub fn free<B>(board: &Board<B>, seat: &mut TableSeat<B>, ticket: u64, place: usize, places: u64)
     requires fits { IsAt seat.old.table_id board.now.table_id × (places ≡ board.now.table_id.slots) }
     requires place { IsPlaceOf ticket place board.now.table_id.slots × (ticket < 2 ^ 62) × (places ≤ 4096) }
     requires owner { MayFree ticket place seat.old.me }
@@ -103,7 +103,7 @@ pub fn free<B>(board: &Board<B>, seat: &mut Place<B>, ticket: u64, place: usize,
     board.store::<Free>(seat, FIRST_PLACE + place, 3 * (ticket + places));
 }
 
-pub fn raise<B>(board: &Board<B>, seat: &mut Place<B>, mark: u64)
+pub fn raise<B>(board: &Board<B>, seat: &mut TableSeat<B>, mark: u64)
     requires fits { IsAt seat.old.table_id board.now.table_id }
     requires owner { MayRaise mark seat.old.me.0 }
     ensures ring { seat.new.table_id ≡ seat.old.table_id }
@@ -112,7 +112,7 @@ pub fn raise<B>(board: &Board<B>, seat: &mut Place<B>, mark: u64)
     board.store::<Raise>(seat, MARK, mark);
 }
 
-pub fn stop<B>(board: &Board<B>, seat: &mut Place<B>)
+pub fn stop<B>(board: &Board<B>, seat: &mut TableSeat<B>)
     requires fits { IsAt seat.old.table_id board.now.table_id }
     requires owner { (o : Owner) × (seat.old.me.0 ≡ Owns o) × (o.held ≡ false) }
     ensures ring { seat.new.table_id ≡ seat.old.table_id }
@@ -122,7 +122,7 @@ pub fn stop<B>(board: &Board<B>, seat: &mut Place<B>)
 }
 
 // The owner deals a session's seat.
-pub fn deal<B>(board: &Board<B>, seat: &mut Place<B>) -> Place<B>
+pub fn deal<B>(board: &Board<B>, seat: &mut TableSeat<B>) -> TableSeat<B>
     requires fits { IsAt seat.old.table_id board.now.table_id }
     requires owner { (o : Owner) × (seat.old.me.0 ≡ Owns o) × (o.count < board.now.key.seats) }
     ensures ring { seat.new.table_id ≡ seat.old.table_id }
@@ -133,7 +133,7 @@ pub fn deal<B>(board: &Board<B>, seat: &mut Place<B>) -> Place<B>
 }
 
 // The owner takes a session's seat back.
-pub fn gather<B>(board: &Board<B>, seat: &mut Place<B>, other: Place<B>)
+pub fn gather<B>(board: &Board<B>, seat: &mut TableSeat<B>, other: TableSeat<B>)
     requires fits { IsAt seat.old.table_id board.now.table_id × (other.table_id ≡ board.now.table_id) }
     requires owner { (o : Owner) × (seat.old.me.0 ≡ Owns o) }
     requires other { (c : Claimer) × (other.me ≡ (Claims c, [])) × (c.pending ≡ None) }
@@ -144,7 +144,7 @@ pub fn gather<B>(board: &Board<B>, seat: &mut Place<B>, other: Place<B>)
 }
 
 // The owner splits off a seat that knows nothing, to stand in another's place.
-pub fn stand_in<B>(board: &Board<B>, seat: &mut Place<B>) -> Place<B>
+pub fn stand_in<B>(board: &Board<B>, seat: &mut TableSeat<B>) -> TableSeat<B>
     requires fits { IsAt seat.old.table_id board.now.table_id }
     requires owner { (o : Owner) × (seat.old.me.0 ≡ Owns o) }
     ensures ring { seat.new.table_id ≡ seat.old.table_id }
@@ -155,7 +155,7 @@ pub fn stand_in<B>(board: &Board<B>, seat: &mut Place<B>) -> Place<B>
 }
 
 // The owner hands the first seat that it has taken back out again, as it came.
-pub fn hand_back<B>(board: &Board<B>, seat: &mut Place<B>) -> Place<B>
+pub fn hand_back<B>(board: &Board<B>, seat: &mut TableSeat<B>) -> TableSeat<B>
     requires fits { IsAt seat.old.table_id board.now.table_id }
     requires owner { (o : Owner) × (c : Claimer) × (cs : List Claimer) × (seat.old.me.0 ≡ Owns o) × (o.joined ≡ c ∷ cs) }
     ensures ring { seat.new.table_id ≡ seat.old.table_id }
@@ -166,7 +166,7 @@ pub fn hand_back<B>(board: &Board<B>, seat: &mut Place<B>) -> Place<B>
 }
 
 // The owner loads the next ticket, and learns what is known of the seats that it has taken back.
-pub fn load_tail<B>(board: &Board<B>, seat: &mut Place<B>) -> u64
+pub fn load_tail<B>(board: &Board<B>, seat: &mut TableSeat<B>) -> u64
     requires fits { IsAt seat.old.table_id board.now.table_id }
     requires owner { (o : Owner) × (seat.old.me.0 ≡ Owns o) }
     ensures ring { seat.new.table_id ≡ seat.old.table_id }

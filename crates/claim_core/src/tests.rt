@@ -6,7 +6,7 @@ ghost use Rattle.claim_core.specs.Steps.{claimer};
 use crate::ring::Ring;
 use crate::seats::{FlushSeat, SessionSeat};
 use crate::steps::{claim, ready};
-use crate::views::Place;
+use crate::views::TableSeat;
 use command_core::{Command, Entry, Op};
 use std::alloc::Global;
 use std::test::Fail;
@@ -67,27 +67,27 @@ fn append_for<const SEATS: usize, const WINDOW: usize, const PLACES: usize>(
 }
 
 // Claims a ticket for the entry and leaves it pending.
-fn begin(ring: &SmallRing, seat: SmallSeat, entry: &Entry<()>) -> (u64, Place<()>)
+fn begin(ring: &SmallRing, seat: SmallSeat, entry: &Entry<()>) -> (u64, TableSeat<()>)
     requires ring { seat.ring ≡ ring.now }
     requires new { (seat.own ≡ []) × (seat.seen ≡ 0) × (seat.stopped ≡ false) }
     ensures ring { result.1.table_id ≡ ring.now }
     ensures pending { result.1.me ≡ (Claims (claimer ((result.0, entry.now.command) ∷ []) (Some result.0) 0 false), (result.0 % 4, None) ∷ []) }
     ensures low { result.0 < 2 ^ 62 }
 {
-    let mut place = seat.into_place();
-    let ticket = claim(&ring.table.shared, &mut place, entry);
-    (ticket, place)
+    let mut table_seat = seat.into_table_seat();
+    let ticket = claim(&ring.table.shared, &mut table_seat, entry);
+    (ticket, table_seat)
 }
 
 // Makes it ready.
-fn finish(ring: &SmallRing, mut place: Place<()>, ticket: u64, entry: Entry<()>)
-    requires ring { place.table_id ≡ ring.now }
-    requires pending { place.me ≡ (Claims (claimer ((ticket, entry.command) ∷ []) (Some ticket) 0 false), (ticket % 4, None) ∷ []) }
+fn finish(ring: &SmallRing, mut table_seat: TableSeat<()>, ticket: u64, entry: Entry<()>)
+    requires ring { table_seat.table_id ≡ ring.now }
+    requires pending { table_seat.me ≡ (Claims (claimer ((ticket, entry.command) ∷ []) (Some ticket) 0 false), (ticket % 4, None) ∷ []) }
     requires low { ticket < 2 ^ 62 }
 {
     ready(
         &ring.table.shared,
-        &mut place,
+        &mut table_seat,
         ticket,
         (ticket % 4) as usize,
         entry,
@@ -107,10 +107,10 @@ fn play(
     requires others { All (λ other. other ≡ new_session ring.now 0 other.number) others.old }
     requires flush { flush.old.ring ≡ ring.now }
 {
-    let (ticket, place) = begin(ring, seat, &first);
+    let (ticket, table_seat) = begin(ring, seat, &first);
     let appended = append(alloc, ring, others, 71);
     let early = take(ring, flush);
-    finish(ring, place, ticket, first);
+    finish(ring, table_seat, ticket, first);
     let taken = take(ring, flush);
     [appended, early, taken, take(ring, flush)]
 }

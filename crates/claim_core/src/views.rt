@@ -60,7 +60,7 @@ impl<B> TableRule<Option<Entry<B>>, View, Limits> for Claiming {
 pub type Board<B> = Shared<Option<Entry<B>>, View, Limits, Claiming>;
 
 /// A seat at the table.
-pub type Place<B> = Seat<Option<Entry<B>>, View>;
+pub type TableSeat<B> = Seat<Option<Entry<B>>, View>;
 
 /// The command that one call of a claim is for. It stands in that call's proof alone.
 pub trait Told {

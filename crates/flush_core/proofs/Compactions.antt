@@ -8,9 +8,9 @@ use Rattle.flush_core.specs.Batches.{state_at}
 use Rattle.flush_core.specs.Flushed.{Flushed, IsFlusher}
 
 -- where all that is stored is executed, the broker's state is the one after it
-pub stored_state : {D : Type 0} (honest : D → Type 0) (images : D → List ℕ → Type 0) (f : Flushed D) → IsFlusher honest images f → f.broken ≡ false → f.settled ≡ f.stored → f.broker.state ≡ state_at f.opening f.seat f.stored
-stored_state honest images f kept whole settled =
-    ap (λ (b : BrokerValue). b.state) (kept.running whole).broker ∙ ap (λ (n : ℕ). state_at f.opening f.seat n) settled
+pub stored_state : {D : Type 0} (honest : D → Type 0) (images : D → List ℕ → Type 0) (f : Flushed D) → IsFlusher honest images f → f.broken ≡ false → f.executed ≡ f.stored → f.broker.state ≡ state_at f.opening f.seat f.stored
+stored_state honest images f kept whole executed =
+    ap (λ (b : BrokerValue). b.state) (kept.running whole).broker ∙ ap (λ (n : ℕ). state_at f.opening f.seat n) executed
 
 module _ {D : Type 0} (disk : Ghosts D) (old new : D) (s t : State) (same : t ≡ s) (leaves : LeavesOnly disk.moment disk.images_since old new (λ c. Stands c t)) where
   pub leaves_state : LeavesOnly disk.moment disk.images_since old new (λ c. Stands c s)

@@ -14,8 +14,8 @@ use Rattle.broker_core.specs.Steps.{outs_of, state_after}
 use Rattle.claim_core.specs.Seats.{FlushSeatValue, next_ticket, when_stopped, with_mark}
 use Rattle.recover_core.specs.Standing.{StandFor, Stands, StandsForEither}
 use Rattle.flush_core.specs.Batches.{IsBatch, between, from_on, state_at, state_taken, with_more}
-use Rattle.flush_core.specs.Flushed.{AfterSome, AreUnder, Flushed, HoldBetween, IsFlusher, IsHeld, unsettled}
-use Rattle.flush_core.specs.Outcomes.{settling, stored_entries}
+use Rattle.flush_core.specs.Flushed.{AfterSome, AreUnder, Flushed, HoldBetween, IsFlusher, IsHeld, unexecuted}
+use Rattle.flush_core.specs.Outcomes.{executing, stored_entries}
 use Rattle.flush_core.specs.Sessions.{boxes_after, ended_of}
 use Rattle.outbox_core.specs.Boxes.{SenderValue}
 use Rattle.outbox_core.specs.Giving.{Kept}
@@ -61,31 +61,31 @@ hold_more images opening seat more hold c image =
     })
 
 -- the entries stand for the same where the mark is raised
-pub held_marked : {B : Type 0} (seat marked : FlushSeatValue) (n stored settled : ℕ) (journal : Bool) (batch done : List (EntryValue B)) (bytes left waiting room l w r : ℕ) → marked ≡ with_mark seat n → (0 < l → l + w ≤ r)
-    → IsHeld seat stored settled journal batch done bytes left waiting room → IsHeld marked stored settled journal batch done bytes l w r
-held_marked seat marked n stored settled journal batch done bytes left waiting room l w r is fits held =
-    subst (λ (s : FlushSeatValue). IsHeld s stored settled journal batch done bytes l w r) (sym is)
+pub held_marked : {B : Type 0} (seat marked : FlushSeatValue) (n stored executed : ℕ) (journal : Bool) (batch done : List (EntryValue B)) (bytes left waiting room l w r : ℕ) → marked ≡ with_mark seat n → (0 < l → l + w ≤ r)
+    → IsHeld seat stored executed journal batch done bytes left waiting room → IsHeld marked stored executed journal batch done bytes l w r
+held_marked seat marked n stored executed journal batch done bytes left waiting room l w r is fits held =
+    subst (λ (s : FlushSeatValue). IsHeld s stored executed journal batch done bytes l w r) (sym is)
     (record { whole = held.whole; batch_is = held.batch_is; bytes_is = held.bytes_is; done_is = held.done_is; few = held.few; room_is = fits })
 
 -- more waits to be stored
-pub held_more : {B : Type 0} (seat next : FlushSeatValue) (more : List CommandValue) (stored settled : ℕ) (journal : Bool) (batch done next_batch : List (EntryValue B)) (bytes now left waiting room : ℕ)
+pub held_more : {B : Type 0} (seat next : FlushSeatValue) (more : List CommandValue) (stored executed : ℕ) (journal : Bool) (batch done next_batch : List (EntryValue B)) (bytes now left waiting room : ℕ)
     → next ≡ with_more seat more → commands next_batch ≡ from_on next stored → now ≡ length (records (commands next_batch))
-    → settled ≤ stored → stored ≤ next_ticket seat → seat.base ≤ settled
-    → IsHeld seat stored settled journal batch done bytes left waiting room → IsHeld next stored settled journal next_batch done now left waiting room
-held_more seat next more stored settled journal batch done next_batch bytes now left waiting room is batch_is bytes_is rises few begun held = record {
+    → executed ≤ stored → stored ≤ next_ticket seat → seat.base ≤ executed
+    → IsHeld seat stored executed journal batch done bytes left waiting room → IsHeld next stored executed journal next_batch done now left waiting room
+held_more seat next more stored executed journal batch done next_batch bytes now left waiting room is batch_is bytes_is rises few begun held = record {
   whole = held.whole;
   batch_is = batch_is;
   bytes_is = bytes_is;
-  done_is = held.done_is ∙ (sym (between_more seat more settled stored begun rises few) ∙ ap (λ (s : FlushSeatValue). between s settled stored) (sym is));
+  done_is = held.done_is ∙ (sym (between_more seat more executed stored begun rises few) ∙ ap (λ (s : FlushSeatValue). between s executed stored) (sym is));
   few = held.few;
   room_is = held.room_is;
 }
 
 -- what waited to be stored waits to be executed
-pub held_stored : {B : Type 0} (seat : FlushSeatValue) (stored next settled : ℕ) (journal now : Bool) (batch done next_batch next_done : List (EntryValue B)) (bytes left waiting room : ℕ)
-    → next_batch ≡ done → next_done ≡ batch → next ≡ next_ticket seat → next ≤ 2 ^ 62 → now ≡ false → settled ≡ stored → seat.base ≤ stored
-    → IsHeld seat stored settled journal batch done bytes left waiting room → IsHeld seat next settled now next_batch next_done 0 left waiting room
-held_stored {B} seat stored next settled journal now batch done next_batch next_done bytes left waiting room batch_is done_is next_is most whole same begun held =
+pub held_stored : {B : Type 0} (seat : FlushSeatValue) (stored next executed : ℕ) (journal now : Bool) (batch done next_batch next_done : List (EntryValue B)) (bytes left waiting room : ℕ)
+    → next_batch ≡ done → next_done ≡ batch → next ≡ next_ticket seat → next ≤ 2 ^ 62 → now ≡ false → executed ≡ stored → seat.base ≤ stored
+    → IsHeld seat stored executed journal batch done bytes left waiting room → IsHeld seat next executed now next_batch next_done 0 left waiting room
+held_stored {B} seat stored next executed journal now batch done next_batch next_done bytes left waiting room batch_is done_is next_is most whole same begun held =
     let empty : commands next_batch ≡ [] = ap (λ (l : List (EntryValue B)). commands l) batch_is ∙ (held.done_is ∙ (ap (λ (n : ℕ). between seat n stored) same ∙ between_none seat stored)) in
     record {
       whole = whole;
@@ -97,9 +97,9 @@ held_stored {B} seat stored next settled journal now batch done next_batch next_
     }
 
 -- nothing waits to be executed
-pub held_settled : {B : Type 0} (seat : FlushSeatValue) (stored settled : ℕ) (journal : Bool) (batch done next_done : List (EntryValue B)) (bytes left waiting room l w r : ℕ)
-    → next_done ≡ [] → (0 < l → l + w ≤ r) → IsHeld seat stored settled journal batch done bytes left waiting room → IsHeld seat stored stored journal batch next_done bytes l w r
-held_settled {B} seat stored settled journal batch done next_done bytes left waiting room l w r none fits held = record {
+pub held_executed : {B : Type 0} (seat : FlushSeatValue) (stored executed : ℕ) (journal : Bool) (batch done next_done : List (EntryValue B)) (bytes left waiting room l w r : ℕ)
+    → next_done ≡ [] → (0 < l → l + w ≤ r) → IsHeld seat stored executed journal batch done bytes left waiting room → IsHeld seat stored stored journal batch next_done bytes l w r
+held_executed {B} seat stored executed journal batch done next_done bytes left waiting room l w r none fits held = record {
   whole = held.whole;
   batch_is = held.batch_is;
   bytes_is = held.bytes_is;
@@ -109,36 +109,36 @@ held_settled {B} seat stored settled journal batch done next_done bytes left wai
 }
 
 -- where all that is stored is executed, none waits to be executed
-pub none_done : {B : Type 0} (seat : FlushSeatValue) (stored settled : ℕ) (journal : Bool) (batch done : List (EntryValue B)) (bytes left waiting room : ℕ) → settled ≡ stored
-    → IsHeld seat stored settled journal batch done bytes left waiting room → commands done ≡ []
-none_done seat stored settled journal batch done bytes left waiting room same held =
+pub none_done : {B : Type 0} (seat : FlushSeatValue) (stored executed : ℕ) (journal : Bool) (batch done : List (EntryValue B)) (bytes left waiting room : ℕ) → executed ≡ stored
+    → IsHeld seat stored executed journal batch done bytes left waiting room → commands done ≡ []
+none_done seat stored executed journal batch done bytes left waiting room same held =
     held.done_is ∙ (ap (λ (n : ℕ). between seat n stored) same ∙ between_none seat stored)
 
--- the entries that are stored or gathered are those of the commands from the settled number on
-pub all_brought : {B : Type 0} (seat : FlushSeatValue) (stored settled : ℕ) (journal : Bool) (batch done : List (EntryValue B)) (bytes left waiting room : ℕ) → seat.base ≤ settled → settled ≤ stored
-    → IsHeld seat stored settled journal batch done bytes left waiting room → commands (done ++ batch) ≡ from_on seat settled
-all_brought seat stored settled journal batch done bytes left waiting room begun rises held =
-    commands_both done batch ∙ ((λ i. held.done_is i ++ held.batch_is i) ∙ between_from seat settled stored begun rises)
+-- the entries that are stored or gathered are those of the commands from the executed number on
+pub all_brought : {B : Type 0} (seat : FlushSeatValue) (stored executed : ℕ) (journal : Bool) (batch done : List (EntryValue B)) (bytes left waiting room : ℕ) → seat.base ≤ executed → executed ≤ stored
+    → IsHeld seat stored executed journal batch done bytes left waiting room → commands (done ++ batch) ≡ from_on seat executed
+all_brought seat stored executed journal batch done bytes left waiting room begun rises held =
+    commands_both done batch ∙ ((λ i. held.done_is i ++ held.batch_is i) ∙ between_from seat executed stored begun rises)
 
 -- where nothing is gathered all that was taken is stored
-pub all_stored : {B : Type 0} (seat : FlushSeatValue) (stored settled : ℕ) (journal : Bool) (batch done : List (EntryValue B)) (bytes left waiting room : ℕ) → length batch ≡ 0 → seat.base ≤ stored → stored ≤ next_ticket seat
-    → IsHeld seat stored settled journal batch done bytes left waiting room → stored ≡ next_ticket seat
-all_stored seat stored settled journal batch done bytes left waiting room none begun few held =
+pub all_stored : {B : Type 0} (seat : FlushSeatValue) (stored executed : ℕ) (journal : Bool) (batch done : List (EntryValue B)) (bytes left waiting room : ℕ) → length batch ≡ 0 → seat.base ≤ stored → stored ≤ next_ticket seat
+    → IsHeld seat stored executed journal batch done bytes left waiting room → stored ≡ next_ticket seat
+all_stored seat stored executed journal batch done bytes left waiting room none begun few held =
     omega (arith, none, begun, few, length_commands batch, ap (λ (l : List CommandValue). length l) held.batch_is, length-drop (stored - seat.base) seat.taken)
 
 -- what was gathered and is stored stays brought
-pub stored_brought : {B : Type 0} (seat : FlushSeatValue) (stored settled : ℕ) (journal : Bool) (batch done next_batch next_done : List (EntryValue B)) (bytes left waiting room : ℕ) → next_batch ≡ done → next_done ≡ batch
-    → settled ≡ stored → IsHeld seat stored settled journal batch done bytes left waiting room → next_done ++ next_batch ≡ done ++ batch
-stored_brought {B} seat stored settled journal batch done next_batch next_done bytes left waiting room batch_is done_is same held =
+pub stored_brought : {B : Type 0} (seat : FlushSeatValue) (stored executed : ℕ) (journal : Bool) (batch done next_batch next_done : List (EntryValue B)) (bytes left waiting room : ℕ) → next_batch ≡ done → next_done ≡ batch
+    → executed ≡ stored → IsHeld seat stored executed journal batch done bytes left waiting room → next_done ++ next_batch ≡ done ++ batch
+stored_brought {B} seat stored executed journal batch done next_batch next_done bytes left waiting room batch_is done_is same held =
     let none : done ≡ [] = no_entries done (held.done_is ∙ (ap (λ (n : ℕ). between seat n stored) same ∙ between_none seat stored)) in
     (λ i. done_is i ++ (batch_is ∙ none) i) ∙ (append-nil batch ∙ ap (λ (l : List (EntryValue B)). l ++ batch) (sym none))
 
 -- of what was brought the stored entries come first, and then the gathered ones
-pub settled_entries : {B : Type 0} (seat : FlushSeatValue) (stored settled : ℕ) (journal : Bool) (batch done : List (EntryValue B)) (bytes left waiting room : ℕ) → seat.base ≤ settled → settled ≤ stored → stored ≤ next_ticket seat
-    → IsHeld seat stored settled journal batch done bytes left waiting room → (take (stored - settled) (done ++ batch) ≡ done) × (drop (stored - settled) (done ++ batch) ≡ batch)
-settled_entries seat stored settled journal batch done bytes left waiting room begun rises few held =
-    let long : stored - settled ≡ length done =
-    omega (arith, length_commands done, ap (λ (l : List CommandValue). length l) held.done_is, length_between seat settled stored begun rises few) in (
+pub executed_entries : {B : Type 0} (seat : FlushSeatValue) (stored executed : ℕ) (journal : Bool) (batch done : List (EntryValue B)) (bytes left waiting room : ℕ) → seat.base ≤ executed → executed ≤ stored → stored ≤ next_ticket seat
+    → IsHeld seat stored executed journal batch done bytes left waiting room → (take (stored - executed) (done ++ batch) ≡ done) × (drop (stored - executed) (done ++ batch) ≡ batch)
+executed_entries seat stored executed journal batch done bytes left waiting room begun rises few held =
+    let long : stored - executed ≡ length done =
+    omega (arith, length_commands done, ap (λ (l : List CommandValue). length l) held.done_is, length_between seat executed stored begun rises few) in (
       ap (λ (n : ℕ). take n (done ++ batch)) long ∙ take-append_seam done batch,
       ap (λ (n : ℕ). drop n (done ++ batch)) long ∙ drop-append_seam done batch,
     )
@@ -161,16 +161,16 @@ pub no_batch : (most most_bytes : ℕ) → IsBatch most most_bytes []
 no_batch most most_bytes = record { few = omega arith; small = λ some. absurd (some refl) }
 
 module _ {D : Type 0} (honest : D → Type 0) (images : D → List ℕ → Type 0) where
-  pub starts : (f : Flushed D) → f.seat.taken ≡ [] → f.seat.published ≡ f.seat.base → f.stored ≡ f.seat.base → f.settled ≡ f.seat.base
+  pub starts : (f : Flushed D) → f.seat.taken ≡ [] → f.seat.published ≡ f.seat.base → f.stored ≡ f.seat.base → f.executed ≡ f.seat.base
       → f.broker ≡ record { state = f.opening; broken = false } → f.opening.count ≡ f.seat.base → IsSound f.opening
       → (honest f.disk → StandFor (images f.disk) f.opening) → f.brought ≡ [] → f.waiting ≡ [] → f.left ≡ [] → f.broken ≡ false → IsFlusher honest images f
-  starts f none published stored settled broker count sound stand brought waiting left whole =
+  starts f none published stored executed broker count sound stand brought waiting left whole =
       let same : (n : ℕ) → state_at f.opening f.seat n ≡ f.opening = λ n. at_start f.opening f.seat n none in
       let at : (n : ℕ) → honest f.disk → StandFor (images f.disk) (state_at f.opening f.seat n) = λ n h. subst (λ (s : State). StandFor (images f.disk) s) (sym (same n)) (stand h) in
       record {
         begun = omega (arith, published);
-        marked = omega (arith, published, settled);
-        settled = omega (arith, settled, stored);
+        marked = omega (arith, published, executed);
+        executed = omega (arith, executed, stored);
         stored = omega (arith, stored);
         opened = count;
         sound = sound;
@@ -179,19 +179,19 @@ module _ {D : Type 0} (honest : D → Type 0) (images : D → List ℕ → Type 
         stopped = λ broken. absurd (cc (broken, whole));
         running = λ _. record {
           stands = at f.stored;
-          broker = broker ∙ ap (λ (s : State). record { state = s; broken = false }) (sym (same f.settled));
-          brought = ap (λ (l : List (EntryValue SenderValue)). commands l) brought ∙ sym (from_end f.seat f.settled (omega (arith, settled, ap (λ (l : List CommandValue). length l) none)));
-          waiting = subst (λ (l : List OutValue). AreUnder f.settled l) (sym waiting) tt;
+          broker = broker ∙ ap (λ (s : State). record { state = s; broken = false }) (sym (same f.executed));
+          brought = ap (λ (l : List (EntryValue SenderValue)). commands l) brought ∙ sym (from_end f.seat f.executed (omega (arith, executed, ap (λ (l : List CommandValue). length l) none)));
+          waiting = subst (λ (l : List OutValue). AreUnder f.executed l) (sym waiting) tt;
         };
       }
 
   -- more is taken
-  pub takes : (f : Flushed D) (seat : FlushSeatValue) (more : List CommandValue) (brought : List (EntryValue SenderValue)) → seat ≡ with_more f.seat more → commands brought ≡ from_on seat f.settled → f.broken ≡ false
+  pub takes : (f : Flushed D) (seat : FlushSeatValue) (more : List CommandValue) (brought : List (EntryValue SenderValue)) → seat ≡ with_more f.seat more → commands brought ≡ from_on seat f.executed → f.broken ≡ false
       → IsFlusher honest images f → IsFlusher honest images (record f { seat = seat; brought = brought })
   takes f seat more brought is entries whole kept = subst (λ (s : FlushSeatValue). IsFlusher honest images (record f { seat = s; brought = brought })) (sym is) (record {
     begun = kept.begun;
     marked = kept.marked;
-    settled = kept.settled;
+    executed = kept.executed;
     stored = omega (arith, kept.stored, length-append f.seat.taken more);
     opened = kept.opened;
     sound = kept.sound;
@@ -200,11 +200,11 @@ module _ {D : Type 0} (honest : D → Type 0) (images : D → List ℕ → Type 
     stopped = kept.stopped;
     running = λ _.
         let run = kept.running whole in
-        let settled : f.settled ≤ next_ticket f.seat = omega (arith, kept.settled, kept.stored) in
+        let executed : f.executed ≤ next_ticket f.seat = omega (arith, kept.executed, kept.stored) in
         record {
           stands = λ h. subst (λ (s : State). StandFor (images f.disk) s) (sym (at_more f.opening f.seat more f.stored kept.stored)) (run.stands h);
-          broker = run.broker ∙ ap (λ (s : State). record { state = s; broken = false }) (sym (at_more f.opening f.seat more f.settled settled));
-          brought = subst (λ (s : FlushSeatValue). commands brought ≡ from_on s f.settled) is entries;
+          broker = run.broker ∙ ap (λ (s : State). record { state = s; broken = false }) (sym (at_more f.opening f.seat more f.executed executed));
+          brought = subst (λ (s : FlushSeatValue). commands brought ≡ from_on s f.executed) is entries;
           waiting = run.waiting;
         };
   })
@@ -216,7 +216,7 @@ module _ {D : Type 0} (honest : D → Type 0) (images : D → List ℕ → Type 
       subst (λ (s : FlushSeatValue). IsFlusher honest images (record f { seat = s; brought = brought; broker = broker; boxes = boxes; ended = ended; past = past; waiting = waiting; left = left; broken = true })) (sym is) (record {
         begun = kept.begun;
         marked = kept.marked;
-        settled = kept.settled;
+        executed = kept.executed;
         stored = kept.stored;
         opened = kept.opened;
         sound = kept.sound;
@@ -233,7 +233,7 @@ module _ {D : Type 0} (honest : D → Type 0) (images : D → List ℕ → Type 
   store_fails f seat next size used is each kept = subst (λ (s : FlushSeatValue). IsFlusher honest images (record f { disk = next; size = size; used = used; seat = s; broken = true })) (sym is) (record {
     begun = kept.begun;
     marked = kept.marked;
-    settled = kept.settled;
+    executed = kept.executed;
     stored = kept.stored;
     opened = kept.opened;
     sound = kept.sound;
@@ -251,11 +251,11 @@ module _ {D : Type 0} (honest : D → Type 0) (images : D → List ℕ → Type 
       record {
         begun = kept.begun;
         marked = kept.marked;
-        settled = kept.settled;
+        executed = kept.executed;
         stored = kept.stored;
         opened = kept.opened;
         sound = kept.sound;
-        each = λ h. hold_at (images next) f.opening f.seat f.stored (omega (arith, kept.marked, kept.settled)) kept.stored (stand h);
+        each = λ h. hold_at (images next) f.opening f.seat f.stored (omega (arith, kept.marked, kept.executed)) kept.stored (stand h);
         under = kept.under;
         stopped = kept.stopped;
         running = λ _. record { stands = stand; broker = run.broker; brought = run.brought; waiting = run.waiting };
@@ -267,7 +267,7 @@ module _ {D : Type 0} (honest : D → Type 0) (images : D → List ℕ → Type 
       record {
         begun = kept.begun;
         marked = kept.marked;
-        settled = kept.settled;
+        executed = kept.executed;
         stored = kept.stored;
         opened = kept.opened;
         sound = kept.sound;
@@ -287,11 +287,11 @@ module _ {D : Type 0} (honest : D → Type 0) (images : D → List ℕ → Type 
       record {
         begun = kept.begun;
         marked = kept.marked;
-        settled = omega (arith, is, kept.settled, kept.stored);
+        executed = omega (arith, is, kept.executed, kept.stored);
         stored = omega (arith, is);
         opened = kept.opened;
         sound = kept.sound;
-        each = λ h. hold_at (images next) f.opening f.seat stored (omega (arith, is, kept.marked, kept.settled, kept.stored)) (omega (arith, is)) (stand h);
+        each = λ h. hold_at (images next) f.opening f.seat stored (omega (arith, is, kept.marked, kept.executed, kept.stored)) (omega (arith, is)) (stand h);
         under = kept.under;
         stopped = kept.stopped;
         running = λ _. record {
@@ -302,51 +302,51 @@ module _ {D : Type 0} (honest : D → Type 0) (images : D → List ℕ → Type 
         };
       }
 
-  -- the broker counts what is settled
-  pub count_at : (f : Flushed D) → IsFlusher honest images f → (state_at f.opening f.seat f.settled).count ≡ f.settled
+  -- the broker counts what is executed
+  pub count_at : (f : Flushed D) → IsFlusher honest images f → (state_at f.opening f.seat f.executed).count ≡ f.executed
   count_at f kept =
-      let most : f.settled - f.seat.base ≤ length f.seat.taken = omega (arith, kept.settled, kept.stored) in
-      omega (arith, count_after (take (f.settled - f.seat.base) f.seat.taken) f.opening, kept.opened, length-take-le (f.settled - f.seat.base) f.seat.taken most, kept.begun, kept.marked)
+      let most : f.executed - f.seat.base ≤ length f.seat.taken = omega (arith, kept.executed, kept.stored) in
+      omega (arith, count_after (take (f.executed - f.seat.base) f.seat.taken) f.opening, kept.opened, length-take-le (f.executed - f.seat.base) f.seat.taken most, kept.begun, kept.marked)
 
-  pub broker_count : (f : Flushed D) → f.broken ≡ false → IsFlusher honest images f → f.broker.state.count ≡ f.settled
+  pub broker_count : (f : Flushed D) → f.broken ≡ false → IsFlusher honest images f → f.broker.state.count ≡ f.executed
   broker_count f whole kept = ap (λ (b : BrokerValue). b.state.count) (kept.running whole).broker ∙ count_at f kept
 
-  pub settled_state : (f : Flushed D) → f.broken ≡ false → IsFlusher honest images f → state_after f.broker.state (unsettled f) ≡ state_at f.opening f.seat f.stored
-  settled_state f whole kept =
-      let state : f.broker.state ≡ state_at f.opening f.seat f.settled = ap (λ (b : BrokerValue). b.state) (kept.running whole).broker in
-      ap (λ (s : State). state_after s (unsettled f)) state ∙ at_between f.opening f.seat f.settled f.stored (omega (arith, kept.begun, kept.marked)) kept.settled
+  pub executed_state : (f : Flushed D) → f.broken ≡ false → IsFlusher honest images f → state_after f.broker.state (unexecuted f) ≡ state_at f.opening f.seat f.stored
+  executed_state f whole kept =
+      let state : f.broker.state ≡ state_at f.opening f.seat f.executed = ap (λ (b : BrokerValue). b.state) (kept.running whole).broker in
+      ap (λ (s : State). state_after s (unexecuted f)) state ∙ at_between f.opening f.seat f.executed f.stored (omega (arith, kept.begun, kept.marked)) kept.executed
 
   -- the numbers that are executed are counted in 62 bits
-  pub counts : {B : Type 0} (f : Flushed D) (done : List (EntryValue B)) → f.broken ≡ false → IsFlusher honest images f → commands done ≡ unsettled f → f.stored ≤ 2 ^ 62 → f.broker.state.count + length done ≤ 2 ^ 62
+  pub counts : {B : Type 0} (f : Flushed D) (done : List (EntryValue B)) → f.broken ≡ false → IsFlusher honest images f → commands done ≡ unexecuted f → f.stored ≤ 2 ^ 62 → f.broker.state.count + length done ≤ 2 ^ 62
   counts f done whole kept is few =
-      let begun : f.seat.base ≤ f.settled = omega (arith, kept.begun, kept.marked) in
+      let begun : f.seat.base ≤ f.executed = omega (arith, kept.begun, kept.marked) in
       let state = ap (λ (b : BrokerValue). b.state.count) (kept.running whole).broker in
-      omega (arith, state, count_at f kept, length_commands done, ap (λ (l : List CommandValue). length l) is, length_between f.seat f.settled f.stored begun kept.settled kept.stored, kept.settled, few)
+      omega (arith, state, count_at f kept, length_commands done, ap (λ (l : List CommandValue). length l) is, length_between f.seat f.executed f.stored begun kept.executed kept.stored, kept.executed, few)
 
-  pub settling_is : (f : Flushed D) (brought : List (EntryValue SenderValue)) (broker : BrokerValue) (boxes : Kept) (ended past : List ℕ) (waiting left : List OutValue) → f.broken ≡ false → IsFlusher honest images f
-      → brought ≡ drop (f.stored - f.settled) f.brought → boxes ≡ boxes_after f.settled f.boxes (stored_entries f) → ended ≡ f.ended ++ ended_of f.broker.state (unsettled f) → past ≡ f.past
-      → broker ≡ record { state = state_after f.broker.state (unsettled f); broken = false } → waiting ≡ f.waiting ++ outs_of f.broker.state (unsettled f) → left ≡ f.left
-      → record f { settled = f.stored; brought = brought; broker = broker; boxes = boxes; ended = ended; past = past; waiting = waiting; left = left } ≡ settling f
-  settling_is f brought broker boxes ended past waiting left whole kept entries given ends last is outs same =
-      let all : broker ≡ record { state = state_at f.opening f.seat f.stored; broken = false } = is ∙ ap (λ (s : State). record { state = s; broken = false }) (settled_state f whole kept) in
-      λ i. record f { settled = f.stored; brought = entries i; broker = all i; boxes = given i; ended = ends i; past = last i; waiting = outs i; left = same i }
+  pub executing_is : (f : Flushed D) (brought : List (EntryValue SenderValue)) (broker : BrokerValue) (boxes : Kept) (ended past : List ℕ) (waiting left : List OutValue) → f.broken ≡ false → IsFlusher honest images f
+      → brought ≡ drop (f.stored - f.executed) f.brought → boxes ≡ boxes_after f.executed f.boxes (stored_entries f) → ended ≡ f.ended ++ ended_of f.broker.state (unexecuted f) → past ≡ f.past
+      → broker ≡ record { state = state_after f.broker.state (unexecuted f); broken = false } → waiting ≡ f.waiting ++ outs_of f.broker.state (unexecuted f) → left ≡ f.left
+      → record f { executed = f.stored; brought = brought; broker = broker; boxes = boxes; ended = ended; past = past; waiting = waiting; left = left } ≡ executing f
+  executing_is f brought broker boxes ended past waiting left whole kept entries given ends last is outs same =
+      let all : broker ≡ record { state = state_at f.opening f.seat f.stored; broken = false } = is ∙ ap (λ (s : State). record { state = s; broken = false }) (executed_state f whole kept) in
+      λ i. record f { executed = f.stored; brought = entries i; broker = all i; boxes = given i; ended = ends i; past = last i; waiting = outs i; left = same i }
 
   -- all that is stored is executed
-  pub settles : (f : Flushed D) (brought : List (EntryValue SenderValue)) (broker : BrokerValue) (boxes : Kept) (ended past : List ℕ) (waiting left : List OutValue) → commands brought ≡ from_on f.seat f.stored
-      → broker ≡ record { state = state_after f.broker.state (unsettled f); broken = false } → waiting ≡ f.waiting ++ outs_of f.broker.state (unsettled f) → left ≡ f.left → f.broken ≡ false
-      → IsFlusher honest images f → IsFlusher honest images (record f { settled = f.stored; brought = brought; broker = broker; boxes = boxes; ended = ended; past = past; waiting = waiting; left = left })
-  settles f brought broker boxes ended past waiting left entries is outs same whole kept =
+  pub executes : (f : Flushed D) (brought : List (EntryValue SenderValue)) (broker : BrokerValue) (boxes : Kept) (ended past : List ℕ) (waiting left : List OutValue) → commands brought ≡ from_on f.seat f.stored
+      → broker ≡ record { state = state_after f.broker.state (unexecuted f); broken = false } → waiting ≡ f.waiting ++ outs_of f.broker.state (unexecuted f) → left ≡ f.left → f.broken ≡ false
+      → IsFlusher honest images f → IsFlusher honest images (record f { executed = f.stored; brought = brought; broker = broker; boxes = boxes; ended = ended; past = past; waiting = waiting; left = left })
+  executes f brought broker boxes ended past waiting left entries is outs same whole kept =
       let run = kept.running whole in
-      let begun : f.seat.base ≤ f.settled = omega (arith, kept.begun, kept.marked) in
-      let state : f.broker.state ≡ state_at f.opening f.seat f.settled = ap (λ (b : BrokerValue). b.state) run.broker in
-      let all = settled_state f whole kept in
-      let order : IsInOrder f.broker.state = subst (λ (s : State). IsInOrder s) (sym state) (order_after (take (f.settled - f.seat.base) f.seat.taken) f.opening kept.sound.order) in
-      let counted : f.broker.state.count ≡ f.settled = ap (λ (s : State). s.count) state ∙ count_at f kept in
-      let new : AreUnder f.stored (outs_of f.broker.state (unsettled f)) = outs_under (unsettled f) f.broker.state f.stored order (omega (arith, counted, length_between f.seat f.settled f.stored begun kept.settled kept.stored, kept.settled)) in
+      let begun : f.seat.base ≤ f.executed = omega (arith, kept.begun, kept.marked) in
+      let state : f.broker.state ≡ state_at f.opening f.seat f.executed = ap (λ (b : BrokerValue). b.state) run.broker in
+      let all = executed_state f whole kept in
+      let order : IsInOrder f.broker.state = subst (λ (s : State). IsInOrder s) (sym state) (order_after (take (f.executed - f.seat.base) f.seat.taken) f.opening kept.sound.order) in
+      let counted : f.broker.state.count ≡ f.executed = ap (λ (s : State). s.count) state ∙ count_at f kept in
+      let new : AreUnder f.stored (outs_of f.broker.state (unexecuted f)) = outs_under (unexecuted f) f.broker.state f.stored order (omega (arith, counted, length_between f.seat f.executed f.stored begun kept.executed kept.stored, kept.executed)) in
       record {
         begun = kept.begun;
-        marked = omega (arith, kept.marked, kept.settled);
-        settled = omega arith;
+        marked = omega (arith, kept.marked, kept.executed);
+        executed = omega arith;
         stored = kept.stored;
         opened = kept.opened;
         sound = kept.sound;
@@ -357,27 +357,27 @@ module _ {D : Type 0} (honest : D → Type 0) (images : D → List ℕ → Type 
           stands = run.stands;
           broker = is ∙ ap (λ (s : State). record { state = s; broken = false }) all;
           brought = entries;
-          waiting = subst (λ (l : List OutValue). AreUnder f.stored l) (sym outs) (all_append (λ (out : OutValue). out.number < f.stored) f.waiting (outs_of f.broker.state (unsettled f)) (under_more f.settled f.stored f.waiting kept.settled run.waiting) new);
+          waiting = subst (λ (l : List OutValue). AreUnder f.stored l) (sym outs) (all_append (λ (out : OutValue). out.number < f.stored) f.waiting (outs_of f.broker.state (unexecuted f)) (under_more f.executed f.stored f.waiting kept.executed run.waiting) new);
         };
       }
 
   -- all that is stored is published
-  pub publishes : (f : Flushed D) (seat : FlushSeatValue) (boxes : Kept) (ended past : List ℕ) (p : OutValue → Bool) (waiting left : List OutValue) → seat ≡ with_mark f.seat f.stored → waiting ≡ [] → left ≡ f.left ++ filter p f.waiting → f.settled ≡ f.stored → f.broken ≡ false
+  pub publishes : (f : Flushed D) (seat : FlushSeatValue) (boxes : Kept) (ended past : List ℕ) (p : OutValue → Bool) (waiting left : List OutValue) → seat ≡ with_mark f.seat f.stored → waiting ≡ [] → left ≡ f.left ++ filter p f.waiting → f.executed ≡ f.stored → f.broken ≡ false
       → IsFlusher honest images f → IsFlusher honest images (record f { seat = seat; boxes = boxes; ended = ended; past = past; waiting = waiting; left = left })
-  publishes f seat boxes ended past p waiting left is none outs settled whole kept = subst (λ (s : FlushSeatValue). IsFlusher honest images (record f { seat = s; boxes = boxes; ended = ended; past = past; waiting = waiting; left = left })) (sym is)
+  publishes f seat boxes ended past p waiting left is none outs executed whole kept = subst (λ (s : FlushSeatValue). IsFlusher honest images (record f { seat = s; boxes = boxes; ended = ended; past = past; waiting = waiting; left = left })) (sym is)
       (let run = kept.running whole in record {
-        begun = omega (arith, kept.begun, kept.marked, kept.settled);
-        marked = omega (arith, settled);
-        settled = kept.settled;
+        begun = omega (arith, kept.begun, kept.marked, kept.executed);
+        marked = omega (arith, executed);
+        executed = kept.executed;
         stored = kept.stored;
         opened = kept.opened;
         sound = kept.sound;
         each = λ h. hold_at (images f.disk) f.opening (with_mark f.seat f.stored) f.stored (omega arith) kept.stored (run.stands h);
         under = subst (λ (l : List OutValue). AreUnder f.stored l) (sym outs) (all_append (λ (out : OutValue). out.number < f.stored) f.left (filter p f.waiting)
-            (under_more f.seat.published f.stored f.left (omega (arith, kept.marked, kept.settled)) kept.under)
-            (under_kept f.stored p f.waiting (under_more f.settled f.stored f.waiting kept.settled run.waiting)));
+            (under_more f.seat.published f.stored f.left (omega (arith, kept.marked, kept.executed)) kept.under)
+            (under_kept f.stored p f.waiting (under_more f.executed f.stored f.waiting kept.executed run.waiting)));
         stopped = kept.stopped;
-        running = λ _. record { stands = run.stands; broker = run.broker; brought = run.brought; waiting = subst (λ (l : List OutValue). AreUnder f.settled l) (sym none) tt };
+        running = λ _. record { stands = run.stands; broker = run.broker; brought = run.brought; waiting = subst (λ (l : List OutValue). AreUnder f.executed l) (sym none) tt };
       })
 
   -- the outputs are handed out
@@ -385,7 +385,7 @@ module _ {D : Type 0} (honest : D → Type 0) (images : D → List ℕ → Type 
   hands_out f kept = record {
     begun = kept.begun;
     marked = kept.marked;
-    settled = kept.settled;
+    executed = kept.executed;
     stored = kept.stored;
     opened = kept.opened;
     sound = kept.sound;

@@ -16,7 +16,7 @@ use Rattle.flush_core.specs.declared.faults.FlushFault.TheVariants.{Device, Full
 use Rattle.flush_core.specs.Batches.{IsBatch, from_on, state_at}
 use Rattle.flush_core.specs.Flushed.{Flushed, IsFlusher, gathered}
 use Rattle.claim_core.specs.Seats.{FlushSeatValue, next_ticket}
-use Rattle.flush_core.specs.Outcomes.{IsOutcome, publishing, settling, storing, taking}
+use Rattle.flush_core.specs.Outcomes.{IsOutcome, publishing, executing, storing, taking}
 use Rattle.recover_core.specs.Compactions.{HasNoRoomFor}
 use Rattle.flush_core.specs.Room.{Fits, HasNoRoom, HasNoRoomForState, HasNoRoomLeft, IsTooLong, used_afresh}
 use Rattle.flush_core.proofs.Taken.{at_more}
@@ -68,52 +68,52 @@ module _ {D : Type 0} (f g h : Flushed D) (entries : List (EntryValue SenderValu
       ap (λ (x : Flushed D). from_on x.seat g.stored) (sym did) ∙ (rest ∙ (ap (λ (x : Flushed D). from_on seat x.stored) took ∙ none))
 
   -- what was gathered is what was taken from there on, also where all is published
-  taken_stays : (k l : Flushed D) → k ≡ settling h → l ≡ publishing k l.boxes → gathered g ≡ from_on l.seat f.stored
-  taken_stays k l settled published =
-      let seat : from_on h.seat g.stored ≡ from_on l.seat g.stored = ap (λ (x : Flushed D). from_on x.seat g.stored) (sym settled) ∙ ap (λ (x : Flushed D). from_on x.seat g.stored) (sym published) in
+  taken_stays : (k l : Flushed D) → k ≡ executing h → l ≡ publishing k l.boxes → gathered g ≡ from_on l.seat f.stored
+  taken_stays k l executed published =
+      let seat : from_on h.seat g.stored ≡ from_on l.seat g.stored = ap (λ (x : Flushed D). from_on x.seat g.stored) (sym executed) ∙ ap (λ (x : Flushed D). from_on x.seat g.stored) (sym published) in
       ap (λ (x : Flushed D). from_on x.seat g.stored) (sym did) ∙ (seat ∙ ap (λ (x : Flushed D). from_on l.seat x.stored) took)
 
   -- what is used and won once the turn went through is what storing left
-  same_used : (k l : Flushed D) → k ≡ settling h → l ≡ publishing k l.boxes → (l.used ≡ h.used) × (l.won ≡ h.won)
-  same_used k l settled published = (
-    ap (λ (x : Flushed D). x.used) published ∙ ap (λ (x : Flushed D). x.used) settled,
-    ap (λ (x : Flushed D). x.won) published ∙ ap (λ (x : Flushed D). x.won) settled,
+  same_used : (k l : Flushed D) → k ≡ executing h → l ≡ publishing k l.boxes → (l.used ≡ h.used) × (l.won ≡ h.won)
+  same_used k l executed published = (
+    ap (λ (x : Flushed D). x.used) published ∙ ap (λ (x : Flushed D). x.used) executed,
+    ap (λ (x : Flushed D). x.won) published ∙ ap (λ (x : Flushed D). x.won) executed,
   )
 
-  pub came_behind : (k l : Flushed D) → k ≡ settling h → l ≡ publishing k l.boxes
+  pub came_behind : (k l : Flushed D) → k ≡ executing h → l ≡ publishing k l.boxes
       → (Fits g.size g.used (gathered g) → gathered g ≢ [] → (h.used ≡ g.used + 9 + length (records (gathered g))) × (h.won ≡ g.won))
       → Fits f.size f.used (from_on l.seat f.stored) → from_on l.seat f.stored ≢ [] → (l.used ≡ f.used + 9 + length (records (from_on l.seat f.stored))) × (l.won ≡ f.won)
-  came_behind k l settled published told fits some =
-      let same = same_used k l settled published in
-      let both = subst (λ (z : Flushed D × List CommandValue). Fits z.0.size z.0.used z.1 → z.1 ≢ [] → (h.used ≡ z.0.used + 9 + length (records z.1)) × (h.won ≡ z.0.won)) (λ i. (took i, taken_stays k l settled published i)) told fits some in
+  came_behind k l executed published told fits some =
+      let same = same_used k l executed published in
+      let both = subst (λ (z : Flushed D × List CommandValue). Fits z.0.size z.0.used z.1 → z.1 ≢ [] → (h.used ≡ z.0.used + 9 + length (records z.1)) × (h.won ≡ z.0.won)) (λ i. (took i, taken_stays k l executed published i)) told fits some in
       (same.0 ∙ both.0, same.1 ∙ both.1)
 
-  pub came_afresh : (k l : Flushed D) → k ≡ settling h → l ≡ publishing k l.boxes → f.stored ≤ next_ticket f.seat
+  pub came_afresh : (k l : Flushed D) → k ≡ executing h → l ≡ publishing k l.boxes → f.stored ≤ next_ticket f.seat
       → (IsTooLong g.size g.used (gathered g) → gathered g ≢ []
       → (h.used ≡ used_afresh (state_at g.opening g.seat g.stored) + 9 + length (records (gathered g))) × (h.won ≡ Some (g.used - used_afresh (state_at g.opening g.seat g.stored))))
       → IsTooLong f.size f.used (from_on l.seat f.stored) → from_on l.seat f.stored ≢ []
       → (l.used ≡ used_afresh (state_at f.opening f.seat f.stored) + 9 + length (records (from_on l.seat f.stored))) × (l.won ≡ Some (f.used - used_afresh (state_at f.opening f.seat f.stored)))
-  came_afresh k l settled published few told long some =
+  came_afresh k l executed published few told long some =
       let state : state_at g.opening g.seat g.stored ≡ state_at f.opening f.seat f.stored = ap (λ (x : Flushed D). state_at x.opening x.seat x.stored) took ∙ at_more f.opening f.seat (commands entries) f.stored few in
-      let same = same_used k l settled published in
-      let both = subst (λ (z : Flushed D × State × List CommandValue). IsTooLong z.0.size z.0.used z.2 → z.2 ≢ [] → (h.used ≡ used_afresh z.1 + 9 + length (records z.2)) × (h.won ≡ Some (z.0.used - used_afresh z.1))) (λ i. (took i, state i, taken_stays k l settled published i)) told long some in
+      let same = same_used k l executed published in
+      let both = subst (λ (z : Flushed D × State × List CommandValue). IsTooLong z.0.size z.0.used z.2 → z.2 ≢ [] → (h.used ≡ used_afresh z.1 + 9 + length (records z.2)) × (h.won ≡ Some (z.0.used - used_afresh z.1))) (λ i. (took i, state i, taken_stays k l executed published i)) told long some in
       (same.0 ∙ both.0, same.1 ∙ both.1)
 
   -- nothing is won where nothing was gathered
-  pub none_won : (k l : Flushed D) → k ≡ settling h → l ≡ publishing k l.boxes → from_on l.seat f.stored ≡ [] → l.won ≡ f.won
-  none_won k l settled published none =
-      let seat : from_on h.seat g.stored ≡ from_on l.seat g.stored = ap (λ (x : Flushed D). from_on x.seat g.stored) (sym settled) ∙ ap (λ (x : Flushed D). from_on x.seat g.stored) (sym published) in
-      (same_used k l settled published).1 ∙ ap (λ (x : Flushed D). x.won) (nothing (gathered_before l.seat seat none) ∙ took)
+  pub none_won : (k l : Flushed D) → k ≡ executing h → l ≡ publishing k l.boxes → from_on l.seat f.stored ≡ [] → l.won ≡ f.won
+  none_won k l executed published none =
+      let seat : from_on h.seat g.stored ≡ from_on l.seat g.stored = ap (λ (x : Flushed D). from_on x.seat g.stored) (sym executed) ∙ ap (λ (x : Flushed D). from_on x.seat g.stored) (sym published) in
+      (same_used k l executed published).1 ∙ ap (λ (x : Flushed D). x.won) (nothing (gathered_before l.seat seat none) ∙ took)
 
   -- executing failed
-  pub still_unsettled : (k : Flushed D) (fault : FlushFault) → IsOutcome {X = Unit {0}} h k (Err fault) → k.disk ≡ h.disk → from_on k.seat f.stored ≡ [] → k.disk ≡ f.disk
-  still_unsettled k fault outcome same none =
+  pub still_unexecuted : (k : Flushed D) (fault : FlushFault) → IsOutcome {X = Unit {0}} h k (Err fault) → k.disk ≡ h.disk → from_on k.seat f.stored ≡ [] → k.disk ≡ f.disk
+  still_unexecuted k fault outcome same none =
       same ∙ ap (λ (x : Flushed D). x.disk) (nothing (gathered_before k.seat (rest_stays h k g.stored fault outcome) none) ∙ took)
 
   -- the turn went through
-  pub still_published : (k l : Flushed D) → k ≡ settling h → k.disk ≡ h.disk → l ≡ publishing k l.boxes → from_on l.seat f.stored ≡ [] → l.disk ≡ f.disk
-  still_published k l settled same published none =
-      let seat : from_on h.seat g.stored ≡ from_on l.seat g.stored = ap (λ (x : Flushed D). from_on x.seat g.stored) (sym settled) ∙ ap (λ (x : Flushed D). from_on x.seat g.stored) (sym published) in
+  pub still_published : (k l : Flushed D) → k ≡ executing h → k.disk ≡ h.disk → l ≡ publishing k l.boxes → from_on l.seat f.stored ≡ [] → l.disk ≡ f.disk
+  still_published k l executed same published none =
+      let seat : from_on h.seat g.stored ≡ from_on l.seat g.stored = ap (λ (x : Flushed D). from_on x.seat g.stored) (sym executed) ∙ ap (λ (x : Flushed D). from_on x.seat g.stored) (sym published) in
       ap (λ (x : Flushed D). x.disk) published ∙ (same ∙ ap (λ (x : Flushed D). x.disk) (nothing (gathered_before l.seat seat none) ∙ took))
 
 module _ {D : Type 0} (disk : Ghosts D) (f g h : Flushed D) (entries : List (EntryValue SenderValue)) (fault : FlushFault) (kept : IsFlusher disk.honest disk.images f) (took : g ≡ taking f entries) (outcome : IsOutcome {X = Unit {0}} g h (Err fault)) where

@@ -13,8 +13,8 @@ use Rattle.recover_core.specs.Standing.{StandsForEither}
 use Rattle.flush_core.specs.declared.faults.FlushFault.{FlushFault}
 use Rattle.flush_core.specs.declared.faults.FlushFault.TheVariants.{Device, Full, Broken, Memory}
 use Rattle.flush_core.specs.Batches.{from_on, state_at, state_taken, with_more}
-use Rattle.flush_core.specs.Flushed.{Flushed, IsFlusher, unsettled}
-use Rattle.flush_core.specs.Outcomes.{Falls, IsOutcome, IsTurn, IsTurned, TurnFalls, publishing, settling, standing, stored_entries, storing, taking, turned_boxes, turned_outs}
+use Rattle.flush_core.specs.Flushed.{Flushed, IsFlusher, unexecuted}
+use Rattle.flush_core.specs.Outcomes.{Falls, IsOutcome, IsTurn, IsTurned, TurnFalls, publishing, executing, standing, stored_entries, storing, taking, turned_boxes, turned_outs}
 use Rattle.flush_core.specs.Sessions.{boxes_after, ended_of}
 use Rattle.outbox_core.specs.Giving.{AreGiven, Kept, unboxed, without}
 use Rattle.command_core.specs.Commands.{CommandValue}
@@ -61,40 +61,40 @@ module _ {D : Type 0} (disk : Ghosts D) where
       (here honest whole)))
 
   -- a turn of the four steps
-  pub turned : (old took did left new : Flushed D) (entries : List (EntryValue SenderValue)) (next : D) (size used : ℕ) (won : Option ℕ) → IsFlusher disk.honest disk.images old → old.broken ≡ false → old.settled ≡ old.stored
-      → took ≡ taking old entries → did ≡ storing took next size used won → left ≡ settling did → new ≡ publishing left new.boxes → AreGiven left.waiting (standing left) new.boxes → IsTurned old new entries
-  turned old took did left new entries next size used won kept whole settled took_is did_is left_is new_is given =
+  pub turned : (old took did left new : Flushed D) (entries : List (EntryValue SenderValue)) (next : D) (size used : ℕ) (won : Option ℕ) → IsFlusher disk.honest disk.images old → old.broken ≡ false → old.executed ≡ old.stored
+      → took ≡ taking old entries → did ≡ storing took next size used won → left ≡ executing did → new ≡ publishing left new.boxes → AreGiven left.waiting (standing left) new.boxes → IsTurned old new entries
+  turned old took did left new entries next size used won kept whole executed took_is did_is left_is new_is given =
       let stored = storing (taking old entries) next size used won in
-      let all = settling stored in
-      let is : left ≡ all = left_is ∙ ap (λ (f : Flushed D). settling f) (did_is ∙ ap (λ (f : Flushed D). storing f next size used won) took_is) in
+      let all = executing stored in
+      let is : left ≡ all = left_is ∙ ap (λ (f : Flushed D). executing f) (did_is ∙ ap (λ (f : Flushed D). storing f next size used won) took_is) in
       let end : new ≡ publishing all new.boxes = new_is ∙ ap (λ (f : Flushed D). publishing f new.boxes) is in
       let more = commands entries in
       let seat : new.seat ≡ with_mark (with_more old.seat more) (next_ticket (with_more old.seat more)) = ap (λ (f : Flushed D). f.seat) end in
-      let begun : old.seat.base ≤ old.settled = omega (arith, kept.begun, kept.marked) in
-      let cs : unsettled stored ≡ from_on new.seat old.stored =
-      between_all (with_more old.seat more) old.settled (next_ticket (with_more old.seat more)) refl begun
-      ∙ ((λ i. from_on (with_more old.seat more) (settled i)) ∙ ap (λ (s : FlushSeatValue). from_on s old.stored) (sym seat)) in
-      let few : length (old.brought ++ entries) ≤ next_ticket (with_more old.seat more) - old.settled =
+      let begun : old.seat.base ≤ old.executed = omega (arith, kept.begun, kept.marked) in
+      let cs : unexecuted stored ≡ from_on new.seat old.stored =
+      between_all (with_more old.seat more) old.executed (next_ticket (with_more old.seat more)) refl begun
+      ∙ ((λ i. from_on (with_more old.seat more) (executed i)) ∙ ap (λ (s : FlushSeatValue). from_on s old.stored) (sym seat)) in
+      let few : length (old.brought ++ entries) ≤ next_ticket (with_more old.seat more) - old.executed =
       omega (
         arith,
         length-append old.brought entries,
         length_commands old.brought,
         length_commands entries,
         ap (λ (l : List CommandValue). length l) (kept.running whole).brought,
-        length-drop (old.settled - old.seat.base) old.seat.taken,
+        length-drop (old.executed - old.seat.base) old.seat.taken,
         length-append old.seat.taken more,
         begun,
-        kept.settled,
+        kept.executed,
         kept.stored,
       ) in
-      let es : stored_entries stored ≡ old.brought ++ entries = take_all (next_ticket (with_more old.seat more) - old.settled) (old.brought ++ entries) few in
+      let es : stored_entries stored ≡ old.brought ++ entries = take_all (next_ticket (with_more old.seat more) - old.executed) (old.brought ++ entries) few in
       let outs : all.waiting ≡ turned_outs old new = ap (λ (l : List CommandValue). old.waiting ++ outs_of old.broker.state l) cs in
-      let stands : standing all ≡ turned_boxes old entries = ap (λ (l : List (EntryValue SenderValue)). without (boxes_after old.settled old.boxes l) old.past) es in
+      let stands : standing all ≡ turned_boxes old entries = ap (λ (l : List (EntryValue SenderValue)). without (boxes_after old.executed old.boxes l) old.past) es in
       let opening : new.opening ≡ old.opening = ap (λ (f : Flushed D). f.opening) end in
       record {
         seat = seat;
         stored = ap (λ (f : Flushed D). f.stored) end ∙ ap (λ (s : FlushSeatValue). next_ticket s) (sym seat);
-        settled = ap (λ (f : Flushed D). f.settled) end ∙ ap (λ (s : FlushSeatValue). next_ticket s) (sym seat);
+        executed = ap (λ (f : Flushed D). f.executed) end ∙ ap (λ (s : FlushSeatValue). next_ticket s) (sym seat);
         opening = opening;
         broker = ap (λ (f : Flushed D). f.broker) end
             ∙ ap (λ (s : State). record { state = s; broken = false })
@@ -130,8 +130,8 @@ module _ {D : Type 0} (old took did new : Flushed D) (entries : List (EntryValue
         left = fell.left ∙ ap (λ (f : Flushed D). f.left) did_all;
       }
 
-  pub settle_falls : (X : Type 0) (fault : FlushFault) → did.broken ≡ false → IsOutcome {X = Unit {0}} did new (Err fault) → IsTurn {X = X} old new (Err fault)
-  settle_falls X Device sound outcome = turn_falls outcome
-  settle_falls X Full sound outcome = turn_falls outcome
-  settle_falls X (Memory refused) sound outcome = turn_falls outcome
-  settle_falls X Broken sound outcome = absurd (false≢true (sym sound ∙ outcome.0))
+  pub execute_falls : (X : Type 0) (fault : FlushFault) → did.broken ≡ false → IsOutcome {X = Unit {0}} did new (Err fault) → IsTurn {X = X} old new (Err fault)
+  execute_falls X Device sound outcome = turn_falls outcome
+  execute_falls X Full sound outcome = turn_falls outcome
+  execute_falls X (Memory refused) sound outcome = turn_falls outcome
+  execute_falls X Broken sound outcome = absurd (false≢true (sym sound ∙ outcome.0))

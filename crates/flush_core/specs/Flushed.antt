@@ -29,7 +29,7 @@ pub record Flushed (D : Type 0) : Type 0 where
   pub seat : FlushSeatValue
   pub opening : State
   pub stored : ℕ
-  pub settled : ℕ
+  pub executed : ℕ
   pub brought : List (EntryValue SenderValue)
   pub broker : BrokerValue
   pub boxes : Kept
@@ -41,16 +41,16 @@ pub record Flushed (D : Type 0) : Type 0 where
   pub won : Option ℕ
 
 abbrev pub flushed : {D : Type 0} {disk : Ghosts D} → Store D disk → FlushSeatValue → State → ℕ → ℕ → List (EntryValue SenderValue) → BrokerValue → Kept → List ℕ → List ℕ → List OutValue → List OutValue → Bool → Option ℕ → Flushed D
-flushed store seat opening stored settled brought broker boxes ended past waiting left broken won =
-    record { disk = disk_of store; size = size_of store; used = used_of store; seat = seat; opening = opening; stored = stored; settled = settled; brought = brought; broker = broker; boxes = boxes; ended = ended; past = past; waiting = waiting; left = left; broken = broken; won = won }
+flushed store seat opening stored executed brought broker boxes ended past waiting left broken won =
+    record { disk = disk_of store; size = size_of store; used = used_of store; seat = seat; opening = opening; stored = stored; executed = executed; brought = brought; broker = broker; boxes = boxes; ended = ended; past = past; waiting = waiting; left = left; broken = broken; won = won }
 
 -- the commands that wait to be stored
 abbrev pub gathered : {D : Type 0} → Flushed D → List CommandValue
 gathered f = from_on f.seat f.stored
 
 -- the commands that are stored and not executed
-abbrev pub unsettled : {D : Type 0} → Flushed D → List CommandValue
-unsettled f = between f.seat f.settled f.stored
+abbrev pub unexecuted : {D : Type 0} → Flushed D → List CommandValue
+unexecuted f = between f.seat f.executed f.stored
 
 -- the outputs are of commands whose numbers are under n
 abbrev pub AreUnder : ℕ → List OutValue → Type 0
@@ -68,20 +68,20 @@ abbrev pub HoldBetween : (List ℕ → Type 0) → State → FlushSeatValue → 
 HoldBetween images opening seat = (c : List ℕ) → images c → ∥ AfterSome opening seat c ∥₁
 
 -- While no step has failed: each image stands for the state after all that is stored, the broker has that after all that
--- is settled, what was brought are the entries of the commands from the settled number on, and no output waits that is not
--- settled.
+-- is executed, what was brought are the entries of the commands from the executed number on, and no output waits that is not
+-- executed.
 pub record IsRunning {D : Type 0} (honest : D → Type 0) (images : D → List ℕ → Type 0) (f : Flushed D) : Type 0 where
   pub stands : honest f.disk → StandFor (images f.disk) (state_at f.opening f.seat f.stored)
-  pub broker : f.broker ≡ record { state = state_at f.opening f.seat f.settled; broken = false }
-  pub brought : commands f.brought ≡ from_on f.seat f.settled
-  pub waiting : AreUnder f.settled f.waiting
+  pub broker : f.broker ≡ record { state = state_at f.opening f.seat f.executed; broken = false }
+  pub brought : commands f.brought ≡ from_on f.seat f.executed
+  pub waiting : AreUnder f.executed f.waiting
 
 -- What a flusher keeps, after a fault too: the mark is at most what is stored, and that at most what was taken; each image
 -- stands for the state after the commands taken up to some number from the mark on; no output is handed out over the mark.
 pub record IsFlusher {D : Type 0} (honest : D → Type 0) (images : D → List ℕ → Type 0) (f : Flushed D) : Type 0 where
   pub begun : f.seat.base ≤ f.seat.published
-  pub marked : f.seat.published ≤ f.settled
-  pub settled : f.settled ≤ f.stored
+  pub marked : f.seat.published ≤ f.executed
+  pub executed : f.executed ≤ f.stored
   pub stored : f.stored ≤ next_ticket f.seat
   pub opened : f.opening.count ≡ f.seat.base
   pub sound : IsSound f.opening
@@ -97,7 +97,7 @@ pub record IsSame {C D : Type 0} (one : Flushed C) (other : Flushed D) : Type 0 
   pub seat : other.seat ≡ one.seat
   pub opening : other.opening ≡ one.opening
   pub stored : other.stored ≡ one.stored
-  pub settled : other.settled ≡ one.settled
+  pub executed : other.executed ≡ one.executed
   pub brought : other.brought ≡ one.brought
   pub broker : other.broker ≡ one.broker
   pub boxes : other.boxes ≡ one.boxes
@@ -110,11 +110,11 @@ pub record IsSame {C D : Type 0} (one : Flushed C) (other : Flushed D) : Type 0 
 
 -- How the fields show it while no step has failed: the journal is whole, entries stand for the commands that wait to be
 -- stored and for those that wait to be executed, and there is room for the outputs that wait.
-pub record IsHeld {B : Type 0} (seat : FlushSeatValue) (stored settled : ℕ) (journal : Bool) (batch done : List (EntryValue B)) (bytes left waiting room : ℕ) : Type 0 where
+pub record IsHeld {B : Type 0} (seat : FlushSeatValue) (stored executed : ℕ) (journal : Bool) (batch done : List (EntryValue B)) (bytes left waiting room : ℕ) : Type 0 where
   pub whole : journal ≡ false
   pub batch_is : commands batch ≡ from_on seat stored
   pub bytes_is : bytes ≡ length (records (commands batch))
-  pub done_is : commands done ≡ between seat settled stored
+  pub done_is : commands done ≡ between seat executed stored
   pub few : stored ≤ 2 ^ 62
   pub room_is : 0 < left → left + waiting ≤ room
 

@@ -14,7 +14,7 @@ use Rattle.claim_core.specs.Seats.{when_stopped, with_mark, next_ticket}
 use Rattle.flush_core.specs.declared.faults.FlushFault.{FlushFault}
 use Rattle.flush_core.specs.declared.faults.FlushFault.TheVariants.{Device, Full, Broken, Memory}
 use Rattle.flush_core.specs.Batches.{with_more, from_on, state_at, state_taken}
-use Rattle.flush_core.specs.Flushed.{Flushed, gathered, unsettled}
+use Rattle.flush_core.specs.Flushed.{Flushed, gathered, unexecuted}
 use Rattle.flush_core.specs.Room.{Fits, IsTooLong, used_afresh}
 use Rattle.flush_core.specs.Sessions.{boxes_after, ended_of}
 
@@ -67,18 +67,18 @@ pub record IsCompacted {D : Type 0} (disk : Ghosts D) (old new : Flushed D) : Ty
 
 -- the entries of what is stored and not executed
 abbrev pub stored_entries : {D : Type 0} → Flushed D → List (EntryValue SenderValue)
-stored_entries f = take (f.stored - f.settled) f.brought
+stored_entries f = take (f.stored - f.executed) f.brought
 
 -- All that is stored is executed: the outputs of that wait behind the others, the boxes that came with Opens are kept, and
 -- the sessions that ended are noted.
-abbrev pub settling : {D : Type 0} → Flushed D → Flushed D
-settling f = record f {
-  settled = f.stored;
-  brought = drop (f.stored - f.settled) f.brought;
+abbrev pub executing : {D : Type 0} → Flushed D → Flushed D
+executing f = record f {
+  executed = f.stored;
+  brought = drop (f.stored - f.executed) f.brought;
   broker = record { state = state_at f.opening f.seat f.stored; broken = false };
-  boxes = boxes_after f.settled f.boxes (stored_entries f);
-  ended = f.ended ++ ended_of f.broker.state (unsettled f);
-  waiting = f.waiting ++ outs_of f.broker.state (unsettled f);
+  boxes = boxes_after f.executed f.boxes (stored_entries f);
+  ended = f.ended ++ ended_of f.broker.state (unexecuted f);
+  waiting = f.waiting ++ outs_of f.broker.state (unexecuted f);
 }
 
 -- the boxes to which outputs are given: those of sessions that ended and got their last outputs are let go first
@@ -103,14 +103,14 @@ turned_outs old new = old.waiting ++ outs_of old.broker.state (from_on new.seat 
 
 -- the boxes that stand when a turn that took these entries publishes
 abbrev pub turned_boxes : {D : Type 0} → Flushed D → List (EntryValue SenderValue) → Kept
-turned_boxes old more = without (boxes_after old.settled old.boxes (old.brought ++ more)) old.past
+turned_boxes old more = without (boxes_after old.executed old.boxes (old.brought ++ more)) old.past
 
 -- A turn has taken these entries, and all that was taken is stored, executed and published: the outputs of all that was not
 -- published were given to the boxes of their sessions, or may be handed out, behind those that might be already.
 pub record IsTurned {D : Type 0} (old new : Flushed D) (more : List (EntryValue SenderValue)) : Type 0 where
   pub seat : new.seat ≡ with_mark (with_more old.seat (commands more)) (next_ticket (with_more old.seat (commands more)))
   pub stored : new.stored ≡ next_ticket new.seat
-  pub settled : new.settled ≡ next_ticket new.seat
+  pub executed : new.executed ≡ next_ticket new.seat
   pub opening : new.opening ≡ old.opening
   pub broker : new.broker ≡ record { state = state_taken new.opening new.seat; broken = false }
   pub given : AreGiven (turned_outs old new) (turned_boxes old more) new.boxes

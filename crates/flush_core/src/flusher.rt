@@ -39,7 +39,7 @@ pub struct Flusher<D: Disk, B: Bell, const BATCH: usize, const BATCH_BYTES: u64>
     pub(crate) done: Vec<Entry<OutSender<B>>>,
     // The first numbers that are not stored, and not executed.
     pub(crate) stored: u64,
-    pub(crate) settled: u64,
+    pub(crate) executed: u64,
     // The outboxes of sessions, and the outputs on their way there.
     pub(crate) outlet: Outlet<B>,
     pub(crate) broken: bool,
@@ -58,10 +58,10 @@ impl<D: Disk, B: Bell, const BATCH: usize, const BATCH_BYTES: u64> Model
 
     ghost Value = { Flushed D };
 
-    ghost view = { λ a. flushed a.journal a.seat a.opening.value.state a.stored a.settled (a.done.items ++ a.batch.items) a.broker a.outlet.boxes a.outlet.ended.items a.outlet.past.items a.outlet.waiting.items a.outlet.left.items a.broken a.won };
+    ghost view = { λ a. flushed a.journal a.seat a.opening.value.state a.stored a.executed (a.done.items ++ a.batch.items) a.broker a.outlet.boxes a.outlet.ended.items a.outlet.past.items a.outlet.waiting.items a.outlet.left.items a.broken a.won };
 
-    ghost invariant = { λ a. IsFlusher D.honest D.images (flushed a.journal a.seat a.opening.value.state a.stored a.settled (a.done.items ++ a.batch.items) a.broker a.outlet.boxes a.outlet.ended.items a.outlet.past.items a.outlet.waiting.items a.outlet.left.items a.broken a.won)
-        × (a.broken ≡ false → IsHeld a.seat a.stored a.settled (is_broken a.journal) a.batch.items a.done.items a.bytes
+    ghost invariant = { λ a. IsFlusher D.honest D.images (flushed a.journal a.seat a.opening.value.state a.stored a.executed (a.done.items ++ a.batch.items) a.broker a.outlet.boxes a.outlet.ended.items a.outlet.past.items a.outlet.waiting.items a.outlet.left.items a.broken a.won)
+        × (a.broken ≡ false → IsHeld a.seat a.stored a.executed (is_broken a.journal) a.batch.items a.done.items a.bytes
         (length a.outlet.left.items) (length a.outlet.waiting.items) (vec_capacity a.outlet.left))
         × (a.broken ≡ false → IsSpare (length a.outlet.spare.items) (length a.outlet.waiting.items) (vec_capacity a.outlet.spare))
         × (a.broken ≡ false → IsBatch BATCH BATCH_BYTES (commands a.batch.items)) };
@@ -93,7 +93,7 @@ impl<D: Disk, B: Bell, const BATCH: usize, const BATCH_BYTES: u64> Flusher<D, B,
             bytes: 0,
             done: Vec::new(alloc),
             stored: next,
-            settled: next,
+            executed: next,
             outlet: Outlet::new(alloc),
             broken,
             won: None,
@@ -176,7 +176,7 @@ impl<D: Disk, B: Bell, const BATCH: usize, const BATCH_BYTES: u64> Flusher<D, B,
             bytes,
             done,
             stored,
-            settled,
+            executed,
             outlet,
             broken,
             won,
@@ -190,7 +190,7 @@ impl<D: Disk, B: Bell, const BATCH: usize, const BATCH_BYTES: u64> Flusher<D, B,
             bytes,
             done,
             stored,
-            settled,
+            executed,
             outlet,
             broken,
             won,

@@ -9,7 +9,7 @@ mod gathering;
 mod marking;
 mod outlet;
 mod publishing;
-mod settling;
+mod executing;
 mod storing;
 mod turning;
 

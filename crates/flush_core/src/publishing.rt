@@ -23,7 +23,7 @@ impl<D: Disk, B: Bell, const BATCH: usize, const BATCH_BYTES: u64> Flusher<D, B,
     pub fn publish(&mut self, ring: &BrokerRing<OutSender<B>>)
         requires ring { self.old.seat.ring ≡ ring.now }
         requires whole { self.old.broken ≡ false }
-        requires settled { self.old.settled ≡ self.old.stored }
+        requires executed { self.old.executed ≡ self.old.stored }
         ensures published { self.new ≡ publishing self.old self.new.boxes }
         ensures given { AreGiven self.old.waiting (standing self.old) self.new.boxes }
         ensures held { D.honest self.new.disk → StandFor (D.images self.new.disk) (state_at self.new.opening self.new.seat self.new.seat.published) }

@@ -33,7 +33,7 @@ impl<D: Disk, B: Bell, const BATCH: usize, const BATCH_BYTES: u64> Flusher<D, B,
         ring: &BrokerRing<OutSender<B>>,
     ) -> Result<u64, FlushFault>
         requires ring { self.old.seat.ring ≡ ring.now }
-        requires settled { self.old.broken ≡ false → self.old.settled ≡ self.old.stored }
+        requires executed { self.old.broken ≡ false → self.old.executed ≡ self.old.stored }
         ensures any_moment { D.honest self.old.disk → self.old.broken ≡ false →
             LeavesOnly D.moment D.images_since self.old.disk self.new.disk
             (StandsForEither (state_at self.old.opening self.old.seat self.old.stored) (state_taken self.new.opening self.new.seat)) }
@@ -65,7 +65,7 @@ impl<D: Disk, B: Bell, const BATCH: usize, const BATCH_BYTES: u64> Flusher<D, B,
         }
         let count = self.gather(ring)?;
         self.store(alloc, ring)?;
-        self.settle(alloc, ring)?;
+        self.execute(alloc, ring)?;
         self.publish(ring);
         Ok(count)
     }
@@ -78,7 +78,7 @@ impl<D: Disk, B: Bell, const BATCH: usize, const BATCH_BYTES: u64> Flusher<D, B,
         ring: &BrokerRing<OutSender<B>>,
     ) -> Result<u64, FlushFault>
         requires ring { self.old.seat.ring ≡ ring.now }
-        requires settled { self.old.broken ≡ false → self.old.settled ≡ self.old.stored }
+        requires executed { self.old.broken ≡ false → self.old.executed ≡ self.old.stored }
         ensures any_moment { D.honest self.old.disk → self.old.broken ≡ false →
             LeavesOnly D.moment D.images_since self.old.disk self.new.disk
             (StandsForEither (state_at self.old.opening self.old.seat self.old.stored) (state_taken self.new.opening self.new.seat)) }
@@ -104,7 +104,7 @@ impl<D: Disk, B: Bell, const BATCH: usize, const BATCH_BYTES: u64> Flusher<D, B,
         }
         let count = self.gather(ring)?;
         self.append(alloc, ring)?;
-        self.settle(alloc, ring)?;
+        self.execute(alloc, ring)?;
         self.publish(ring);
         Ok(count)
     }

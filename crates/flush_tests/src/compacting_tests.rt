@@ -55,9 +55,9 @@ fn sending(alloc: Global, count: u16) -> Option<Vec<u8>> {
 // The first session does that, and a turn makes it durable. What it is sent is let go. Answers whether all that was done.
 fn does(alloc: Global, setup: &mut Setup, record: &[u8]) -> bool
     requires ring { (setup.old.first.ring ≡ setup.old.ring) × (setup.old.flusher.seat.ring ≡ setup.old.ring) }
-    requires settled { setup.old.flusher.settled ≡ setup.old.flusher.stored }
+    requires executed { setup.old.flusher.executed ≡ setup.old.flusher.stored }
     ensures ring { IsTrue result → (setup.new.first.ring ≡ setup.new.ring) × (setup.new.flusher.seat.ring ≡ setup.new.ring) }
-    ensures settled { IsTrue result → setup.new.flusher.settled ≡ setup.new.flusher.stored }
+    ensures executed { IsTrue result → setup.new.flusher.executed ≡ setup.new.flusher.stored }
 {
     let Some(Ok(_)) = append(alloc, &setup.ring, &mut setup.first, record) else {
         return false;
@@ -72,9 +72,9 @@ fn does(alloc: Global, setup: &mut Setup, record: &[u8]) -> bool
 // It does that so many times.
 fn does_often(alloc: Global, setup: &mut Setup, record: &[u8], times: u32) -> bool
     requires ring { (setup.old.first.ring ≡ setup.old.ring) × (setup.old.flusher.seat.ring ≡ setup.old.ring) }
-    requires settled { setup.old.flusher.settled ≡ setup.old.flusher.stored }
+    requires executed { setup.old.flusher.executed ≡ setup.old.flusher.stored }
     ensures ring { IsTrue result → (setup.new.first.ring ≡ setup.new.ring) × (setup.new.flusher.seat.ring ≡ setup.new.ring) }
-    ensures settled { IsTrue result → setup.new.flusher.settled ≡ setup.new.flusher.stored }
+    ensures executed { IsTrue result → setup.new.flusher.executed ≡ setup.new.flusher.stored }
 {
     for _ in 0..times {
         if !does(alloc, setup, record) {
@@ -87,7 +87,7 @@ fn does_often(alloc: Global, setup: &mut Setup, record: &[u8], times: u32) -> bo
 // Both sessions are open; the first has so many messages of 40,000 bytes, and has acknowledged none.
 fn loaded(alloc: Global, messages: u32) -> Option<Setup>
     ensures ring { IfSome result (λ s. (s.first.ring ≡ s.ring) × (s.flusher.seat.ring ≡ s.ring)) }
-    ensures settled { IfSome result (λ s. s.flusher.settled ≡ s.flusher.stored) }
+    ensures executed { IfSome result (λ s. s.flusher.executed ≡ s.flusher.stored) }
 {
     let record = sending(alloc, 40_000)?;
     match set_up(alloc, ROOMY_AREA) {

@@ -56,7 +56,7 @@ fn begin(alloc: Global, store: Store<MemDisk>) -> Option<Setup>
     requires small { IfSome (opened_by store) (λ broker. (broker.state.count ≤ 2 ^ 61) × (broker.broken ≡ false)) }
     requires stands { IfSome (opened_by store) (λ broker. StandFor (IsImage (disk_of store).content (disk_of store).held) broker.state) }
     ensures ring { IfSome result (λ s. (s.first.ring ≡ s.ring) × (s.second.ring ≡ s.ring) × (s.flusher.seat.ring ≡ s.ring)) }
-    ensures settled { IfSome result (λ s. s.flusher.settled ≡ s.flusher.stored) }
+    ensures executed { IfSome result (λ s. s.flusher.executed ≡ s.flusher.stored) }
 {
     let mut store = store;
     let broker = store.broker().unwrap();
@@ -81,7 +81,7 @@ fn begin(alloc: Global, store: Store<MemDisk>) -> Option<Setup>
 pub(crate) fn set_up(alloc: Global, area_bytes: u64) -> Option<Setup>
     requires { (4096 ≤ area_bytes) × (area_bytes ≤ 262144) }
     ensures ring { IfSome result (λ s. (s.first.ring ≡ s.ring) × (s.second.ring ≡ s.ring) × (s.flusher.seat.ring ≡ s.ring)) }
-    ensures settled { IfSome result (λ s. s.flusher.settled ≡ s.flusher.stored) }
+    ensures executed { IfSome result (λ s. s.flusher.executed ≡ s.flusher.stored) }
 {
     match formatted(alloc, area_bytes) {
         Some(disk) => match open(alloc, disk) {
@@ -121,9 +121,9 @@ pub(crate) fn append(
 /// Both sessions open, which is a turn of its own.
 pub(crate) fn open_both(alloc: Global, setup: &mut Setup) -> bool
     requires ring { (setup.old.first.ring ≡ setup.old.ring) × (setup.old.second.ring ≡ setup.old.ring) × (setup.old.flusher.seat.ring ≡ setup.old.ring) }
-    requires settled { setup.old.flusher.settled ≡ setup.old.flusher.stored }
+    requires executed { setup.old.flusher.executed ≡ setup.old.flusher.stored }
     ensures ring { IsTrue result → (setup.new.first.ring ≡ setup.new.ring) × (setup.new.second.ring ≡ setup.new.ring) × (setup.new.flusher.seat.ring ≡ setup.new.ring) }
-    ensures settled { IsTrue result → setup.new.flusher.settled ≡ setup.new.flusher.stored }
+    ensures executed { IsTrue result → setup.new.flusher.executed ≡ setup.new.flusher.stored }
 {
     let first = append(alloc, &setup.ring, &mut setup.first, OPEN);
     let second = append(alloc, &setup.ring, &mut setup.second, OPEN);

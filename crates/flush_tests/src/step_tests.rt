@@ -30,7 +30,7 @@ fn send_three(alloc: Global, setup: &mut Setup) -> bool
 // Two sessions that are open and have sent.
 fn opened(alloc: Global) -> Option<Setup>
     ensures ring { IfSome result (λ s. (s.first.ring ≡ s.ring) × (s.second.ring ≡ s.ring) × (s.flusher.seat.ring ≡ s.ring)) }
-    ensures settled { IfSome result (λ s. s.flusher.settled ≡ s.flusher.stored) }
+    ensures executed { IfSome result (λ s. s.flusher.executed ≡ s.flusher.stored) }
 {
     match set_up(alloc, SMALL_AREA) {
         Some(mut setup) => {
@@ -53,7 +53,7 @@ fn make_steps(
     steps: u32,
 ) -> Result<u64, FlushFault>
     requires ring { flusher.old.seat.ring ≡ ring.now }
-    requires settled { flusher.old.settled ≡ flusher.old.stored }
+    requires executed { flusher.old.executed ≡ flusher.old.stored }
 {
     if steps == 0 {
         return Ok(0);
@@ -66,7 +66,7 @@ fn make_steps(
     if steps == 2 {
         return Ok(taken);
     }
-    flusher.settle(alloc, ring)?;
+    flusher.execute(alloc, ring)?;
     if steps == 3 {
         return Ok(taken);
     }
@@ -110,7 +110,7 @@ struct Sight([u64; 4], Leaving);
 // That after so many steps.
 fn see(alloc: Global, setup: &mut Setup, steps: u32) -> Option<Sight>
     requires ring { (setup.old.first.ring ≡ setup.old.ring) × (setup.old.second.ring ≡ setup.old.ring) × (setup.old.flusher.seat.ring ≡ setup.old.ring) }
-    requires settled { setup.old.flusher.settled ≡ setup.old.flusher.stored }
+    requires executed { setup.old.flusher.executed ≡ setup.old.flusher.stored }
 {
     let taken = make_steps(alloc, &setup.ring, &mut setup.flusher, steps).ok()?;
     let executed = setup.flusher.broker().count();
@@ -187,7 +187,7 @@ fn each_step_of_a_turn_does_its_part_alone(rt: HostRuntime) -> Result<(), Fail> 
 // How many commands each of two gathers takes, and the mark once both are published.
 fn gather_twice(alloc: Global, setup: &mut Setup) -> Option<[u64; 3]>
     requires ring { (setup.old.first.ring ≡ setup.old.ring) × (setup.old.flusher.seat.ring ≡ setup.old.ring) }
-    requires settled { setup.old.flusher.settled ≡ setup.old.flusher.stored }
+    requires executed { setup.old.flusher.executed ≡ setup.old.flusher.stored }
 {
     let first = setup.flusher.gather(&setup.ring).ok()?;
     let Some(Ok(5)) = append(alloc, &setup.ring, &mut setup.first, FIRST_SEND) else {
@@ -195,7 +195,7 @@ fn gather_twice(alloc: Global, setup: &mut Setup) -> Option<[u64; 3]>
     };
     let second = setup.flusher.gather(&setup.ring).ok()?;
     setup.flusher.store(alloc, &setup.ring).ok()?;
-    setup.flusher.settle(alloc, &setup.ring).ok()?;
+    setup.flusher.execute(alloc, &setup.ring).ok()?;
     setup.flusher.publish(&setup.ring);
     Some([first, second, setup.flusher.mark()])
 }
@@ -219,7 +219,7 @@ fn fails<D: Disk>(
     in_a_turn: bool,
 ) -> bool
     requires ring { flusher.old.seat.ring ≡ ring.now }
-    requires settled { flusher.old.settled ≡ flusher.old.stored }
+    requires executed { flusher.old.executed ≡ flusher.old.stored }
     ensures { IsTrue result → (flusher.new.seat.ring ≡ ring.now) × (flusher.new.broken ≡ true) }
 {
     if in_a_turn {
@@ -243,7 +243,7 @@ fn is_refused<D: Disk>(alloc: Global, ring: &TestRing, flusher: &mut TestFlusher
     let Err(FlushFault::Broken) = flusher.store(alloc, ring) else {
         return false;
     };
-    let Err(FlushFault::Broken) = flusher.settle(alloc, ring) else {
+    let Err(FlushFault::Broken) = flusher.execute(alloc, ring) else {
         return false;
     };
     matches!(flusher.turn(alloc, ring), Err(FlushFault::Broken))

@@ -32,7 +32,7 @@ first f store seat broker ring base is seat_is whole =
     record {
       seat = ap (λ (x : Flushed _). x.seat) is ∙ seat_is;
       stored = ap (λ (x : Flushed _). x.stored) is ∙ base_is;
-      settled = ap (λ (x : Flushed _). x.settled) is ∙ base_is;
+      executed = ap (λ (x : Flushed _). x.executed) is ∙ base_is;
       broker = broker_is ∙ as_parts broker f.opening opening_is whole;
       brought = ap (λ (x : Flushed _). x.brought) is;
       boxes = ap (λ (x : Flushed _). x.boxes) is;

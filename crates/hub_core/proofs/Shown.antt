@@ -70,7 +70,7 @@ closes {D} honest images f disk seat seats history end law kept disk_is seat_is 
     let here : Ends seats f.seat history end = subst Of seat_is ended in
     record {
       ended = here;
-      stored = (omega (arith, here.mark, kept.marked, kept.settled), omega (arith, here.taken, kept.stored));
+      stored = (omega (arith, here.mark, kept.marked, kept.executed), omega (arith, here.taken, kept.stored));
       disk_is = disk_is;
       tells = λ d. record { base = here.base; claimed_is = here.claimed; taken = here.taken; mark = here.mark };
       holds = subst At (sym disk_is) (λ honest_disk. holds images f seats history end law here (kept.each honest_disk));

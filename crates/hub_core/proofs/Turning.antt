@@ -20,7 +20,7 @@ none f = record {
   raised = omega arith;
   opening = refl;
   broken = λ e. e;
-  settled = λ e. e;
+  executed = λ e. e;
   caught_up = λ e b. e;
   left = λ e b. e;
 }
@@ -34,7 +34,7 @@ more f g h a b = record {
   raised = omega (arith, a.raised, b.raised);
   opening = b.opening ∙ a.opening;
   broken = λ e. b.broken (a.broken e);
-  settled = λ e. b.settled (a.settled e);
+  executed = λ e. b.executed (a.executed e);
   caught_up = λ e whole. b.caught_up (a.caught_up e (was_whole g.broken h.broken b.broken whole)) whole;
   left = λ e whole. b.left (a.left e (was_whole g.broken h.broken b.broken whole)) whole;
 }
@@ -54,10 +54,10 @@ turned honest images old mid cs kept whole t =
       base = ap (λ (s : FlushSeatValue). s.base) t.seat;
       seats = ap (λ (s : FlushSeatValue). s.seats) t.seat;
       taken = (commands cs, ap (λ (s : FlushSeatValue). s.taken) t.seat);
-      raised = omega (arith, published, length-append old.seat.taken (commands cs), kept.marked, kept.settled, kept.stored);
+      raised = omega (arith, published, length-append old.seat.taken (commands cs), kept.marked, kept.executed, kept.stored);
       opening = t.opening;
       broken = λ e. cc;
-      settled = λ e b. t.settled ∙ sym t.stored;
+      executed = λ e b. t.executed ∙ sym t.stored;
       caught_up = λ e b. subst At (sym t.seat) refl;
       left = λ e b. refl;
     }
@@ -71,7 +71,7 @@ falls old new t = record {
   raised = omega (arith, t.published);
   opening = t.opening;
   broken = λ e. t.now;
-  settled = λ e b. let n = t.now in cc;
+  executed = λ e b. let n = t.now in cc;
   caught_up = λ e b. let n = t.now in cc;
   left = λ e b. let n = t.now in cc;
 }

@@ -15,6 +15,6 @@ pub record Flushes {D : Type 0} (old new : Flushed D) : Type 0 where
   pub raised : old.seat.published ≤ new.seat.published
   pub opening : new.opening ≡ old.opening
   pub broken : old.broken ≡ true → new.broken ≡ true
-  pub settled : (old.broken ≡ false → old.settled ≡ old.stored) → (new.broken ≡ false → new.settled ≡ new.stored)
+  pub executed : (old.broken ≡ false → old.executed ≡ old.stored) → (new.broken ≡ false → new.executed ≡ new.stored)
   pub caught_up : next_ticket old.seat ≡ old.seat.published → new.broken ≡ false → next_ticket new.seat ≡ new.seat.published
   pub left : old.left ≡ [] → new.broken ≡ false → new.left ≡ []

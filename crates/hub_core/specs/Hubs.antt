@@ -27,7 +27,7 @@ AreNew ring base seats = All (λ (seat : SessionSeatValue). seat ≡ new_session
 pub record IsFirst {D : Type 0} (ring : TableId) (base : ℕ) (f : Flushed D) : Type 0 where
   pub seat : f.seat ≡ new_flushing ring base SEATS
   pub stored : f.stored ≡ base
-  pub settled : f.settled ≡ base
+  pub executed : f.executed ≡ base
   pub broker : f.broker ≡ record { state = f.opening; broken = false }
   pub brought : f.brought ≡ []
   pub boxes : f.boxes ≡ []

@@ -26,7 +26,7 @@ pub fn flush_loop<D: Disk, B: Bell, P: Pacing>(
     turns: u64,
 ) -> Result<u64, FlushFault>
     requires ring { flusher.old.seat.ring ≡ ring.now }
-    requires settled { flusher.old.broken ≡ false → flusher.old.settled ≡ flusher.old.stored }
+    requires executed { flusher.old.broken ≡ false → flusher.old.executed ≡ flusher.old.stored }
     ensures mark { IfOk result (λ mark. mark ≡ flusher.new.seat.published) }
     ensures flushes { Flushes flusher.old flusher.new }
     ensures cause { IsFlushCaused (D.failures flusher.old.disk) (D.failures flusher.new.disk) result }
@@ -48,7 +48,7 @@ fn flush<D: Disk, B: Bell, P: Pacing>(
     pace: &P,
 ) -> Result<(), FlushFault>
     requires ring { flusher.old.seat.ring ≡ ring.now }
-    requires settled { flusher.old.broken ≡ false → flusher.old.settled ≡ flusher.old.stored }
+    requires executed { flusher.old.broken ≡ false → flusher.old.executed ≡ flusher.old.stored }
     ensures flushes { Flushes flusher.old flusher.new }
     ensures cause { IsFlushCaused (D.failures flusher.old.disk) (D.failures flusher.new.disk) result }
     ensures stops { OnErr result ((flusher.new.broken ≡ true) × (flusher.new.seat.stopped ≡ true)) }

@@ -91,7 +91,7 @@ fn stop_within_a_turn(
     flusher: &mut HubFlusher,
 ) -> Option<u64>
     requires seat { seat.old.ring ≡ ring.now }
-    requires flusher { (flusher.old.seat.ring ≡ ring.now) × (flusher.old.settled ≡ flusher.old.stored) }
+    requires flusher { (flusher.old.seat.ring ≡ ring.now) × (flusher.old.executed ≡ flusher.old.stored) }
     ensures seat { seat.new.ring ≡ seat.old.ring }
     ensures flusher { OnSome result ((flusher.new.seat.ring ≡ flusher.old.seat.ring) × (flusher.new.seat.seats ≡ flusher.old.seat.seats)) }
 {
@@ -114,7 +114,7 @@ fn break_flusher(
     flusher: &mut HubFlusher,
 ) -> Option<u64>
     requires seat { seat.old.ring ≡ ring.now }
-    requires flusher { (flusher.old.seat.ring ≡ ring.now) × (flusher.old.settled ≡ flusher.old.stored) }
+    requires flusher { (flusher.old.seat.ring ≡ ring.now) × (flusher.old.executed ≡ flusher.old.stored) }
     ensures seat { seat.new.ring ≡ seat.old.ring }
     ensures flusher { OnSome result ((flusher.new.seat.ring ≡ flusher.old.seat.ring) × (flusher.new.seat.seats ≡ flusher.old.seat.seats)) }
 {
@@ -130,7 +130,7 @@ fn break_flusher(
 // One of the two.
 fn play(alloc: Global, party: &mut Party, breaks: bool) -> bool
     requires together { AreTogether party.old.hub party.old.first party.old.second party.old.flusher }
-    requires settled { party.old.flusher.settled ≡ party.old.flusher.stored }
+    requires executed { party.old.flusher.executed ≡ party.old.flusher.stored }
     ensures { IsTrue result → AreTogether party.new.hub party.new.first party.new.second party.new.flusher }
 {
     let ring = party.hub.ring();

@@ -43,7 +43,7 @@ pub struct Party {
 pub fn new_party(alloc: Global, area_bytes: u64) -> Option<Party>
     requires { (4096 ≤ area_bytes) × (area_bytes ≤ 262144) }
     ensures together { IfSome result (λ party. AreTogether party.hub party.first party.second party.flusher) }
-    ensures settled { IfSome result (λ party. party.flusher.settled ≡ party.flusher.stored) }
+    ensures executed { IfSome result (λ party. party.flusher.executed ≡ party.flusher.stored) }
 {
     match formatted(alloc, area_bytes) {
         Some(disk) => party_over(alloc, disk),
@@ -65,7 +65,7 @@ pub fn formatted(alloc: Global, area_bytes: u64) -> Option<MemDisk>
 /// The party at the journal of that disk.
 pub fn party_over(alloc: Global, disk: MemDisk) -> Option<Party>
     ensures together { IfSome result (λ party. AreTogether party.hub party.first party.second party.flusher) }
-    ensures settled { IfSome result (λ party. party.flusher.settled ≡ party.flusher.stored) }
+    ensures executed { IfSome result (λ party. party.flusher.executed ≡ party.flusher.stored) }
 {
     match Hub::open(alloc, disk) {
         Ok(hub) => Some(handed_out(hub)),
@@ -76,7 +76,7 @@ pub fn party_over(alloc: Global, disk: MemDisk) -> Option<Party>
 fn handed_out(hub: MemHub) -> Party
     requires { (f : Flushed _) × IsWhole hub f }
     ensures together { AreTogether result.hub result.first result.second result.flusher }
-    ensures settled { result.flusher.settled ≡ result.flusher.stored }
+    ensures executed { result.flusher.executed ≡ result.flusher.stored }
 {
     let mut hub = hub;
     let first = take_seat(&mut hub);
@@ -102,7 +102,7 @@ fn take_seat(hub: &mut MemHub) -> HubSeat
 
 fn take_flusher(hub: &mut MemHub) -> HubFlusher
     requires { IsSome hub.old.flusher }
-    ensures flusher { (result.seat.ring ≡ hub.new.ring) × (result.settled ≡ result.stored) × (result.seat.seats ≡ 32) }
+    ensures flusher { (result.seat.ring ≡ hub.new.ring) × (result.executed ≡ result.stored) × (result.seat.seats ≡ 32) }
     ensures same { (hub.new.ring ≡ hub.old.ring) × (hub.new.seats ≡ hub.old.seats) }
 {
     hub.flusher().unwrap()

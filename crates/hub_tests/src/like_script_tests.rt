@@ -42,7 +42,7 @@ fn flush<R: Clock>(
     flusher: &mut HubFlusher,
     pace: &Pause<R>,
 ) -> Option<u64>
-    requires { (flusher.old.seat.ring ≡ ring.now) × (flusher.old.settled ≡ flusher.old.stored) }
+    requires { (flusher.old.seat.ring ≡ ring.now) × (flusher.old.executed ≡ flusher.old.stored) }
 {
     flush_loop(alloc, ring, flusher, pace, TURNS).ok()
 }
@@ -55,7 +55,7 @@ fn work_and_flush<R: Threads + Wait + Clock + Sync>(
     pace: &Pause<R>,
 ) -> (Option<(Ended, Option<usize>)>, Option<u64>)
     requires together { AreTogether party.old.hub party.old.first party.old.second party.old.flusher }
-    requires settled { party.old.flusher.settled ≡ party.old.flusher.stored }
+    requires executed { party.old.flusher.executed ≡ party.old.flusher.stored }
 {
     let ring = party.hub.ring();
     let seat = &mut party.first;
@@ -66,7 +66,7 @@ fn work_and_flush<R: Threads + Wait + Clock + Sync>(
             requires { seat.now.ring ≡ ring.now }
         { work(alloc, ring, seat, pace) },
         || -> Option<u64>
-            requires { (flusher.now.seat.ring ≡ ring.now) × (flusher.now.settled ≡ flusher.now.stored) }
+            requires { (flusher.now.seat.ring ≡ ring.now) × (flusher.now.executed ≡ flusher.now.stored) }
         { flush(alloc, ring, flusher, pace) },
     )
 }

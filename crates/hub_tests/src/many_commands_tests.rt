@@ -103,7 +103,7 @@ fn flush_to<P: Pacing>(
     compacts: bool,
 )
     requires ring { flusher.old.seat.ring ≡ ring.now }
-    requires settled { flusher.old.broken ≡ false → flusher.old.settled ≡ flusher.old.stored }
+    requires executed { flusher.old.broken ≡ false → flusher.old.executed ≡ flusher.old.stored }
     ensures ring { flusher.new.seat.ring ≡ flusher.old.seat.ring }
     ensures seats { flusher.new.seat.seats ≡ flusher.old.seat.seats }
 {
@@ -149,7 +149,7 @@ fn work_and_flush<R: Threads + Clock + Sync>(
     compacts: bool,
 ) -> (bool, bool)
     requires together { AreTogether party.old.hub party.old.first party.old.second party.old.flusher }
-    requires settled { party.old.flusher.settled ≡ party.old.flusher.stored }
+    requires executed { party.old.flusher.executed ≡ party.old.flusher.stored }
     ensures { AreTogether party.new.hub party.new.first party.new.second party.new.flusher }
 {
     let ring = party.hub.ring();

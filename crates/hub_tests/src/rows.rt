@@ -128,7 +128,7 @@ fn flush<R: Clock>(
     flusher: &mut HubFlusher,
     pace: &Noting<R>,
 ) -> Option<u64>
-    requires { (flusher.old.seat.ring ≡ ring.now) × (flusher.old.settled ≡ flusher.old.stored) }
+    requires { (flusher.old.seat.ring ≡ ring.now) × (flusher.old.executed ≡ flusher.old.stored) }
 {
     flush_loop(alloc, ring, flusher, pace, TURNS).ok()
 }
@@ -142,7 +142,7 @@ fn work_and_flush<R: Threads + Wait + Clock + Sync>(
     pace: &Noting<R>,
 ) -> (Option<(Ended, Option<u16>)>, Option<u64>)
     requires together { AreTogether party.old.hub party.old.first party.old.second party.old.flusher }
-    requires settled { party.old.flusher.settled ≡ party.old.flusher.stored }
+    requires executed { party.old.flusher.executed ≡ party.old.flusher.stored }
 {
     let ring = party.hub.ring();
     let seat = &mut party.first;
@@ -153,14 +153,14 @@ fn work_and_flush<R: Threads + Wait + Clock + Sync>(
             requires { seat.now.ring ≡ ring.now }
         { work(alloc, ring, seat, row, pace) },
         || -> Option<u64>
-            requires { (flusher.now.seat.ring ≡ ring.now) × (flusher.now.settled ≡ flusher.now.stored) }
+            requires { (flusher.now.seat.ring ≡ ring.now) × (flusher.now.executed ≡ flusher.now.stored) }
         { flush(alloc, ring, flusher, pace) },
     )
 }
 
 fn party_of(alloc: Global, row: &Row) -> Option<Party>
     ensures together { IfSome result (λ party. AreTogether party.hub party.first party.second party.flusher) }
-    ensures settled { IfSome result (λ party. party.flusher.settled ≡ party.flusher.stored) }
+    ensures executed { IfSome result (λ party. party.flusher.executed ≡ party.flusher.stored) }
 {
     if row.overflows {
         new_party(alloc, AREA)

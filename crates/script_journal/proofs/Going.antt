@@ -78,7 +78,7 @@ module _ {D : Type 0} where
       let all_left : unboxed (turned_boxes f more) (turned_outs f g) ≡ turned_outs f g =
       all_unboxed (turned_boxes f more) (turned_outs f g) (none_boxed (turned_outs f g) (turned_boxes f more) (subst (AreGiven (turned_outs f g) (turned_boxes f more)) boxless turned.given)) in
       record {
-        idle = record { whole = whole; stored = turned.stored; settled = turned.settled; marked = ap (λ (s : FlushSeatValue). s.published) turned.seat ∙ sym (ap next_ticket turned.seat); waiting = turned.waiting; state = state };
+        idle = record { whole = whole; stored = turned.stored; executed = turned.executed; marked = ap (λ (s : FlushSeatValue). s.published) turned.seat ∙ sym (ap next_ticket turned.seat); waiting = turned.waiting; state = state };
         seat = turned.seat;
         opening = turned.opening;
         state = state ∙ ((λ i. state_after (turned.opening i) ((turned.seat i).taken)) ∙ (after-append f.seat.taken f.opening cs ∙ ap (λ (s : State). state_after s cs) (sym idle.state)));

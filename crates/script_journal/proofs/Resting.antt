@@ -37,8 +37,8 @@ new_seats ring base seats all j seat at =
     ap (λ (s : SessionSeatValue). s.ring) (subst (λ (s : SessionSeatValue). s ≡ new_session ring base s.number) (at_or seats j seat seat at) (all j seat (below seats j seat at)))
 
 pub new_rest : {D : Type 0} (ring : TableId) (seats : List SessionSeatValue) (f : Flushed D) (base n : ℕ) → AreSeatsOf ring seats → f.seat ≡ new_flushing ring base n → f.broken ≡ false
-    → f.stored ≡ f.seat.base → f.settled ≡ f.seat.base → f.waiting ≡ [] → f.left ≡ [] → f.opening ≡ f.broker.state → IsAtRest ring seats f
-new_rest ring seats f base n all is whole stored settled none none_left opening =
+    → f.stored ≡ f.seat.base → f.executed ≡ f.seat.base → f.waiting ≡ [] → f.left ≡ [] → f.opening ≡ f.broker.state → IsAtRest ring seats f
+new_rest ring seats f base n all is whole stored executed none none_left opening =
     let start : f.seat.base ≡ base = ap (λ (s : FlushSeatValue). s.base) is in
     let next : next_ticket f.seat ≡ base = ap next_ticket is ∙ omega arith in
     record {
@@ -47,7 +47,7 @@ new_rest ring seats f base n all is whole stored settled none none_left opening 
       idle = record {
         whole = whole;
         stored = stored ∙ (start ∙ sym next);
-        settled = settled ∙ (start ∙ sym next);
+        executed = executed ∙ (start ∙ sym next);
         marked = ap (λ (s : FlushSeatValue). s.published) is ∙ sym next;
         waiting = none;
         state = sym opening ∙ sym (ap (λ (s : FlushSeatValue). state_after f.opening s.taken) is);
@@ -82,7 +82,7 @@ pub same_idle : {C D : Type 0} (f : Flushed C) (u : Flushed D) → IsSame f u �
 same_idle f u same idle = record {
   whole = same.broken ∙ idle.whole;
   stored = same.stored ∙ (idle.stored ∙ sym (ap next_ticket same.seat));
-  settled = same.settled ∙ (idle.settled ∙ sym (ap next_ticket same.seat));
+  executed = same.executed ∙ (idle.executed ∙ sym (ap next_ticket same.seat));
   marked = ap (λ (s : FlushSeatValue). s.published) same.seat ∙ (idle.marked ∙ sym (ap next_ticket same.seat));
   waiting = same.waiting ∙ idle.waiting;
   state = ap (λ (b : BrokerValue). b.state) same.broker ∙ (idle.state ∙ sym (λ i. state_taken (same.opening i) (same.seat i)));

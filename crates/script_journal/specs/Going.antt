@@ -12,7 +12,7 @@ use Rattle.flush_core.specs.Room.{HasNoRoom}
 pub record IsIdle {D : Type 0} (f : Flushed D) : Type 0 where
   pub whole : f.broken ≡ false
   pub stored : f.stored ≡ next_ticket f.seat
-  pub settled : f.settled ≡ next_ticket f.seat
+  pub executed : f.executed ≡ next_ticket f.seat
   pub marked : f.seat.published ≡ next_ticket f.seat
   pub waiting : f.waiting ≡ []
   pub state : f.broker.state ≡ state_taken f.opening f.seat

@@ -33,7 +33,7 @@ AreAt ring seats = AllByRecursion (λ (seat : SessionSeatValue). seat.ring ≡ r
 -- the flusher is at this ring, and has carried out all that it has stored, unless a step has failed
 pub record IsReady {D : Type 0} (ring : TableId) (flusher : Flushed D) : Type 0 where
   pub ring_is : flusher.seat.ring ≡ ring
-  pub settled : flusher.broken ≡ false → flusher.settled ≡ flusher.stored
+  pub executed : flusher.broken ≡ false → flusher.executed ≡ flusher.stored
 
 -- all seats and the flusher are at the server's ring
 abbrev pub IsServer : ServerValue → Type 0

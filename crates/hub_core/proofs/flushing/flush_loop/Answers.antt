@@ -8,8 +8,8 @@ loop-turn-init g c = (none _, refl)
 pub flush-requires-clause-ring : goal.flush-requires-clause-ring
 flush-requires-clause-ring g c = c.loop-turn.invariant.0.ring ∙ c.requires.ring
 
-pub flush-requires-clause-settled : goal.flush-requires-clause-settled
-flush-requires-clause-settled g c = c.loop-turn.invariant.0.settled c.requires.settled
+pub flush-requires-clause-executed : goal.flush-requires-clause-executed
+flush-requires-clause-executed g c = c.loop-turn.invariant.0.executed c.requires.executed
 
 pub returns-in_err-flush-clause-flushes : goal.returns-in_err-flush-clause-flushes
 returns-in_err-flush-clause-flushes g c = more _ _ _ c.loop-turn.invariant.0 c.in_err-flush.ensures.flushes

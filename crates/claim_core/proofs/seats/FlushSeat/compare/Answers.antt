@@ -5,7 +5,7 @@ use Rattle.claim_core.proofs.History.{agree, gathered}
 use Rattle.claim_core.proofs.seats.FlushSeat.compare.Goals as goal
 
 pub gather-requires-clause-owner : goal.gather-requires-clause-owner
-gather-requires-clause-owner g c = (owner_of c.self.inside.place.me.0, ap (λ m. m.0) c.stand_in-nobody.ensures.told ∙ c.self.invariant.owns)
+gather-requires-clause-owner g c = (owner_of c.self.inside.table_seat.me.0, ap (λ m. m.0) c.stand_in-nobody.ensures.told ∙ c.self.invariant.owns)
 
 pub load_tail-tail-requires-clause-owner : goal.load_tail-tail-requires-clause-owner
 load_tail-tail-requires-clause-owner g c = (

@@ -8,14 +8,14 @@ use Rattle.claim_core.proofs.Waiting.{open_snoc, kept_waiting}
 use Rattle.claim_core.proofs.seats.SessionSeat.put.Goals as goal
 
 pub ready-requires-clause-claimed : goal.ready-requires-clause-claimed
-ready-requires-clause-claimed g c = let seat = c.self.inside in let d = claimer_of seat.place.me.0 in let told = c.claim-ticket.ensures.told in
-    (_, d.own, _, (told.2 d c.self.invariant.claims).0, refl, refl, told.0 ∙ (λ i. (c.claim-ticket.result % c.requires.places.0 i, None) ∷ seat.place.me.1))
+ready-requires-clause-claimed g c = let seat = c.self.inside in let d = claimer_of seat.table_seat.me.0 in let told = c.claim-ticket.ensures.told in
+    (_, d.own, _, (told.2 d c.self.invariant.claims).0, refl, refl, told.0 ∙ (λ i. (c.claim-ticket.result % c.requires.places.0 i, None) ∷ seat.table_seat.me.1))
 
 pub push_reserved-requires : goal.push_reserved-requires
-push_reserved-requires g c = omega (arith, kept_waiting _ _ c.self.inside.place.me.0 _ _ c.self.view_is c.self.invariant.waits_is, c.self.invariant.room, c.requires.room.1)
+push_reserved-requires g c = omega (arith, kept_waiting _ _ c.self.inside.table_seat.me.0 _ _ c.self.view_is c.self.invariant.waits_is, c.self.invariant.room, c.requires.room.1)
 
 pub invariant_of-self : goal.invariant_of-self
-invariant_of-self g c = let seat = c.self.inside in let d = claimer_of seat.place.me.0 in let told = c.claim-ticket.ensures.told in let q = told.2 d c.self.invariant.claims in let did = c.ready.ensures.told in let view = did.1 _ q.0 in
+invariant_of-self g c = let seat = c.self.inside in let d = claimer_of seat.table_seat.me.0 in let told = c.claim-ticket.ensures.told in let q = told.2 d c.self.invariant.claims in let did = c.ready.ensures.told in let view = did.1 _ q.0 in
     record {
       claims = view ∙ sym (ap (λ v. Claims (claimer_of v)) view);
       nothing_out = did.0 ∙ (ap rest told.0 ∙ c.self.invariant.nothing_out);
@@ -25,11 +25,11 @@ invariant_of-self g c = let seat = c.self.inside in let d = claimer_of seat.plac
     }
 
 pub returns-clause-added : goal.returns-clause-added
-returns-clause-added g c = let seat = c.self.inside in let d = claimer_of seat.place.me.0 in let q = c.claim-ticket.ensures.told.2 d c.self.invariant.claims in let view = c.ready.ensures.told.1 _ q.0 in let ring = c.ready.ensures.ring ∙ c.claim-ticket.ensures.ring in
+returns-clause-added g c = let seat = c.self.inside in let d = claimer_of seat.table_seat.me.0 in let q = c.claim-ticket.ensures.told.2 d c.self.invariant.claims in let view = c.ready.ensures.told.1 _ q.0 in let ring = c.ready.ensures.ring ∙ c.claim-ticket.ensures.ring in
     (λ i. session_value (ring i) seat.number (view i)) ∙ ap (λ s. with_own s c.claim-ticket.result c.args.entry.command) c.self.view_is
 
 pub returns-clause-unseen : goal.returns-clause-unseen
-returns-clause-unseen g c = let q = c.claim-ticket.ensures.told.2 (claimer_of c.self.inside.place.me.0) c.self.invariant.claims in subst (λ (s : SessionSeatValue). s.seen ≤ c.claim-ticket.result) c.self.view_is q.1
+returns-clause-unseen g c = let q = c.claim-ticket.ensures.told.2 (claimer_of c.self.inside.table_seat.me.0) c.self.invariant.claims in subst (λ (s : SessionSeatValue). s.seen ≤ c.claim-ticket.result) c.self.view_is q.1
 
 pub returns-clause-last : goal.returns-clause-last
-returns-clause-last g c = let q = c.claim-ticket.ensures.told.2 (claimer_of c.self.inside.place.me.0) c.self.invariant.claims in subst (λ (s : SessionSeatValue). IsLast c.claim-ticket.result s.own) c.self.view_is q.2
+returns-clause-last g c = let q = c.claim-ticket.ensures.told.2 (claimer_of c.self.inside.table_seat.me.0) c.self.invariant.claims in subst (λ (s : SessionSeatValue). IsLast c.claim-ticket.result s.own) c.self.view_is q.2

@@ -8,7 +8,7 @@ use Rattle.claim_core.proofs.Waiting.{open_later}
 use Rattle.claim_core.proofs.seats.SessionSeat.read_mark.Goals as goal
 
 pub invariant_of-self : goal.invariant_of-self
-invariant_of-self g c = let seat = c.self.inside in let d = claimer_of seat.place.me.0 in let told = c.load_mark-mark.ensures.told in let q = told.1 d c.self.invariant.claims in let view = q.1 in let m : ℕ = c.load_mark-mark.result in
+invariant_of-self g c = let seat = c.self.inside in let d = claimer_of seat.table_seat.me.0 in let told = c.load_mark-mark.ensures.told in let q = told.1 d c.self.invariant.claims in let view = q.1 in let m : ℕ = c.load_mark-mark.result in
     record {
       claims = view ∙ sym (ap (λ v. Claims (claimer_of v)) view);
       nothing_out = told.0 ∙ c.self.invariant.nothing_out;

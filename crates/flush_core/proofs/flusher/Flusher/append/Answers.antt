@@ -30,28 +30,28 @@ use Rattle.flush_core.proofs.flusher.Flusher.append.Goals as goal
 pub invariant_of-self : goal.invariant_of-self
 invariant_of-self g c =
     let it = c.self.inside in
-    let f = flushed it.journal it.seat it.opening.value.state it.stored it.settled (it.done.items ++ it.batch.items) it.broker it.outlet.boxes it.outlet.ended.items it.outlet.past.items it.outlet.waiting.items it.outlet.left.items it.broken it.won in
+    let f = flushed it.journal it.seat it.opening.value.state it.stored it.executed (it.done.items ++ it.batch.items) it.broker it.outlet.boxes it.outlet.ended.items it.outlet.past.items it.outlet.waiting.items it.outlet.left.items it.broken it.won in
     let opening = it.opening.value.state in
     let kept = c.self.invariant.0 in
-    let settled : it.settled ≡ it.stored = subst (λ (f : Flushed g.row.D.Denot). f.settled ≡ f.stored) (sym c.self.view_is) (c.requires.settled (ap (λ (f : Flushed g.row.D.Denot). f.broken) (sym c.self.view_is) ∙ c.if-self.false)) in
+    let executed : it.executed ≡ it.stored = subst (λ (f : Flushed g.row.D.Denot). f.executed ≡ f.stored) (sym c.self.view_is) (c.requires.executed (ap (λ (f : Flushed g.row.D.Denot). f.broken) (sym c.self.view_is) ∙ c.if-self.false)) in
     let same : c.swap.new.y.items ++ c.swap.new.x.items ≡ it.done.items ++ it.batch.items =
-    stored_brought it.seat it.stored it.settled _ it.batch.items it.done.items _ _ _ _ _ _ (λ i. (c.swap.ensures.x_after i).items) (λ i. (c.swap.ensures.y_after i).items) settled (c.self.invariant.1 c.if-self.false) in
+    stored_brought it.seat it.stored it.executed _ it.batch.items it.done.items _ _ _ _ _ _ (λ i. (c.swap.ensures.x_after i).items) (λ i. (c.swap.ensures.y_after i).items) executed (c.self.invariant.1 c.if-self.false) in
     let is : commands c.deref.result.now ≡ from_on it.seat it.stored = ap (λ l. commands l) c.deref.ensures.value ∙ (c.self.invariant.1 c.if-self.false).batch_is in (
       stores g.D.Disk.honest g.D.Disk.images f c.append.new.self.disk _ _ c.next-self-inside.result (c.swap.new.y.items ++ c.swap.new.x.items) c.next-self-inside.ensures.next c.if-self.false
           (λ h. let was = c.append.ensures.was_honest h in
           subst (λ (s : State). StandFor (g.D.Disk.images c.append.new.self.disk) s)
           (ap (λ (l : List CommandValue). state_after (state_at opening it.seat it.stored) l) is ∙ at_rest opening it.seat it.stored)
           (c.in-Ok.ensures.after was (state_at opening it.seat it.stored) ((kept.running c.if-self.false).stands was))) same kept,
-      λ w. held_stored it.seat it.stored c.next-self-inside.result it.settled _ _ it.batch.items it.done.items c.swap.new.x.items c.swap.new.y.items it.bytes _ _ _
-          (λ i. (c.swap.ensures.x_after i).items) (λ i. (c.swap.ensures.y_after i).items) c.next-self-inside.ensures.next c.next-self-inside.ensures.most c.in-Ok.ensures.ok settled (omega (arith, kept.begun, kept.marked, kept.settled)) (c.self.invariant.1 w),
+      λ w. held_stored it.seat it.stored c.next-self-inside.result it.executed _ _ it.batch.items it.done.items c.swap.new.x.items c.swap.new.y.items it.bytes _ _ _
+          (λ i. (c.swap.ensures.x_after i).items) (λ i. (c.swap.ensures.y_after i).items) c.next-self-inside.ensures.next c.next-self-inside.ensures.most c.in-Ok.ensures.ok executed (omega (arith, kept.begun, kept.marked, kept.executed)) (c.self.invariant.1 w),
       c.self.invariant.2,
-      λ w. subst (IsBatch g.row.BATCH g.row.BATCH_BYTES) (sym (ap (λ (l : List (EntryValue SenderValue)). commands l) (λ i. (c.swap.ensures.x_after i).items) ∙ none_done it.seat it.stored it.settled _ it.batch.items it.done.items _ _ _ _ settled (c.self.invariant.1 c.if-self.false))) (no_batch g.row.BATCH g.row.BATCH_BYTES),
+      λ w. subst (IsBatch g.row.BATCH g.row.BATCH_BYTES) (sym (ap (λ (l : List (EntryValue SenderValue)). commands l) (λ i. (c.swap.ensures.x_after i).items) ∙ none_done it.seat it.stored it.executed _ it.batch.items it.done.items _ _ _ _ executed (c.self.invariant.1 c.if-self.false))) (no_batch g.row.BATCH g.row.BATCH_BYTES),
     )
 
 pub invariant_of-self-in-Err : goal.invariant_of-self-in-Err
 invariant_of-self-in-Err g c =
     let it = c.self.inside in
-    let f = flushed it.journal it.seat it.opening.value.state it.stored it.settled (it.done.items ++ it.batch.items) it.broker it.outlet.boxes it.outlet.ended.items it.outlet.past.items it.outlet.waiting.items it.outlet.left.items it.broken it.won in
+    let f = flushed it.journal it.seat it.opening.value.state it.stored it.executed (it.done.items ++ it.batch.items) it.broker it.outlet.boxes it.outlet.ended.items it.outlet.past.items it.outlet.waiting.items it.outlet.left.items it.broken it.won in
     let opening = it.opening.value.state in
     let kept = c.self.invariant.0 in
     let s = state_at opening it.seat it.stored in
@@ -59,7 +59,7 @@ invariant_of-self-in-Err g c =
       store_fails g.D.Disk.honest g.D.Disk.images f c.stop.new.seat c.append.new.self.disk _ _ c.stop.ensures
           (λ h. let was = c.append.ensures.was_honest h in
           let leaves = c.append.ensures.any_moment was s ((kept.running c.if-self.false).stands was) in
-          hold_either (g.D.Disk.images c.append.new.self.disk) opening it.seat it.stored (omega (arith, kept.marked, kept.settled)) kept.stored
+          hold_either (g.D.Disk.images c.append.new.self.disk) opening it.seat it.stored (omega (arith, kept.marked, kept.executed)) kept.stored
           (λ image among. subst (λ (t : State). StandsForEither s t image)
           (ap (λ (l : List CommandValue). state_after s l) is ∙ at_rest opening it.seat it.stored)
           (leaves.each image (g.met.D.Disk.counts_now c.append.new.self.disk (g.D.Disk.moment it.journal.disk) image leaves.later among)))) kept,
@@ -104,7 +104,7 @@ returns-in-Err-clause-any_moment g c =
 pub returns-then-is_empty-clause-any_moment : goal.returns-then-is_empty-clause-any_moment
 returns-then-is_empty-clause-any_moment g c =
     let it = c.self.inside in
-    let f = flushed it.journal it.seat it.opening.value.state it.stored it.settled (it.done.items ++ it.batch.items) it.broker it.outlet.boxes it.outlet.ended.items it.outlet.past.items it.outlet.waiting.items it.outlet.left.items it.broken it.won in
+    let f = flushed it.journal it.seat it.opening.value.state it.stored it.executed (it.done.items ++ it.batch.items) it.broker it.outlet.boxes it.outlet.ended.items it.outlet.past.items it.outlet.waiting.items it.outlet.left.items it.broken it.won in
     subst (λ (f : Flushed g.row.D.Denot). g.D.Disk.honest f.disk → f.broken ≡ false → LeavesOnly g.D.Disk.moment g.D.Disk.images_since f.disk f.disk (StandsForEither (state_at f.opening f.seat f.stored) (state_taken f.opening f.seat))) c.self.view_is
     (λ h w. unstored g.D.Disk f it.journal.disk _ c.self.invariant.0 w (g.met.D.Disk.only_now it.journal.disk) refl h)
 
@@ -112,25 +112,25 @@ pub returns-then-is_empty-clause-after : goal.returns-then-is_empty-clause-after
 returns-then-is_empty-clause-after g c =
     let it = c.self.inside in
     let zero : it.batch.len ≡ 0 = eqb-true it.batch.len 0 (sym c.is_empty.ensures ∙ c.if-is_empty.true) in
-    let is = all_stored it.seat it.stored it.settled _ it.batch.items it.done.items _ _ _ _ (omega (arith, zero, it.batch.ok.0)) (omega (arith, c.self.invariant.0.begun, c.self.invariant.0.marked, c.self.invariant.0.settled)) c.self.invariant.0.stored (c.self.invariant.1 c.if-self.false) in
+    let is = all_stored it.seat it.stored it.executed _ it.batch.items it.done.items _ _ _ _ (omega (arith, zero, it.batch.ok.0)) (omega (arith, c.self.invariant.0.begun, c.self.invariant.0.marked, c.self.invariant.0.executed)) c.self.invariant.0.stored (c.self.invariant.1 c.if-self.false) in
     subst (λ (f : Flushed g.row.D.Denot). g.D.Disk.honest f.disk → StandFor (g.D.Disk.images f.disk) (state_taken f.opening f.seat)) c.self.view_is
     (λ h. subst (λ (s : State). StandFor (g.D.Disk.images it.journal.disk) s) (all_at it.opening.value.state it.seat it.stored is) ((c.self.invariant.0.running c.if-self.false).stands h))
 
 pub returns-then-is_empty-clause-stored : goal.returns-then-is_empty-clause-stored
 returns-then-is_empty-clause-stored g c =
     let it = c.self.inside in
-    let f = flushed it.journal it.seat it.opening.value.state it.stored it.settled (it.done.items ++ it.batch.items) it.broker it.outlet.boxes it.outlet.ended.items it.outlet.past.items it.outlet.waiting.items it.outlet.left.items it.broken it.won in
+    let f = flushed it.journal it.seat it.opening.value.state it.stored it.executed (it.done.items ++ it.batch.items) it.broker it.outlet.boxes it.outlet.ended.items it.outlet.past.items it.outlet.waiting.items it.outlet.left.items it.broken it.won in
     let zero : it.batch.len ≡ 0 = eqb-true it.batch.len 0 (sym c.is_empty.ensures ∙ c.if-is_empty.true) in
-    let is = all_stored it.seat it.stored it.settled _ it.batch.items it.done.items _ _ _ _ (omega (arith, zero, it.batch.ok.0)) (omega (arith, c.self.invariant.0.begun, c.self.invariant.0.marked, c.self.invariant.0.settled)) c.self.invariant.0.stored (c.self.invariant.1 c.if-self.false) in
+    let is = all_stored it.seat it.stored it.executed _ it.batch.items it.done.items _ _ _ _ (omega (arith, zero, it.batch.ok.0)) (omega (arith, c.self.invariant.0.begun, c.self.invariant.0.marked, c.self.invariant.0.executed)) c.self.invariant.0.stored (c.self.invariant.1 c.if-self.false) in
     subst (λ (f : Flushed g.row.D.Denot). f ≡ storing f f.disk f.size f.used f.won) c.self.view_is (λ i. record f { stored = is i })
 
 pub returns-in-Ok-clause-stored : goal.returns-in-Ok-clause-stored
 returns-in-Ok-clause-stored g c =
     let it = c.self.inside in
-    let f = flushed it.journal it.seat it.opening.value.state it.stored it.settled (it.done.items ++ it.batch.items) it.broker it.outlet.boxes it.outlet.ended.items it.outlet.past.items it.outlet.waiting.items it.outlet.left.items it.broken it.won in
-    let settled : it.settled ≡ it.stored = subst (λ (f : Flushed g.row.D.Denot). f.settled ≡ f.stored) (sym c.self.view_is) (c.requires.settled (ap (λ (f : Flushed g.row.D.Denot). f.broken) (sym c.self.view_is) ∙ c.if-self.false)) in
+    let f = flushed it.journal it.seat it.opening.value.state it.stored it.executed (it.done.items ++ it.batch.items) it.broker it.outlet.boxes it.outlet.ended.items it.outlet.past.items it.outlet.waiting.items it.outlet.left.items it.broken it.won in
+    let executed : it.executed ≡ it.stored = subst (λ (f : Flushed g.row.D.Denot). f.executed ≡ f.stored) (sym c.self.view_is) (c.requires.executed (ap (λ (f : Flushed g.row.D.Denot). f.broken) (sym c.self.view_is) ∙ c.if-self.false)) in
     let same : c.swap.new.y.items ++ c.swap.new.x.items ≡ it.done.items ++ it.batch.items =
-    stored_brought it.seat it.stored it.settled _ it.batch.items it.done.items _ _ _ _ _ _ (λ i. (c.swap.ensures.x_after i).items) (λ i. (c.swap.ensures.y_after i).items) settled (c.self.invariant.1 c.if-self.false) in
+    stored_brought it.seat it.stored it.executed _ it.batch.items it.done.items _ _ _ _ _ _ (λ i. (c.swap.ensures.x_after i).items) (λ i. (c.swap.ensures.y_after i).items) executed (c.self.invariant.1 c.if-self.false) in
     (λ i. record f { disk = disk_of c.append.new.self; size = size_of c.append.new.self; used = used_of c.append.new.self; stored = c.next-self-inside.ensures.next i; brought = same i })
     ∙ ap (λ (f : Flushed g.row.D.Denot). storing f (disk_of c.append.new.self) (size_of c.append.new.self) (used_of c.append.new.self) f.won) c.self.view_is
 
@@ -183,7 +183,7 @@ pub returns-in-Err-clause-outcome : goal.returns-in-Err-clause-outcome
 returns-in-Err-clause-outcome g c =
     let it = c.self.inside in
     let now = c.args.self.now in
-    let new = flushed c.append.new.self c.stop.new.seat it.opening.value.state it.stored it.settled (it.done.items ++ it.batch.items) it.broker it.outlet.boxes it.outlet.ended.items it.outlet.past.items it.outlet.waiting.items it.outlet.left.items true it.won in
+    let new = flushed c.append.new.self c.stop.new.seat it.opening.value.state it.stored it.executed (it.done.items ++ it.batch.items) it.broker it.outlet.boxes it.outlet.ended.items it.outlet.past.items it.outlet.waiting.items it.outlet.left.items true it.won in
     let whole : c.in-Err.fault ≡ area.Broken → ⊥ = λ is. absurd (cc (c.append.ensures.sound (c.in-Err.is ∙ ap (λ (fault : AreaFault). Err fault) is), (c.self.invariant.1 c.if-self.false).whole)) in
     subst (λ (fault : FlushFault). IsOutcome {X = Unit {0}} now new (Err fault)) (sym c.from.ensures)
     (fell_so c.in-Err.fault now new whole (record {

@@ -25,11 +25,11 @@ use Rattle.flush_core.proofs.flusher.Flusher.compact.Goals as goal
 pub invariant_of-self : goal.invariant_of-self
 invariant_of-self g c =
     let it = c.self.inside in
-    let f = flushed it.journal it.seat it.opening.value.state it.stored it.settled (it.done.items ++ it.batch.items) it.broker it.outlet.boxes it.outlet.ended.items it.outlet.past.items it.outlet.waiting.items it.outlet.left.items it.broken it.won in
+    let f = flushed it.journal it.seat it.opening.value.state it.stored it.executed (it.done.items ++ it.batch.items) it.broker it.outlet.boxes it.outlet.ended.items it.outlet.past.items it.outlet.waiting.items it.outlet.left.items it.broken it.won in
     let kept = c.self.invariant.0 in
-    let settled : it.settled ≡ it.stored = subst (λ (f : Flushed g.row.D.Denot). f.settled ≡ f.stored) (sym c.self.view_is) (c.requires.settled (ap (λ (f : Flushed g.row.D.Denot). f.broken) (sym c.self.view_is) ∙ c.if-self.false)) in
+    let executed : it.executed ≡ it.stored = subst (λ (f : Flushed g.row.D.Denot). f.executed ≡ f.stored) (sym c.self.view_is) (c.requires.executed (ap (λ (f : Flushed g.row.D.Denot). f.broken) (sym c.self.view_is) ∙ c.if-self.false)) in
     let s = state_at it.opening.value.state it.seat it.stored in
-    let same : it.broker.state ≡ s = stored_state g.D.Disk.honest g.D.Disk.images f kept c.if-self.false settled in
+    let same : it.broker.state ≡ s = stored_state g.D.Disk.honest g.D.Disk.images f kept c.if-self.false executed in
     let stand : g.D.Disk.honest c.compact.new.self.disk → StandFor (g.D.Disk.images c.compact.new.self.disk) s = λ h.
     stand_then g.D.Disk it.journal.disk c.compact.new.self.disk s it.broker.state same (c.compact.ensures.any_moment (c.compact.ensures.was_honest h) (c.self.invariant.1 c.if-self.false).whole)
     (λ t image le among. g.met.D.Disk.counts_now c.compact.new.self.disk t image le among) in (
@@ -42,16 +42,16 @@ invariant_of-self g c =
 pub invariant_of-self-in-Err : goal.invariant_of-self-in-Err
 invariant_of-self-in-Err g c =
     let it = c.self.inside in
-    let f = flushed it.journal it.seat it.opening.value.state it.stored it.settled (it.done.items ++ it.batch.items) it.broker it.outlet.boxes it.outlet.ended.items it.outlet.past.items it.outlet.waiting.items it.outlet.left.items it.broken it.won in
+    let f = flushed it.journal it.seat it.opening.value.state it.stored it.executed (it.done.items ++ it.batch.items) it.broker it.outlet.boxes it.outlet.ended.items it.outlet.past.items it.outlet.waiting.items it.outlet.left.items it.broken it.won in
     let kept = c.self.invariant.0 in
-    let settled : it.settled ≡ it.stored = subst (λ (f : Flushed g.row.D.Denot). f.settled ≡ f.stored) (sym c.self.view_is) (c.requires.settled (ap (λ (f : Flushed g.row.D.Denot). f.broken) (sym c.self.view_is) ∙ c.if-self.false)) in
+    let executed : it.executed ≡ it.stored = subst (λ (f : Flushed g.row.D.Denot). f.executed ≡ f.stored) (sym c.self.view_is) (c.requires.executed (ap (λ (f : Flushed g.row.D.Denot). f.broken) (sym c.self.view_is) ∙ c.if-self.false)) in
     let s = state_at it.opening.value.state it.seat it.stored in
-    let same : it.broker.state ≡ s = stored_state g.D.Disk.honest g.D.Disk.images f kept c.if-self.false settled in
+    let same : it.broker.state ≡ s = stored_state g.D.Disk.honest g.D.Disk.images f kept c.if-self.false executed in
     let stand : g.D.Disk.honest c.compact.new.self.disk → StandFor (g.D.Disk.images c.compact.new.self.disk) s = λ h.
     stand_then g.D.Disk it.journal.disk c.compact.new.self.disk s it.broker.state same (c.compact.ensures.any_moment (c.compact.ensures.was_honest h) (c.self.invariant.1 c.if-self.false).whole)
     (λ t image le among. g.met.D.Disk.counts_now c.compact.new.self.disk t image le among) in (
       store_fails g.D.Disk.honest g.D.Disk.images f c.stop.new.seat c.compact.new.self.disk _ _ c.stop.ensures
-          (λ h. hold_at (g.D.Disk.images c.compact.new.self.disk) it.opening.value.state it.seat it.stored (omega (arith, kept.marked, kept.settled)) kept.stored (stand h)) kept,
+          (λ h. hold_at (g.D.Disk.images c.compact.new.self.disk) it.opening.value.state it.seat it.stored (omega (arith, kept.marked, kept.executed)) kept.stored (stand h)) kept,
       λ w. absurd (cc w),
       λ w. absurd (cc w),
       λ w. absurd (cc w),
@@ -60,44 +60,44 @@ invariant_of-self-in-Err g c =
 pub returns-in-Ok-clause-any_moment : goal.returns-in-Ok-clause-any_moment
 returns-in-Ok-clause-any_moment g c =
     let it = c.self.inside in
-    let f = flushed it.journal it.seat it.opening.value.state it.stored it.settled (it.done.items ++ it.batch.items) it.broker it.outlet.boxes it.outlet.ended.items it.outlet.past.items it.outlet.waiting.items it.outlet.left.items it.broken it.won in
+    let f = flushed it.journal it.seat it.opening.value.state it.stored it.executed (it.done.items ++ it.batch.items) it.broker it.outlet.boxes it.outlet.ended.items it.outlet.past.items it.outlet.waiting.items it.outlet.left.items it.broken it.won in
     let kept = c.self.invariant.0 in
-    let settled : it.settled ≡ it.stored = subst (λ (f : Flushed g.row.D.Denot). f.settled ≡ f.stored) (sym c.self.view_is) (c.requires.settled (ap (λ (f : Flushed g.row.D.Denot). f.broken) (sym c.self.view_is) ∙ c.if-self.false)) in
+    let executed : it.executed ≡ it.stored = subst (λ (f : Flushed g.row.D.Denot). f.executed ≡ f.stored) (sym c.self.view_is) (c.requires.executed (ap (λ (f : Flushed g.row.D.Denot). f.broken) (sym c.self.view_is) ∙ c.if-self.false)) in
     let s = state_at it.opening.value.state it.seat it.stored in
-    let same : it.broker.state ≡ s = stored_state g.D.Disk.honest g.D.Disk.images f kept c.if-self.false settled in
+    let same : it.broker.state ≡ s = stored_state g.D.Disk.honest g.D.Disk.images f kept c.if-self.false executed in
     subst (λ (f : Flushed g.row.D.Denot). g.D.Disk.honest f.disk → f.broken ≡ false → LeavesOnly g.D.Disk.moment g.D.Disk.images_since f.disk c.compact.new.self.disk (λ c. Stands c (state_at f.opening f.seat f.stored))) c.self.view_is
     (λ h w. leaves_state g.D.Disk it.journal.disk c.compact.new.self.disk s it.broker.state same (c.compact.ensures.any_moment h (c.self.invariant.1 w).whole))
 
 pub returns-in-Err-clause-any_moment : goal.returns-in-Err-clause-any_moment
 returns-in-Err-clause-any_moment g c =
     let it = c.self.inside in
-    let f = flushed it.journal it.seat it.opening.value.state it.stored it.settled (it.done.items ++ it.batch.items) it.broker it.outlet.boxes it.outlet.ended.items it.outlet.past.items it.outlet.waiting.items it.outlet.left.items it.broken it.won in
+    let f = flushed it.journal it.seat it.opening.value.state it.stored it.executed (it.done.items ++ it.batch.items) it.broker it.outlet.boxes it.outlet.ended.items it.outlet.past.items it.outlet.waiting.items it.outlet.left.items it.broken it.won in
     let kept = c.self.invariant.0 in
-    let settled : it.settled ≡ it.stored = subst (λ (f : Flushed g.row.D.Denot). f.settled ≡ f.stored) (sym c.self.view_is) (c.requires.settled (ap (λ (f : Flushed g.row.D.Denot). f.broken) (sym c.self.view_is) ∙ c.if-self.false)) in
+    let executed : it.executed ≡ it.stored = subst (λ (f : Flushed g.row.D.Denot). f.executed ≡ f.stored) (sym c.self.view_is) (c.requires.executed (ap (λ (f : Flushed g.row.D.Denot). f.broken) (sym c.self.view_is) ∙ c.if-self.false)) in
     let s = state_at it.opening.value.state it.seat it.stored in
-    let same : it.broker.state ≡ s = stored_state g.D.Disk.honest g.D.Disk.images f kept c.if-self.false settled in
+    let same : it.broker.state ≡ s = stored_state g.D.Disk.honest g.D.Disk.images f kept c.if-self.false executed in
     subst (λ (f : Flushed g.row.D.Denot). g.D.Disk.honest f.disk → f.broken ≡ false → LeavesOnly g.D.Disk.moment g.D.Disk.images_since f.disk c.compact.new.self.disk (λ c. Stands c (state_at f.opening f.seat f.stored))) c.self.view_is
     (λ h w. leaves_state g.D.Disk it.journal.disk c.compact.new.self.disk s it.broker.state same (c.compact.ensures.any_moment h (c.self.invariant.1 w).whole))
 
 pub returns-in-Ok-clause-after : goal.returns-in-Ok-clause-after
 returns-in-Ok-clause-after g c =
     let it = c.self.inside in
-    let f = flushed it.journal it.seat it.opening.value.state it.stored it.settled (it.done.items ++ it.batch.items) it.broker it.outlet.boxes it.outlet.ended.items it.outlet.past.items it.outlet.waiting.items it.outlet.left.items it.broken it.won in
+    let f = flushed it.journal it.seat it.opening.value.state it.stored it.executed (it.done.items ++ it.batch.items) it.broker it.outlet.boxes it.outlet.ended.items it.outlet.past.items it.outlet.waiting.items it.outlet.left.items it.broken it.won in
     let kept = c.self.invariant.0 in
-    let settled : it.settled ≡ it.stored = subst (λ (f : Flushed g.row.D.Denot). f.settled ≡ f.stored) (sym c.self.view_is) (c.requires.settled (ap (λ (f : Flushed g.row.D.Denot). f.broken) (sym c.self.view_is) ∙ c.if-self.false)) in
+    let executed : it.executed ≡ it.stored = subst (λ (f : Flushed g.row.D.Denot). f.executed ≡ f.stored) (sym c.self.view_is) (c.requires.executed (ap (λ (f : Flushed g.row.D.Denot). f.broken) (sym c.self.view_is) ∙ c.if-self.false)) in
     let s = state_at it.opening.value.state it.seat it.stored in
-    let same : it.broker.state ≡ s = stored_state g.D.Disk.honest g.D.Disk.images f kept c.if-self.false settled in
+    let same : it.broker.state ≡ s = stored_state g.D.Disk.honest g.D.Disk.images f kept c.if-self.false executed in
     subst (λ (f : Flushed g.row.D.Denot). g.D.Disk.honest f.disk → Each (g.D.Disk.images c.compact.new.self.disk) (HoldsItAlone (size_of c.compact.new.self) (used_of c.compact.new.self) (state_at f.opening f.seat f.stored))) c.self.view_is
     (λ h. subst (λ (s : State). Each (g.D.Disk.images c.compact.new.self.disk) (HoldsItAlone (size_of c.compact.new.self) (used_of c.compact.new.self) s)) same (c.in-Ok.ensures.after h))
 
 pub returns-in-Err-clause-full : goal.returns-in-Err-clause-full
 returns-in-Err-clause-full g c is =
     let it = c.self.inside in
-    let f = flushed it.journal it.seat it.opening.value.state it.stored it.settled (it.done.items ++ it.batch.items) it.broker it.outlet.boxes it.outlet.ended.items it.outlet.past.items it.outlet.waiting.items it.outlet.left.items it.broken it.won in
+    let f = flushed it.journal it.seat it.opening.value.state it.stored it.executed (it.done.items ++ it.batch.items) it.broker it.outlet.boxes it.outlet.ended.items it.outlet.past.items it.outlet.waiting.items it.outlet.left.items it.broken it.won in
     let kept = c.self.invariant.0 in
-    let settled : it.settled ≡ it.stored = subst (λ (f : Flushed g.row.D.Denot). f.settled ≡ f.stored) (sym c.self.view_is) (c.requires.settled (ap (λ (f : Flushed g.row.D.Denot). f.broken) (sym c.self.view_is) ∙ c.if-self.false)) in
+    let executed : it.executed ≡ it.stored = subst (λ (f : Flushed g.row.D.Denot). f.executed ≡ f.stored) (sym c.self.view_is) (c.requires.executed (ap (λ (f : Flushed g.row.D.Denot). f.broken) (sym c.self.view_is) ∙ c.if-self.false)) in
     let s = state_at it.opening.value.state it.seat it.stored in
-    let same : it.broker.state ≡ s = stored_state g.D.Disk.honest g.D.Disk.images f kept c.if-self.false settled in
+    let same : it.broker.state ≡ s = stored_state g.D.Disk.honest g.D.Disk.images f kept c.if-self.false executed in
     let full = only_full c.in-Err.fault (sym c.from.ensures ∙ same_fault c.from.result Full is) in
     let told = c.compact.ensures.full (c.in-Err.is ∙ ap (λ (fault : AreaFault). Err fault) full) in
     subst (λ (f : Flushed g.row.D.Denot). HasNoRoomFor f.size (state_at f.opening f.seat f.stored) × (c.compact.new.self.disk ≡ f.disk)) c.self.view_is
@@ -106,11 +106,11 @@ returns-in-Err-clause-full g c is =
 pub returns-in-Err-clause-no_room : goal.returns-in-Err-clause-no_room
 returns-in-Err-clause-no_room g c honest is =
     let it = c.self.inside in
-    let f = flushed it.journal it.seat it.opening.value.state it.stored it.settled (it.done.items ++ it.batch.items) it.broker it.outlet.boxes it.outlet.ended.items it.outlet.past.items it.outlet.waiting.items it.outlet.left.items it.broken it.won in
+    let f = flushed it.journal it.seat it.opening.value.state it.stored it.executed (it.done.items ++ it.batch.items) it.broker it.outlet.boxes it.outlet.ended.items it.outlet.past.items it.outlet.waiting.items it.outlet.left.items it.broken it.won in
     let kept = c.self.invariant.0 in
-    let settled : it.settled ≡ it.stored = subst (λ (f : Flushed g.row.D.Denot). f.settled ≡ f.stored) (sym c.self.view_is) (c.requires.settled (ap (λ (f : Flushed g.row.D.Denot). f.broken) (sym c.self.view_is) ∙ c.if-self.false)) in
+    let executed : it.executed ≡ it.stored = subst (λ (f : Flushed g.row.D.Denot). f.executed ≡ f.stored) (sym c.self.view_is) (c.requires.executed (ap (λ (f : Flushed g.row.D.Denot). f.broken) (sym c.self.view_is) ∙ c.if-self.false)) in
     let s = state_at it.opening.value.state it.seat it.stored in
-    let same : it.broker.state ≡ s = stored_state g.D.Disk.honest g.D.Disk.images f kept c.if-self.false settled in
+    let same : it.broker.state ≡ s = stored_state g.D.Disk.honest g.D.Disk.images f kept c.if-self.false executed in
     let full = only_full c.in-Err.fault (sym c.from.ensures ∙ same_fault c.from.result Full is) in
     let told = c.compact.ensures.full (c.in-Err.is ∙ ap (λ (fault : AreaFault). Err fault) full) in
     let was : g.D.Disk.honest it.journal.disk = subst (λ (f : Flushed g.row.D.Denot). g.D.Disk.honest f.disk) (sym c.self.view_is) honest in
@@ -129,10 +129,10 @@ compact-requires-clause-whole g c = ap (λ (b : BrokerValue). b.broken) (c.self.
 pub compact-requires-clause-stands : goal.compact-requires-clause-stands
 compact-requires-clause-stands g c = λ h w.
     let it = c.self.inside in
-    let f = flushed it.journal it.seat it.opening.value.state it.stored it.settled (it.done.items ++ it.batch.items) it.broker it.outlet.boxes it.outlet.ended.items it.outlet.past.items it.outlet.waiting.items it.outlet.left.items it.broken it.won in
+    let f = flushed it.journal it.seat it.opening.value.state it.stored it.executed (it.done.items ++ it.batch.items) it.broker it.outlet.boxes it.outlet.ended.items it.outlet.past.items it.outlet.waiting.items it.outlet.left.items it.broken it.won in
     let kept = c.self.invariant.0 in
-    let settled : it.settled ≡ it.stored = subst (λ (f : Flushed g.row.D.Denot). f.settled ≡ f.stored) (sym c.self.view_is) (c.requires.settled (ap (λ (f : Flushed g.row.D.Denot). f.broken) (sym c.self.view_is) ∙ c.if-self.false)) in
-    let same : it.broker.state ≡ state_at it.opening.value.state it.seat it.stored = stored_state g.D.Disk.honest g.D.Disk.images f kept c.if-self.false settled in
+    let executed : it.executed ≡ it.stored = subst (λ (f : Flushed g.row.D.Denot). f.executed ≡ f.stored) (sym c.self.view_is) (c.requires.executed (ap (λ (f : Flushed g.row.D.Denot). f.broken) (sym c.self.view_is) ∙ c.if-self.false)) in
+    let same : it.broker.state ≡ state_at it.opening.value.state it.seat it.stored = stored_state g.D.Disk.honest g.D.Disk.images f kept c.if-self.false executed in
     subst (λ (s : State). StandFor (g.D.Disk.images it.journal.disk) s) (sym same) ((kept.running c.if-self.false).stands h)
 
 pub returns-in-Ok-clause-honest : goal.returns-in-Ok-clause-honest
@@ -145,7 +145,7 @@ pub returns-in-Err-clause-outcome : goal.returns-in-Err-clause-outcome
 returns-in-Err-clause-outcome g c =
     let it = c.self.inside in
     let now = c.args.self.now in
-    let new = flushed c.compact.new.self c.stop.new.seat it.opening.value.state it.stored it.settled (it.done.items ++ it.batch.items) it.broker it.outlet.boxes it.outlet.ended.items it.outlet.past.items it.outlet.waiting.items it.outlet.left.items true it.won in
+    let new = flushed c.compact.new.self c.stop.new.seat it.opening.value.state it.stored it.executed (it.done.items ++ it.batch.items) it.broker it.outlet.boxes it.outlet.ended.items it.outlet.past.items it.outlet.waiting.items it.outlet.left.items true it.won in
     let whole : c.in-Err.fault ≡ area.Broken → ⊥ = λ is. absurd (cc (c.compact.ensures.sound (c.in-Err.is ∙ ap (λ (fault : AreaFault). Err fault) is), (c.self.invariant.1 c.if-self.false).whole)) in
     subst (λ (fault : FlushFault). IsOutcome {X = Unit {0}} now new (Err fault)) (sym c.from.ensures)
     (fell_so c.in-Err.fault now new whole (record {
@@ -169,10 +169,10 @@ returns-in-Err-clause-cause g c =
 pub returns-in-Ok-clause-compacted : goal.returns-in-Ok-clause-compacted
 returns-in-Ok-clause-compacted g c =
     let it = c.self.inside in
-    let f = flushed it.journal it.seat it.opening.value.state it.stored it.settled (it.done.items ++ it.batch.items) it.broker it.outlet.boxes it.outlet.ended.items it.outlet.past.items it.outlet.waiting.items it.outlet.left.items it.broken it.won in
-    let settled : it.settled ≡ it.stored = subst (λ (f : Flushed g.row.D.Denot). f.settled ≡ f.stored) (sym c.self.view_is) (c.requires.settled (ap (λ (f : Flushed g.row.D.Denot). f.broken) (sym c.self.view_is) ∙ c.if-self.false)) in
+    let f = flushed it.journal it.seat it.opening.value.state it.stored it.executed (it.done.items ++ it.batch.items) it.broker it.outlet.boxes it.outlet.ended.items it.outlet.past.items it.outlet.waiting.items it.outlet.left.items it.broken it.won in
+    let executed : it.executed ≡ it.stored = subst (λ (f : Flushed g.row.D.Denot). f.executed ≡ f.stored) (sym c.self.view_is) (c.requires.executed (ap (λ (f : Flushed g.row.D.Denot). f.broken) (sym c.self.view_is) ∙ c.if-self.false)) in
     let s = state_at it.opening.value.state it.seat it.stored in
-    let same : it.broker.state ≡ s = stored_state g.D.Disk.honest g.D.Disk.images f c.self.invariant.0 c.if-self.false settled in
+    let same : it.broker.state ≡ s = stored_state g.D.Disk.honest g.D.Disk.images f c.self.invariant.0 c.if-self.false executed in
     let afresh : used_of c.compact.new.self ≡ used_afresh s = c.in-Ok.ensures.used ∙ ap (λ (s : State). used_afresh s) same in
     let won : c.saturating_sub-won.result ≡ used_of it.journal - used_afresh s = omega (arith, c.saturating_sub-won.ensures, c.used-before.ensures, c.used.ensures, afresh) in
     (λ i. record f { disk = disk_of c.compact.new.self; size = c.in-Ok.ensures.size i; used = afresh i; won = Some (won i) })

@@ -13,7 +13,7 @@ invariant_of-result g c =
       record {
         begun = kept.begun;
         marked = kept.marked;
-        settled = kept.settled;
+        executed = kept.executed;
         stored = kept.stored;
         opened = kept.opened;
         sound = kept.sound;

@@ -15,7 +15,7 @@ use Rattle.flush_core.proofs.flusher.Flusher.gather.Goals as goal
 pub invariant_of-self : goal.invariant_of-self
 invariant_of-self g c =
     let it = c.self.inside in
-    let f = flushed it.journal it.seat it.opening.value.state it.stored it.settled (it.done.items ++ it.batch.items) it.broker it.outlet.boxes it.outlet.ended.items it.outlet.past.items it.outlet.waiting.items it.outlet.left.items it.broken it.won in
+    let f = flushed it.journal it.seat it.opening.value.state it.stored it.executed (it.done.items ++ it.batch.items) it.broker it.outlet.boxes it.outlet.ended.items it.outlet.past.items it.outlet.waiting.items it.outlet.left.items it.broken it.won in
     let kept = c.self.invariant.0 in
     let held = c.self.invariant.1 c.if-self.false in
     let took = c.in-Ok.ensures.taken in
@@ -24,9 +24,9 @@ invariant_of-self g c =
     let is : commands c.fill.new.batch.items ≡ from_on c.fill.new.seat it.stored =
     ap (λ (l : List (EntryValue SenderValue)). commands l) took.3 ∙ (commands_both it.batch.items took.0
     ∙ (ap (λ (l : List CommandValue). l ++ more) held.batch_is ∙ (sym (from_more it.seat more it.stored kept.stored) ∙ ap (λ (s : FlushSeatValue). from_on s it.stored) (sym seat)))) in
-    let begun : it.seat.base ≤ it.settled = omega (arith, kept.begun, kept.marked) in
-    let now = held_more it.seat c.fill.new.seat more it.stored it.settled _ it.batch.items it.done.items c.fill.new.batch.items it.bytes c.fill.new.bytes _ _ _ seat is c.fill.ensures.bytes kept.settled kept.stored begun held in
-    let brought = all_brought c.fill.new.seat it.stored it.settled _ c.fill.new.batch.items it.done.items c.fill.new.bytes _ _ _ (omega (arith, begun, ap (λ (s : FlushSeatValue). s.base) seat)) kept.settled now in (
+    let begun : it.seat.base ≤ it.executed = omega (arith, kept.begun, kept.marked) in
+    let now = held_more it.seat c.fill.new.seat more it.stored it.executed _ it.batch.items it.done.items c.fill.new.batch.items it.bytes c.fill.new.bytes _ _ _ seat is c.fill.ensures.bytes kept.executed kept.stored begun held in
+    let brought = all_brought c.fill.new.seat it.stored it.executed _ c.fill.new.batch.items it.done.items c.fill.new.bytes _ _ _ (omega (arith, begun, ap (λ (s : FlushSeatValue). s.base) seat)) kept.executed now in (
       takes g.D.Disk.honest g.D.Disk.images f c.fill.new.seat more (it.done.items ++ c.fill.new.batch.items) seat brought c.if-self.false kept,
       λ _. now,
       c.self.invariant.2,
@@ -36,7 +36,7 @@ invariant_of-self g c =
 pub invariant_of-self-in-Err : goal.invariant_of-self-in-Err
 invariant_of-self-in-Err g c =
     let it = c.self.inside in
-    let f = flushed it.journal it.seat it.opening.value.state it.stored it.settled (it.done.items ++ it.batch.items) it.broker it.outlet.boxes it.outlet.ended.items it.outlet.past.items it.outlet.waiting.items it.outlet.left.items it.broken it.won in (
+    let f = flushed it.journal it.seat it.opening.value.state it.stored it.executed (it.done.items ++ it.batch.items) it.broker it.outlet.boxes it.outlet.ended.items it.outlet.past.items it.outlet.waiting.items it.outlet.left.items it.broken it.won in (
       fails g.D.Disk.honest g.D.Disk.images f c.stop.new.seat (it.done.items ++ c.fill.new.batch.items) it.broker it.outlet.boxes it.outlet.ended.items it.outlet.past.items it.outlet.waiting.items it.outlet.left.items
           (c.stop.ensures ∙ ap (λ (s : FlushSeatValue). when_stopped s) c.in-Err.ensures.refused) refl c.self.invariant.0,
       λ w. absurd (cc w),
@@ -76,7 +76,7 @@ returns-then-self-clause-fault g c = tt
 pub returns-in-Ok-clause-taken : goal.returns-in-Ok-clause-taken
 returns-in-Ok-clause-taken g c =
     let it = c.self.inside in
-    let f = flushed it.journal it.seat it.opening.value.state it.stored it.settled (it.done.items ++ it.batch.items) it.broker it.outlet.boxes it.outlet.ended.items it.outlet.past.items it.outlet.waiting.items it.outlet.left.items it.broken it.won in
+    let f = flushed it.journal it.seat it.opening.value.state it.stored it.executed (it.done.items ++ it.batch.items) it.broker it.outlet.boxes it.outlet.ended.items it.outlet.past.items it.outlet.waiting.items it.outlet.left.items it.broken it.won in
     let took = c.in-Ok.ensures.taken in (
       took.0,
       took.1,

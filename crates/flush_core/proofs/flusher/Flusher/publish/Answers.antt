@@ -28,13 +28,13 @@ give-requires-clause-left g c some =
 pub invariant_of-self : goal.invariant_of-self
 invariant_of-self g c =
     let it = c.self.inside in
-    let f = flushed it.journal it.seat it.opening.value.state it.stored it.settled (it.done.items ++ it.batch.items) it.broker it.outlet.boxes it.outlet.ended.items it.outlet.past.items it.outlet.waiting.items it.outlet.left.items it.broken it.won in
+    let f = flushed it.journal it.seat it.opening.value.state it.stored it.executed (it.done.items ++ it.batch.items) it.broker it.outlet.boxes it.outlet.ended.items it.outlet.past.items it.outlet.waiting.items it.outlet.left.items it.broken it.won in
     let whole : it.broken ≡ false = ap (λ (f : Flushed g.row.D.Denot). f.broken) c.self.view_is ∙ c.requires.whole in
-    let settled : it.settled ≡ it.stored = subst (λ (f : Flushed g.row.D.Denot). f.settled ≡ f.stored) (sym c.self.view_is) c.requires.settled in
+    let executed : it.executed ≡ it.stored = subst (λ (f : Flushed g.row.D.Denot). f.executed ≡ f.stored) (sym c.self.view_is) c.requires.executed in
     let waiting = ap (λ (l : List OutValue). length l) c.give.ensures.none.0 in (
       publishes g.D.Disk.honest g.D.Disk.images f c.raise.new.seat c.give.new.self.boxes c.give.new.self.ended.items c.give.new.self.past.items (λ (out : OutValue). is_none (box_of out.session (standing f))) c.give.new.self.waiting.items c.give.new.self.left.items
-          c.raise.ensures c.give.ensures.none.0 c.give.ensures.left settled whole c.self.invariant.0,
-      λ w. held_marked it.seat c.raise.new.seat it.stored it.stored it.settled _ it.batch.items it.done.items it.bytes _ _ _ _ _ _ c.raise.ensures
+          c.raise.ensures c.give.ensures.none.0 c.give.ensures.left executed whole c.self.invariant.0,
+      λ w. held_marked it.seat c.raise.new.seat it.stored it.stored it.executed _ it.batch.items it.done.items it.bytes _ _ _ _ _ _ c.raise.ensures
           (λ some. omega (arith, waiting, c.give.new.self.left.ok.0, c.give.new.self.left.ok.1)) (c.self.invariant.1 w),
       λ w. record { none = ap (λ (l : List OutValue). length l) c.give.ensures.none.1; room_is = omega (arith, waiting) },
       c.self.invariant.3,
@@ -43,7 +43,7 @@ invariant_of-self g c =
 pub returns-clause-published : goal.returns-clause-published
 returns-clause-published g c =
     let it = c.self.inside in
-    let f = flushed it.journal it.seat it.opening.value.state it.stored it.settled (it.done.items ++ it.batch.items) it.broker it.outlet.boxes it.outlet.ended.items it.outlet.past.items it.outlet.waiting.items it.outlet.left.items it.broken it.won in
+    let f = flushed it.journal it.seat it.opening.value.state it.stored it.executed (it.done.items ++ it.batch.items) it.broker it.outlet.boxes it.outlet.ended.items it.outlet.past.items it.outlet.waiting.items it.outlet.left.items it.broken it.won in
     (λ i. record f { seat = c.raise.ensures i; boxes = c.give.new.self.boxes; ended = c.give.ensures.ended.0 i; past = c.give.ensures.ended.1 i; waiting = c.give.ensures.none.0 i; left = c.give.ensures.left i })
     ∙ ap (λ (f : Flushed g.row.D.Denot). publishing f c.give.new.self.boxes) c.self.view_is
 
@@ -62,6 +62,6 @@ pub give-requires-clause-under : goal.give-requires-clause-under
 give-requires-clause-under g c =
     let it = c.self.inside in
     let whole : it.broken ≡ false = ap (λ (f : Flushed g.row.D.Denot). f.broken) c.self.view_is ∙ c.requires.whole in
-    let settled : it.settled ≡ it.stored = subst (λ (f : Flushed g.row.D.Denot). f.settled ≡ f.stored) (sym c.self.view_is) c.requires.settled in
+    let executed : it.executed ≡ it.stored = subst (λ (f : Flushed g.row.D.Denot). f.executed ≡ f.stored) (sym c.self.view_is) c.requires.executed in
     subst (λ (s : FlushSeatValue). AreUnder s.published it.outlet.waiting.items) (sym c.raise.ensures)
-    (subst (λ n. AreUnder n it.outlet.waiting.items) settled (c.self.invariant.0.running whole).waiting)
+    (subst (λ n. AreUnder n it.outlet.waiting.items) executed (c.self.invariant.0.running whole).waiting)

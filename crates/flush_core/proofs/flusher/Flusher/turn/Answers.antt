@@ -11,8 +11,8 @@ use Rattle.flush_core.specs.Faults.{IsFlushCaused}
 use Rattle.flush_core.specs.Flushed.{Flushed, gathered}
 use Rattle.flush_core.specs.Outcomes.{IsTurn}
 use Rattle.flush_core.proofs.StoreFaults.{caused_none}
-use Rattle.flush_core.proofs.Room.{came_afresh, came_behind, found_none, gathered_stays, has_none_left, none_won, of_a_batch, still_published, still_unsettled}
-use Rattle.flush_core.proofs.Turns.{failed_keeps, settle_falls, stored, turned, unstored}
+use Rattle.flush_core.proofs.Room.{came_afresh, came_behind, found_none, gathered_stays, has_none_left, none_won, of_a_batch, still_published, still_unexecuted}
+use Rattle.flush_core.proofs.Turns.{failed_keeps, execute_falls, stored, turned, unstored}
 use Rattle.flush_core.proofs.flusher.Flusher.turn.Goals as goal
 
 pub returns-in_err-count-clause-any_moment : goal.returns-in_err-count-clause-any_moment
@@ -25,24 +25,24 @@ returns-in_err-store-clause-any_moment g c honest whole =
     let same = failed_keeps c.gather.new.self c.store.new.self _ c.in_err-store.ensures.outcome in
     stored g.D.Disk c.args.self.now c.gather.new.self took.0 c.store.new.self.disk c.store.new.self.disk c.store.new.self.opening c.store.new.self.seat c.is_broken.ensures.kept whole took.2 c.store.ensures.any_moment refl same.0 same.1 honest
 
-pub returns-in_err-settle-clause-any_moment : goal.returns-in_err-settle-clause-any_moment
-returns-in_err-settle-clause-any_moment g c honest whole =
+pub returns-in_err-execute-clause-any_moment : goal.returns-in_err-execute-clause-any_moment
+returns-in_err-execute-clause-any_moment g c honest whole =
     let took = c.in_ok-count.ensures.taken in
     let did = c.in_ok-store.ensures.stored in
-    let same = failed_keeps c.store.new.self c.settle.new.self _ c.in_err-settle.ensures.outcome in
-    stored g.D.Disk c.args.self.now c.gather.new.self took.0 c.store.new.self.disk c.settle.new.self.disk c.settle.new.self.opening c.settle.new.self.seat c.is_broken.ensures.kept whole took.2 c.store.ensures.any_moment c.settle.ensures.untouched
+    let same = failed_keeps c.store.new.self c.execute.new.self _ c.in_err-execute.ensures.outcome in
+    stored g.D.Disk c.args.self.now c.gather.new.self took.0 c.store.new.self.disk c.execute.new.self.disk c.execute.new.self.opening c.execute.new.self.seat c.is_broken.ensures.kept whole took.2 c.store.ensures.any_moment c.execute.ensures.untouched
     (same.0 ∙ ap (λ (f : Flushed g.row.D.Denot). f.opening) did) (same.1 ∙ ap (λ (f : Flushed g.row.D.Denot). f.seat.taken) did) honest
 
 pub returns-clause-any_moment : goal.returns-clause-any_moment
 returns-clause-any_moment g c honest whole =
     let took = c.in_ok-count.ensures.taken in
     let did = c.in_ok-store.ensures.stored in
-    let settled = c.in_ok-settle.ensures.settled in
+    let executed = c.in_ok-execute.ensures.executed in
     let published = c.publish.ensures.published in
     stored g.D.Disk c.args.self.now c.gather.new.self took.0 c.store.new.self.disk c.publish.new.self.disk c.publish.new.self.opening c.publish.new.self.seat c.is_broken.ensures.kept whole took.2 c.store.ensures.any_moment
-    (ap (λ (f : Flushed g.row.D.Denot). f.disk) published ∙ c.settle.ensures.untouched)
-    (ap (λ (f : Flushed g.row.D.Denot). f.opening) published ∙ (ap (λ (f : Flushed g.row.D.Denot). f.opening) settled ∙ ap (λ (f : Flushed g.row.D.Denot). f.opening) did))
-    (ap (λ (f : Flushed g.row.D.Denot). f.seat.taken) published ∙ (ap (λ (f : Flushed g.row.D.Denot). f.seat.taken) settled ∙ ap (λ (f : Flushed g.row.D.Denot). f.seat.taken) did)) honest
+    (ap (λ (f : Flushed g.row.D.Denot). f.disk) published ∙ c.execute.ensures.untouched)
+    (ap (λ (f : Flushed g.row.D.Denot). f.opening) published ∙ (ap (λ (f : Flushed g.row.D.Denot). f.opening) executed ∙ ap (λ (f : Flushed g.row.D.Denot). f.opening) did))
+    (ap (λ (f : Flushed g.row.D.Denot). f.seat.taken) published ∙ (ap (λ (f : Flushed g.row.D.Denot). f.seat.taken) executed ∙ ap (λ (f : Flushed g.row.D.Denot). f.seat.taken) did)) honest
 
 pub returns-clause-turned : goal.returns-clause-turned
 returns-clause-turned g c =
@@ -50,8 +50,8 @@ returns-clause-turned g c =
     let whole = c.in_ok-count.ensures.outcome.0 in (
       took.0,
       took.1,
-      turned g.D.Disk c.args.self.now c.gather.new.self c.store.new.self c.settle.new.self c.publish.new.self took.0 c.store.new.self.disk c.store.new.self.size c.store.new.self.used c.store.new.self.won
-          c.is_broken.ensures.kept whole (c.requires.settled whole) took.2 c.in_ok-store.ensures.stored c.in_ok-settle.ensures.settled c.publish.ensures.published c.publish.ensures.given,
+      turned g.D.Disk c.args.self.now c.gather.new.self c.store.new.self c.execute.new.self c.publish.new.self took.0 c.store.new.self.disk c.store.new.self.size c.store.new.self.used c.store.new.self.won
+          c.is_broken.ensures.kept whole (c.requires.executed whole) took.2 c.in_ok-store.ensures.stored c.in_ok-execute.ensures.executed c.publish.ensures.published c.publish.ensures.given,
     )
 
 pub returns-then-is_broken-clause-any_moment : goal.returns-then-is_broken-clause-any_moment
@@ -101,13 +101,13 @@ pub returns-clause-behind : goal.returns-clause-behind
 returns-clause-behind g c fits some =
     let took = c.in_ok-count.ensures.taken in
     came_behind c.args.self.now c.gather.new.self c.store.new.self took.0 _ _ _ _ took.2 c.in_ok-store.ensures.stored (λ waits. (c.store.ensures.nothing c.in_ok-count.ensures.outcome.1 waits).1)
-    c.settle.new.self c.publish.new.self c.in_ok-settle.ensures.settled c.publish.ensures.published c.in_ok-store.ensures.behind fits some
+    c.execute.new.self c.publish.new.self c.in_ok-execute.ensures.executed c.publish.ensures.published c.in_ok-store.ensures.behind fits some
 
 pub returns-clause-afresh : goal.returns-clause-afresh
 returns-clause-afresh g c long some =
     let took = c.in_ok-count.ensures.taken in
     came_afresh c.args.self.now c.gather.new.self c.store.new.self took.0 _ _ _ _ took.2 c.in_ok-store.ensures.stored (λ waits. (c.store.ensures.nothing c.in_ok-count.ensures.outcome.1 waits).1)
-    c.settle.new.self c.publish.new.self c.in_ok-settle.ensures.settled c.publish.ensures.published c.is_broken.ensures.kept.stored c.in_ok-store.ensures.afresh long some
+    c.execute.new.self c.publish.new.self c.in_ok-execute.ensures.executed c.publish.ensures.published c.is_broken.ensures.kept.stored c.in_ok-store.ensures.afresh long some
 
 pub returns-then-is_broken-clause-behind : goal.returns-then-is_broken-clause-behind
 returns-then-is_broken-clause-behind g c = λ fits some. tt
@@ -152,23 +152,23 @@ returns-in_err-store-clause-nothing g c none =
     let waits : gathered c.gather.new.self ≡ [] = gathered_stays g.D.Disk c.args.self.now c.gather.new.self c.store.new.self took.0 _ c.is_broken.ensures.kept took.2 c.in_err-store.ensures.outcome ∙ none in
     absurd (false≢true (c.in_err-store.ensures.nothing c.in_ok-count.ensures.outcome.1 waits).0)
 
-pub returns-in_err-settle-clause-nothing : goal.returns-in_err-settle-clause-nothing
-returns-in_err-settle-clause-nothing g c none =
+pub returns-in_err-execute-clause-nothing : goal.returns-in_err-execute-clause-nothing
+returns-in_err-execute-clause-nothing g c none =
     let took = c.in_ok-count.ensures.taken in
-    still_unsettled c.args.self.now c.gather.new.self c.store.new.self took.0 _ _ _ _ took.2 c.in_ok-store.ensures.stored (λ waits. (c.store.ensures.nothing c.in_ok-count.ensures.outcome.1 waits).1)
-    c.settle.new.self _ c.in_err-settle.ensures.outcome c.settle.ensures.untouched none
+    still_unexecuted c.args.self.now c.gather.new.self c.store.new.self took.0 _ _ _ _ took.2 c.in_ok-store.ensures.stored (λ waits. (c.store.ensures.nothing c.in_ok-count.ensures.outcome.1 waits).1)
+    c.execute.new.self _ c.in_err-execute.ensures.outcome c.execute.ensures.untouched none
 
 pub returns-clause-nothing : goal.returns-clause-nothing
 returns-clause-nothing g c none =
     let took = c.in_ok-count.ensures.taken in
     still_published c.args.self.now c.gather.new.self c.store.new.self took.0 _ _ _ _ took.2 c.in_ok-store.ensures.stored (λ waits. (c.store.ensures.nothing c.in_ok-count.ensures.outcome.1 waits).1)
-    c.settle.new.self c.publish.new.self c.in_ok-settle.ensures.settled c.settle.ensures.untouched c.publish.ensures.published none
+    c.execute.new.self c.publish.new.self c.in_ok-execute.ensures.executed c.execute.ensures.untouched c.publish.ensures.published none
 
 pub returns-clause-idle : goal.returns-clause-idle
 returns-clause-idle g c none =
     let took = c.in_ok-count.ensures.taken in
     none_won c.args.self.now c.gather.new.self c.store.new.self took.0 _ _ _ _ took.2 c.in_ok-store.ensures.stored (λ waits. (c.store.ensures.nothing c.in_ok-count.ensures.outcome.1 waits).1)
-    c.settle.new.self c.publish.new.self c.in_ok-settle.ensures.settled c.publish.ensures.published none
+    c.execute.new.self c.publish.new.self c.in_ok-execute.ensures.executed c.publish.ensures.published none
 
 pub returns-then-is_broken-clause-idle : goal.returns-then-is_broken-clause-idle
 returns-then-is_broken-clause-idle g c = λ none. tt
@@ -179,36 +179,36 @@ store-requires g c =
       search rules,
       (
         ap (λ (f : Flushed g.row.D.Denot). f.seat.ring) took.2 ∙ c.requires.ring,
-        λ whole. subst (λ (f : Flushed g.row.D.Denot). f.settled ≡ f.stored) (sym took.2) (c.requires.settled c.in_ok-count.ensures.outcome.0),
+        λ whole. subst (λ (f : Flushed g.row.D.Denot). f.executed ≡ f.stored) (sym took.2) (c.requires.executed c.in_ok-count.ensures.outcome.0),
       ),
     )
 
-pub returns-in_err-settle-clause-outcome : goal.returns-in_err-settle-clause-outcome
-returns-in_err-settle-clause-outcome g c =
+pub returns-in_err-execute-clause-outcome : goal.returns-in_err-execute-clause-outcome
+returns-in_err-execute-clause-outcome g c =
     let took = c.in_ok-count.ensures.taken in
-    let p = err_from_is_err_and c.from_residual-in_err-settle.result c.from_residual-in_err-settle.ensures.1 in
-    let is : c.from_residual-in_err-settle.result ≡ Err c.in_err-settle.field-0.0 = cc (p.1, p.2) in
-    subst (λ (r : Result ℕ FlushFault). IsTurn c.args.self.now c.settle.new.self r) (sym is)
-    (settle_falls c.args.self.now c.gather.new.self c.store.new.self c.settle.new.self took.0 _ _ _ _ c.in_ok-count.ensures.outcome.0 took.2 c.in_ok-store.ensures.stored
-    ℕ c.in_err-settle.field-0.0 c.in_ok-store.ensures.outcome.1 c.in_err-settle.ensures.outcome)
+    let p = err_from_is_err_and c.from_residual-in_err-execute.result c.from_residual-in_err-execute.ensures.1 in
+    let is : c.from_residual-in_err-execute.result ≡ Err c.in_err-execute.field-0.0 = cc (p.1, p.2) in
+    subst (λ (r : Result ℕ FlushFault). IsTurn c.args.self.now c.execute.new.self r) (sym is)
+    (execute_falls c.args.self.now c.gather.new.self c.store.new.self c.execute.new.self took.0 _ _ _ _ c.in_ok-count.ensures.outcome.0 took.2 c.in_ok-store.ensures.stored
+    ℕ c.in_err-execute.field-0.0 c.in_ok-store.ensures.outcome.1 c.in_err-execute.ensures.outcome)
 
-pub returns-in_err-settle-clause-cause : goal.returns-in_err-settle-clause-cause
-returns-in_err-settle-clause-cause g c =
+pub returns-in_err-execute-clause-cause : goal.returns-in_err-execute-clause-cause
+returns-in_err-execute-clause-cause g c =
     let took = c.in_ok-count.ensures.taken in
-    let p = err_from_is_err_and c.from_residual-in_err-settle.result c.from_residual-in_err-settle.ensures.1 in
-    let is : c.from_residual-in_err-settle.result ≡ Err c.in_err-settle.field-0.0 = cc (p.1, p.2) in
-    subst (λ (r : Result ℕ FlushFault). IsFlushCaused (g.D.Disk.failures c.args.self.now.disk) (g.D.Disk.failures c.settle.new.self.disk) r) (sym is)
-    (caused_none ℕ c.in_err-settle.field-0.0 (g.D.Disk.failures c.args.self.now.disk) (g.D.Disk.failures c.settle.new.self.disk) c.in_err-settle.ensures.fault
-    (ap (λ d. g.D.Disk.failures d) c.settle.ensures.untouched ∙ (c.in_ok-store.ensures.cause ∙ ap (λ (f : Flushed g.row.D.Denot). g.D.Disk.failures f.disk) took.2)))
+    let p = err_from_is_err_and c.from_residual-in_err-execute.result c.from_residual-in_err-execute.ensures.1 in
+    let is : c.from_residual-in_err-execute.result ≡ Err c.in_err-execute.field-0.0 = cc (p.1, p.2) in
+    subst (λ (r : Result ℕ FlushFault). IsFlushCaused (g.D.Disk.failures c.args.self.now.disk) (g.D.Disk.failures c.execute.new.self.disk) r) (sym is)
+    (caused_none ℕ c.in_err-execute.field-0.0 (g.D.Disk.failures c.args.self.now.disk) (g.D.Disk.failures c.execute.new.self.disk) c.in_err-execute.ensures.fault
+    (ap (λ d. g.D.Disk.failures d) c.execute.ensures.untouched ∙ (c.in_ok-store.ensures.cause ∙ ap (λ (f : Flushed g.row.D.Denot). g.D.Disk.failures f.disk) took.2)))
 
 pub returns-clause-after : goal.returns-clause-after
 returns-clause-after g c = λ honest.
     let took = c.in_ok-count.ensures.taken in
     let did = c.in_ok-store.ensures.stored in
-    let settled = c.in_ok-settle.ensures.settled in
+    let executed = c.in_ok-execute.ensures.executed in
     let published = c.publish.ensures.published in
-    let opened : c.publish.new.self.opening ≡ c.gather.new.self.opening = ap (λ (f : Flushed g.row.D.Denot). f.opening) published ∙ (ap (λ (f : Flushed g.row.D.Denot). f.opening) settled ∙ ap (λ (f : Flushed g.row.D.Denot). f.opening) did) in
-    let taken : c.publish.new.self.seat.taken ≡ c.gather.new.self.seat.taken = ap (λ (f : Flushed g.row.D.Denot). f.seat.taken) published ∙ (ap (λ (f : Flushed g.row.D.Denot). f.seat.taken) settled ∙ ap (λ (f : Flushed g.row.D.Denot). f.seat.taken) did) in
-    subst (λ d. StandFor (g.D.Disk.images d) (state_taken c.publish.new.self.opening c.publish.new.self.seat)) (sym (ap (λ (f : Flushed g.row.D.Denot). f.disk) published ∙ c.settle.ensures.untouched))
+    let opened : c.publish.new.self.opening ≡ c.gather.new.self.opening = ap (λ (f : Flushed g.row.D.Denot). f.opening) published ∙ (ap (λ (f : Flushed g.row.D.Denot). f.opening) executed ∙ ap (λ (f : Flushed g.row.D.Denot). f.opening) did) in
+    let taken : c.publish.new.self.seat.taken ≡ c.gather.new.self.seat.taken = ap (λ (f : Flushed g.row.D.Denot). f.seat.taken) published ∙ (ap (λ (f : Flushed g.row.D.Denot). f.seat.taken) executed ∙ ap (λ (f : Flushed g.row.D.Denot). f.seat.taken) did) in
+    subst (λ d. StandFor (g.D.Disk.images d) (state_taken c.publish.new.self.opening c.publish.new.self.seat)) (sym (ap (λ (f : Flushed g.row.D.Denot). f.disk) published ∙ c.execute.ensures.untouched))
     (subst (λ (s : State). StandFor (g.D.Disk.images c.store.new.self.disk) s) (sym (λ i. state_after (opened i) (taken i)))
     (c.in_ok-store.ensures.after (subst (λ (f : Flushed g.row.D.Denot). g.D.Disk.honest f.disk) (sym took.2) honest)))

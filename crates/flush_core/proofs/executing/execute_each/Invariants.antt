@@ -2,7 +2,7 @@ use Rattle.std.proofs.Common.{◌≡◌, ◌++◌, false}
 use Rattle.area_core.specs.Areas.{commands}
 use Rattle.broker_core.specs.Steps.{outs_of, state_after}
 use Rattle.flush_core.specs.Sessions.{boxes_after, ended_of}
-use Rattle.flush_core.proofs.settling.execute_each.Given as goal
+use Rattle.flush_core.proofs.executing.execute_each.Given as goal
 
 abbrev pub invariant-loop-entry : goal.invariant-loop-entry
 invariant-loop-entry g l = record {

@@ -5,7 +5,7 @@ ghost use Rattle.area_core.specs.Areas.{commands};
 ghost use Rattle.broker_state.specs.States.{is_open};
 ghost use Rattle.broker_core.specs.Steps.{outs, outs_of, state_after, step};
 ghost use Rattle.flush_core.specs.Faults.{IsMemory, NeedsNoDisk};
-ghost use Rattle.flush_core.specs.Outcomes.{IsOutcome, settling};
+ghost use Rattle.flush_core.specs.Outcomes.{IsOutcome, executing};
 ghost use Rattle.flush_core.specs.Sessions.{boxes_after, ended_by, ended_of, opened};
 
 use crate::FlushFault;
@@ -166,13 +166,13 @@ fn execute_all<B: Bell>(
 impl<D: Disk, B: Bell, const BATCH: usize, const BATCH_BYTES: u64> Flusher<D, B, BATCH, BATCH_BYTES> {
     /// Executes what is stored: the broker's state is then the one after all that is stored, and the outputs wait behind
     /// those that wait already, in the order of their commands. The room is made that `publish` needs.
-    pub fn settle(
+    pub fn execute(
         &mut self,
         alloc: Global,
         ring: &BrokerRing<OutSender<B>>,
     ) -> Result<(), FlushFault>
         requires ring { self.old.seat.ring ≡ ring.now }
-        ensures settled { OnOk result (self.new ≡ settling self.old) }
+        ensures executed { OnOk result (self.new ≡ executing self.old) }
         ensures untouched { self.new.disk ≡ self.old.disk }
         ensures outcome { IsOutcome self.old self.new result }
         ensures stops { OnErr result ((self.new.broken ≡ true) × (self.new.seat.stopped ≡ true)) }
@@ -183,7 +183,7 @@ impl<D: Disk, B: Bell, const BATCH: usize, const BATCH_BYTES: u64> Flusher<D, B,
         }
         match execute_all(alloc, &mut self.broker, &mut self.done, &mut self.outlet) {
             Ok(()) => {
-                self.settled = self.stored;
+                self.executed = self.stored;
                 Ok(())
             }
             Err(fault) => {

@@ -10,31 +10,31 @@ use Rattle.flush_core.specs.declared.faults.FlushFault.{FlushFault}
 use Rattle.flush_core.specs.Faults.{IsMemory}
 use Rattle.flush_core.proofs.StoreFaults.{fell_for_memory, needs_memory}
 use Rattle.flush_core.specs.Flushed.{Flushed, flushed}
-use Rattle.flush_core.specs.Outcomes.{settling}
+use Rattle.flush_core.specs.Outcomes.{executing}
 use Rattle.flush_core.specs.Sessions.{boxes_after, ended_of}
-use Rattle.flush_core.proofs.Keeping.{broker_count, counts, fails, held_settled, settled_entries, settles, settling_is}
-use Rattle.flush_core.proofs.flusher.Flusher.settle.Goals as goal
+use Rattle.flush_core.proofs.Keeping.{broker_count, counts, fails, held_executed, executed_entries, executes, executing_is}
+use Rattle.flush_core.proofs.flusher.Flusher.execute.Goals as goal
 
 pub execute_all-requires-clause-count : goal.execute_all-requires-clause-count
 execute_all-requires-clause-count g c =
     let it = c.self.inside in
-    let f = flushed it.journal it.seat it.opening.value.state it.stored it.settled (it.done.items ++ it.batch.items) it.broker it.outlet.boxes it.outlet.ended.items it.outlet.past.items it.outlet.waiting.items it.outlet.left.items it.broken it.won in
+    let f = flushed it.journal it.seat it.opening.value.state it.stored it.executed (it.done.items ++ it.batch.items) it.broker it.outlet.boxes it.outlet.ended.items it.outlet.past.items it.outlet.waiting.items it.outlet.left.items it.broken it.won in
     let held = c.self.invariant.1 c.if-self.false in
     counts g.D.Disk.honest g.D.Disk.images f it.done.items c.if-self.false c.self.invariant.0 held.done_is held.few
 
 pub invariant_of-self : goal.invariant_of-self
 invariant_of-self g c =
     let it = c.self.inside in
-    let f = flushed it.journal it.seat it.opening.value.state it.stored it.settled (it.done.items ++ it.batch.items) it.broker it.outlet.boxes it.outlet.ended.items it.outlet.past.items it.outlet.waiting.items it.outlet.left.items it.broken it.won in
+    let f = flushed it.journal it.seat it.opening.value.state it.stored it.executed (it.done.items ++ it.batch.items) it.broker it.outlet.boxes it.outlet.ended.items it.outlet.past.items it.outlet.waiting.items it.outlet.left.items it.broken it.won in
     let held = c.self.invariant.1 c.if-self.false in
     let did = c.in-Ok.ensures in
     let now = c.execute_all.new in (
-      settles g.D.Disk.honest g.D.Disk.images f (now.done.items ++ it.batch.items) now.broker now.outlet.boxes now.outlet.ended.items now.outlet.past.items now.outlet.waiting.items now.outlet.left.items
+      executes g.D.Disk.honest g.D.Disk.images f (now.done.items ++ it.batch.items) now.broker now.outlet.boxes now.outlet.ended.items now.outlet.past.items now.outlet.waiting.items now.outlet.left.items
           (ap (λ (l : List (EntryValue SenderValue)). commands (l ++ it.batch.items)) did.done ∙ held.batch_is)
           (did.state ∙ ap (λ (l : List CommandValue). record { state = state_after it.broker.state l; broken = false }) held.done_is)
           (did.outs ∙ ap (λ (l : List CommandValue). it.outlet.waiting.items ++ outs_of it.broker.state l) held.done_is)
           c.execute_all.ensures.left c.if-self.false c.self.invariant.0,
-      λ w. held_settled it.seat it.stored it.settled _ it.batch.items it.done.items now.done.items it.bytes _ _ _ _ _ _ did.done did.room held,
+      λ w. held_executed it.seat it.stored it.executed _ it.batch.items it.done.items now.done.items it.bytes _ _ _ _ _ _ did.done did.room held,
       λ w. record { none = did.spare.0; room_is = did.spare.1 },
       c.self.invariant.3,
     )
@@ -42,7 +42,7 @@ invariant_of-self g c =
 pub invariant_of-self-in-Err : goal.invariant_of-self-in-Err
 invariant_of-self-in-Err g c =
     let it = c.self.inside in
-    let f = flushed it.journal it.seat it.opening.value.state it.stored it.settled (it.done.items ++ it.batch.items) it.broker it.outlet.boxes it.outlet.ended.items it.outlet.past.items it.outlet.waiting.items it.outlet.left.items it.broken it.won in
+    let f = flushed it.journal it.seat it.opening.value.state it.stored it.executed (it.done.items ++ it.batch.items) it.broker it.outlet.boxes it.outlet.ended.items it.outlet.past.items it.outlet.waiting.items it.outlet.left.items it.broken it.won in
     let now = c.execute_all.new in (
       fails g.D.Disk.honest g.D.Disk.images f c.stop.new.seat (now.done.items ++ it.batch.items) now.broker now.outlet.boxes now.outlet.ended.items now.outlet.past.items now.outlet.waiting.items now.outlet.left.items
           c.stop.ensures c.execute_all.ensures.left c.self.invariant.0,
@@ -51,16 +51,16 @@ invariant_of-self-in-Err g c =
       λ w. absurd (cc w),
     )
 
-pub returns-in-Ok-clause-settled : goal.returns-in-Ok-clause-settled
-returns-in-Ok-clause-settled g c =
+pub returns-in-Ok-clause-executed : goal.returns-in-Ok-clause-executed
+returns-in-Ok-clause-executed g c =
     let it = c.self.inside in
-    let f = flushed it.journal it.seat it.opening.value.state it.stored it.settled (it.done.items ++ it.batch.items) it.broker it.outlet.boxes it.outlet.ended.items it.outlet.past.items it.outlet.waiting.items it.outlet.left.items it.broken it.won in
+    let f = flushed it.journal it.seat it.opening.value.state it.stored it.executed (it.done.items ++ it.batch.items) it.broker it.outlet.boxes it.outlet.ended.items it.outlet.past.items it.outlet.waiting.items it.outlet.left.items it.broken it.won in
     let kept = c.self.invariant.0 in
     let held = c.self.invariant.1 c.if-self.false in
     let did = c.in-Ok.ensures in
     let now = c.execute_all.new in
-    let entries = settled_entries it.seat it.stored it.settled _ it.batch.items it.done.items _ _ _ _ (omega (arith, kept.begun, kept.marked)) kept.settled kept.stored held in
-    settling_is g.D.Disk.honest g.D.Disk.images f (now.done.items ++ it.batch.items) now.broker now.outlet.boxes now.outlet.ended.items now.outlet.past.items now.outlet.waiting.items now.outlet.left.items c.if-self.false kept
+    let entries = executed_entries it.seat it.stored it.executed _ it.batch.items it.done.items _ _ _ _ (omega (arith, kept.begun, kept.marked)) kept.executed kept.stored held in
+    executing_is g.D.Disk.honest g.D.Disk.images f (now.done.items ++ it.batch.items) now.broker now.outlet.boxes now.outlet.ended.items now.outlet.past.items now.outlet.waiting.items now.outlet.left.items c.if-self.false kept
     (ap (λ (l : List (EntryValue SenderValue)). l ++ it.batch.items) did.done ∙ sym entries.1)
     (did.boxes ∙ (λ i. boxes_after (broker_count g.D.Disk.honest g.D.Disk.images f c.if-self.false kept i) it.outlet.boxes ((sym entries.0) i)))
     (did.ended ∙ ap (λ (l : List CommandValue). it.outlet.ended.items ++ ended_of it.broker.state l) held.done_is)
@@ -68,10 +68,10 @@ returns-in-Ok-clause-settled g c =
     (did.state ∙ ap (λ (l : List CommandValue). record { state = state_after it.broker.state l; broken = false }) held.done_is)
     (did.outs ∙ ap (λ (l : List CommandValue). it.outlet.waiting.items ++ outs_of it.broker.state l) held.done_is)
     c.execute_all.ensures.left
-    ∙ ap (λ (f : Flushed g.row.D.Denot). settling f) c.self.view_is
+    ∙ ap (λ (f : Flushed g.row.D.Denot). executing f) c.self.view_is
 
-pub returns-then-self-clause-settled : goal.returns-then-self-clause-settled
-returns-then-self-clause-settled g c = tt
+pub returns-then-self-clause-executed : goal.returns-then-self-clause-executed
+returns-then-self-clause-executed g c = tt
 
 pub returns-then-self-clause-untouched : goal.returns-then-self-clause-untouched
 returns-then-self-clause-untouched g c = refl
@@ -97,8 +97,8 @@ returns-in-Ok-clause-stops g c = tt
 pub returns-in-Ok-clause-fault : goal.returns-in-Ok-clause-fault
 returns-in-Ok-clause-fault g c = tt
 
-pub returns-in-Err-clause-settled : goal.returns-in-Err-clause-settled
-returns-in-Err-clause-settled g c = tt
+pub returns-in-Err-clause-executed : goal.returns-in-Err-clause-executed
+returns-in-Err-clause-executed g c = tt
 
 pub returns-in-Err-clause-untouched : goal.returns-in-Err-clause-untouched
 returns-in-Err-clause-untouched g c = ap (λ (f : Flushed g.row.D.Denot). f.disk) c.self.view_is

@@ -13,7 +13,7 @@ use Rattle.outbox_core.specs.Boxes.{SenderValue}
 use Rattle.flush_core.specs.Sessions.{boxes_after, ended_by, ended_of, opened}
 use Rattle.flush_core.proofs.Sessions.{boxes_entries, ended_commands}
 use Rattle.flush_core.proofs.Taken.{commands_more, count_after, length_commands, outs_commands, state_commands}
-use Rattle.flush_core.proofs.settling.execute_each.Goals as goal
+use Rattle.flush_core.proofs.executing.execute_each.Goals as goal
 
 pub execute_one-requires-clause-count : goal.execute_one-requires-clause-count
 execute_one-requires-clause-count g c =

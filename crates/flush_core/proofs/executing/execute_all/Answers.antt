@@ -5,7 +5,7 @@ use Rattle.command_core.specs.Entries.{EntryValue}
 use Rattle.command_core.specs.Outs.{OutValue}
 use Rattle.outbox_core.specs.Boxes.{SenderValue}
 use Rattle.flush_core.specs.Sessions.{boxes_after, ended_of}
-use Rattle.flush_core.proofs.settling.execute_all.Goals as goal
+use Rattle.flush_core.proofs.executing.execute_all.Goals as goal
 
 pub returns-in_err-execute_each-clause-past : goal.returns-in_err-execute_each-clause-past
 returns-in_err-execute_each-clause-past g c = refl

@@ -10,7 +10,7 @@ use Rattle.command_core.specs.Commands.{CommandValue}
 use Rattle.command_core.specs.Entries.{EntryValue}
 use Rattle.command_core.specs.Outs.{OutValue}
 use Rattle.outbox_core.specs.Boxes.{SenderValue}
-use Rattle.flush_core.proofs.settling.execute_one.Goals as goal
+use Rattle.flush_core.proofs.executing.execute_one.Goals as goal
 
 -- What a step of another command than the entry's would have done is refused where the two commands are compared, and not
 -- where the steps are, which takes long.
