@@ -1,5 +1,5 @@
 #!/usr/bin/env python3
-"""A subscriber that stops reading, while another sends to its topic: its outbox of 512 outputs is cut, and nobody else waits.
+"""A subscriber that stops reading, while another sends to its topic: its outbox of 32 MiB is cut, and nobody else waits.
 
     python3 clients/slow_reader.py [PROGRAM]
 """
@@ -10,11 +10,12 @@ import time
 import scenario
 from stomp_client import Client
 
-OUTBOX = 512
-SEATS = 32
-# Enough to fill the outbox and what the two sockets keep, which is some megabytes.
-MESSAGES = 1_200
+SEATS = 64
 BODY = "x" * 16_000
+# So many messages an outbox has room for at least: with its headers a message has less than 16,500 bytes.
+OUTBOX = 32 * 1_048_576 // 16_500
+# Enough to fill the outbox and what the two sockets keep, which is some megabytes.
+MESSAGES = 2_800
 
 # For how many seconds a client may take nothing of what is written before it is given up.
 LONGEST_WRITE = 10
