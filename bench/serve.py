@@ -19,7 +19,8 @@ from serving import Load, Server, build_load, build_slow_sync, make_journal
 
 AREA = 512 * MB
 HELD = 4_000
-AT_ONCE = 32
+# All that 31 connections have under way, eight each; a block has room for 256.
+AT_ONCE = 248
 PIECE = 65_536
 
 
@@ -89,7 +90,7 @@ def many(bench):
 
 
 def slow(bench):
-    """The same over syncs that are made slower: then 32 commands in two syncs are the most that there can be. What a sync
+    """The same over syncs that are made slower: then all that the load has under way, in two syncs, is the most that there can be. What a sync
     takes is told as it is on an idle disk (median), and as the server's own syncs were (mean)."""
     for more in (500, 2_000):
         environment = {**os.environ, "LD_PRELOAD": str(bench.slow), "SLOW_SYNC": str(more)}
@@ -101,7 +102,7 @@ def slow(bench):
             seconds = time.perf_counter() - begun
             calls, spent = (now - then for now, then in zip(bench.counts(), (calls, spent)))
         rate, own = load["receipts_a_second"], spent / calls * 2 / 1e3
-        told = f", {rate * pair / AT_ONCE / 1e4:.0f} % of 32 commands in two syncs of {pair:,.0f} us"
+        told = f", {rate * pair / AT_ONCE / 1e4:.0f} % of {AT_ONCE} commands in two syncs of {pair:,.0f} us"
         told += f", {rate * own / AT_ONCE / 1e4:.0f} % in two of its own, {own:,.0f} us; {spent / seconds / 1e7:.0f} % of its time was in syncs"
         tell(f"the same, syncs slower by {more / 1e3:.1f} ms", f"{rate:,.0f}", "a second", told)
 
@@ -170,8 +171,8 @@ def compactions(bench):
 
 def idle(bench):
     with bench.server() as server:
-        load = Load(bench.load, server, "idle", 32, 20)
-    tell("32 idle connections, of one processor", f"{load.server_busy * 100:,.2f}", "%", f" over {load.seconds:.0f} s")
+        load = Load(bench.load, server, "idle", 64, 20)
+    tell("64 idle connections, of one processor", f"{load.server_busy * 100:,.2f}", "%", f" over {load.seconds:.0f} s")
 
 
 CASES = {case.__name__: case for case in (one, many, slow, fanout, queue, latency, starts, compactions, idle)}
