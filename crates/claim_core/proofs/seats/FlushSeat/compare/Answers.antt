@@ -11,7 +11,7 @@ pub load_tail-tail-requires-clause-owner : goal.load_tail-tail-requires-clause-o
 load_tail-tail-requires-clause-owner g c = (
   owner_with c.args.self.now (c.args.seat.now ∷ []),
   gathered _ _ _ _ _ _ _ _ _ _ _ _ _ _ c.self.invariant c.seat.invariant c.self.view_is c.seat.view_is
-      (ap (λ m. m.0) c.gather.ensures.told ∙ (λ i. joined_to (ap (λ m. m.0) c.stand_in-nobody.ensures.told i) (ap (λ p. p.me.0) c.replace-place.ensures.value i))),
+      (ap (λ m. m.0) c.gather.ensures.told ∙ (λ i. joined_to (ap (λ m. m.0) c.stand_in-nobody.ensures.told i) (ap (λ p. p.me.0) c.replace-table_seat.ensures.value i))),
 )
 
 pub hand_back-requires-clause-owner : goal.hand_back-requires-clause-owner
@@ -21,7 +21,7 @@ hand_back-requires-clause-owner g c = (
   [],
   ap (λ m. m.0) c.load_tail-tail.ensures.told.0
       ∙ gathered _ _ _ _ _ _ _ _ _ _ _ _ _ _ c.self.invariant c.seat.invariant c.self.view_is c.seat.view_is
-      (ap (λ m. m.0) c.gather.ensures.told ∙ (λ i. joined_to (ap (λ m. m.0) c.stand_in-nobody.ensures.told i) (ap (λ p. p.me.0) c.replace-place.ensures.value i))),
+      (ap (λ m. m.0) c.gather.ensures.told ∙ (λ i. joined_to (ap (λ m. m.0) c.stand_in-nobody.ensures.told i) (ap (λ p. p.me.0) c.replace-table_seat.ensures.value i))),
   refl,
 )
 
@@ -29,4 +29,4 @@ pub returns-clause-agree : goal.returns-clause-agree
 returns-clause-agree g c = agree c.args.self.now c.args.seat.now c.load_tail-tail.result
     (c.load_tail-tail.ensures.told.1 _
     (gathered _ _ _ _ _ _ _ _ _ _ _ _ _ _ c.self.invariant c.seat.invariant c.self.view_is c.seat.view_is
-    (ap (λ m. m.0) c.gather.ensures.told ∙ (λ i. joined_to (ap (λ m. m.0) c.stand_in-nobody.ensures.told i) (ap (λ p. p.me.0) c.replace-place.ensures.value i)))))
+    (ap (λ m. m.0) c.gather.ensures.told ∙ (λ i. joined_to (ap (λ m. m.0) c.stand_in-nobody.ensures.told i) (ap (λ p. p.me.0) c.replace-table_seat.ensures.value i)))))
