@@ -61,6 +61,7 @@ impl<R: Clock> Pacing for Turnstile<R> {
 pub struct Awaited {
     pub turn: u64,
     pub mark: u64,
+    pub holds: bool,
 }
 
 /// The pace of worker 0 and of a flusher, which notes what it hears. Each turn sleeps a millisecond. The flusher is held up
@@ -80,6 +81,7 @@ pub struct Noting<R> {
     mark: AtomicU64,
     awaited_turn: AtomicU64,
     awaited_mark: AtomicU64,
+    holds: AtomicBool,
 }
 
 impl<R> Noting<R> {
@@ -97,6 +99,7 @@ impl<R> Noting<R> {
             mark: AtomicU64::new(0),
             awaited_turn: AtomicU64::new(u64::MAX),
             awaited_mark: AtomicU64::new(0),
+            holds: AtomicBool::new(false),
         }
     }
 
@@ -112,12 +115,13 @@ impl<R> Noting<R> {
         self.stopped.store(false, Ordering::SeqCst);
         self.short.store(false, Ordering::SeqCst);
         self.mark.store(0, Ordering::SeqCst);
-        let (turn, mark) = match awaits {
-            Some(awaited) => (awaited.turn, awaited.mark),
-            None => (u64::MAX, 0),
+        let (turn, mark, holds) = match awaits {
+            Some(awaited) => (awaited.turn, awaited.mark, awaited.holds),
+            None => (u64::MAX, 0, false),
         };
         self.awaited_turn.store(turn, Ordering::SeqCst);
         self.awaited_mark.store(mark, Ordering::SeqCst);
+        self.holds.store(holds, Ordering::SeqCst);
     }
 
     /// The worker has ended.
@@ -141,12 +145,14 @@ impl<R> Noting<R> {
 }
 
 impl<R: Clock> Noting<R> {
-    // Lets the flusher go, and waits for the mark, for ten seconds at most.
+    // Lets the flusher go, waits for the mark, for ten seconds at most, and holds the flusher up again where that is asked for.
     fn await_mark(&self) {
         self.flushes.store(true, Ordering::SeqCst);
         let wanted = self.awaited_mark.load(Ordering::SeqCst);
         for _ in 0..10_000u32 {
             if self.mark.load(Ordering::SeqCst) >= wanted {
+                self.flushes
+                    .store(!self.holds.load(Ordering::SeqCst), Ordering::SeqCst);
                 return;
             }
             thread::sleep(&self.rt, Duration::from_millis(1));

@@ -74,10 +74,10 @@ fn scripted(alloc: Global, row: &Row) -> Option<ScriptedLink> {
     }
 }
 
-// Whether the link got what it should: where the outbox overflows, the 512 outputs that it has room for.
+// Whether the link got what it should: where the outbox overflows, CONNECTED, and then the 4,608 outputs that it has room for.
 fn is_right(sent: &[Vec<u8>], row: &Row) -> bool {
     if row.overflows {
-        return sent.len() == 512;
+        return sent.len() == 1 + 4_608;
     }
     first_wrong(sent, row.sent).is_none()
 }

@@ -4,7 +4,7 @@ use crate::rows::{Row, SILENT, first_wrong_row};
 use crate::texts::{
     ALL_RECEIPTS, CONNECT, CONNECTED, DISCONNECT, FIVE_RECEIPTS, FIVE_SENDS, LAST_RECEIPT,
     LAST_WORD, LONG_BODY, LONG_END, LONG_HEAD, NOT_EXPECTED, SEND_X, SUBSCRIBER, THREE_MESSAGES,
-    TOO_MUCH, TWELVE_SENDS, TWENTY_SENDS,
+    TOO_MUCH, TWENTY_RECEIPTED, TWENTY_SENDS,
 };
 use hub_core::Ended;
 use std::test::Fail;
@@ -23,11 +23,11 @@ const ROWS: [Row; 11] = [
     },
     // More commands than the window lets in, and a DISCONNECT that asks for a receipt.
     Row {
-        texts: &[CONNECT, TWELVE_SENDS, LAST_WORD],
+        texts: &[CONNECT, TWENTY_RECEIPTED, LAST_WORD],
         ended: Ended::Bye,
         code: Some(1000),
         sent: ALL_RECEIPTS,
-        appended: Some(14),
+        appended: Some(22),
         heard: [true, true, false],
         ..SILENT
     },
@@ -83,8 +83,13 @@ const ROWS: [Row; 11] = [
         ended: Ended::Lost,
         code: Some(1001),
         overflows: true,
-        appended: Some(10),
+        appended: Some(34),
         heard: [true, true, false],
+        awaits: Some(Awaited {
+            turn: 2,
+            mark: 16,
+            holds: true,
+        }),
         ..SILENT
     },
     // The turns are used up.
@@ -104,7 +109,7 @@ const ROWS: [Row; 11] = [
     },
     // The journal is full while the window is.
     Row {
-        texts: &[CONNECT, LONG_HEAD, LONG_BODY, LONG_END, TWELVE_SENDS],
+        texts: &[CONNECT, LONG_HEAD, LONG_BODY, LONG_END, TWENTY_SENDS],
         ended: Ended::Stopped,
         code: Some(1001),
         appended: None,
@@ -120,7 +125,11 @@ const AT_ONCE: Row = Row {
     sent: FIVE_RECEIPTS,
     appended: Some(6),
     heard: [true, false, false],
-    awaits: Some(Awaited { turn: 2, mark: 6 }),
+    awaits: Some(Awaited {
+        turn: 2,
+        mark: 6,
+        holds: false,
+    }),
     ..SILENT
 };
 

@@ -14,8 +14,8 @@ pub const ACK: &[u8] = b"ACK\nid:1\n\n\0";
 
 pub const ACK_AGAIN: &[u8] = b"ACK\nid:1\nreceipt:r9\n\n\0";
 
-/// One message with twelve frames.
-pub const TWELVE_SENDS: &[u8] = b"SEND\ndestination:/topic/a\nreceipt:a\n\n\0\
+/// One message with twenty frames, each with a receipt: more than a window.
+pub const TWENTY_RECEIPTED: &[u8] = b"SEND\ndestination:/topic/a\nreceipt:a\n\n\0\
 SEND\ndestination:/topic/a\nreceipt:b\n\n\0\
 SEND\ndestination:/topic/a\nreceipt:c\n\n\0\
 SEND\ndestination:/topic/a\nreceipt:d\n\n\0\
@@ -26,7 +26,15 @@ SEND\ndestination:/topic/a\nreceipt:h\n\n\0\
 SEND\ndestination:/topic/a\nreceipt:i\n\n\0\
 SEND\ndestination:/topic/a\nreceipt:j\n\n\0\
 SEND\ndestination:/topic/a\nreceipt:k\n\n\0\
-SEND\ndestination:/topic/a\nreceipt:l\n\n\0";
+SEND\ndestination:/topic/a\nreceipt:l\n\n\0\
+SEND\ndestination:/topic/a\nreceipt:m\n\n\0\
+SEND\ndestination:/topic/a\nreceipt:n\n\n\0\
+SEND\ndestination:/topic/a\nreceipt:o\n\n\0\
+SEND\ndestination:/topic/a\nreceipt:p\n\n\0\
+SEND\ndestination:/topic/a\nreceipt:q\n\n\0\
+SEND\ndestination:/topic/a\nreceipt:r\n\n\0\
+SEND\ndestination:/topic/a\nreceipt:s\n\n\0\
+SEND\ndestination:/topic/a\nreceipt:t\n\n\0";
 
 /// One message with five frames: with an Open they are fewer than a window.
 pub const FIVE_SENDS: &[u8] = b"SEND\ndestination:/topic/a\nreceipt:a\n\n\0\
@@ -35,7 +43,7 @@ SEND\ndestination:/topic/a\nreceipt:c\n\n\0\
 SEND\ndestination:/topic/a\nreceipt:d\n\n\0\
 SEND\ndestination:/topic/a\nreceipt:e\n\n\0";
 
-/// One message with twenty frames: more than twice the window of eight.
+/// One message with twenty frames: more than a window.
 pub const TWENTY_SENDS: &[u8] = b"SEND\ndestination:/topic/a\n\n\0SEND\ndestination:/topic/a\n\n\0\
 SEND\ndestination:/topic/a\n\n\0SEND\ndestination:/topic/a\n\n\0\
 SEND\ndestination:/topic/a\n\n\0SEND\ndestination:/topic/a\n\n\0\
@@ -47,11 +55,22 @@ SEND\ndestination:/topic/a\n\n\0SEND\ndestination:/topic/a\n\n\0\
 SEND\ndestination:/topic/a\n\n\0SEND\ndestination:/topic/a\n\n\0\
 SEND\ndestination:/topic/a\n\n\0SEND\ndestination:/topic/a\n\n\0";
 
-pub const FIVE_SUBSCRIBERS: &[u8] = b"SUBSCRIBE\nid:1\ndestination:/topic/a\n\n\0\
+/// One message with fifteen frames: with an Open they are a window.
+pub const FIFTEEN_SUBSCRIBERS: &[u8] = b"SUBSCRIBE\nid:1\ndestination:/topic/a\n\n\0\
 SUBSCRIBE\nid:2\ndestination:/topic/a\n\n\0\
 SUBSCRIBE\nid:3\ndestination:/topic/a\n\n\0\
 SUBSCRIBE\nid:4\ndestination:/topic/a\n\n\0\
-SUBSCRIBE\nid:5\ndestination:/topic/a\n\n\0";
+SUBSCRIBE\nid:5\ndestination:/topic/a\n\n\0\
+SUBSCRIBE\nid:6\ndestination:/topic/a\n\n\0\
+SUBSCRIBE\nid:7\ndestination:/topic/a\n\n\0\
+SUBSCRIBE\nid:8\ndestination:/topic/a\n\n\0\
+SUBSCRIBE\nid:9\ndestination:/topic/a\n\n\0\
+SUBSCRIBE\nid:10\ndestination:/topic/a\n\n\0\
+SUBSCRIBE\nid:11\ndestination:/topic/a\n\n\0\
+SUBSCRIBE\nid:12\ndestination:/topic/a\n\n\0\
+SUBSCRIBE\nid:13\ndestination:/topic/a\n\n\0\
+SUBSCRIBE\nid:14\ndestination:/topic/a\n\n\0\
+SUBSCRIBE\nid:15\ndestination:/topic/a\n\n\0";
 
 pub const BEGIN: &[u8] = b"BEGIN\ntransaction:t\n\n\0";
 
@@ -68,10 +87,94 @@ SEND\ndestination:/topic/a\ntransaction:t\n\n\0SEND\ndestination:/topic/a\ntrans
 
 pub const COMMIT: &[u8] = b"COMMIT\ntransaction:t\n\n\0";
 
-/// An Open, five subscriptions and two transactions are a window; their outputs are one CONNECTED and 640 messages.
+/// An Open and fifteen subscriptions are a window, and sixteen transactions are another, whose outputs are 15,360 messages.
 pub const TOO_MUCH: &[&[u8]] = &[
     CONNECT,
-    FIVE_SUBSCRIBERS,
+    FIFTEEN_SUBSCRIBERS,
+    BEGIN,
+    MEMBERS,
+    MEMBERS,
+    MEMBERS,
+    MEMBERS,
+    COMMIT,
+    BEGIN,
+    MEMBERS,
+    MEMBERS,
+    MEMBERS,
+    MEMBERS,
+    COMMIT,
+    BEGIN,
+    MEMBERS,
+    MEMBERS,
+    MEMBERS,
+    MEMBERS,
+    COMMIT,
+    BEGIN,
+    MEMBERS,
+    MEMBERS,
+    MEMBERS,
+    MEMBERS,
+    COMMIT,
+    BEGIN,
+    MEMBERS,
+    MEMBERS,
+    MEMBERS,
+    MEMBERS,
+    COMMIT,
+    BEGIN,
+    MEMBERS,
+    MEMBERS,
+    MEMBERS,
+    MEMBERS,
+    COMMIT,
+    BEGIN,
+    MEMBERS,
+    MEMBERS,
+    MEMBERS,
+    MEMBERS,
+    COMMIT,
+    BEGIN,
+    MEMBERS,
+    MEMBERS,
+    MEMBERS,
+    MEMBERS,
+    COMMIT,
+    BEGIN,
+    MEMBERS,
+    MEMBERS,
+    MEMBERS,
+    MEMBERS,
+    COMMIT,
+    BEGIN,
+    MEMBERS,
+    MEMBERS,
+    MEMBERS,
+    MEMBERS,
+    COMMIT,
+    BEGIN,
+    MEMBERS,
+    MEMBERS,
+    MEMBERS,
+    MEMBERS,
+    COMMIT,
+    BEGIN,
+    MEMBERS,
+    MEMBERS,
+    MEMBERS,
+    MEMBERS,
+    COMMIT,
+    BEGIN,
+    MEMBERS,
+    MEMBERS,
+    MEMBERS,
+    MEMBERS,
+    COMMIT,
+    BEGIN,
+    MEMBERS,
+    MEMBERS,
+    MEMBERS,
+    MEMBERS,
+    COMMIT,
     BEGIN,
     MEMBERS,
     MEMBERS,
@@ -138,6 +241,14 @@ pub const ALL_RECEIPTS: &[&[u8]] = &[
     b"RECEIPT\nreceipt-id:j\n\n\0",
     b"RECEIPT\nreceipt-id:k\n\n\0",
     b"RECEIPT\nreceipt-id:l\n\n\0",
+    b"RECEIPT\nreceipt-id:m\n\n\0",
+    b"RECEIPT\nreceipt-id:n\n\n\0",
+    b"RECEIPT\nreceipt-id:o\n\n\0",
+    b"RECEIPT\nreceipt-id:p\n\n\0",
+    b"RECEIPT\nreceipt-id:q\n\n\0",
+    b"RECEIPT\nreceipt-id:r\n\n\0",
+    b"RECEIPT\nreceipt-id:s\n\n\0",
+    b"RECEIPT\nreceipt-id:t\n\n\0",
     LAST_RECEIPT,
 ];
 
