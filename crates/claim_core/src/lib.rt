@@ -17,8 +17,10 @@ mod tests;
 mod views;
 
 pub use ending::RingEnd;
+/// The limits of the broker's ring.
+pub use limits_core::{PLACES, SEATS, WINDOW};
 pub use refusals::{NotYet, Refused};
 pub use released::Released;
 pub use ring::Ring;
 pub use seats::{FlushSeat, SessionSeat};
-pub use sizes::{BrokerRing, BrokerSeat, PLACES, SEATS, WINDOW};
+pub use sizes::{BrokerRing, BrokerSeat};

@@ -5,7 +5,6 @@ ghost use Rattle.claim_core.specs.Steps.{claimer};
 
 use crate::ring::Ring;
 use crate::seats::{FlushSeat, SessionSeat};
-use crate::sizes::BrokerRing;
 use crate::steps::{claim, ready};
 use crate::views::Place;
 use command_core::{Command, Entry, Op};
@@ -232,7 +231,7 @@ fn words_of_a_new_ring<const SEATS: usize, const WINDOW: usize, const PLACES: us
 
 #[test]
 fn ticket_256_lands_on_the_first_place(rt: HostRuntime) -> Result<(), Fail> {
-    let (ring, seats, flush) = BrokerRing::<()>::new(rt.alloc(), 0)?;
+    let (ring, seats, flush) = Ring::<(), 32, 8, 256>::new(rt.alloc(), 0)?;
     let words = words_of_a_new_ring(rt.alloc(), ring, seats, flush);
     assert_eq!(rt; words, Some((768, Some(256), 769)));
     Ok(())

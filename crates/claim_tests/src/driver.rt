@@ -5,6 +5,12 @@ use command_core::{Command, Entry, Op, Out, connected_reply};
 use std::alloc::Global;
 use std::test::Fail;
 
+/// A ring of 32 seats with windows of eight.
+pub type EightsRing = Ring<(), 32, 8, 256>;
+
+/// A session's seat at it.
+pub type EightsSeat = SessionSeat<(), 8>;
+
 // An entry that acknowledges that delivery.
 fn entry(alloc: Global, delivery: u64) -> Option<Entry<()>> {
     Entry::new(alloc, Command::new(7, Op::Ack(delivery), None), None).ok()

@@ -1,11 +1,11 @@
-use crate::driver::{Answer, append};
-use claim_core::{Refused, Ring};
+use crate::driver::{Answer, EightsRing, append};
+use claim_core::Refused;
 use std::test::Fail;
 
 #[test]
 fn tickets_end_where_the_mark_is_two_to_the_60(rt: HostRuntime) -> Result<(), Fail> {
     let alloc = rt.alloc();
-    let (ring, mut seats, mut flush) = Ring::<(), 32, 8, 256>::new(alloc, 1 << 60)?;
+    let (ring, mut seats, mut flush) = EightsRing::new(alloc, 1 << 60)?;
     let Some(mut seat) = seats.pop() else {
         panic!(rt; "a seat is missing")
     };
@@ -20,7 +20,7 @@ fn tickets_end_where_the_mark_is_two_to_the_60(rt: HostRuntime) -> Result<(), Fa
 #[test]
 fn tickets_pass_two_to_the_60_while_the_mark_is_under_it(rt: HostRuntime) -> Result<(), Fail> {
     let alloc = rt.alloc();
-    let (ring, mut seats, _flush) = Ring::<(), 32, 8, 256>::new(alloc, (1 << 60) - 1)?;
+    let (ring, mut seats, _flush) = EightsRing::new(alloc, (1 << 60) - 1)?;
     let Some(mut seat) = seats.pop() else {
         panic!(rt; "a seat is missing")
     };

@@ -1,17 +1,12 @@
 ghost use Rattle.std.specs.Prelude.{◌≡◌};
 
-use crate::driver::{Answer, append, output, publish, take};
-use claim_core::{BrokerRing, BrokerSeat, FlushSeat, NotYet, Refused, Ring, RingEnd};
+use crate::driver::{Answer, EightsRing, EightsSeat, append, output, publish, take};
+use claim_core::{FlushSeat, NotYet, Refused, Ring, RingEnd};
 use std::alloc::Global;
 use std::test::Fail;
 
 // Appends eight entries, which acknowledge their own tickets, and answers whether these are the eight from `first` on.
-fn appends_eight(
-    alloc: Global,
-    ring: &BrokerRing<()>,
-    seat: &mut BrokerSeat<()>,
-    first: u64,
-) -> bool
+fn appends_eight(alloc: Global, ring: &EightsRing, seat: &mut EightsSeat, first: u64) -> bool
     requires { seat.old.ring ≡ ring.now }
     ensures { seat.new.ring ≡ ring.now }
 {
@@ -25,7 +20,7 @@ fn appends_eight(
 }
 
 // Takes eight entries and answers whether they are those of the tickets from `first` on, and nothing is behind them.
-fn takes_eight(ring: &BrokerRing<()>, flush: &mut FlushSeat<()>, first: u64) -> bool
+fn takes_eight(ring: &EightsRing, flush: &mut FlushSeat<()>, first: u64) -> bool
     requires { flush.old.ring ≡ ring.now }
     ensures { flush.new.ring ≡ ring.now }
 {
@@ -40,7 +35,7 @@ fn takes_eight(ring: &BrokerRing<()>, flush: &mut FlushSeat<()>, first: u64) -> 
 #[test]
 fn a_window_opens_again_when_the_mark_rises(rt: HostRuntime) -> Result<(), Fail> {
     let alloc = rt.alloc();
-    let (ring, mut seats, mut flush) = Ring::<(), 32, 8, 256>::new(alloc, 0)?;
+    let (ring, mut seats, mut flush) = EightsRing::new(alloc, 0)?;
     let (Some(mut seat), Some(mut other)) = (seats.pop(), seats.pop()) else {
         panic!(rt; "a seat is missing")
     };
@@ -58,8 +53,8 @@ fn a_window_opens_again_when_the_mark_rises(rt: HostRuntime) -> Result<(), Fail>
 // Makes rounds of eight entries that are taken and published.
 fn makes_rounds(
     alloc: Global,
-    ring: &BrokerRing<()>,
-    seat: &mut BrokerSeat<()>,
+    ring: &EightsRing,
+    seat: &mut EightsSeat,
     flush: &mut FlushSeat<()>,
 ) -> bool
     requires { (seat.old.ring ≡ ring.now) × (flush.old.ring ≡ ring.now) }
@@ -78,7 +73,7 @@ fn makes_rounds(
 #[test]
 fn tickets_go_round_the_256_places(rt: HostRuntime) -> Result<(), Fail> {
     let alloc = rt.alloc();
-    let (ring, mut seats, mut flush) = Ring::<(), 32, 8, 256>::new(alloc, 0)?;
+    let (ring, mut seats, mut flush) = EightsRing::new(alloc, 0)?;
     let Some(mut seat) = seats.pop() else {
         panic!(rt; "a seat is missing")
     };
@@ -123,6 +118,9 @@ fn a_small_ring_has_windows_of_its_own(rt: HostRuntime) -> Result<(), Fail> {
     publish(&ring, &mut flush);
     assert_eq!(rt; append(alloc, &ring, &mut seat, 72), Answer::Ticket(2));
     assert_eq!(rt; append(alloc, &ring, &mut seat, 73), Answer::Ticket(3));
+    assert!(rt; take(&ring, &mut flush) == Some(72) && take(&ring, &mut flush) == Some(73));
+    assert_eq!(rt; publish(&ring, &mut flush), 4);
+    assert_eq!(rt; append(alloc, &ring, &mut seat, 74), Answer::Ticket(4));
     Ok(())
 }
 

@@ -2,4 +2,4 @@ use Rattle.std.proofs.Common.{◌≡◌}
 use Rattle.claim_tests.proofs.window_tests.fill.Given as goal
 
 abbrev pub invariant-loop-number : goal.invariant-loop-number
-invariant-loop-number l = l.seat.ring ≡ l.ring
+invariant-loop-number g l = l.seat.ring ≡ l.ring
