@@ -1,5 +1,6 @@
 -- What is kept before an answer is kept after it.
 use Rattle.std.proofs.Common.{◌≡◌, ◌≤◌, ◌+◌, ◌*◌, ℕ, List, [], Option, replicate, Bool, false, Result, Ok, Err, IfOk, OnErr, sym, ◌∙◌, ap, subst}
+use Rattle.limits_core.specs.declared.TheConstants.{SEATS}
 use Rattle.command_core.specs.Commands.{CommandValue}
 use Rattle.disk_core.specs.Memory.{none_held}
 use Rattle.broker_core.specs.States.{State, empty_state}
@@ -9,7 +10,6 @@ use Rattle.world_core.specs.declared.place.Place.TheVariants.{Rest}
 use Rattle.world_core.specs.declared.seat.Seat.{Seat}
 use Rattle.world_core.specs.Answers.{Answers, IsTold}
 use Rattle.world_core.specs.Keeping.{IsKept}
-use Rattle.world_core.specs.Limits.{seat_count}
 use Rattle.world_core.specs.Schedules.{FitsOld, Holds, crashed, first, first_old, old_journal, opened_once}
 use Rattle.world_core.specs.Worlds.{WorldValue}
 use Rattle.world_core.proofs.Patching.{here}
@@ -58,13 +58,13 @@ begins_with size opening history ready seats released earlier content held o h f
 
 -- with the first seats and the first disk it is the first world
 pub is_first : (size : ℕ) (v : WorldValue) (seats : List Seat) (content : List ℕ) (held : List (Option ℕ))
-    → v ≡ first_with size empty_state [] [] seats [] [] content held → seats ≡ replicate seat_count (record { own = []; seen = 0 }) → content ≡ opened_once size → held ≡ none_held (32 + 2 * size) → v ≡ first size
+    → v ≡ first_with size empty_state [] [] seats [] [] content held → seats ≡ replicate SEATS (record { own = []; seen = 0 }) → content ≡ opened_once size → held ≡ none_held (32 + 2 * size) → v ≡ first size
 is_first size v seats content held is s c n = is ∙ (λ i. first_with size empty_state [] [] (s i) [] [] (c i) (n i))
 
 -- with the seats of a crash and this disk it is a crashed world
 pub is_crashed : (size : ℕ) (s t : State) (v : WorldValue) (seats : List Seat) (content bytes : List ℕ) (held : List (Option ℕ))
     → v ≡ record (crashed size s content) { seats = seats; disk = record { size = size; content = content; held = held } }
-    → s ≡ t → seats ≡ replicate seat_count (record { own = []; seen = s.count }) → content ≡ bytes → held ≡ none_held (32 + 2 * size) → v ≡ crashed size t bytes
+    → s ≡ t → seats ≡ replicate SEATS (record { own = []; seen = s.count }) → content ≡ bytes → held ≡ none_held (32 + 2 * size) → v ≡ crashed size t bytes
 is_crashed size s t v seats content bytes held is same placed are none =
     is ∙ (λ i. record (crashed size s (are i)) { seats = placed i; disk = record { size = size; content = are i; held = none i } }) ∙ ap (λ (u : State). crashed size u bytes) same
 

@@ -3,6 +3,7 @@ use Rattle.std.proofs.Common.{◌≡◌, inl, inr, ◌≤◌, ◌<◌, ◌+◌, 
 use Rattle.std.proofs.lemmas.List.{append-nil, length-replicate}
 use Rattle.std.proofs.lemmas.List.Elements.{All-nil, All-replicate}
 use Rattle.std.specs.List.{AllByRecursion}
+use Rattle.limits_core.specs.declared.TheConstants.{SEATS}
 use Rattle.command_core.specs.Commands.{CommandValue}
 use Rattle.broker_core.specs.Operations.{restarted}
 use Rattle.broker_core.specs.States.{State, empty_state}
@@ -149,7 +150,7 @@ module _ (size : ℕ) (least : 4096 ≤ size) (most : size ≤ 1048576) where
     taken = omega arith;
     flags = refl;
     forms = tt;
-    seen = All-replicate (λ (seat : Seat). seat.seen ≤ 0) 32 (record { own = []; seen = 0 }) (omega arith);
+    seen = All-replicate (λ (seat : Seat). seat.seen ≤ 0) SEATS (record { own = []; seen = 0 }) (omega arith);
     released = All-nil (λ n. n < 0);
     earlier = All-nil (λ n. n < 0);
     images = λ c image. record {
@@ -234,7 +235,7 @@ module _ (size : ℕ) (least : 4096 ≤ size) (most : size ≤ 1048576) (command
     taken = omega arith;
     flags = refl;
     forms = tt;
-    seen = All-replicate (λ (seat : Seat). seat.seen ≤ old_state.count) 32 (record { own = []; seen = old_state.count }) (omega arith);
+    seen = All-replicate (λ (seat : Seat). seat.seen ≤ old_state.count) SEATS (record { own = []; seen = old_state.count }) (omega arith);
     released = All-nil (λ n. n < old_state.count);
     earlier = All-nil (λ n. n < old_state.count);
     images = λ c image. record {

@@ -4,11 +4,12 @@ use Rattle.std.specs.Prelude.{◌↔◌, IsTrue}
 use Rattle.std.proofs.lemmas.Bool.{cases_lt, ltb-true, lt-ltb, le-ltb}
 use Rattle.std.proofs.lemmas.List.{set-get_or}
 use Rattle.std.proofs.lemmas.Option.{slice_get_past, slice_get_read}
+use Rattle.limits_core.specs.declared.TheConstants.{WINDOW}
 use Rattle.world_core.specs.declared.event.Event.{Event}
 use Rattle.world_core.specs.declared.seat.Seat.{Seat}
 use Rattle.world_core.specs.Answers.{IsTold}
 use Rattle.world_core.specs.Events.{IsReady, MayClaim, last_of, open_of, with_seat}
-use Rattle.world_core.specs.Limits.{far, window}
+use Rattle.world_core.specs.Limits.{far}
 use Rattle.world_core.specs.Worlds.{WorldValue}
 
 pub holds_where : (b : Bool) (P : Type 0) → (IsTrue b ↔ P) → b ≡ true → P
@@ -36,16 +37,16 @@ seen_past seats j n count past high =
     (λ low. absurd (let past : nat_lt j count ≡ false = le-ltb j count high in cc), λ none. absurd none)
 
 -- a seat with room claims where its last command is ready
-pub may_where : (w : WorldValue) (j : ℕ) (seat : Seat) (room last : Bool) → slice_get w.seats j ≡ Some seat → (IsTrue room ↔ (seat.seen < far) × (open_of seat < window)) → room ≡ true → (IsTrue last ↔ IsReady w (last_of seat.own))
+pub may_where : (w : WorldValue) (j : ℕ) (seat : Seat) (room last : Bool) → slice_get w.seats j ≡ Some seat → (IsTrue room ↔ (seat.seen < far) × (open_of seat < WINDOW)) → room ≡ true → (IsTrue last ↔ IsReady w (last_of seat.own))
     → IsTrue last ↔ IsSomeAnd (slice_get w.seats j) (MayClaim w)
 may_where w j seat room last there iff is ready =
     let both = iff.0 is in
     subst (λ (o : Option Seat). IsTrue last ↔ IsSomeAnd o (MayClaim w)) (sym there) (λ yes. record { near = both.0; room = both.1; last = ready.0 yes }, λ may. ready.1 may.last)
 
-pub may_not : (w : WorldValue) (j : ℕ) (seat : Seat) (room : Bool) → slice_get w.seats j ≡ Some seat → (IsTrue room ↔ (seat.seen < far) × (open_of seat < window)) → room ≡ false → IsTrue room ↔ IsSomeAnd (slice_get w.seats j) (MayClaim w)
+pub may_not : (w : WorldValue) (j : ℕ) (seat : Seat) (room : Bool) → slice_get w.seats j ≡ Some seat → (IsTrue room ↔ (seat.seen < far) × (open_of seat < WINDOW)) → room ≡ false → IsTrue room ↔ IsSomeAnd (slice_get w.seats j) (MayClaim w)
 may_not w j seat room there iff is =
     subst (λ (o : Option Seat). IsTrue room ↔ IsSomeAnd o (MayClaim w)) (sym there)
-    (λ yes. absurd (let e : room ≡ true = yes in cc), λ may. absurd (fails_where room ((seat.seen < far) × (open_of seat < window)) iff is (may.near, may.room)))
+    (λ yes. absurd (let e : room ≡ true = yes in cc), λ may. absurd (fails_where room ((seat.seen < far) × (open_of seat < WINDOW)) iff is (may.near, may.room)))
 
 -- a seat that is there changes
 pub seat_changes : (change : Seat → Seat) (seats : List Seat) (j : ℕ) (seat : Seat) → j < length seats → seat ≡ get_or seats j seat → slice_set seats j (change seat) ≡ with_seat change j (slice_get seats j) seats

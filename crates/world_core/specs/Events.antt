@@ -1,5 +1,6 @@
 -- Events: when they are possible, and what they change.
 use Rattle.std.specs.Prelude.{◌≡◌, ℕ, ◌+◌, ◌-◌, ◌<◌, ◌≤◌, Bool, true, false, List, [], ◌∷◌, ◌++◌, length, map, slice_get, slice_set, unwrap_or, option_map, count_by, Option, Some, None, IsSomeAnd, nat_le}
+use Rattle.limits_core.specs.declared.TheConstants.{WINDOW}
 use Rattle.disk_core.specs.Images.{IsImage}
 use Rattle.disk_core.specs.Memory.{none_held}
 use Rattle.area_core.specs.Areas.{HasRecord}
@@ -11,7 +12,7 @@ use Rattle.world_core.specs.declared.place.Phase.TheVariants.{Running, Reopening
 use Rattle.world_core.specs.declared.place.Place.TheVariants.{Rest, Broken, Opened}
 use Rattle.world_core.specs.declared.seat.Seat.{Seat}
 use Rattle.world_core.specs.Calls.{MayLead, called, leads}
-use Rattle.world_core.specs.Limits.{far, window}
+use Rattle.world_core.specs.Limits.{far}
 use Rattle.world_core.specs.Readings.{Reading}
 use Rattle.world_core.specs.Worlds.{DiskValue, WorldValue, claimed}
 
@@ -42,7 +43,7 @@ IsPending w (Some number) = slice_get w.ready (number - w.base) ≡ Some false
 -- the seat may claim one command more
 pub record MayClaim (w : WorldValue) (seat : Seat) : Type 0 where
   pub near : seat.seen < far
-  pub room : open_of seat < window
+  pub room : open_of seat < WINDOW
   pub last : IsReady w (last_of seat.own)
 
 -- sessions run, and there is a seat of that number that may claim

@@ -1,6 +1,7 @@
 -- Schedules from the first world, and what holds in each world that they reach.
 use Rattle.std.specs.Prelude.{◌≡◌, ◌⊎◌, ◌≤◌, ℕ, ◌+◌, ◌*◌, length, List, [], ◌∷◌, ◌++◌, Bool, false, replicate}
 use Rattle.std.specs.List.{AllByRecursion}
+use Rattle.limits_core.specs.declared.TheConstants.{SEATS}
 use Rattle.command_core.specs.Commands.{CommandValue}
 use Rattle.disk_core.specs.Images.{IsImage, patched}
 use Rattle.disk_core.specs.Memory.{none_held}
@@ -13,7 +14,6 @@ use Rattle.world_core.specs.declared.event.Event.{Event}
 use Rattle.world_core.specs.declared.place.Phase.TheVariants.{Crashed, Running}
 use Rattle.world_core.specs.declared.place.Place.TheVariants.{Broken, Rest}
 use Rattle.world_core.specs.Answers.{Answers}
-use Rattle.world_core.specs.Limits.{seat_count}
 use Rattle.world_core.specs.Promises.{HoldsOn, Life}
 use Rattle.world_core.specs.Worlds.{WorldValue}
 
@@ -35,7 +35,7 @@ first size = record {
   taken = 0;
   stored = 0;
   mark = 0;
-  seats = replicate seat_count (record { own = []; seen = 0 });
+  seats = replicate SEATS (record { own = []; seen = 0 });
   stopped = false;
   released = [];
   earlier = [];
@@ -72,7 +72,7 @@ crashed size s content = record {
   taken = s.count;
   stored = s.count;
   mark = s.count;
-  seats = replicate seat_count (record { own = []; seen = s.count });
+  seats = replicate SEATS (record { own = []; seen = s.count });
   stopped = false;
   released = [];
   earlier = [];

@@ -6,7 +6,7 @@ ghost use Rattle.area_core.specs.Areas.{HasRecord};
 ghost use Rattle.world_core.specs.Answers.{IsTold};
 ghost use Rattle.world_core.specs.Events.{CanClaim, IsPending, IsReady, MayClaim, after, last_of, open_of, readied, with_number};
 ghost use Rattle.world_core.specs.Keeping.{IsKept};
-ghost use Rattle.world_core.specs.Limits.{far, window};
+ghost use Rattle.world_core.specs.Limits.{far};
 ghost use Rattle.world_core.specs.Parts.{value_of};
 ghost use Rattle.world_core.specs.Readings.{Reading};
 
@@ -15,18 +15,16 @@ use crate::{Event, Phase, Place, Seat};
 use command_core::{Command, Entry};
 use disk_core::{is_image, release};
 use frame_core::Bytes;
+use limits_core::WINDOW;
 use std::alloc::{AllocError, Global};
 use std::mem;
-
-// A seat claims only while fewer of its commands than these are not under the mark that it saw.
-const WINDOW: usize = 8;
 
 // A seat that saw a mark so high claims nothing more.
 const FAR: u64 = 1 << 60;
 
 // The seat saw no mark so high, and there is room for a command more.
 fn has_room(seat: &Seat) -> bool
-    ensures { IsTrue result ↔ (seat.now.seen < far) × (open_of seat.now < window) }
+    ensures { IsTrue result ↔ (seat.now.seen < far) × (open_of seat.now < WINDOW) }
 {
     seat.seen < FAR && seat.open() < WINDOW
 }

@@ -16,12 +16,10 @@ use crate::seat::seats;
 use crate::{Event, Phase, Place, Seat};
 use broker_core::Broker;
 use command_core::Command;
+use limits_core::SEATS;
 use std::alloc::{AllocError, Global};
 use std::marker::Model;
 use std::snapshot::Snapshot;
-
-// So many seats there are.
-const SEATS: usize = 32;
 
 /// A world: sessions, a flusher and the disk of a journal.
 ///

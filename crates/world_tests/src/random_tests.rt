@@ -66,7 +66,7 @@ fn choose(seed: &mut u64, slow: &SlowWorld) -> Pick {
         35 => Pick::Release(seat, slow.mark.saturating_sub(next(seed) % 3)),
         36 => Pick::Stop,
         37 if once_in(seed, 10) => Pick::Crash(pick_place(seed, slow), (next(seed) % 3) as u8),
-        38 => Pick::Look(32),
+        38 => Pick::Look(64),
         _ => Pick::Open,
     }
 }

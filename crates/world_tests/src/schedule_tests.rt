@@ -144,19 +144,19 @@ const CLAIM_ONE: [(Pick, bool); 3] = [
 const CLAIM_MORE: [(Pick, bool); 4] = [
     (Pick::Claim(0), false),
     (Pick::Claim(1), true),
-    (Pick::Claim(31), true),
-    (Pick::Claim(32), false),
+    (Pick::Claim(63), true),
+    (Pick::Claim(64), false),
 ];
 
 fn fill_seat(rt: &impl Abort, alloc: Global, world: &mut World) -> Result<(), AllocError> {
-    for _ in 0..8 {
+    for _ in 0..16 {
         run(rt, alloc, world, &CLAIM_ONE)?;
     }
     run(rt, alloc, world, &CLAIM_MORE)
 }
 
 #[test]
-fn a_seat_has_eight_commands_that_it_has_not_seen(rt: HostRuntime) -> Result<(), Fail> {
+fn a_seat_has_sixteen_commands_that_it_has_not_seen(rt: HostRuntime) -> Result<(), Fail> {
     let alloc = rt.alloc();
     let mut world = World::new(alloc, 4_096)?;
     let done = fill_seat(&rt, alloc, &mut world);

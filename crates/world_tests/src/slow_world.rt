@@ -30,7 +30,7 @@ pub(crate) struct SlowWorld {
 
 fn slow_seats(alloc: Global) -> Result<Vec<SlowSeat>, AllocError> {
     let mut seats = Vec::new(alloc);
-    for _ in 0..32 {
+    for _ in 0..64 {
         seats.push(SlowSeat {
             own: Vec::new(alloc),
             seen: 0,
@@ -190,7 +190,7 @@ impl SlowWorld {
     }
 
     pub(crate) fn claim(&mut self, j: usize) -> Result<bool, AllocError> {
-        if !self.is_running() || j >= self.seats.len() || self.waiting(j) >= 8 {
+        if !self.is_running() || j >= self.seats.len() || self.waiting(j) >= 16 {
             return Ok(false);
         }
         if let Some(last) = self.last_of(j) {

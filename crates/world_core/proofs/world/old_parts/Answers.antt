@@ -1,4 +1,5 @@
 use Rattle.std.proofs.Common.{◌≡◌, ◌+◌, ◌*◌, ◌++◌, [], ℕ, List, IfSome, Option, replicate, ◌∙◌, ap, subst}
+use Rattle.limits_core.specs.declared.TheConstants.{SEATS}
 use Rattle.disk_core.specs.Images.{patched}
 use Rattle.area_core.specs.Journals.{header}
 use Rattle.area_core.specs.declared.version.Version.TheVariants.{One}
@@ -23,4 +24,4 @@ returns c commands fits is =
     let seats : List Seat = c.in_ok-seats.seats.items in
     is_crashed size broker.state (state_after_v1 empty_state commands) (value_of c.crashed_parts-parts.result) seats content (old_journal size commands) c.in_ok-held.held.items c.crashed_parts-parts.ensures
     (old_state_is size commands content broker.state c.requires.least c.requires.most fits are stands)
-    (c.in_ok-seats.ensures ∙ ap (λ (n : ℕ). replicate 32 (record { own = []; seen = n })) c.count.ensures) are c.in_ok-held.ensures
+    (c.in_ok-seats.ensures ∙ ap (λ (n : ℕ). replicate SEATS (record { own = []; seen = n })) c.count.ensures) are c.in_ok-held.ensures
