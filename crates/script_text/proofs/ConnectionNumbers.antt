@@ -3,6 +3,7 @@ use Rattle.std.proofs.Common.{◌≡◌, ◌≢◌, ℕ, ◌+◌, ◌-◌, ◌/�
 use Rattle.std.specs.Fmt.{decimal}
 use Rattle.std.proofs.lemmas.Fmt.{decimal_digit, decimal_step}
 use Rattle.std.proofs.lemmas.Bool.{cases_lt}
+use Rattle.limits_core.specs.declared.TheConstants.{SEATS}
 use Rattle.script_text.specs.ScriptLines.{IsOfNoForm, IsNoCrash, IsNoLoss, IsNumber, IsNoNumber, IsDigit, AreDigits, AreNoDigits, HasDigit, HasNoDigit, HasDigits, HasNoDigits}
 use Rattle.std.specs.Prelude.{codes, Option, Some, None, MatchOption, slice_index}
 use Rattle.std.proofs.Common.{take_all, length-drop, false, ◌==◌}
@@ -27,12 +28,12 @@ of_no_form line some other shut whole stays one two = record {
   not_received = λ n text small e. elim (cases_lt n 10) [ inl low ↦ one n text low (e ∙ one_digit n (32 ∷ text) low) | inr high ↦ two n text high small (e ∙ two_digits n (32 ∷ text) high (omega arith)) ];
 }
 
-pub received_digit : (line : List ℕ) (n : ℕ) → HasDigit line n → (n < 32) × (line ≡ decimal n ++ 32 ∷ take (length line - 2) (drop 2 line))
+pub received_digit : (line : List ℕ) (n : ℕ) → HasDigit line n → (n < SEATS) × (line ≡ decimal n ++ 32 ∷ take (length line - 2) (drop 2 line))
 received_digit line n h =
     let all : take (length line - 2) (drop 2 line) ≡ drop 2 line = take_all (length line - 2) (drop 2 line) (omega (arith, length-drop 2 line)) in
     (omega arith, rw (all) (h.2 ∙ sym (one_digit n (32 ∷ drop 2 line) h.0)))
 
-pub received_digits : (line : List ℕ) (n : ℕ) → HasDigits line n → (n < 32) × (line ≡ decimal n ++ 32 ∷ take (length line - 3) (drop 3 line))
+pub received_digits : (line : List ℕ) (n : ℕ) → HasDigits line n → (n < SEATS) × (line ≡ decimal n ++ 32 ∷ take (length line - 3) (drop 3 line))
 received_digits line n h =
     let all : take (length line - 3) (drop 3 line) ≡ drop 3 line = take_all (length line - 3) (drop 3 line) (omega (arith, length-drop 3 line)) in
     (h.1, rw (all) (h.3 ∙ sym (two_digits n (32 ∷ drop 3 line) h.0 (omega arith))))
@@ -50,7 +51,7 @@ not_open line h e = let g : bytes_eq (codes "open") (codes "open") ≡ false = s
 one_digit_alone : (n : ℕ) → n < 10 → decimal n ≡ (48 + n) ∷ []
 one_digit_alone n small = decimal_digit n small
 
-two_digits_alone : (n : ℕ) → 10 ≤ n → n < 32 → decimal n ≡ (48 + n / 10) ∷ (48 + n % 10) ∷ []
+two_digits_alone : (n : ℕ) → 10 ≤ n → n < SEATS → decimal n ≡ (48 + n / 10) ∷ (48 + n % 10) ∷ []
 two_digits_alone n low high =
     let tens : n / 10 < 10 = omega arith in
     let wide : n < 2 ^ 64 = omega arith in
@@ -59,7 +60,7 @@ two_digits_alone n low high =
 no_digit : (b n : ℕ) → (IsDigit b → ⊥) → n < 10 → b ∷ [] ≢ (48 + n) ∷ []
 no_digit b n none small e = let same : b ≡ 48 + n = cc in none (omega (arith, same), omega (arith, same))
 
-no_digits : (tens units n : ℕ) → AreNoDigits tens units → 10 ≤ n → n < 32 → tens ∷ units ∷ [] ≢ (48 + n / 10) ∷ (48 + n % 10) ∷ []
+no_digits : (tens units n : ℕ) → AreNoDigits tens units → 10 ≤ n → n < SEATS → tens ∷ units ∷ [] ≢ (48 + n / 10) ∷ (48 + n % 10) ∷ []
 no_digits tens units n none low high e =
     let first : tens ≡ 48 + n / 10 = cc in
     let second : units ≡ 48 + n % 10 = cc in

@@ -1,22 +1,23 @@
 use Rattle.std.specs.Prelude.{◌≡◌, ◌≢◌, ◌+◌, ◌*◌, ◌/◌, ◌%◌, ◌^◌, ◌<◌, ◌≤◌, List, [], ◌∷◌, ◌++◌, ℕ, Option, Some, None, true, codes, drop, length}
 use Rattle.std.specs.Char.{digit_value, is_digit}
 use Rattle.std.specs.Fmt.{decimal}
+use Rattle.limits_core.specs.declared.TheConstants.{SEATS}
 use Rattle.script_text.specs.declared.script_line.ScriptLine.{ScriptLine}
 use Rattle.script_text.specs.declared.script_line.ScriptLine.TheVariants.{Blank, Flush, Open, Crash, Lose, Receive}
 
 -- the number of a connection in decimal
 abbrev pub IsNumber : List ℕ → ℕ → Type 0
-IsNumber text n = (n < 32) × (text ≡ decimal n)
+IsNumber text n = (n < SEATS) × (text ≡ decimal n)
 
 abbrev pub IsNoNumber : List ℕ → Type 0
-IsNoNumber text = (n : ℕ) → n < 32 → text ≢ decimal n
+IsNoNumber text = (n : ℕ) → n < SEATS → text ≢ decimal n
 
 -- the line is `lost`, a blank and a connection's number
 abbrev pub IsLoss : List ℕ → ℕ → Type 0
-IsLoss line n = (n < 32) × (line ≡ codes "lost " ++ decimal n)
+IsLoss line n = (n < SEATS) × (line ≡ codes "lost " ++ decimal n)
 
 abbrev pub IsNoLoss : List ℕ → Type 0
-IsNoLoss line = (n : ℕ) → n < 32 → line ≢ codes "lost " ++ decimal n
+IsNoLoss line = (n : ℕ) → n < SEATS → line ≢ codes "lost " ++ decimal n
 
 -- how many calls, in decimal
 abbrev pub IsCount : List ℕ → ℕ → Type 0
@@ -51,7 +52,7 @@ Says line Flush = line ≡ codes "flush"
 Says line Open = line ≡ codes "open"
 Says line (Crash k fill) = IsCrash line k fill
 Says line (Lose n) = IsLoss line n
-Says line (Receive n text) = (n < 32) × (line ≡ decimal n ++ 32 ∷ text.now)
+Says line (Receive n text) = (n < SEATS) × (line ≡ decimal n ++ 32 ∷ text.now)
 
 -- the line is of none of these forms
 pub record IsOfNoForm (line : List ℕ) : Type 0 where
@@ -60,7 +61,7 @@ pub record IsOfNoForm (line : List ℕ) : Type 0 where
   pub not_open : line ≢ codes "open"
   pub not_crash : IsNoCrash line
   pub not_lost : IsNoLoss line
-  pub not_received : (n : ℕ) (text : List ℕ) → n < 32 → line ≢ decimal n ++ 32 ∷ text
+  pub not_received : (n : ℕ) (text : List ℕ) → n < SEATS → line ≢ decimal n ++ 32 ∷ text
 
 -- a decimal digit
 abbrev pub IsDigit : ℕ → Type 0
@@ -76,15 +77,15 @@ HasNoDigit line = (n : ℕ) (text : List ℕ) → n < 10 → line ≢ (48 + n) �
 
 -- these are the two digits of that number of a connection
 abbrev pub AreDigits : ℕ → ℕ → ℕ → Type 0
-AreDigits tens units n = (10 ≤ n) × (n < 32) × (tens ≡ 48 + n / 10) × (units ≡ 48 + n % 10)
+AreDigits tens units n = (10 ≤ n) × (n < SEATS) × (tens ≡ 48 + n / 10) × (units ≡ 48 + n % 10)
 
 abbrev pub AreNoDigits : ℕ → ℕ → Type 0
 AreNoDigits tens units = (n : ℕ) → AreDigits tens units n → ⊥
 
 -- the line begins with the two digits of this number and a blank
 abbrev pub HasDigits : List ℕ → ℕ → Type 0
-HasDigits line n = (10 ≤ n) × (n < 32) × (3 ≤ length line) × (line ≡ (48 + n / 10) ∷ (48 + n % 10) ∷ 32 ∷ drop 3 line)
+HasDigits line n = (10 ≤ n) × (n < SEATS) × (3 ≤ length line) × (line ≡ (48 + n / 10) ∷ (48 + n % 10) ∷ 32 ∷ drop 3 line)
 
--- the line begins with no two digits of a number from 10 to 31 and a blank
+-- the line begins with no two digits of a connection's number and a blank
 abbrev pub HasNoDigits : List ℕ → Type 0
-HasNoDigits line = (n : ℕ) (text : List ℕ) → 10 ≤ n → n < 32 → line ≢ (48 + n / 10) ∷ (48 + n % 10) ∷ 32 ∷ text
+HasNoDigits line = (n : ℕ) (text : List ℕ) → 10 ≤ n → n < SEATS → line ≢ (48 + n / 10) ∷ (48 + n % 10) ∷ 32 ∷ text

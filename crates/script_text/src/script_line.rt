@@ -6,6 +6,7 @@ ghost use Rattle.std.specs.Fmt.{decimal};
 ghost use Rattle.script_text.specs.ScriptLines.{AreHexDigits, IsCount, IsCountAndFill, IsCrash, IsNoCount, IsNoCountAndFill, IsNoCrash, Says, IsOfNoForm, IsLoss, IsNoLoss, IsNumber, IsNoNumber, HasNoDigit, HasDigit, HasNoDigits, HasDigits, IsDigit, AreDigits, AreNoDigits};
 
 use itoa::Buffer;
+use limits_core::SEATS;
 
 /// What a line of a script says.
 #[derive(Clone, Copy)]
@@ -19,9 +20,9 @@ pub enum ScriptLine<'a> {
     /// The disk stops after so many more calls, within a flush. What was not synced holds this byte then, or without one
     /// what it held before.
     Crash { calls: u64, fill: Option<u8> },
-    /// A connection, from 0 to 31, is gone.
+    /// A connection, whose number is under that of the seats, is gone.
     Lose { connection: u8 },
-    /// A connection, from 0 to 31, receives what the text stands for.
+    /// Such a connection receives what the text stands for.
     Receive { connection: u8, text: &'a [u8] },
 }
 
@@ -182,7 +183,7 @@ fn two_digits(line: &[u8]) -> Option<u8>
     from_ten(line[0], line[1])
 }
 
-// the number from 10 to 31 of two digits
+// the number of a connection, of two digits
 fn from_ten(tens: u8, units: u8) -> Option<u8>
     ensures { MatchOption result (AreNoDigits tens units) (AreDigits tens units) }
 {
@@ -190,7 +191,7 @@ fn from_ten(tens: u8, units: u8) -> Option<u8>
         return None;
     };
     let number = 10 * tens + units;
-    if number < 10 || number > 31 {
+    if number < 10 || number as usize >= SEATS {
         return None;
     }
     Some(number)
