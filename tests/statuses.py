@@ -59,7 +59,7 @@ def scripts(checks):
     checks.run(["script"], 0, connected, NOTHING, connect + b"flush\n" + connect)
     checks.run(["script"], 1, connected, told("line 4 not understood"), connect + b"flush\n\nflash\nflush\n")
     checks.run(["script"], 1, NOTHING, told("line 1 not understood"), b"0")
-    checks.run(["script"], 1, NOTHING, told("line 1 not understood"), b"32 x\n")
+    checks.run(["script"], 1, NOTHING, told("line 1 not understood"), b"64 x\n")
     checks.run(["script"], 1, NOTHING, told("line 1 not understood"), b"0 " + b"%0A" * 400_000 + b"\n")
     send = b"0 SEND%0Adestination:/topic/t%0A%0A" + b"x" * 60_000 + b"%00\n"
     checks.run(["script"], 1, connected, told("J4 journal full"), connect + b"flush\n" + 18 * send + b"flush\n")

@@ -4,6 +4,7 @@ use Rattle.std.specs.Fmt.{decimal}
 use Rattle.std.specs.List.{AllByRecursion}
 use Rattle.std.proofs.lemmas.Bool.{cases_lt}
 use Rattle.std.proofs.lemmas.Fmt.{decimal_injective}
+use Rattle.limits_core.specs.declared.TheConstants.{SEATS}
 use Rattle.script_text.specs.ScriptLines.{IsLoss, IsCrash}
 use Rattle.engine_core.specs.Scripts.{HasNoLf, IsLine, text_of_lines}
 use Rattle.script_text.proofs.ConnectionNumbers.{one_digit, two_digits}
@@ -33,7 +34,7 @@ crash_first line k (Some b) is = ap first_of is.1
 abbrev pub BeginsWithDigit : List ℕ → Type 0
 BeginsWithDigit line = (48 ≤ first_of line) × (first_of line ≤ 57)
 
-pub text_first : (line text : List ℕ) (n : ℕ) → n < 32 → line ≡ decimal n ++ 32 ∷ text → BeginsWithDigit line
+pub text_first : (line text : List ℕ) (n : ℕ) → n < SEATS → line ≡ decimal n ++ 32 ∷ text → BeginsWithDigit line
 text_first line text n small is = elim (cases_lt n 10) [
   | inl low ↦ (let one : first_of line ≡ 48 + n = ap first_of (is ∙ one_digit n (32 ∷ text) low) in omega arith)
   | inr high ↦ (let two : first_of line ≡ 48 + n / 10 = ap first_of (is ∙ two_digits n (32 ∷ text) high (omega arith)) in omega arith)
@@ -56,7 +57,7 @@ both_short n m text other e =
     let rest : text ≡ other = cc in
     (omega (arith, digit), rest)
 
-short_and_long : (n m : ℕ) (text other : List ℕ) → m < 32 → (48 + n) ∷ 32 ∷ text ≡ (48 + m / 10) ∷ (48 + m % 10) ∷ 32 ∷ other → ⊥
+short_and_long : (n m : ℕ) (text other : List ℕ) → m < SEATS → (48 + n) ∷ 32 ∷ text ≡ (48 + m / 10) ∷ (48 + m % 10) ∷ 32 ∷ other → ⊥
 short_and_long n m text other small e = let second : 32 ≡ 48 + m % 10 = cc in omega (arith, second)
 
 both_long : (n m : ℕ) (text other : List ℕ) → (48 + n / 10) ∷ (48 + n % 10) ∷ 32 ∷ text ≡ (48 + m / 10) ∷ (48 + m % 10) ∷ 32 ∷ other → AreOne n m text other
@@ -66,7 +67,7 @@ both_long n m text other e =
     let rest : text ≡ other = cc in
     (omega (arith, tens, units), rest)
 
-pub one_receiver : (n m : ℕ) (text other : List ℕ) → n < 32 → m < 32 → decimal n ++ 32 ∷ text ≡ decimal m ++ 32 ∷ other → AreOne n m text other
+pub one_receiver : (n m : ℕ) (text other : List ℕ) → n < SEATS → m < SEATS → decimal n ++ 32 ∷ text ≡ decimal m ++ 32 ∷ other → AreOne n m text other
 one_receiver n m text other small less e = elim (cases_lt n 10) [
   | inl low ↦ elim (cases_lt m 10) [
     | inl lower ↦ both_short n m text other (sym (one_digit n (32 ∷ text) low) ∙ e ∙ one_digit m (32 ∷ other) lower)

@@ -7,6 +7,7 @@ use Rattle.broker_core.specs.States.{State}
 use Rattle.disk_core.specs.Memory.{Memory, fresh}
 use Rattle.engine_core.specs.declared.script.Script.{Script}
 use Rattle.engine_core.specs.declared.script.Script.TheVariants.{Running}
+use Rattle.limits_core.specs.declared.TheConstants.{SEATS}
 use Rattle.script_text.specs.PercentTexts.{decoded}
 use Rattle.engine_core.specs.Queues.{QueueValue, flush_text, flushed}
 use Rattle.engine_core.specs.Running.{ScriptValue, beginning, Loses, Receives}
@@ -53,7 +54,7 @@ loses_alike : (s r t u : ScriptValue) (line : List ℕ) (n m : ℕ) (printed oth
     → Loses s n printed t → Loses r m other u → PrintAlike printed other t u
 loses_alike s r t u line n m printed other alike is also h k = lose_alike s r t u n printed other alike h (subst (λ x. Loses r x other u) (sym (one_loss line n m is also)) k)
 
-receives_alike : (s r t u : ScriptValue) (line : List ℕ) (n m : ℕ) (text body printed other : List ℕ) → all_bare s ≡ all_bare r → n < 32 → m < 32
+receives_alike : (s r t u : ScriptValue) (line : List ℕ) (n m : ℕ) (text body printed other : List ℕ) → all_bare s ≡ all_bare r → n < SEATS → m < SEATS
     → line ≡ decimal n ++ 32 ∷ text → line ≡ decimal m ++ 32 ∷ body → Receives s n (decoded text) printed t → Receives r m (decoded body) other u → PrintAlike printed other t u
 receives_alike s r t u line n m text body printed other alike small less is also h k =
     let same = one_receiver n m text body small less (sym is ∙ also) in

@@ -2,6 +2,7 @@
 use Rattle.std.proofs.Common.{◌≡◌, ◌≢◌, ◌<◌, List, [], ◌∷◌, ◌++◌, ℕ, Option, Some, None, MatchOption, codes, sym, ap, ◌∙◌, arith, inl, inr, subst}
 use Rattle.std.specs.Fmt.{decimal}
 use Rattle.std.proofs.lemmas.Bool.{cases_lt}
+use Rattle.limits_core.specs.declared.TheConstants.{SEATS}
 use Rattle.script_text.specs.ScriptLines.{IsOfNoForm, IsLoss, IsCrash}
 use Rattle.broker_core.specs.Operations.{restarted}
 use Rattle.broker_core.specs.States.{State}
@@ -33,7 +34,7 @@ pub of_crash : (line : List ℕ) (k : ℕ) (fill : Option ℕ) → IsCrash line 
 of_crash line k None is = (λ e. let a = sym is.1 ∙ e in cc, λ e. let a = sym is.1 ∙ e in cc)
 of_crash line k (Some b) is = (λ e. let a = sym is.1 ∙ e in cc, λ e. let a = sym is.1 ∙ e in cc)
 
-pub of_text : (line text : List ℕ) (n : ℕ) → n < 32 → line ≡ decimal n ++ 32 ∷ text → IsOther line
+pub of_text : (line text : List ℕ) (n : ℕ) → n < SEATS → line ≡ decimal n ++ 32 ∷ text → IsOther line
 of_text line text n small is = elim (cases_lt n 10) [
   | inl low ↦ (let one = is ∙ one_digit n (32 ∷ text) low in (λ e. let a = sym one ∙ e in cc, λ e. let a = sym one ∙ e in cc))
   | inr high ↦ (let two = is ∙ two_digits n (32 ∷ text) high (omega arith) in (λ e. let a = sym two ∙ e in cc, λ e. let a = sym two ∙ e in cc))

@@ -4,6 +4,7 @@ use Rattle.std.specs.Fmt.{decimal}
 use Rattle.session_core.proofs.Hearings.{heard_in_one_way}
 use Rattle.engine_core.specs.declared.script.Script.{Script}
 use Rattle.engine_core.specs.declared.script.Script.TheVariants.{Running, Stopped, Over}
+use Rattle.limits_core.specs.declared.TheConstants.{SEATS}
 use Rattle.script_text.specs.PercentTexts.{decoded}
 use Rattle.engine_core.specs.Queues.{ComeTo, IsTooFar}
 use Rattle.engine_core.specs.Running.{ScriptValue, connection_at, LosesSuch, Receives, ReceivesSuch}
@@ -24,7 +25,7 @@ lost_too_far s line printed t n is far (inr (inr (inl (u, inr (inl h), calm, aft
 lost_too_far s line printed t n is far (inr (inr (inl (u, inr (inr h), calm, after)))) = omega (arith, loss_first line n is, text_first line h.1 h.0 h.2 h.3)
 lost_too_far s line printed t n is far (inr (inr (inr h))) = omega (arith, loss_first line n is, crash_first line h.0 h.1 h.2)
 
-text_too_far : (s : ScriptValue) (line printed : List ℕ) (t : Script) (n : ℕ) (text : List ℕ) → n < 32 → line ≡ decimal n ++ 32 ∷ text → ReceivesSuch IsTooFar s n (decoded text) → Prints (Running s) line printed t → ⊥
+text_too_far : (s : ScriptValue) (line printed : List ℕ) (t : Script) (n : ℕ) (text : List ℕ) → n < SEATS → line ≡ decimal n ++ 32 ∷ text → ReceivesSuch IsTooFar s n (decoded text) → Prints (Running s) line printed t → ⊥
 text_too_far s line printed t n text small is far (inl h) = omega (arith, text_first line text n small is, blank_first line h.0)
 text_too_far s line printed t n text small is far (inr (inl h)) = omega (arith, text_first line text n small is, open_first line h.0)
 text_too_far s line printed t n text small is far (inr (inr (inl (u, inl h, calm, after)))) = omega (arith, text_first line text n small is, flush_first line h.0)

@@ -4,6 +4,7 @@ use Rattle.std.specs.Fmt.{decimal}
 use Rattle.std.specs.List.{fold}
 use Rattle.std.specs.Map.{lookup}
 use Rattle.std.specs.Ordering.{nat_cmp}
+use Rattle.limits_core.specs.declared.TheConstants.{WINDOW}
 use Rattle.frame_core.specs.declared.frame.Frame.{Frame}
 use Rattle.frame_core.specs.Written.{written}
 use Rattle.disk_core.specs.Memory.{Memory}
@@ -56,9 +57,9 @@ flushed queue = record queue { waiting = []; state = state_after queue.state (co
 
 -- as many commands of a connection wait as may
 abbrev pub is_full : ℕ → QueueValue → Bool
-is_full connection queue = nat_le 8 (count_by (λ w. nat_eq w.connection connection) queue.waiting)
+is_full connection queue = nat_le WINDOW (count_by (λ w. nat_eq w.connection connection) queue.waiting)
 
--- a flush comes before the ninth waiting command of a connection
+-- a flush comes before a connection has one more that waits
 abbrev pub with_room : ℕ → QueueValue → QueueValue
 with_room connection queue = cond (is_full connection queue) (flushed queue) queue
 

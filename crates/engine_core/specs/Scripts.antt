@@ -1,6 +1,7 @@
 -- What the lines of a script print.
 use Rattle.std.specs.Prelude.{◌≡◌, ◌≢◌, ◌⊎◌, ◌<◌, ◌≤◌, List, [], ◌∷◌, ◌++◌, ℕ, Option, Bool, codes, false, length, flat_map, true}
 use Rattle.std.specs.Fmt.{decimal}
+use Rattle.limits_core.specs.declared.TheConstants.{SEATS}
 use Rattle.std.specs.List.{AllByRecursion}
 use Rattle.std.specs.Io.KnownBytes.{Appends}
 use Rattle.disk_core.specs.Memory.{Memory, fresh}
@@ -69,7 +70,7 @@ HasFailed Over = Unit {0}
 abbrev pub ComesTo : (ℕ → QueueValue → Act → Type 0) → ScriptValue → List ℕ → Type 0
 ComesTo Such s line =
     ((n : ℕ) × IsLoss line n × LosesSuch Such s n)
-    ⊎ ((n : ℕ) × (text : List ℕ) × (n < 32) × (line ≡ decimal n ++ 32 ∷ text) × ReceivesSuch Such s n (decoded text))
+    ⊎ ((n : ℕ) × (text : List ℕ) × (n < SEATS) × (line ≡ decimal n ++ 32 ∷ text) × ReceivesSuch Such s n (decoded text))
 
 -- a line comes to a command once as many have been carried out as may be
 abbrev pub RunsTooFar : Script → List ℕ → Type 0
@@ -124,7 +125,7 @@ abbrev pub GoesOn : ScriptValue → List ℕ → List ℕ → ScriptValue → Ty
 GoesOn s line printed t =
     ((line ≡ codes "flush") × (printed ≡ flush_text s.queue) × (t ≡ record s { queue = flushed s.queue; disk = t.disk }))
     ⊎ (((n : ℕ) × IsLoss line n × Loses s n printed t)
-    ⊎ ((n : ℕ) × (text : List ℕ) × (n < 32) × (line ≡ decimal n ++ 32 ∷ text) × Receives s n (decoded text) printed t))
+    ⊎ ((n : ℕ) × (text : List ℕ) × (n < SEATS) × (line ≡ decimal n ++ 32 ∷ text) × Receives s n (decoded text) printed t))
 
 -- what a line prints that is understood while the disk runs alone: none of the disk's calls fails where it runs on
 abbrev pub RunsOn : Script → List ℕ → List ℕ → Script → Type 0

@@ -11,7 +11,8 @@ use crate::printing::print_outs;
 use command_core::{Command, HeaderText, Op};
 use disk_core::MemDisk;
 use flush_core::FlushFault;
-use script_journal::{Journal, SEATS, WINDOW, Waiting};
+use limits_core::WINDOW;
+use script_journal::{Journal, Waiting};
 use std::alloc::Global;
 use std::collections::BTreeMap;
 use std::marker::Model;
@@ -36,12 +37,6 @@ impl Model for CommandQueue {
 
     ghost invariant = { λ a. a.journal.durable ≡ true → a.journal.state.count + length a.waiting.items ≤ 2 ^ 62 };
 }
-
-/// How many commands of a connection may wait: as many as its seat at the ring may have that are not under the mark.
-const MOST_WAITING: usize = WINDOW;
-
-// Each connection that a line can name, from 0 to 31, has a seat.
-const _: () = prove!(SEATS == 32);
 
 /// From this count on no command is taken.
 const LAST_COUNT: u64 = 1 << 60;
@@ -105,11 +100,12 @@ impl CommandQueue {
         if is_durable { Ok(disk) } else { Err(disk) }
     }
 
-    /// Whether as many commands of the connection wait as may.
+    /// Whether as many commands of the connection wait as may: as many as its seat at the ring may have that are not under the
+    /// mark.
     fn is_full(&self, connection: u8) -> bool
         ensures { result ≡ is_full connection self.now.queue }
     {
-        count_of(self.waiting.as_slice(), connection) >= MOST_WAITING
+        count_of(self.waiting.as_slice(), connection) >= WINDOW
     }
 
     /// Takes an operation of a connection, whose session has this number, as a command, and flushes first where as many

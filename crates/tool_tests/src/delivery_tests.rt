@@ -20,7 +20,7 @@ fn a_lost_connection_forgets_the_frame_that_had_begun(rt: HostRuntime) -> Result
     expect_lines(
         &rt,
         alloc,
-        &[CONNECT, "lost 0", "lost 31", CONNECT, "flush"],
+        &[CONNECT, "lost 0", "lost 63", CONNECT, "flush"],
         &[
             "0 CONNECTED%0Aversion:1.2%0Asession:0%0Aheart-beat:0,0~",
             "0 CONNECTED%0Aversion:1.2%0Asession:2%0Aheart-beat:0,0~",
@@ -34,7 +34,7 @@ fn a_line_that_loses_no_connection_ends_the_script(rt: HostRuntime) -> Result<()
     for line in [
         "lost\n",
         "lost \n",
-        "lost 32\n",
+        "lost 64\n",
         "lost 00\n",
         "lost 1 \n",
         "lost  1\n",
@@ -281,9 +281,11 @@ fn a_long_message_of_many_headers_is_delivered_whole(rt: HostRuntime) -> Result<
     )
 }
 
-const CONNECTIONS: [&str; 32] = [
+const CONNECTIONS: [&str; 64] = [
     "0", "1", "2", "3", "4", "5", "6", "7", "8", "9", "10", "11", "12", "13", "14", "15", "16",
-    "17", "18", "19", "20", "21", "22", "23", "24", "25", "26", "27", "28", "29", "30", "31",
+    "17", "18", "19", "20", "21", "22", "23", "24", "25", "26", "27", "28", "29", "30", "31", "32",
+    "33", "34", "35", "36", "37", "38", "39", "40", "41", "42", "43", "44", "45", "46", "47", "48",
+    "49", "50", "51", "52", "53", "54", "55", "56", "57", "58", "59", "60", "61", "62", "63",
 ];
 
 // Adds a line for each connection that a script may have, in which `#` stands for its number.
@@ -297,7 +299,7 @@ fn push_each(alloc: Global, text: &mut String, line: &str) -> Result<(), Fail> {
     Ok(())
 }
 
-// Adds a line for each connection, seven times another, and an end.
+// Adds a line for each connection, fifteen times another, and an end.
 fn push_all(
     alloc: Global,
     text: &mut String,
@@ -306,7 +308,7 @@ fn push_all(
     end: &str,
 ) -> Result<(), Fail> {
     push_each(alloc, text, first)?;
-    for _ in 0..7 {
+    for _ in 0..15 {
         push_each(alloc, text, other)?;
     }
     text.push_str(end)?;
@@ -322,15 +324,15 @@ fn expect_all(
     let connected = "# CONNECTED%0Aversion:1.2%0Asession:#%0Aheart-beat:0,0%0A%0A%00\n";
     let receipt = "# RECEIPT%0Areceipt-id:r%0A%0A%00\n";
     let mut printed = String::new(alloc);
-    push_all(alloc, &mut printed, connected, receipt, "open 256 224\n")?;
+    push_all(alloc, &mut printed, connected, receipt, "open 1024 960\n")?;
     let same = expect(rt, alloc, script.as_bytes(), 0, printed.as_str(), "");
     drop(printed);
     same
 }
 
-// 256 commands wait, as many as may, before the first flush. Sessions have the numbers of their connections.
+// 1,024 commands wait, as many as may, before the first flush. Sessions have the numbers of their connections.
 #[test]
-fn each_of_32_connections_has_eight_commands_wait(rt: HostRuntime) -> Result<(), Fail> {
+fn each_of_64_connections_has_sixteen_commands_wait(rt: HostRuntime) -> Result<(), Fail> {
     let connect = "# CONNECT%0Aaccept-version:1.2%0A%0A%00\n";
     let send = "# SEND%0Adestination:/queue/q%0Areceipt:r%0A%0Ax%00\n";
     let mut script = String::new(rt.alloc());

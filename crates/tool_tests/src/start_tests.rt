@@ -134,8 +134,8 @@ fn one_more_than_2_60_commands_are_too_many(rt: HostRuntime) -> Result<(), Fail>
     expect_over(&rt, rt.alloc(), COUNTED, &script, wanted)
 }
 
-// An area has 4,096 bytes. With eight commands a block, 132 commands in 17 blocks take 41 and 17 times 9 bytes beside their
-// records of 11 and 131 times 29: 4,004. A snapshot takes 9 beside its 48, and 31 for each message: 4,087 for 130 messages.
+// An area has 4,096 bytes. With sixteen commands a block, 132 commands in nine blocks take 41 and nine times 9 bytes beside
+// their records of 11 and 131 times 29: 3,932. A snapshot takes 9 beside its 48, and 31 for each message: 4,087 for 130 messages.
 #[test]
 fn a_disk_whose_snapshot_has_no_room_is_not_opened(rt: HostRuntime) -> Result<(), Fail> {
     let script = [(CONNECT, 1), (SEND, 130), ("\nflush\nopen\n", 1)];

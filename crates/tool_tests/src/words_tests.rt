@@ -380,7 +380,7 @@ fn a_line_that_says_nothing_ends_the_script(rt: HostRuntime) -> Result<(), Fail>
     expect(&rt, alloc, zeros, 1, "", first)?;
     expect(&rt, alloc, b"0 \n\nflush", 1, "", third)?;
     expect(&rt, alloc, b"0\n", 1, "", first)?;
-    let script = [(CONNECT, 1), ("\nflush\n32 a\nflush\n", 1)];
+    let script = [(CONNECT, 1), ("\nflush\n64 a\nflush\n", 1)];
     let connected = [(CONNECTED, 1), ("\n", 1)];
     expect_parts(&rt, alloc, &script, 1, &connected, third)
 }

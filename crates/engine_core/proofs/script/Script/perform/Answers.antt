@@ -1,6 +1,7 @@
 use Rattle.std.proofs.Common.{◌≡◌, ◌<◌, ◌++◌, ◌∷◌, inl, inr, string_bytes, subst}
 use Rattle.std.specs.Fmt.{decimal}
 use Rattle.std.proofs.lemmas.Result.{IfOk-weaker}
+use Rattle.limits_core.specs.declared.TheConstants.{SEATS}
 use Rattle.script_text.specs.ScriptLines.{IsLoss, Says}
 use Rattle.script_text.specs.PercentTexts.{decoded}
 use Rattle.engine_core.specs.Queues.{IsFlush}
@@ -28,7 +29,7 @@ pub returns-in-Some-Receive-clause-ok : goal.returns-in-Some-Receive-clause-ok
 returns-in-Some-Receive-clause-ok c =
     let n = c.in-Some-Receive.connection in
     let text = c.in-Some-Receive.text.now in
-    let said : (n < 32) × (c.args.line.now ≡ decimal n ++ 32 ∷ text) = subst (Says c.args.line.now) c.in-Some-Receive.field-0-is c.in-Some-Receive.ensures in
+    let said : (n < SEATS) × (c.args.line.now ≡ decimal n ++ 32 ∷ text) = subst (Says c.args.line.now) c.in-Some-Receive.field-0-is c.in-Some-Receive.ensures in
     IfOk-weaker c.receive.result _ _
     (λ printed given. performed string_bytes c.args.self.now _ c.args.line.now (λ answer a b. Receives a n (decoded text) answer b) printed (of_text c.args.line.now text n said.0 said.1)
     (λ answer a b receives. inr (inr (n, text, said.0, said.1, receives))) given)
@@ -38,5 +39,5 @@ pub returns-in-Some-Receive-clause-told : goal.returns-in-Some-Receive-clause-to
 returns-in-Some-Receive-clause-told c =
     let n = c.in-Some-Receive.connection in
     let text = c.in-Some-Receive.text.now in
-    let said : (n < 32) × (c.args.line.now ≡ decimal n ++ 32 ∷ text) = subst (Says c.args.line.now) c.in-Some-Receive.field-0-is c.in-Some-Receive.ensures in
+    let said : (n < SEATS) × (c.args.line.now ≡ decimal n ++ 32 ∷ text) = subst (Says c.args.line.now) c.in-Some-Receive.field-0-is c.in-Some-Receive.ensures in
     all_told c.args.line.now (λ Such s. ReceivesSuch (IsFlush Such) s n (decoded text)) (λ Such s receives. inr (inr (inr (n, text, said.0, said.1, receives)))) c.args.self.now c.receive.new.self c.receive.result c.receive.ensures.full c.receive.ensures.broken c.receive.ensures.told
