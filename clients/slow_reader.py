@@ -11,7 +11,7 @@ import scenario
 from stomp_client import Client
 
 OUTBOX = 512
-SEATS = 32
+SEATS = 64
 # Enough to fill the outbox and what the two sockets keep, which is some megabytes.
 MESSAGES = 1_200
 BODY = "x" * 16_000
