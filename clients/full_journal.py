@@ -14,7 +14,7 @@ from stomp_client import Client, Closed
 JOURNAL_BYTES = 131_104
 BODY = "x" * 1_000
 
-# More than an area has room for, and many more than a worker's window of 8 lets in at a time.
+# More than an area has room for, and many more than a worker's window of 16 lets in at a time.
 UNASKED = 64
 LONG_BODY = "x" * 4_000
 

@@ -29,8 +29,8 @@ from stomp_client import Client, Closed
 QUEUE = "/queue/kept"
 # Where refused messages wait.
 DEAD = "/queue/dead"
-# Receipts that a sender has in flight. The broker itself takes 8 commands of a connection at a time.
-IN_FLIGHT = 8
+# Receipts that a sender has in flight. The broker itself takes 16 commands of a connection at a time.
+IN_FLIGHT = 16
 # What the senders of a round send at most, so that no more than 4,096 messages are held.
 MOST_OF_A_ROUND = 3_600
 LAST_BODY = "the last one"

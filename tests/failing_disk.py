@@ -200,7 +200,7 @@ def asleep(checks):
     words = checks.words("fsync", 6, "serve", path, str(port), late=":delay_enter=500000")
     with serving(words, port) as server:
         client = Client(port).connect()
-        for number in range(16):
+        for number in range(32):
             client.send("SEND", [("destination", "/queue/kept"), ("receipt", f"{number}")], "x")
         checks.same(f"{what}: what a client with a full window hears", client.to_the_end(), ([], 1001))
         client.close()

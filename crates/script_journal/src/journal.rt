@@ -104,7 +104,7 @@ impl<D: Disk> Journal<D> {
     ///
     /// After a call that failed, and after a fault, the journal is not durable, and takes nothing more. `Full` is told where
     /// the block of some of the commands has no room behind those before, `Memory` where memory was refused, `Broken` where a
-    /// step failed before, or the ring does not take a command, as of a connection with no seat, or a ninth of one. `Device`
+    /// step failed before, or the ring does not take a command, as of a connection with no seat, or with a full window. `Device`
     /// is told in place of `None` where the flusher took what no seat here has appended, which it does of no ring whose seats
     /// are all here.
     pub fn record(

@@ -7,7 +7,7 @@ use outbox_core::{OutSender, Silent};
 /// A command that waits for the next flush, and the connection that it came from.
 #[derive(Drop)]
 pub struct Waiting {
-    /// The connection's number, which is the place of its seat: from 0 to 31.
+    /// The connection's number, which is the place of its seat.
     pub connection: u8,
     /// What it asks for.
     pub command: Command,

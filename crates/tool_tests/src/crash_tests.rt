@@ -186,6 +186,38 @@ fn a_crash_leaves_the_transaction_whole_or_not_at_all(rt: HostRuntime) -> Result
     Ok(())
 }
 
+// So many messages of a connection and these lines wait when the disk stops, before its next call. What was flushed is there.
+fn expect_flushed<'a>(
+    rt: &(impl Abort + Files<File = File> + Clock),
+    alloc: Global,
+    messages: usize,
+    lines: &'a str,
+    printed: Parts<'a>,
+) -> Result<(), Fail> {
+    let script = [
+        (CON_0, 1),
+        ("\n", 1),
+        ("0 SEND%0Adestination:/queue/q%0A%0Ax%00\n", messages),
+        (lines, 1),
+        ("crash 0\nopen\n", 1),
+    ];
+    expect_parts(rt, alloc, &script, 0, printed, "")
+}
+
+#[test]
+fn sixteen_commands_are_flushed_before_a_seventeenth_waits(rt: HostRuntime) -> Result<(), Fail> {
+    let alloc = rt.alloc();
+    let sixteen = [(CONNECTED, 1), ("\nopen 16 15\n", 1)];
+    expect_flushed(&rt, alloc, 15, "", &[("open 0 0\n", 1)])?;
+    expect_flushed(&rt, alloc, 16, "", &sixteen)?;
+    expect_flushed(&rt, alloc, 31, "", &sixteen)?;
+    // The end of a lost connection is one of them, and the next of its number goes on counting.
+    let ended = [(CONNECTED, 1), ("\nopen 16 14\n", 1)];
+    expect_flushed(&rt, alloc, 14, "lost 0\n", &[("open 0 0\n", 1)])?;
+    let again = "lost 0\n0 CONNECT%0Aaccept-version:1.2~\n";
+    expect_flushed(&rt, alloc, 14, again, &ended)
+}
+
 // 40 commands of five connections, which send in turn: a batch of 32, five CONNECTs and 27 messages, and one of eight.
 const MANY: Parts<'static> = &[
     ("0 CONNECT%0Aaccept-version:1.2~\n", 1),
