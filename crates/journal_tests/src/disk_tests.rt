@@ -1,7 +1,9 @@
 use disk_core::{Call, DeviceFault, Disk, FileDisk, FuseDisk, MemDisk, OpenError, publish};
 use std::alloc::{AllocError, Global};
 use std::fs;
+use std::fs::File;
 use std::process::Abort;
+use std::rt::Files;
 use std::test::Fail;
 
 const FILLS: [Option<u8>; 4] = [None, Some(0x00), Some(0x01), Some(0x37)];
@@ -352,7 +354,10 @@ fn a_file_that_is_no_disk_is_not_opened(rt: HostRuntime) -> Result<(), Fail> {
 const LOCKED: &str = "journal_tests_disk_locked";
 
 // What a disk with the lock of its file leaves to others: it is not locked twice, and opened without the lock.
-fn beside_the_lock(rt: &HostRuntime, disk: &mut FileDisk) -> Result<[u8; 6], Fail> {
+fn beside_the_lock(
+    rt: &(impl Abort + Files<File = File>),
+    disk: &mut FileDisk,
+) -> Result<[u8; 6], Fail> {
     let again = FileDisk::open_locked(rt, LOCKED);
     assert!(rt; matches!(again, Err(OpenError::Locked)));
     write_some(rt, disk)?;
