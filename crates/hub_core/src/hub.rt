@@ -38,6 +38,7 @@ pub struct Hub<D: Disk, B: Bell> {
 impl<D: Disk, B: Bell> Model for Hub<D, B> {
     ghost use Rattle.std.specs.Prelude.{◌≤◌};
     ghost use Rattle.std.specs.VecDeque.{deque_capacity};
+    ghost use Rattle.limits_core.specs.declared.TheConstants.{SEATS};
     ghost use Rattle.hub_core.specs.Hubs.{HubValue, IsHub, hub};
 
     ghost Value = { HubValue D };
