@@ -6,7 +6,7 @@
 #include <stddef.h>
 
 enum {
-    MOST_CONNECTIONS = 32,
+    MOST_CONNECTIONS = 64,
     MOST_IN_FLIGHT = 64,
     ROOM = 1 << 18,
     SLACK_SECONDS = 20,

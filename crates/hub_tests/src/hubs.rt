@@ -102,7 +102,7 @@ fn take_seat(hub: &mut MemHub) -> HubSeat
 
 fn take_flusher(hub: &mut MemHub) -> HubFlusher
     requires { IsSome hub.old.flusher }
-    ensures flusher { (result.seat.ring ≡ hub.new.ring) × (result.executed ≡ result.stored) × (result.seat.seats ≡ 32) }
+    ensures flusher { (result.seat.ring ≡ hub.new.ring) × (result.executed ≡ result.stored) × (result.seat.seats ≡ 64) }
     ensures same { (hub.new.ring ≡ hub.old.ring) × (hub.new.seats ≡ hub.old.seats) }
 {
     hub.flusher().unwrap()

@@ -4,7 +4,7 @@ use Rattle.std.specs.List.{AllByRecursion}
 use Rattle.std.specs.Fmt.{decimal}
 use Rattle.atomic_table.specs.Seated.{TableId}
 use Rattle.claim_core.specs.Seats.{SessionSeatValue}
-use Rattle.claim_core.specs.declared.sizes.TheConstants.{SEATS}
+use Rattle.limits_core.specs.declared.TheConstants.{SEATS}
 use Rattle.disk_core.specs.declared.file.FileDisk.{FileDisk}
 use Rattle.flush_core.specs.Flushed.{Flushed}
 use Rattle.hub_core.specs.Hubs.{HubValue, IsWhole}

@@ -15,7 +15,7 @@ const PORT: u16 = 47_629;
 const JOURNAL: &str = "server_with_a_crowd";
 
 // How many connections are served at once (README.md).
-const AT_ONCE: usize = 32;
+const AT_ONCE: usize = 64;
 
 // A client that is CONNECTED. It waits for ten seconds at most.
 fn greeted(rt: &HostRuntime, alloc: Global) -> Option<Client<HostRuntime>> {
