@@ -1,7 +1,7 @@
 #!/usr/bin/env python3
 """Tries examples/rooms.html in headless Chromium, over a broker that is killed and started again, and the lines of JavaScript in README.md.
 
-    python3 clients/browser.py [PROGRAM] [--browser CHROMIUM]
+    python3 clients/browser.py [PROGRAM] [--browser CHROMIUM] [--stomp-js PATH]
     python3 clients/browser.py [PROGRAM] --picture docs/rooms.png
 
 With --picture it tries nothing, and makes the README's picture of a room. It needs Chromium (Debian: apt-get install chromium) and nothing else: it speaks to it by the DevTools protocol.
@@ -26,6 +26,9 @@ from stomp_client import Client
 TOP = pathlib.Path(__file__).resolve().parent.parent
 PAGE = TOP / "examples" / "rooms.html"
 README = TOP / "README.md"
+
+# Where RabbitMQ's examples have stomp.js 2.3.3.
+STOMP_JS = "lib/rabbitmq_server-*/plugins/rabbitmq_web_stomp_examples-*/priv/stomp.js"
 
 DEAD = "/queue/dead"
 # How many messages a subscription that acknowledges has at most.
@@ -289,9 +292,14 @@ STEPS = [
 ]
 
 
+def lines_of_readme(number):
+    """That one of its blocks of JavaScript, counted from 1."""
+    return README.read_text(encoding="utf-8").split("```js\n")[number].split("```")[0]
+
+
 def the_readme_holds(broker, checks, browser):
     """Its lines of JavaScript do what they say, in a page of their own."""
-    lines = README.read_text(encoding="utf-8").split("```js\n")[1].split("```")[0]
+    lines = lines_of_readme(2)
     page = browser.open("about:blank")
     run = f"var heard = []; console.log = frame => heard.push(frame); (0, eval)({json.dumps(lines.replace(':8080', f':{broker.port}'))}); 0"
     page.value(run)
@@ -299,6 +307,20 @@ def the_readme_holds(broker, checks, browser):
     heard = page.value("heard.map(frame => frame.split('\\n')[0])")
     checks.same("the README's lines of JavaScript hear what they say", heard, ["CONNECTED", "MESSAGE", "RECEIPT"])
     checks.check("and the message that they have sent", page.value("heard[1].endsWith('hello\\0')"), page.value("heard"))
+    checks.same("no exception was thrown", page.exceptions, [])
+
+
+def stomp_js_holds(broker, checks, browser, library):
+    """The README's lines for stomp.js do what they say."""
+    if library is None:
+        checks.tell("the lines for stomp.js were not tried: it is not here (Debian has it in rabbitmq-server)")
+        return
+    page = browser.open("about:blank")
+    page.value(f"(0, eval)({json.dumps(library.read_text(encoding='utf-8'))}); 0")
+    lines = lines_of_readme(1).replace(":8080", f":{broker.port}")
+    page.value(f"var heard = []; console.log = (...words) => heard.push(words.join(' ')); (0, eval)({json.dumps(lines)}); 0")
+    page.comes("heard.length == 2")
+    checks.same("the README's lines for stomp.js hear what they say", page.value("heard"), ["somebody said: hello", "it is on disk: first"])
     checks.same("no exception was thrown", page.exceptions, [])
 
 
@@ -361,6 +383,7 @@ def try_page(broker, checks, browser, server, pictures):
 def main():
     parser = scenario.words_of(__doc__)
     parser.add_argument("--browser", default=next(filter(None, map(shutil.which, BROWSERS)), None))
+    parser.add_argument("--stomp-js", type=pathlib.Path, metavar="PATH", default=next(iter(sorted(pathlib.Path("/usr/lib/rabbitmq").glob(STOMP_JS))), None))
     parser.add_argument("--picture", type=pathlib.Path, metavar="PATH", help="make the README's picture, and try nothing")
     words = parser.parse_args()
     if not words.browser:
@@ -376,6 +399,7 @@ def main():
             else:
                 try_page(broker, checks, browser, server, pictures)
                 the_readme_holds(broker, checks, browser)
+                stomp_js_holds(broker, checks, browser, words.stomp_js)
         finally:
             server.shutdown()
             browser.close()
