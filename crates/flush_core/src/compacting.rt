@@ -13,12 +13,13 @@ ghost use Rattle.flush_core.specs.Room.{Fits, HasNoRoomForState, IsTooLong, used
 
 use crate::FlushFault;
 use crate::flusher::Flusher;
+use crate::width::Width;
 use claim_core::BrokerRing;
 use disk_core::Disk;
 use outbox_core::{Bell, OutSender};
 use std::alloc::Global;
 
-impl<D: Disk, B: Bell, const BATCH: usize, const BATCH_BYTES: u64> Flusher<D, B, BATCH, BATCH_BYTES> {
+impl<D: Disk, B: Bell, W: Width> Flusher<D, B, W> {
     /// Writes a snapshot of the state after all that is stored, its sessions included, into the area of the journal that is not
     /// live, and makes that one live. What is gathered waits meanwhile, and sessions go on claiming.
     ///

@@ -10,6 +10,7 @@ ghost use Rattle.flush_core.specs.Sessions.{boxes_after, ended_by, ended_of, ope
 
 use crate::FlushFault;
 use crate::flusher::Flusher;
+use crate::width::Width;
 use crate::outlet::Outlet;
 use broker_core::Broker;
 use claim_core::BrokerRing;
@@ -163,7 +164,7 @@ fn execute_all<B: Bell>(
     Ok(())
 }
 
-impl<D: Disk, B: Bell, const BATCH: usize, const BATCH_BYTES: u64> Flusher<D, B, BATCH, BATCH_BYTES> {
+impl<D: Disk, B: Bell, W: Width> Flusher<D, B, W> {
     /// Executes what is stored: the broker's state is then the one after all that is stored, and the outputs wait behind
     /// those that wait already, in the order of their commands. The room is made that `publish` needs.
     pub fn execute(

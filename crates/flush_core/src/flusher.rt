@@ -9,6 +9,7 @@ ghost use Rattle.claim_core.specs.Seats.{next_ticket};
 ghost use Rattle.flush_core.specs.Flushed.{HoldBetween, IsFlusher, IsSame, flushed};
 
 use crate::outlet::Outlet;
+use crate::width::Width;
 use broker_core::Broker;
 use claim_core::{BrokerRing, BrokerSeat, FlushSeat};
 use command_core::Entry;
@@ -16,17 +17,16 @@ use disk_core::{Disk, FuseDisk};
 use outbox_core::{Bell, OutSender};
 use recover_core::Store;
 use std::alloc::Global;
-use std::marker::Model;
+use std::marker::{Model, PhantomData};
 use std::snapshot::Snapshot;
 
 /// The one that takes commands from a ring, makes them durable, executes them and publishes them. A block of the journal has
-/// at most `BATCH` of them, and those in front of its last have records of fewer than `BATCH_BYTES` bytes. Both are at least 1,
-/// else it takes none.
+/// at most `W::COMMANDS` of them, and those in front of its last have records of fewer than `W::BYTES` bytes.
 ///
 /// Each image of its disk stands for the state after the commands taken up to some number from the mark on, also once a
 /// step has failed. No output is handed out but under the mark.
 #[derive(Drop)]
-pub struct Flusher<D: Disk, B: Bell, const BATCH: usize, const BATCH_BYTES: u64> {
+pub struct Flusher<D: Disk, B: Bell, W: Width> {
     pub(crate) journal: Store<D>,
     pub(crate) broker: Broker,
     pub(crate) seat: FlushSeat<OutSender<B>>,
@@ -45,10 +45,11 @@ pub struct Flusher<D: Disk, B: Bell, const BATCH: usize, const BATCH_BYTES: u64>
     pub(crate) broken: bool,
     // How many bytes the last compaction won, where that was not asked for since.
     pub(crate) won: Option<u64>,
+    pub(crate) width: PhantomData<W>,
 }
 
-impl<D: Disk, B: Bell, const BATCH: usize, const BATCH_BYTES: u64> Model
-    for Flusher<D, B, BATCH, BATCH_BYTES>
+impl<D: Disk, B: Bell, W: Width> Model
+    for Flusher<D, B, W>
 {
     ghost use Rattle.std.specs.Prelude.{◌≡◌, ◌++◌, false, length, vec_capacity};
     ghost use Rattle.recover_core.specs.Stores.{is_broken};
@@ -64,10 +65,10 @@ impl<D: Disk, B: Bell, const BATCH: usize, const BATCH_BYTES: u64> Model
         × (a.broken ≡ false → IsHeld a.seat a.stored a.executed (is_broken a.journal) a.batch.items a.done.items a.bytes
         (length a.outlet.left.items) (length a.outlet.waiting.items) (vec_capacity a.outlet.left))
         × (a.broken ≡ false → IsSpare (length a.outlet.spare.items) (length a.outlet.waiting.items) (vec_capacity a.outlet.spare))
-        × (a.broken ≡ false → IsBatch BATCH BATCH_BYTES (commands a.batch.items)) };
+        × (a.broken ≡ false → IsBatch W.COMMANDS W.BYTES (commands a.batch.items)) };
 }
 
-impl<D: Disk, B: Bell, const BATCH: usize, const BATCH_BYTES: u64> Flusher<D, B, BATCH, BATCH_BYTES> {
+impl<D: Disk, B: Bell, W: Width> Flusher<D, B, W> {
     /// A flusher of a journal, the broker of the state that the journal stands for, and the flusher's seat at a ring whose
     /// first ticket is the broker's count. No memory is taken.
     pub fn new(
@@ -75,7 +76,7 @@ impl<D: Disk, B: Bell, const BATCH: usize, const BATCH_BYTES: u64> Flusher<D, B,
         journal: Store<D>,
         broker: Broker,
         seat: FlushSeat<OutSender<B>>,
-    ) -> Flusher<D, B, BATCH, BATCH_BYTES>
+    ) -> Flusher<D, B, W>
         requires whole { (is_broken journal ≡ false) × (broker.broken ≡ false) }
         requires stands { D.honest (disk_of journal) → StandFor (D.images (disk_of journal)) broker.state }
         requires fresh { (seat.taken ≡ []) × (seat.published ≡ seat.base) }
@@ -97,6 +98,7 @@ impl<D: Disk, B: Bell, const BATCH: usize, const BATCH_BYTES: u64> Flusher<D, B,
             outlet: Outlet::new(alloc),
             broken,
             won: None,
+            width: PhantomData,
         }
     }
 
@@ -162,7 +164,7 @@ impl<D: Disk, B: Bell, const BATCH: usize, const BATCH_BYTES: u64> Flusher<D, B,
     }
 
     /// The same flusher over a disk that passes so many more calls and then fails.
-    pub fn fuse(self, calls: u64) -> Flusher<FuseDisk<D>, B, BATCH, BATCH_BYTES>
+    pub fn fuse(self, calls: u64) -> Flusher<FuseDisk<D>, B, W>
         ensures disk { fused result.disk ≡ self.disk }
         ensures calls { calls_left result.disk ≡ calls }
         ensures same { IsSame self result }
@@ -180,6 +182,7 @@ impl<D: Disk, B: Bell, const BATCH: usize, const BATCH_BYTES: u64> Flusher<D, B,
             outlet,
             broken,
             won,
+            width,
         } = self;
         Flusher {
             journal: journal.fuse(calls),
@@ -194,6 +197,7 @@ impl<D: Disk, B: Bell, const BATCH: usize, const BATCH_BYTES: u64> Flusher<D, B,
             outlet,
             broken,
             won,
+            width,
         }
     }
 }

@@ -11,6 +11,7 @@ ghost use Rattle.flush_core.specs.Outcomes.{IsOutcome, taking};
 
 use crate::FlushFault;
 use crate::flusher::Flusher;
+use crate::width::Width;
 use claim_core::{BrokerRing, FlushSeat};
 use command_core::Entry;
 use disk_core::Disk;
@@ -20,18 +21,18 @@ use std::alloc::AllocError;
 // However small the journal's areas are, a batch whose records have fewer bytes takes a further command.
 const LEAST_BYTES: u64 = 262_144;
 
-impl<D: Disk, B: Bell, const BATCH: usize, const BATCH_BYTES: u64> Flusher<D, B, BATCH, BATCH_BYTES> {
+impl<D: Disk, B: Bell, W: Width> Flusher<D, B, W> {
     // A batch whose records have as many bytes takes no further command: a quarter of an area, so that one block doesn't fill a
     // journal that holds little, but not more than a batch may have, and in small areas `LEAST_BYTES`.
     fn bytes_wanted(&self) -> u64
-        ensures wanted { result ≤ BATCH_BYTES }
+        ensures wanted { result ≤ W.BYTES }
         ensures most { result ≤ 2 ^ 62 }
     {
         let quarter = self.journal.size() / 4;
         if quarter > LEAST_BYTES {
-            quarter.min(BATCH_BYTES)
+            quarter.min(W::BYTES)
         } else {
-            LEAST_BYTES.min(BATCH_BYTES)
+            LEAST_BYTES.min(W::BYTES)
         }
     }
 
@@ -43,19 +44,19 @@ impl<D: Disk, B: Bell, const BATCH: usize, const BATCH_BYTES: u64> Flusher<D, B,
         batch: &mut Vec<Entry<OutSender<B>>>,
         bytes: &mut u64,
     ) -> u64
-        requires wanted { wanted ≤ BATCH_BYTES }
+        requires wanted { wanted ≤ W.BYTES }
         requires most { wanted ≤ 2 ^ 62 }
         requires ring { seat.old.ring ≡ ring.now }
-        requires room { BATCH ≤ vec_capacity batch.old }
+        requires room { W.COMMANDS ≤ vec_capacity batch.old }
         requires bytes { bytes.old ≡ length (records (commands batch.old.items)) }
-        requires batch { IsBatch BATCH BATCH_BYTES (commands batch.old.items) }
+        requires batch { IsBatch W.COMMANDS W.BYTES (commands batch.old.items) }
         ensures taken { (more : List (EntryValue SenderValue)) × (length more ≡ result) × (seat.new ≡ with_more seat.old (commands more))
             × (batch.new.items ≡ batch.old.items ++ more) }
         ensures bytes { bytes.new ≡ length (records (commands batch.new.items)) }
-        ensures batch { IsBatch BATCH BATCH_BYTES (commands batch.new.items) }
+        ensures batch { IsBatch W.COMMANDS W.BYTES (commands batch.new.items) }
     {
         let mut count = 0;
-        while batch.len() < BATCH && *bytes < wanted {
+        while batch.len() < W::COMMANDS && *bytes < wanted {
             let Some(entry) = ring.take(seat) else {
                 return count;
             };
@@ -74,30 +75,30 @@ impl<D: Disk, B: Bell, const BATCH: usize, const BATCH_BYTES: u64> Flusher<D, B,
         batch: &mut Vec<Entry<OutSender<B>>>,
         bytes: &mut u64,
     ) -> Result<u64, AllocError>
-        requires wanted { wanted ≤ BATCH_BYTES }
+        requires wanted { wanted ≤ W.BYTES }
         requires most { wanted ≤ 2 ^ 62 }
         requires ring { seat.old.ring ≡ ring.now }
         requires bytes { bytes.old ≡ length (records (commands batch.old.items)) }
-        requires batch { IsBatch BATCH BATCH_BYTES (commands batch.old.items) }
+        requires batch { IsBatch W.COMMANDS W.BYTES (commands batch.old.items) }
         ensures taken { IfOk result (λ count. (more : List (EntryValue SenderValue)) × (length more ≡ count) × (seat.new ≡ with_more seat.old (commands more))
             × (batch.new.items ≡ batch.old.items ++ more)) }
         ensures bytes { bytes.new ≡ length (records (commands batch.new.items)) }
-        ensures batch { IsBatch BATCH BATCH_BYTES (commands batch.new.items) }
+        ensures batch { IsBatch W.COMMANDS W.BYTES (commands batch.new.items) }
         ensures refused { OnErr result (seat.new ≡ seat.old) }
     {
-        batch.reserve(BATCH.saturating_sub(batch.len()))?;
+        batch.reserve(W::COMMANDS.saturating_sub(batch.len()))?;
         Ok(Self::take_ready(wanted, ring, seat, batch, bytes))
     }
 
-    /// Takes the next commands in order from the ring, for as long as they are ready, fewer than `BATCH` wait to be stored, and
-    /// the records of these have fewer than `BATCH_BYTES` bytes, and, in areas of more than a million, a quarter of an area. Answers
+    /// Takes the next commands in order from the ring, for as long as they are ready, fewer than `W::COMMANDS` wait to be stored, and
+    /// the records of these have fewer than `W::BYTES` bytes, and, in areas of more than a million, a quarter of an area. Answers
     /// how many it took.
     ///
     /// `Memory` comes before anything is taken.
     pub fn gather(&mut self, ring: &BrokerRing<OutSender<B>>) -> Result<u64, FlushFault>
         requires ring { self.old.seat.ring ≡ ring.now }
         ensures taken { IfOk result (λ count. (more : List (EntryValue SenderValue)) × (length more ≡ count) × (self.new ≡ taking self.old more)) }
-        ensures batch { IfOk result (λ count. IsBatch BATCH BATCH_BYTES (gathered self.new)) }
+        ensures batch { IfOk result (λ count. IsBatch W.COMMANDS W.BYTES (gathered self.new)) }
         ensures untouched { OnErr result ((self.new.disk ≡ self.old.disk) × (self.new.seat.taken ≡ self.old.seat.taken)) }
         ensures outcome { IsOutcome self.old self.new result }
         ensures stops { OnErr result ((self.new.broken ≡ true) × (self.new.seat.stopped ≡ true)) }

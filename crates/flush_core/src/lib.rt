@@ -12,6 +12,8 @@ mod publishing;
 mod executing;
 mod storing;
 mod turning;
+mod width;
 
 pub use faults::FlushFault;
 pub use flusher::Flusher;
+pub use width::Width;

@@ -4,10 +4,11 @@ ghost use Rattle.std.specs.Prelude.{◌≡◌};
 ghost use Rattle.flush_core.specs.Flushed.{IsFlusher};
 
 use crate::flusher::Flusher;
+use crate::width::Width;
 use disk_core::Disk;
 use outbox_core::Bell;
 
-impl<D: Disk, B: Bell, const BATCH: usize, const BATCH_BYTES: u64> Flusher<D, B, BATCH, BATCH_BYTES> {
+impl<D: Disk, B: Bell, W: Width> Flusher<D, B, W> {
     /// The mark: every number under it is published. It is known with what a flusher keeps.
     pub fn mark(&self) -> u64
         ensures mark { result ≡ self.now.seat.published }

@@ -8,13 +8,14 @@ ghost use Rattle.flush_core.specs.Flushed.{AreUnder};
 ghost use Rattle.flush_core.specs.Outcomes.{publishing, standing};
 
 use crate::flusher::Flusher;
+use crate::width::Width;
 use claim_core::BrokerRing;
 use command_core::Out;
 use disk_core::Disk;
 use outbox_core::{Bell, OutSender};
 use std::mem::replace;
 
-impl<D: Disk, B: Bell, const BATCH: usize, const BATCH_BYTES: u64> Flusher<D, B, BATCH, BATCH_BYTES> {
+impl<D: Disk, B: Bell, W: Width> Flusher<D, B, W> {
     /// Raises the mark to all that is stored, which each image of the disk holds, and then gives each outbox the outputs of its
     /// session, in order, until the box is cut. What goes to a session without a box stays for `take_left`. No memory is
     /// taken.

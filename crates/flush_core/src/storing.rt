@@ -13,13 +13,14 @@ ghost use Rattle.flush_core.specs.Room.{Fits, HasNoRoom, HasNoRoomLeft, IsTooLon
 
 use crate::FlushFault;
 use crate::flusher::Flusher;
+use crate::width::Width;
 use claim_core::BrokerRing;
 use disk_core::Disk;
 use outbox_core::{Bell, OutSender};
 use std::alloc::Global;
 use std::mem::swap;
 
-impl<D: Disk, B: Bell, const BATCH: usize, const BATCH_BYTES: u64> Flusher<D, B, BATCH, BATCH_BYTES> {
+impl<D: Disk, B: Bell, W: Width> Flusher<D, B, W> {
     /// Makes the gathered batch durable in one block. Where the block doesn't fit, the journal is compacted first, and not where
     /// it does. Where nothing is gathered it calls no disk and changes nothing.
     ///

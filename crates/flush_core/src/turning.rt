@@ -14,12 +14,13 @@ ghost use Rattle.flush_core.specs.Room.{Fits, HasNoRoom, HasNoRoomLeft, IsTooLon
 
 use crate::FlushFault;
 use crate::flusher::Flusher;
+use crate::width::Width;
 use claim_core::BrokerRing;
 use disk_core::Disk;
 use outbox_core::{Bell, OutSender};
 use std::alloc::Global;
 
-impl<D: Disk, B: Bell, const BATCH: usize, const BATCH_BYTES: u64> Flusher<D, B, BATCH, BATCH_BYTES> {
+impl<D: Disk, B: Bell, W: Width> Flusher<D, B, W> {
     /// Takes what is ready, makes it durable in one block, executes it and publishes it. Answers how many commands it took. Where
     /// the block of what waits to be stored doesn't fit, the journal is compacted first, and not where it does.
     ///
@@ -40,7 +41,7 @@ impl<D: Disk, B: Bell, const BATCH: usize, const BATCH_BYTES: u64> Flusher<D, B,
         ensures after { D.honest self.old.disk →
             IfOk result (λ count. StandFor (D.images self.new.disk) (state_taken self.new.opening self.new.seat)) }
         ensures turned { IfOk result (λ count. (more : List (EntryValue SenderValue)) × (length more ≡ count) × IsTurned self.old self.new more) }
-        ensures batch { IfOk result (λ count. IsBatch BATCH BATCH_BYTES (from_on self.new.seat self.old.stored)) }
+        ensures batch { IfOk result (λ count. IsBatch W.COMMANDS W.BYTES (from_on self.new.seat self.old.stored)) }
         ensures nothing { from_on self.new.seat self.old.stored ≡ [] → self.new.disk ≡ self.old.disk }
         ensures idle { from_on self.new.seat self.old.stored ≡ [] → IfOk result (λ count. self.new.won ≡ self.old.won) }
         ensures behind { Fits self.old.size self.old.used (from_on self.new.seat self.old.stored) → from_on self.new.seat self.old.stored ≢ [] →
@@ -51,7 +52,7 @@ impl<D: Disk, B: Bell, const BATCH: usize, const BATCH_BYTES: u64> Flusher<D, B,
         ensures full { IsErrOf result FlushFault.Full → IsTooLong self.old.size self.old.used (from_on self.new.seat self.old.stored)
             × ((HasNoRoomFor self.old.size (state_at self.old.opening self.old.seat self.old.stored) × (self.new.disk ≡ self.old.disk))
             ⊎ IsTooLong self.old.size (used_afresh (state_at self.old.opening self.old.seat self.old.stored)) (from_on self.new.seat self.old.stored)) }
-        ensures full_batch { IsErrOf result FlushFault.Full → IsBatch BATCH BATCH_BYTES (from_on self.new.seat self.old.stored) × (from_on self.new.seat self.old.stored ≢ []) }
+        ensures full_batch { IsErrOf result FlushFault.Full → IsBatch W.COMMANDS W.BYTES (from_on self.new.seat self.old.stored) × (from_on self.new.seat self.old.stored ≢ []) }
         ensures no_room { D.honest self.old.disk → IsErrOf result FlushFault.Full →
             HasNoRoomLeft (D.content self.new.disk) (state_at self.old.opening self.old.seat self.old.stored) (from_on self.new.seat self.old.stored) }
         ensures outcome { IsTurn self.old self.new result }
@@ -85,12 +86,12 @@ impl<D: Disk, B: Bell, const BATCH: usize, const BATCH_BYTES: u64> Flusher<D, B,
         ensures after { D.honest self.old.disk →
             IfOk result (λ count. StandFor (D.images self.new.disk) (state_taken self.new.opening self.new.seat)) }
         ensures turned { IfOk result (λ count. (more : List (EntryValue SenderValue)) × (length more ≡ count) × IsTurned self.old self.new more) }
-        ensures batch { IfOk result (λ count. IsBatch BATCH BATCH_BYTES (from_on self.new.seat self.old.stored)) }
+        ensures batch { IfOk result (λ count. IsBatch W.COMMANDS W.BYTES (from_on self.new.seat self.old.stored)) }
         ensures nothing { from_on self.new.seat self.old.stored ≡ [] → self.new.disk ≡ self.old.disk }
         ensures uncompacted { IfOk result (λ count. self.new.won ≡ self.old.won) }
         ensures full { IsErrOf result FlushFault.Full →
             IsTooLong self.old.size self.old.used (from_on self.new.seat self.old.stored)
-            × (self.new.disk ≡ self.old.disk) × IsBatch BATCH BATCH_BYTES (from_on self.new.seat self.old.stored) × (from_on self.new.seat self.old.stored ≢ []) }
+            × (self.new.disk ≡ self.old.disk) × IsBatch W.COMMANDS W.BYTES (from_on self.new.seat self.old.stored) × (from_on self.new.seat self.old.stored ≢ []) }
         ensures no_room { D.honest self.old.disk → IsErrOf result FlushFault.Full →
             HasNoRoom (D.content self.old.disk) (state_at self.old.opening self.old.seat self.old.stored) (from_on self.new.seat self.old.stored) }
         ensures outcome { IsTurn self.old self.new result }

@@ -9,7 +9,7 @@ use area_core::format;
 use claim_core::{BrokerRing, BrokerSeat, Refused, Ring};
 use command_core::{Entry, decode};
 use disk_core::MemDisk;
-use flush_core::Flusher;
+use flush_core::{Flusher, Width};
 use outbox_core::{OutSender, Silent};
 use recover_core::{Store, open};
 use std::alloc::Global;
@@ -18,8 +18,20 @@ pub(crate) type TestRing = BrokerRing<OutSender<Silent>>;
 
 pub(crate) type TestSeat = BrokerSeat<OutSender<Silent>>;
 
-/// A flusher whose blocks have at most 32 commands, and go on up to 262,144 bytes.
-pub(crate) type TestFlusher<D> = Flusher<D, Silent, 32, 262_144>;
+/// Blocks of at most 32 commands, which go on up to 262,144 bytes.
+pub(crate) struct TestWidth;
+
+impl Width for TestWidth {
+    const COMMANDS: usize = 32;
+
+    const BYTES: u64 = 262_144;
+
+    ghost COMMANDS = { 32 };
+
+    ghost BYTES = { 262144 };
+}
+
+pub(crate) type TestFlusher<D> = Flusher<D, Silent, TestWidth>;
 
 pub(crate) type MemFlusher = TestFlusher<MemDisk>;
 

@@ -28,5 +28,5 @@ pub use kept::{Kept, Relayed};
 pub use pacing::Pacing;
 pub use relaying::relay;
 pub use ringers::Ringers;
-pub use sizes::{BATCH, BATCH_BYTES, HubFlusher};
+pub use sizes::{HubFlusher, HubWidth};
 pub use working::worker;

@@ -1,12 +1,21 @@
 //! How wide the hub's blocks are.
 
-use flush_core::Flusher;
+ghost use Rattle.std.specs.Prelude.{ℕ};
 
-/// How many commands a block of a hub's journal has at most.
-pub const BATCH: usize = 256;
+use flush_core::{Flusher, Width};
 
-/// A block of a hub's journal whose records have as many bytes takes no further command.
-pub const BATCH_BYTES: u64 = 1_048_576;
+/// How wide the blocks of a hub's journal are: 256 commands, or 1,048,576 bytes of records.
+pub struct HubWidth;
+
+impl Width for HubWidth {
+    const COMMANDS: usize = 256;
+
+    const BYTES: u64 = 1_048_576;
+
+    ghost COMMANDS = { 256 };
+
+    ghost BYTES = { 1048576 };
+}
 
 /// The flusher of a hub.
-pub type HubFlusher<D, B> = Flusher<D, B, BATCH, BATCH_BYTES>;
+pub type HubFlusher<D, B> = Flusher<D, B, HubWidth>;

@@ -1,6 +1,8 @@
 //! How wide the blocks of a script's journal are.
 
-use flush_core::Flusher;
+ghost use Rattle.std.specs.Prelude.{ℕ};
+
+use flush_core::{Flusher, Width};
 use outbox_core::Silent;
 
 /// How many commands a block of a script's journal has at most.
@@ -9,5 +11,18 @@ pub const BATCH: usize = 32;
 /// A block of a script's journal whose records have as many bytes takes no further command.
 pub const BATCH_BYTES: u64 = 262_144;
 
+/// How wide the blocks of a script's journal are.
+pub struct ScriptWidth;
+
+impl Width for ScriptWidth {
+    const COMMANDS: usize = BATCH;
+
+    const BYTES: u64 = BATCH_BYTES;
+
+    ghost COMMANDS = { BATCH };
+
+    ghost BYTES = { BATCH_BYTES };
+}
+
 /// The flusher of a script.
-pub type ScriptFlusher<D> = Flusher<D, Silent, BATCH, BATCH_BYTES>;
+pub type ScriptFlusher<D> = Flusher<D, Silent, ScriptWidth>;

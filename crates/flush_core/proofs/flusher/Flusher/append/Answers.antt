@@ -45,7 +45,7 @@ invariant_of-self g c =
       λ w. held_stored it.seat it.stored c.next-self-inside.result it.executed _ _ it.batch.items it.done.items c.swap.new.x.items c.swap.new.y.items it.bytes _ _ _
           (λ i. (c.swap.ensures.x_after i).items) (λ i. (c.swap.ensures.y_after i).items) c.next-self-inside.ensures.next c.next-self-inside.ensures.most c.in-Ok.ensures.ok executed (omega (arith, kept.begun, kept.marked, kept.executed)) (c.self.invariant.1 w),
       c.self.invariant.2,
-      λ w. subst (IsBatch g.row.BATCH g.row.BATCH_BYTES) (sym (ap (λ (l : List (EntryValue SenderValue)). commands l) (λ i. (c.swap.ensures.x_after i).items) ∙ none_done it.seat it.stored it.executed _ it.batch.items it.done.items _ _ _ _ executed (c.self.invariant.1 c.if-self.false))) (no_batch g.row.BATCH g.row.BATCH_BYTES),
+      λ w. subst (IsBatch g.W.Width.COMMANDS g.W.Width.BYTES) (sym (ap (λ (l : List (EntryValue SenderValue)). commands l) (λ i. (c.swap.ensures.x_after i).items) ∙ none_done it.seat it.stored it.executed _ it.batch.items it.done.items _ _ _ _ executed (c.self.invariant.1 c.if-self.false))) (no_batch g.W.Width.COMMANDS g.W.Width.BYTES),
     )
 
 pub invariant_of-self-in-Err : goal.invariant_of-self-in-Err

@@ -142,15 +142,12 @@ returns-clause-uncompacted g c =
 pub returns-then-is_broken-clause-uncompacted : goal.returns-then-is_broken-clause-uncompacted
 returns-then-is_broken-clause-uncompacted g c = tt
 
-pub append-requires : goal.append-requires
-append-requires g c =
-    let took = c.in_ok-count.ensures.taken in (
-      search rules,
-      (
-        ap (λ (f : Flushed g.row.D.Denot). f.seat.ring) took.2 ∙ c.requires.ring,
-        λ whole. subst (λ (f : Flushed g.row.D.Denot). f.executed ≡ f.stored) (sym took.2) (c.requires.executed c.in_ok-count.ensures.outcome.0),
-      ),
-    )
+pub append-requires-clause-ring : goal.append-requires-clause-ring
+append-requires-clause-ring g c = ap (λ (f : Flushed g.row.D.Denot). f.seat.ring) c.in_ok-count.ensures.taken.2 ∙ c.requires.ring
+
+pub append-requires-clause-executed : goal.append-requires-clause-executed
+append-requires-clause-executed g c = λ whole.
+    subst (λ (f : Flushed g.row.D.Denot). f.executed ≡ f.stored) (sym c.in_ok-count.ensures.taken.2) (c.requires.executed c.in_ok-count.ensures.outcome.0)
 
 pub returns-in_err-execute-clause-outcome : goal.returns-in_err-execute-clause-outcome
 returns-in_err-execute-clause-outcome g c =

@@ -11,5 +11,5 @@ invariant_of-self g c = let a = c.self.inside in
     subst (λ (seat : FlushSeatValue). IsFlusher g.D.Disk.honest g.D.Disk.images (flushed a.journal seat a.opening.value.state a.stored a.executed (a.done.items ++ a.batch.items) a.broker a.outlet.boxes a.outlet.ended.items a.outlet.past.items a.outlet.waiting.items a.outlet.left.items a.broken a.won)
     × (a.broken ≡ false → IsHeld seat a.stored a.executed (is_broken a.journal) a.batch.items a.done.items a.bytes (length a.outlet.left.items) (length a.outlet.waiting.items) (vec_capacity a.outlet.left))
     × (a.broken ≡ false → IsSpare (length a.outlet.spare.items) (length a.outlet.waiting.items) (vec_capacity a.outlet.spare))
-    × (a.broken ≡ false → IsBatch g.row.BATCH g.row.BATCH_BYTES (commands a.batch.items)))
+    × (a.broken ≡ false → IsBatch g.W.Width.COMMANDS g.W.Width.BYTES (commands a.batch.items)))
     (sym c.beside.ensures.flush) c.self.invariant

@@ -53,7 +53,7 @@ returns-in-Ok-clause-batch g c =
     let is : commands c.fill.new.batch.items ≡ from_on c.fill.new.seat it.stored =
     ap (λ (l : List (EntryValue SenderValue)). commands l) took.3 ∙ (commands_both it.batch.items took.0
     ∙ (ap (λ (l : List CommandValue). l ++ more) held.batch_is ∙ (sym (from_more it.seat more it.stored c.self.invariant.0.stored) ∙ ap (λ (s : FlushSeatValue). from_on s it.stored) (sym took.2)))) in
-    subst (IsBatch g.row.BATCH g.row.BATCH_BYTES) is c.fill.ensures.batch
+    subst (IsBatch g.W.Width.COMMANDS g.W.Width.BYTES) is c.fill.ensures.batch
 
 pub returns-then-self-clause-taken : goal.returns-then-self-clause-taken
 returns-then-self-clause-taken g c = tt

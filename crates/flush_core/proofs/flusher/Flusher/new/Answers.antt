@@ -33,5 +33,5 @@ invariant_of-result g c =
         room_is = λ some. omega (arith, some, ap (λ (l : List OutValue). length l) c.new-3.ensures.outs.1);
       },
       λ _. record { none = ap (λ (l : List OutValue). length l) c.new-3.ensures.outs.2; room_is = omega (arith, ap (λ (l : List OutValue). length l) c.new-3.ensures.outs.0) },
-      λ _. subst (IsBatch g.row.BATCH g.row.BATCH_BYTES) (sym (ap (λ l. commands l) c.new.ensures.items)) (no_batch g.row.BATCH g.row.BATCH_BYTES),
+      λ _. subst (IsBatch g.W.Width.COMMANDS g.W.Width.BYTES) (sym (ap (λ l. commands l) c.new.ensures.items)) (no_batch g.W.Width.COMMANDS g.W.Width.BYTES),
     )

@@ -9,10 +9,10 @@ abbrev pub invariant-loop-seat : goal.invariant-loop-seat
 invariant-loop-seat g l = record {
   taken : (more : List (EntryValue SenderValue)) × (length more ≡ l.count) × (l.seat ≡ with_more l.fn.seat (commands more)) × (l.batch.items ≡ l.fn.batch.items ++ more);
   few : l.count ≤ length l.batch.items;
-  room : g.row.BATCH ≤ vec_capacity l.batch;
+  room : g.W.Width.COMMANDS ≤ vec_capacity l.batch;
   bytes : l.bytes ≡ length (records (commands l.batch.items));
-  batch : IsBatch g.row.BATCH g.row.BATCH_BYTES (commands l.batch.items);
+  batch : IsBatch g.W.Width.COMMANDS g.W.Width.BYTES (commands l.batch.items);
 }
 
 abbrev pub decreases-loop-seat : goal.decreases-loop-seat
-decreases-loop-seat g l = g.row.BATCH - length l.batch.items
+decreases-loop-seat g l = g.W.Width.COMMANDS - length l.batch.items

@@ -173,15 +173,12 @@ returns-clause-idle g c none =
 pub returns-then-is_broken-clause-idle : goal.returns-then-is_broken-clause-idle
 returns-then-is_broken-clause-idle g c = λ none. tt
 
-pub store-requires : goal.store-requires
-store-requires g c =
-    let took = c.in_ok-count.ensures.taken in (
-      search rules,
-      (
-        ap (λ (f : Flushed g.row.D.Denot). f.seat.ring) took.2 ∙ c.requires.ring,
-        λ whole. subst (λ (f : Flushed g.row.D.Denot). f.executed ≡ f.stored) (sym took.2) (c.requires.executed c.in_ok-count.ensures.outcome.0),
-      ),
-    )
+pub store-requires-clause-ring : goal.store-requires-clause-ring
+store-requires-clause-ring g c = ap (λ (f : Flushed g.row.D.Denot). f.seat.ring) c.in_ok-count.ensures.taken.2 ∙ c.requires.ring
+
+pub store-requires-clause-executed : goal.store-requires-clause-executed
+store-requires-clause-executed g c = λ whole.
+    subst (λ (f : Flushed g.row.D.Denot). f.executed ≡ f.stored) (sym c.in_ok-count.ensures.taken.2) (c.requires.executed c.in_ok-count.ensures.outcome.0)
 
 pub returns-in_err-execute-clause-outcome : goal.returns-in_err-execute-clause-outcome
 returns-in_err-execute-clause-outcome g c =
