@@ -19,9 +19,9 @@ impl Width for ScriptWidth {
 
     const BYTES: u64 = BATCH_BYTES;
 
-    ghost COMMANDS = { BATCH };
+    ghost COMMANDS = { 32 };
 
-    ghost BYTES = { BATCH_BYTES };
+    ghost BYTES = { 262144 };
 }
 
 /// The flusher of a script.
