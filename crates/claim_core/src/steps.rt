@@ -67,7 +67,13 @@ pub fn claim<B>(board: &Board<B>, seat: &mut TableSeat<B>, entry: &Entry<B>) -> 
 }
 
 // Puts the entry into the place of the pending ticket, and makes it ready.
-pub fn ready<B>(board: &Board<B>, seat: &mut TableSeat<B>, ticket: u64, place: usize, entry: Entry<B>)
+pub fn ready<B>(
+    board: &Board<B>,
+    seat: &mut TableSeat<B>,
+    ticket: u64,
+    place: usize,
+    entry: Entry<B>,
+)
     requires fits { IsAt seat.old.table_id board.now.table_id }
     requires place { IsPlaceOf ticket place board.now.table_id.slots × (3 * ticket + 1 < 2 ^ 64) }
     requires claimed { MayFill ticket place entry seat.old.me }

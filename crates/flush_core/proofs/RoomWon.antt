@@ -116,8 +116,9 @@ module _ {D : Type 0} (disk : Ghosts D) (old mid : Flushed D) (made : IsLeft old
       ⊎_elim
       (λ (l : IsLeft old mid). absurd (omega (arith, l.fits (ap (λ (f : Flushed D). f.broken) (sym l.same) ∙ outcome.0) some, long)))
       (λ (w : IsCompacted disk old mid). (
-      now ∙ ((λ i. (w.is i).used + 9 + length (records (cs i)))),
-      won ∙ ap (λ (f : Flushed D). f.won) w.is))
+        now ∙ ((λ i. (w.is i).used + 9 + length (records (cs i)))),
+        won ∙ ap (λ (f : Flushed D). f.won) w.is,
+      ))
       made
   afresh_so new (Err fault) outcome is used long some = tt
 

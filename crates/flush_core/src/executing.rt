@@ -10,8 +10,8 @@ ghost use Rattle.flush_core.specs.Sessions.{boxes_after, ended_by, ended_of, ope
 
 use crate::FlushFault;
 use crate::flusher::Flusher;
-use crate::width::Width;
 use crate::outlet::Outlet;
+use crate::width::Width;
 use broker_core::Broker;
 use claim_core::BrokerRing;
 use command_core::{Command, Entry, Op, Out};

@@ -48,9 +48,7 @@ pub struct Flusher<D: Disk, B: Bell, W: Width> {
     pub(crate) width: PhantomData<W>,
 }
 
-impl<D: Disk, B: Bell, W: Width> Model
-    for Flusher<D, B, W>
-{
+impl<D: Disk, B: Bell, W: Width> Model for Flusher<D, B, W> {
     ghost use Rattle.std.specs.Prelude.{◌≡◌, ◌++◌, false, length, vec_capacity};
     ghost use Rattle.recover_core.specs.Stores.{is_broken};
     ghost use Rattle.area_core.specs.Areas.{commands};

@@ -3,13 +3,13 @@
 #![tactic(auto)]
 
 mod compacting;
+mod executing;
 mod faults;
 mod flusher;
 mod gathering;
 mod marking;
 mod outlet;
 mod publishing;
-mod executing;
 mod storing;
 mod turning;
 mod width;

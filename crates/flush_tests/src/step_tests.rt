@@ -1,6 +1,8 @@
 ghost use Rattle.std.specs.Prelude.{◌≡◌, IfSome, IsTrue, true, false};
 
-use crate::setups::{MemFlusher, SMALL_AREA, Setup, TestFlusher, TestRing, TestSeat, append, open_both, set_up};
+use crate::setups::{
+    MemFlusher, SMALL_AREA, Setup, TestFlusher, TestRing, TestSeat, append, open_both, set_up,
+};
 use claim_core::{NotYet, Refused};
 use command_core::{Out, connected_reply};
 use disk_core::{Call, Disk, FuseDisk, MemDisk};

@@ -5,9 +5,9 @@ ghost use Rattle.flush_core.specs.Faults.{IsFlushCaused};
 ghost use Rattle.hub_core.specs.Flushes.{Flushes};
 
 use crate::pacing::Pacing;
+use crate::sizes::HubFlusher;
 use claim_core::BrokerRing;
 use disk_core::Disk;
-use crate::sizes::HubFlusher;
 use flush_core::FlushFault;
 use outbox_core::{Bell, OutSender};
 use std::alloc::Global;

@@ -6,8 +6,6 @@
 #[cfg(test)]
 mod closing_tests;
 #[cfg(test)]
-mod paces;
-#[cfg(test)]
 mod hubs;
 #[cfg(test)]
 mod like_script_tests;
@@ -15,6 +13,8 @@ mod like_script_tests;
 mod links;
 #[cfg(test)]
 mod many_commands_tests;
+#[cfg(test)]
+mod paces;
 #[cfg(test)]
 mod rows;
 #[cfg(test)]

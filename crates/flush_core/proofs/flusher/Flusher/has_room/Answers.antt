@@ -35,12 +35,14 @@ returns-else-is_empty-clause-none g c = λ t.
     let whole : it.broken ≡ false = ap (λ (f : Flushed g.row.D.Denot). f.broken) c.self.view_is ∙ c.requires.whole in
     let is : commands c.deref.result.now ≡ from_on it.seat it.stored = ap (λ l. commands l) c.deref.ensures.value ∙ (c.self.invariant.1 whole).batch_is in
     let wanted = used_of it.journal + 9 + length (records (commands c.deref.result.now)) in
-    let long : IsTooLong (size_of it.journal) (used_of it.journal) (commands c.deref.result.now) = elim (cases_lt (size_of it.journal) wanted) [ inl less ↦ less
-      | inr fits ↦ absurd (false≢true (sym t ∙ c.fits.ensures.1 fits)) ] in (
+    let long : IsTooLong (size_of it.journal) (used_of it.journal) (commands c.deref.result.now) = elim (cases_lt (size_of it.journal) wanted) [
+      | inl less ↦ less
+      | inr fits ↦ absurd (false≢true (sym t ∙ c.fits.ensures.1 fits))
+    ] in (
       λ none.
           let empty : from_on it.seat it.stored ≡ [] = subst (λ (f : Flushed g.row.D.Denot). gathered f ≡ []) (sym c.self.view_is) none in
           let zero : it.batch.len ≡ 0 = omega (arith, it.batch.ok.0, length_commands it.batch.items, ap (λ (l : List CommandValue). length l) (c.self.invariant.1 whole).batch_is, ap (λ (l : List CommandValue). length l) empty) in
           absurd (eqb-false it.batch.len 0 (sym c.is_empty.ensures ∙ c.if-is_empty.false) zero),
       subst (λ (f : Flushed g.row.D.Denot). IsTooLong f.size f.used (gathered f)) c.self.view_is
-      (subst (λ (l : List CommandValue). IsTooLong (size_of it.journal) (used_of it.journal) l) is long),
+          (subst (λ (l : List CommandValue). IsTooLong (size_of it.journal) (used_of it.journal) l) is long),
     )

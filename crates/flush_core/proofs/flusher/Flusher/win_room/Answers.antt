@@ -18,8 +18,10 @@ returns-then-is_broken-clause-any_moment g c = λ honest whole.
 pub returns-then-is_broken-clause-made : goal.returns-then-is_broken-clause-made
 returns-then-is_broken-clause-made g c = inl (record {
   same = refl;
-  fits = λ whole some. elim c.then-is_broken.branch [ then-is_broken-via-then-is_broken w ↦ absurd (false≢true (sym whole ∙ (sym c.is_broken.ensures.value ∙ w.if-is_broken.true)))
-    | then-is_broken-via-else-is_broken+then-has_room w ↦ w.has_room.ensures.fits w.if-has_room.true some ];
+  fits = λ whole some. elim c.then-is_broken.branch [
+    | then-is_broken-via-then-is_broken w ↦ absurd (false≢true (sym whole ∙ (sym c.is_broken.ensures.value ∙ w.if-is_broken.true)))
+    | then-is_broken-via-else-is_broken+then-has_room w ↦ w.has_room.ensures.fits w.if-has_room.true some
+  ];
 })
 
 pub returns-clause-made : goal.returns-clause-made
