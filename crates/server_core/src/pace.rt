@@ -1,5 +1,7 @@
 //! How the threads of a server wait for one another.
 
+ghost use Rattle.std.specs.Prelude.{◌≡◌, ◌<◌, ◌≤◌};
+
 use crate::teller::{Compaction, Teller};
 use hub_core::Pacing;
 use std::io::Write;
@@ -16,6 +18,26 @@ const LONGEST_SLEEP: u64 = 10;
 /// For how many milliseconds a worker rests that was refused memory, before it tries again.
 const SHORTAGE: u64 = 20;
 
+/// A turn of the flusher that took so many microseconds was on a slow disk.
+const SLOW: u64 = 2_000;
+
+/// For how many microseconds the flusher rests at most behind a turn on a slow disk.
+const LONGEST_REST: u64 = 2_000;
+
+// For how many microseconds the flusher rests behind a turn that took so many, and published so many commands: an eighth, so that
+// who has just heard of these commands is in the next block, and not in the one behind it. One that sends alone, or a quick
+// disk, is not waited for.
+fn rest_behind(micros: u64, commands: u64) -> u64
+    ensures short { result ≤ 2000 }
+    ensures quick { micros < 2000 → result ≡ 0 }
+    ensures alone { commands ≤ 1 → result ≡ 0 }
+{
+    if micros < SLOW || commands <= 1 {
+        return 0;
+    }
+    (micros / 8).min(LONGEST_REST)
+}
+
 /// Has the flusher sleep until a command was put into the ring, and a worker with a full window until the mark has risen or
 /// will rise no more.
 ///
@@ -31,8 +53,10 @@ pub struct Pace<T> {
     // greater one.
     mark: AtomicU64,
     waiting: AtomicU64,
-    // When the flusher's turn began, in milliseconds of the clock.
+    // When the flusher's turn began, in microseconds of the clock.
     began: AtomicU64,
+    // For how many microseconds the flusher rests before its next turn.
+    rest: AtomicU64,
     teller: Teller,
 }
 
@@ -46,6 +70,7 @@ impl<T: Wait> Pace<T> {
             mark: AtomicU64::new(mark),
             waiting: AtomicU64::new(0),
             began: AtomicU64::new(0),
+            rest: AtomicU64::new(0),
             teller,
         }
     }
@@ -105,11 +130,25 @@ impl<T: Wait> Pace<T> {
 }
 
 impl<T: Wait + Clock> Pace<T> {
-    // The milliseconds of the clock; 0 where it can't be read.
-    fn millis(&self) -> u64 {
+    // The microseconds of the clock; 0 where it can't be read.
+    fn micros(&self) -> u64 {
         match self.rt.monotonic() {
-            Ok(time) => u64::try_from(time.as_millis()).unwrap_or(0),
+            Ok(time) => u64::try_from(time.as_micros()).unwrap_or(0),
             Err(_) => 0,
+        }
+    }
+
+    // How many microseconds the flusher's turn has taken.
+    fn taken(&self) -> u64 {
+        let began = self.began.load(Ordering::SeqCst);
+        self.micros().saturating_sub(began)
+    }
+
+    // Lets the flusher rest, where its last turn asks for that.
+    fn rest(&self) {
+        let micros = self.rest.swap(0, Ordering::SeqCst);
+        if micros > 0 {
+            thread::sleep(&self.rt, Duration::from_micros(micros));
         }
     }
 }
@@ -117,8 +156,9 @@ impl<T: Wait + Clock> Pace<T> {
 impl<T: Wait + Clock> Pacing for Pace<T> {
     fn pass(&self, worker: u32, _turn: u64) -> bool {
         if worker == u32::MAX {
+            self.rest();
             self.await_commands();
-            self.began.store(self.millis(), Ordering::SeqCst);
+            self.began.store(self.micros(), Ordering::SeqCst);
         }
         true
     }
@@ -136,12 +176,14 @@ impl<T: Wait + Clock> Pacing for Pace<T> {
     }
 
     fn published(&self, mark: u64) {
+        let commands = mark.saturating_sub(self.mark.load(Ordering::SeqCst));
+        let rest = rest_behind(self.taken(), commands);
+        self.rest.store(rest, Ordering::SeqCst);
         self.raise(mark);
     }
 
     fn compacted(&self, won: u64) {
-        let began = self.began.load(Ordering::SeqCst);
-        let millis = self.millis().saturating_sub(began);
+        let millis = self.taken() / 1_000;
         self.teller.note(&self.rt, Compaction { won, millis });
     }
 
