@@ -1,8 +1,8 @@
 ghost use Rattle.std.specs.Prelude.{◌≡◌, ◌≤◌, IsTrue, OnSome};
 ghost use Rattle.hub_tests.specs.Parties.{AreTogether};
 
-use crate::paces::{Free, Shut};
 use crate::hubs::{HubFlusher, HubRing, HubSeat, Party, SMALL_AREA, close, new_party, party_over};
+use crate::paces::{Free, Shut};
 use command_core::{Command, Dest, Entry, Op, Sending};
 use disk_core::MemDisk;
 use frame_core::{Bytes, Headers};

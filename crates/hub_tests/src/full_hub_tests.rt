@@ -1,10 +1,11 @@
-ghost use Rattle.std.specs.Prelude.{◌≡◌, ◌+◌, ◌<◌, ◌++◌, IfSome, IfOk, OnSome, length};
+ghost use Rattle.std.specs.Prelude.{◌≡◌, ◌+◌, ◌<◌, ◌≤◌, [], All, IfSome, OnOk, length};
 ghost use Rattle.flush_core.specs.Flushed.{Flushed};
 ghost use Rattle.hub_core.specs.Hubs.{IsWhole};
 ghost use Rattle.hub_tests.specs.Parties.{AreAllOut, AreSixteen};
 
 use crate::hubs::{
     AREA, HubFlusher, HubRing, HubSeat, MemHub, close_hub, formatted, numbers, take_flusher,
+    take_seat,
 };
 use crate::many_commands_tests::{append_next, flush_to};
 use crate::paces::Pause;
@@ -42,48 +43,86 @@ fn full_hub_over(alloc: Global, disk: MemDisk) -> Option<FullHub>
     ensures executed { IfSome result (λ full. full.flusher.executed ≡ full.flusher.stored) }
 {
     match Hub::open(alloc, disk) {
-        Ok(hub) => handed_out(alloc, hub),
+        Ok(hub) => handed_out(with_flusher(alloc, hub)),
         Err(_) => None,
     }
 }
 
-fn handed_out(alloc: Global, hub: MemHub) -> Option<FullHub>
+// Hands out the flusher alone.
+fn with_flusher(alloc: Global, hub: MemHub) -> FullHub
     requires { (f : Flushed _) × IsWhole hub f }
+    ensures none { (result.first.items ≡ []) × (result.second.items ≡ []) × (result.third.items ≡ []) × (result.fourth.items ≡ []) }
+    ensures left { (length result.hub.seats ≡ 64) × (result.flusher.seat.seats ≡ 64) }
+    ensures flusher { (result.flusher.seat.ring ≡ result.hub.ring) × (result.flusher.executed ≡ result.flusher.stored) }
+{
+    let mut hub = hub;
+    let flusher = take_flusher(&mut hub);
+    FullHub {
+        hub,
+        first: Vec::new(alloc),
+        second: Vec::new(alloc),
+        third: Vec::new(alloc),
+        fourth: Vec::new(alloc),
+        flusher,
+    }
+}
+
+fn handed_out(full: FullHub) -> Option<FullHub>
+    requires none { (full.first.items ≡ []) × (full.second.items ≡ []) × (full.third.items ≡ []) × (full.fourth.items ≡ []) }
+    requires left { (length full.hub.seats ≡ 64) × (full.flusher.seat.seats ≡ 64) }
+    requires flusher { (full.flusher.seat.ring ≡ full.hub.ring) × (full.flusher.executed ≡ full.flusher.stored) }
     ensures all { IfSome result (λ full. AreAllOut full.hub full.first.items full.second.items full.third.items full.fourth.items full.flusher) }
     ensures executed { IfSome result (λ full. full.flusher.executed ≡ full.flusher.stored) }
 {
-    let mut hub = hub;
-    let first = take_sixteen(alloc, &mut hub)?;
-    let second = take_sixteen(alloc, &mut hub)?;
-    let third = take_sixteen(alloc, &mut hub)?;
-    let fourth = take_sixteen(alloc, &mut hub)?;
-    let flusher = take_flusher(&mut hub);
-    Some(FullHub {
-        hub,
-        first,
-        second,
-        third,
-        fourth,
-        flusher,
-    })
+    let mut full = full;
+    match hand_out(&mut full) {
+        Ok(()) => Some(full),
+        Err(_) => {
+            drop(full);
+            None
+        }
+    }
 }
 
-// Sixteen of the seats that a hub has left.
-fn take_sixteen(alloc: Global, hub: &mut MemHub) -> Option<Vec<HubSeat>>
-    ensures sixteen { IfSome result (λ seats. AreSixteen hub.old.ring seats.items) }
-    ensures count { OnSome result (length hub.new.seats + 16 ≡ length hub.old.seats) }
-    ensures same { (hub.new.ring ≡ hub.old.ring) × (hub.new.flusher ≡ hub.old.flusher) }
+// Hands out all seats.
+fn hand_out(full: &mut FullHub) -> Result<(), AllocError>
+    requires none { (full.old.first.items ≡ []) × (full.old.second.items ≡ []) × (full.old.third.items ≡ []) × (full.old.fourth.items ≡ []) }
+    requires left { (length full.old.hub.seats ≡ 64) × (full.old.flusher.seat.seats ≡ 64) }
+    requires flusher { full.old.flusher.seat.ring ≡ full.old.hub.ring }
+    ensures all { OnOk result (AreAllOut full.new.hub full.new.first.items full.new.second.items full.new.third.items full.new.fourth.items full.new.flusher) }
+    ensures same { full.new.flusher ≡ full.old.flusher }
 {
-    let Ok(mut seats) = Vec::with_capacity(alloc, 16) else {
-        return None;
-    };
+    take_sixteen(&mut full.hub, &mut full.first)?;
+    take_sixteen(&mut full.hub, &mut full.second)?;
+    take_sixteen(&mut full.hub, &mut full.third)?;
+    take_sixteen(&mut full.hub, &mut full.fourth)
+}
+
+// Takes sixteen of the seats that a hub has left.
+fn take_sixteen(hub: &mut MemHub, seats: &mut Vec<HubSeat>) -> Result<(), AllocError>
+    requires left { 16 ≤ length hub.old.seats }
+    requires none { seats.old.items ≡ [] }
+    ensures sixteen { OnOk result (AreSixteen hub.old.ring seats.new.items) }
+    ensures count { OnOk result (length hub.new.seats + 16 ≡ length hub.old.seats) }
+    ensures same { hub.new.ring ≡ hub.old.ring }
+{
     for _taken in 0..16u32 {
-        let Some(seat) = hub.seat() else {
-            return None;
-        };
-        seats.push_reserved(seat);
+        take_one(hub, seats)?;
     }
-    Some(seats)
+    Ok(())
+}
+
+// Takes the next one.
+fn take_one(hub: &mut MemHub, seats: &mut Vec<HubSeat>) -> Result<(), AllocError>
+    requires { 0 < length hub.old.seats }
+    ensures count { OnOk result ((length hub.new.seats + 1 ≡ length hub.old.seats) × (length seats.new.items ≡ length seats.old.items + 1)) }
+    ensures ring { All (λ seat. seat.ring ≡ hub.old.ring) seats.old.items → OnOk result (All (λ seat. seat.ring ≡ hub.old.ring) seats.new.items) }
+    ensures same { hub.new.ring ≡ hub.old.ring }
+{
+    match seats.push(take_seat(hub)) {
+        Ok(()) => Ok(()),
+        Err(_) => Err(AllocError),
+    }
 }
 
 // Appends the entry of that delivery at one of sixteen seats, and answers whether it got a ticket over the last one of that seat.
@@ -211,21 +250,23 @@ fn work_and_flush<R: Threads + Clock + Sync>(
     rose
 }
 
-// The seats of both lists.
-fn joined(seats: Vec<HubSeat>, others: Vec<HubSeat>) -> Result<Vec<HubSeat>, AllocError>
-    ensures { IfOk result (λ all. all.items ≡ seats.items ++ others.items) }
+// Brings all seats together in the first list.
+fn gather(full: &mut FullHub) -> Result<(), AllocError>
+    requires { AreAllOut full.old.hub full.old.first.items full.old.second.items full.old.third.items full.old.fourth.items full.old.flusher }
+    ensures seats { OnOk result (All (λ seat. seat.ring ≡ full.new.hub.ring) full.new.first.items) }
+    ensures count { OnOk result (length full.new.first.items + length full.new.hub.seats ≡ full.new.flusher.seat.seats) }
+    ensures flusher { full.new.flusher.seat.ring ≡ full.new.hub.ring }
 {
-    let mut seats = seats;
-    let mut others = others;
-    match seats.append(&mut others) {
-        Ok(()) => Ok(seats),
-        Err(refused) => Err(refused),
-    }
+    full.first.append(&mut full.second)?;
+    full.first.append(&mut full.third)?;
+    full.first.append(&mut full.fourth)
 }
 
-// Ends a hub, with all its seats.
-fn close_full_hub(full: FullHub) -> Option<Closed<MemDisk>>
-    requires { AreAllOut full.hub full.first.items full.second.items full.third.items full.fourth.items full.flusher }
+// Ends a hub, all of whose seats are in the first list.
+fn close_gathered(full: FullHub) -> Option<Closed<MemDisk>>
+    requires seats { All (λ seat. seat.ring ≡ full.hub.ring) full.first.items }
+    requires count { length full.first.items + length full.hub.seats ≡ full.flusher.seat.seats }
+    requires flusher { full.flusher.seat.ring ≡ full.hub.ring }
 {
     let FullHub {
         hub,
@@ -235,10 +276,24 @@ fn close_full_hub(full: FullHub) -> Option<Closed<MemDisk>>
         fourth,
         flusher,
     } = full;
-    let one = joined(first, second).ok()?;
-    let other = joined(third, fourth).ok()?;
-    let seats = joined(one, other).ok()?;
-    close_hub(hub, seats, flusher)
+    drop(second);
+    drop(third);
+    drop(fourth);
+    close_hub(hub, first, flusher)
+}
+
+// Ends a hub, with all its seats.
+fn close_full_hub(full: FullHub) -> Option<Closed<MemDisk>>
+    requires { AreAllOut full.hub full.first.items full.second.items full.third.items full.fourth.items full.flusher }
+{
+    let mut full = full;
+    match gather(&mut full) {
+        Ok(()) => close_gathered(full),
+        Err(_) => {
+            drop(full);
+            None
+        }
+    }
 }
 
 // Whether the tickets of each thread's seats rose, and the numbers at the end.
@@ -247,13 +302,17 @@ fn run<R: Threads + Clock + Sync>(
     alloc: Global,
     pace: &Pause<R>,
 ) -> Option<(((bool, bool), (bool, bool)), [u64; 4])> {
-    let mut full = new_full_hub(alloc)?;
-    let rose = work_and_flush(rt, alloc, &mut full, pace);
-    match close_full_hub(full) {
-        Some(closed) => {
-            let numbers = numbers(&closed);
-            drop(closed);
-            Some((rose, numbers))
+    match new_full_hub(alloc) {
+        Some(mut full) => {
+            let rose = work_and_flush(rt, alloc, &mut full, pace);
+            match close_full_hub(full) {
+                Some(closed) => {
+                    let numbers = numbers(&closed);
+                    drop(closed);
+                    Some((rose, numbers))
+                }
+                None => None,
+            }
         }
         None => None,
     }
@@ -263,6 +322,9 @@ fn run<R: Threads + Clock + Sync>(
 fn four_threads_of_sixteen_seats_close_with_64000_commands(rt: HostRuntime) -> Result<(), Fail> {
     let pace = Pause { rt: rt.clone()? };
     let all = ((true, true), (true, true));
-    assert_eq!(rt; run(&rt, rt.alloc(), &pace), Some((all, [0, 64_000, 64_000, 64_000])));
+    assert_eq!(rt;
+        run(&rt, rt.alloc(), &pace),
+        Some((all, [0, 64_000, 64_000, 64_000]))
+    );
     Ok(())
 }

@@ -90,8 +90,8 @@ fn handed_out(hub: MemHub) -> Party
     }
 }
 
-// The next seat.
-fn take_seat(hub: &mut MemHub) -> HubSeat
+/// The next seat.
+pub fn take_seat(hub: &mut MemHub) -> HubSeat
     requires { 0 < length hub.old.seats }
     ensures seat { result.ring ≡ hub.new.ring }
     ensures count { length hub.new.seats + 1 ≡ length hub.old.seats }

@@ -8,8 +8,6 @@ mod closing_tests;
 #[cfg(test)]
 mod full_hub_tests;
 #[cfg(test)]
-mod paces;
-#[cfg(test)]
 mod hubs;
 #[cfg(test)]
 mod like_script_tests;
@@ -17,6 +15,8 @@ mod like_script_tests;
 mod links;
 #[cfg(test)]
 mod many_commands_tests;
+#[cfg(test)]
+mod paces;
 #[cfg(test)]
 mod rows;
 #[cfg(test)]

@@ -1,10 +1,10 @@
 ghost use Rattle.std.specs.Prelude.{◌≡◌};
 ghost use Rattle.hub_tests.specs.Parties.{AreTogether};
 
-use crate::paces::Pause;
 use crate::hubs::{
     HubFlusher, HubRing, HubSeat, Party, SMALL_AREA, first_wrong, link_of, new_party,
 };
+use crate::paces::Pause;
 use crate::texts::{SUBSCRIBER, THREE_MESSAGES};
 use hub_core::{Ended, flush_loop, worker};
 use outbox_core::Silent;

@@ -1,8 +1,8 @@
 ghost use Rattle.std.specs.Prelude.{◌≡◌, false};
 ghost use Rattle.hub_tests.specs.Parties.{AreTogether};
 
-use crate::paces::Pause;
 use crate::hubs::{AREA, HubFlusher, HubRing, HubSeat, Party, close, new_party, numbers};
+use crate::paces::Pause;
 use claim_core::Refused;
 use command_core::{Command, Entry, Op};
 use hub_core::{Pacing, flush_loop};

@@ -3,11 +3,11 @@
 ghost use Rattle.std.specs.Prelude.{◌≡◌, IfSome};
 ghost use Rattle.hub_tests.specs.Parties.{AreTogether};
 
-use crate::paces::{Awaited, Noting};
 use crate::hubs::{
     AREA, HubFlusher, HubRing, HubSeat, Party, SMALL_AREA, first_wrong, link_of_rounds, new_party,
 };
 use crate::links::{NO_SHORTAGE, Scarce, ScriptedLink, Shortage};
+use crate::paces::{Awaited, Noting};
 use hub_core::{Ended, flush_loop, worker};
 use std::alloc::Global;
 use std::cell::Cell;

@@ -1,5 +1,5 @@
-use crate::paces::{Awaited, Noting};
 use crate::links::Shortage;
+use crate::paces::{Awaited, Noting};
 use crate::rows::{Row, SILENT, first_wrong_row};
 use crate::texts::{
     ALL_RECEIPTS, CONNECT, CONNECTED, DISCONNECT, FIFTEEN_SUBSCRIBERS, FIVE_RECEIPTS, FIVE_SENDS,
