@@ -4,7 +4,7 @@ use Rattle.claim_core.specs.Seats.{SessionSeatValue}
 use Rattle.hub_tests.proofs.full_hub_tests.take_sixteen.Given as goal
 
 abbrev pub invariant-loop-taken : goal.invariant-loop-taken
-invariant-loop-taken g l = record {
+invariant-loop-taken l = record {
   ring : l.hub.ring ≡ l.fn.hub.ring;
   left : length l.hub.seats + l._taken ≡ length l.fn.hub.seats;
   count : length l.seats.items ≡ l._taken;
