@@ -90,8 +90,8 @@ fn handed_out(hub: MemHub) -> Party
     }
 }
 
-// The next seat.
-fn take_seat(hub: &mut MemHub) -> HubSeat
+/// The next seat.
+pub fn take_seat(hub: &mut MemHub) -> HubSeat
     requires { 0 < length hub.old.seats }
     ensures seat { result.ring ≡ hub.new.ring }
     ensures count { length hub.new.seats + 1 ≡ length hub.old.seats }
@@ -100,7 +100,8 @@ fn take_seat(hub: &mut MemHub) -> HubSeat
     hub.seat().unwrap()
 }
 
-fn take_flusher(hub: &mut MemHub) -> HubFlusher
+/// Its flusher.
+pub fn take_flusher(hub: &mut MemHub) -> HubFlusher
     requires { IsSome hub.old.flusher }
     ensures flusher { (result.seat.ring ≡ hub.new.ring) × (result.executed ≡ result.stored) × (result.seat.seats ≡ 64) }
     ensures same { (hub.new.ring ≡ hub.old.ring) × (hub.new.seats ≡ hub.old.seats) }
@@ -144,8 +145,8 @@ fn close_with(party: Party, seats: Vec<HubSeat>) -> Option<Closed<MemDisk>>
     close_hub(hub, seats, flusher)
 }
 
-// Ends a hub, with the seats that it handed out.
-fn close_hub(hub: MemHub, seats: Vec<HubSeat>, flusher: HubFlusher) -> Option<Closed<MemDisk>>
+/// Ends a hub, with the seats that it handed out.
+pub fn close_hub(hub: MemHub, seats: Vec<HubSeat>, flusher: HubFlusher) -> Option<Closed<MemDisk>>
     requires flusher { flusher.seat.ring ≡ hub.ring }
     requires seats { All (λ seat. seat.ring ≡ hub.ring) seats.items }
     requires all { length seats.items + length hub.seats ≡ flusher.seat.seats }
@@ -166,11 +167,35 @@ pub fn numbers(closed: &Closed<MemDisk>) -> [u64; 4] {
 
 /// A link whose messages are these texts.
 pub fn link_of(alloc: Global, texts: &[&[u8]]) -> Option<MemLink> {
+    link_of_rounds(alloc, texts, &[], 0)
+}
+
+/// A link whose messages are these texts, and behind them those of a round, so many times.
+pub fn link_of_rounds(
+    alloc: Global,
+    texts: &[&[u8]],
+    round: &[&[u8]],
+    rounds: u32,
+) -> Option<MemLink> {
     let mut messages = Vec::new(alloc);
-    match push_all(alloc, &mut messages, texts) {
+    match push_rounds(alloc, &mut messages, texts, round, rounds) {
         Ok(()) => Some(MemLink::new(alloc, messages)),
         Err(_) => None,
     }
+}
+
+fn push_rounds(
+    alloc: Global,
+    messages: &mut Vec<Vec<u8>>,
+    texts: &[&[u8]],
+    round: &[&[u8]],
+    rounds: u32,
+) -> Result<(), AllocError> {
+    push_all(alloc, messages, texts)?;
+    for _ in 0..rounds {
+        push_all(alloc, messages, round)?;
+    }
+    Ok(())
 }
 
 fn push_all(alloc: Global, messages: &mut Vec<Vec<u8>>, texts: &[&[u8]]) -> Result<(), AllocError> {

@@ -6,6 +6,8 @@
 #[cfg(test)]
 mod closing_tests;
 #[cfg(test)]
+mod full_hub_tests;
+#[cfg(test)]
 mod hubs;
 #[cfg(test)]
 mod like_script_tests;

@@ -60,8 +60,8 @@ fn append<R: Clock>(
     None
 }
 
-// Appends the entry of that delivery.
-fn append_next<R: Clock>(
+/// Appends the entry of that delivery, and waits for as long as the window is full.
+pub fn append_next<R: Clock>(
     rt: &R,
     alloc: Global,
     ring: &HubRing,
@@ -93,8 +93,8 @@ fn append_all<R: Clock>(rt: &R, alloc: Global, ring: &HubRing, seat: &mut HubSea
     true
 }
 
-// Turns until so many commands are published. Where that is asked for, the journal is compacted after each batch.
-fn flush_to<P: Pacing>(
+/// Turns until so many commands are published. Where that is asked for, the journal is compacted after each batch.
+pub fn flush_to<P: Pacing>(
     alloc: Global,
     ring: &HubRing,
     flusher: &mut HubFlusher,

@@ -4,7 +4,7 @@ ghost use Rattle.std.specs.Prelude.{◌≡◌, IfSome};
 ghost use Rattle.hub_tests.specs.Parties.{AreTogether};
 
 use crate::hubs::{
-    AREA, HubFlusher, HubRing, HubSeat, Party, SMALL_AREA, first_wrong, link_of, new_party,
+    AREA, HubFlusher, HubRing, HubSeat, Party, SMALL_AREA, first_wrong, link_of_rounds, new_party,
 };
 use crate::links::{NO_SHORTAGE, Scarce, ScriptedLink, Shortage};
 use crate::paces::{Awaited, Noting};
@@ -18,14 +18,18 @@ use std::time::Clock;
 /// More turns than any of them needs.
 pub const TURNS: u64 = 5_000;
 
-/// What a client sends, each text one message; whether its connection is closed behind them, or breaks at the first send; how
-/// often its worker may turn, and whether that is held up; whether the flusher turns from the beginning, or once the window is
-/// full, or once the worker has come to a turn that awaits a mark; and how often memory is refused. Then what is to come of it: how the worker ends, with which code it closes, what it sends (or whether its outbox
-/// overflows: then the journal is roomy, and the messages are counted), how many commands were appended where the journal has
-/// room for them, and what the pace hears (commands, a full window, a flusher that stopped; and that memory was refused).
+/// What a client sends, each text one message, and behind them a round of texts, so many times; whether its connection is
+/// closed behind them, or breaks at the first send; how often its worker may turn, and whether that is held up; whether the
+/// flusher turns from the beginning, or once the window is full, or once the worker has come to a turn that awaits a mark; and
+/// how often memory is refused. Then what is to come of it: how the worker ends, with which code it closes, what it sends (or
+/// whether its outbox overflows: then the journal is roomy, and the messages are counted), how many commands were appended
+/// where the journal has room for them, and what the pace hears (commands, a full window, a flusher that stopped; and that
+/// memory was refused).
 #[derive(Clone, Copy)]
 pub struct Row {
     pub texts: &'static [&'static [u8]],
+    pub round: &'static [&'static [u8]],
+    pub rounds: u32,
     pub closes: bool,
     pub breaks: bool,
     pub turns: u64,
@@ -44,6 +48,8 @@ pub struct Row {
 /// A client that says nothing.
 pub const SILENT: Row = Row {
     texts: &[],
+    round: &[],
+    rounds: 0,
     closes: false,
     breaks: false,
     turns: TURNS,
@@ -60,7 +66,7 @@ pub const SILENT: Row = Row {
 };
 
 fn scripted(alloc: Global, row: &Row) -> Option<ScriptedLink> {
-    match link_of(alloc, row.texts) {
+    match link_of_rounds(alloc, row.texts, row.round, row.rounds) {
         Some(link) => Some(ScriptedLink {
             link,
             closes: row.closes,

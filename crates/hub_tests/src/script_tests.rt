@@ -2,9 +2,9 @@ use crate::links::Shortage;
 use crate::paces::{Awaited, Noting};
 use crate::rows::{Row, SILENT, first_wrong_row};
 use crate::texts::{
-    ALL_RECEIPTS, CONNECT, CONNECTED, DISCONNECT, FIVE_RECEIPTS, FIVE_SENDS, LAST_RECEIPT,
-    LAST_WORD, LONG_BODY, LONG_END, LONG_HEAD, NOT_EXPECTED, SEND_X, SUBSCRIBER, THREE_MESSAGES,
-    TOO_MUCH, TWENTY_RECEIPTED, TWENTY_SENDS,
+    ALL_RECEIPTS, CONNECT, CONNECTED, DISCONNECT, FIFTEEN_SUBSCRIBERS, FIVE_RECEIPTS, FIVE_SENDS,
+    LAST_RECEIPT, LAST_WORD, LONG_BODY, LONG_END, LONG_HEAD, NOT_EXPECTED, SEND_X, SUBSCRIBER,
+    THREE_MESSAGES, TRANSACTION, TWENTY_RECEIPTED, TWENTY_SENDS,
 };
 use hub_core::Ended;
 use std::test::Fail;
@@ -77,9 +77,13 @@ const ROWS: [Row; 11] = [
         heard: [true, true, false],
         ..SILENT
     },
-    // The outbox is cut: what is in it is sent, that the connection is lost is appended, and the link is closed.
+    // The outbox is cut: what is in it is sent, that the connection is lost is appended, and the link is closed. An Open and
+    // fifteen subscriptions are a window, and sixteen transactions are another, whose outputs are 15,360 messages; the last
+    // transaction waits for room.
     Row {
-        texts: TOO_MUCH,
+        texts: &[CONNECT, FIFTEEN_SUBSCRIBERS],
+        round: TRANSACTION,
+        rounds: 17,
         ended: Ended::Lost,
         code: Some(1001),
         overflows: true,
