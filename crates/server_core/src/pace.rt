@@ -24,9 +24,9 @@ const SLOW: u64 = 2_000;
 /// For how many microseconds the flusher rests at most behind a turn on a slow disk.
 const LONGEST_REST: u64 = 2_000;
 
-// For how many microseconds the flusher rests behind a turn that took so many, and published so many commands: an eighth, so that
-// who has just heard of these commands is in the next block, and not in the one behind it. One that sends alone, or a quick
-// disk, is not waited for.
+// For how many microseconds the flusher rests behind a turn that took so many, and published so many commands: a quarter, which is
+// half of one of its two syncs, so that who has just heard of these commands is in the next block, and not in the one behind
+// it. One that sends alone, or a quick disk, is not waited for.
 fn rest_behind(micros: u64, commands: u64) -> u64
     ensures short { result ≤ 2000 }
     ensures quick { micros < 2000 → result ≡ 0 }
@@ -35,7 +35,7 @@ fn rest_behind(micros: u64, commands: u64) -> u64
     if micros < SLOW || commands <= 1 {
         return 0;
     }
-    (micros / 8).min(LONGEST_REST)
+    (micros / 4).min(LONGEST_REST)
 }
 
 /// Has the flusher sleep until a command was put into the ring, and a worker with a full window until the mark has risen or
