@@ -1,4 +1,5 @@
 pub mod Epochs
+pub mod FailOnce
 pub mod Faults
 pub mod File
 pub mod Fuse

@@ -1,11 +1,12 @@
 //! A disk, and what a stop at any moment may leave of it: the contract, a disk in memory that can
-//! be crashed, one that fails from a chosen call on, and a file.
+//! be crashed, one that fails from a chosen call on, one of which a single call fails, and a file.
 #![tactic(auto)]
 
 mod call;
 mod disk;
 mod epoch;
 mod example;
+mod fail_once;
 mod faults;
 mod file;
 mod fuse;
@@ -15,6 +16,7 @@ mod span;
 pub use call::Call;
 pub use disk::Disk;
 pub use example::publish;
+pub use fail_once::FailOnce;
 pub use faults::DeviceFault;
 pub use file::{FileDisk, OpenError};
 pub use fuse::FuseDisk;

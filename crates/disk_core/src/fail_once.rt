@@ -1,0 +1,204 @@
+//! A disk of which one call fails.
+ghost use Rattle.std.specs.Prelude.{◌≡◌, ◌≢◌, ◌+◌, ◌≤◌, ◌↔◌, ◌⊎◌, length, take, drop, OnOk, OnErr, IsErr, IsTrue, MatchBool, Option, Some, None};
+ghost use Rattle.disk_core.specs.Faults.{HasCause, IsOneMore};
+ghost use Rattle.disk_core.specs.Images.{patched, Torn, Frees, Same, Within, Only};
+ghost use Rattle.disk_core.specs.Moments.{Elapses};
+
+use crate::faults::fail;
+use crate::{DeviceFault, Disk};
+
+/// A disk of which a single call fails, once; every other is passed on.
+///
+/// Each read, write and sync is a call, and they are counted from 0. A write that fails so may have
+/// begun: it is passed on, and its range is written and unsynced. A read and a sync that fail so do
+/// nothing. A call that is passed on may fail too, as its disk has it.
+#[derive(Drop)]
+pub struct FailOnce<D> {
+    disk: D,
+    // The number of the call that fails, until it has.
+    due: Option<u64>,
+    // The calls that were made. The count stays at the end of its type.
+    made: u64,
+    // The failures that are not the disk's own.
+    failed: u64,
+}
+
+impl<D: Disk> FailOnce<D> {
+    ghost use Rattle.disk_core.specs.FailOnce.{below, due, calls_made, all_failures};
+
+    /// A disk of which that call fails, where the first has the number 0.
+    pub fn new(disk: D, call: u64) -> FailOnce<D>
+        ensures disk { below result ≡ disk }
+        ensures due { due result ≡ Some call }
+        ensures calls { calls_made result ≡ 0 }
+        ensures failures { all_failures D.failures result ≡ D.failures disk }
+    {
+        FailOnce {
+            disk,
+            due: Some(call),
+            made: 0,
+            failed: 0,
+        }
+    }
+
+    /// How many calls were made, the failed one included, up to the end of a `u64`. It is the
+    /// number of the next.
+    pub fn made(&self) -> u64
+        ensures { result ≡ calls_made self.now }
+    {
+        self.made
+    }
+
+    /// Whether the call has failed, so that every further one is passed on.
+    pub fn has_failed(&self) -> bool
+        ensures { IsTrue result ↔ due self.now ≡ None }
+    {
+        self.due.is_none()
+    }
+
+    /// The disk below, as the calls left it.
+    pub fn into_inner(self) -> D
+        ensures { result ≡ below self }
+    {
+        let FailOnce {
+            disk,
+            due: _,
+            made: _,
+            failed: _,
+        } = self;
+        disk
+    }
+}
+
+// Counts a call, and answers whether it is the one that fails, which no later one is then.
+fn is_due(due: &mut Option<u64>, made: &mut u64) -> bool
+    ensures is { IsTrue result ↔ due.old ≡ Some made.old }
+    ensures once { MatchBool result (due.new ≡ None) (due.new ≡ due.old) }
+    ensures counted { IsOneMore made.old made.new }
+{
+    let is_due = *due == Some(*made);
+    *made = made.saturating_add(1);
+    if is_due {
+        *due = None;
+    }
+    is_due
+}
+
+impl<D: Disk> Disk for FailOnce<D> {
+    ghost use Rattle.disk_core.specs.FailOnce.{below, due, calls_made, all_failures};
+
+    ghost content = { λ f. D.content f.disk };
+
+    ghost images = { λ f. D.images f.disk };
+
+    ghost moment = { λ f. D.moment f.disk };
+
+    ghost images_since = { λ f. D.images_since f.disk };
+
+    ghost failures = { λ f. D.failures f.disk + f.failed };
+
+    ghost honest = { λ f. D.honest f.disk };
+
+    ghost reads = { λ f. D.reads f.disk };
+
+    ghost sizes = { λ f. D.sizes f.disk };
+
+    ghost counts_now = { λ f. D.counts_now f.disk };
+
+    ghost only_now = { λ f. D.only_now f.disk };
+
+    fn size(&self) -> u64 {
+        self.disk.size()
+    }
+
+    fn read_at(&mut self, at: u64, into: &mut [u8]) -> Result<(), DeviceFault>
+        requires { at + length into.old ≤ length (D.content (below self.old)) }
+        ensures bytes { D.honest (below self.old) →
+            OnOk result (into.new ≡ take (length into.old) (drop at (D.content (below self.old)))) }
+        ensures content { D.honest (below self.old) →
+            D.content (below self.new) ≡ D.content (below self.old) }
+        ensures size { length (D.content (below self.new)) ≡ length (D.content (below self.old)) }
+        ensures images { D.honest (below self.old) →
+            Same (D.images (below self.old)) (D.images (below self.new)) }
+        ensures time { D.honest (below self.old) →
+            Elapses (D.moment (below self.old)) (D.moment (below self.new))
+            (D.images_since (below self.old)) (D.images_since (below self.new)) (D.images (below self.new)) }
+        ensures cause { HasCause (all_failures D.failures self.old) (all_failures D.failures self.new) result }
+        ensures honest { D.honest (below self.old) → D.honest (below self.new) }
+        ensures was_honest { D.honest (below self.new) → D.honest (below self.old) }
+
+        // It passes each call on but the one that is due.
+        ensures fails { due self.old ≡ Some (calls_made self.old) → IsErr result × (due self.new ≡ None) }
+        ensures passed { due self.old ≢ Some (calls_made self.old) →
+            HasCause (D.failures (below self.old)) (D.failures (below self.new)) result × (due self.new ≡ due self.old) }
+        ensures nothing { due self.old ≡ Some (calls_made self.old) → below self.new ≡ below self.old }
+        ensures counted { IsOneMore (calls_made self.old) (calls_made self.new) }
+    {
+        if is_due(&mut self.due, &mut self.made) {
+            return fail(&mut self.failed);
+        }
+        self.disk.read_at(at, into)
+    }
+
+    fn write_at(&mut self, at: u64, bytes: &[u8]) -> Result<(), DeviceFault>
+        requires { at + length bytes.now ≤ length (D.content (below self.old)) }
+        ensures written { D.honest (below self.old) →
+            OnOk result (D.content (below self.new) ≡ patched at bytes.now (D.content (below self.old))) }
+        ensures content { D.honest (below self.old) →
+            Torn at (length bytes.now) (D.content (below self.old)) (D.content (below self.new)) }
+        ensures size { length (D.content (below self.new)) ≡ length (D.content (below self.old)) }
+        ensures images { D.honest (below self.old) →
+            Frees at (length bytes.now) (D.images (below self.old)) (D.images (below self.new)) }
+        ensures time { D.honest (below self.old) →
+            Elapses (D.moment (below self.old)) (D.moment (below self.new))
+            (D.images_since (below self.old)) (D.images_since (below self.new)) (D.images (below self.new)) }
+        ensures cause { HasCause (all_failures D.failures self.old) (all_failures D.failures self.new) result }
+        ensures honest { D.honest (below self.old) → D.honest (below self.new) }
+        ensures was_honest { D.honest (below self.new) → D.honest (below self.old) }
+
+        ensures fails { due self.old ≡ Some (calls_made self.old) → IsErr result × (due self.new ≡ None) }
+        ensures passed { due self.old ≢ Some (calls_made self.old) →
+            HasCause (D.failures (below self.old)) (D.failures (below self.new)) result × (due self.new ≡ due self.old) }
+        ensures begun { D.honest (below self.old) → due self.old ≡ Some (calls_made self.old) →
+            (D.content (below self.new) ≡ patched at bytes.now (D.content (below self.old)))
+            ⊎ IsOneMore (D.failures (below self.old)) (D.failures (below self.new)) }
+        ensures counted { IsOneMore (calls_made self.old) (calls_made self.new) }
+    {
+        if is_due(&mut self.due, &mut self.made) {
+            // It fails, but it may have begun.
+            self.disk.write_at(at, bytes)?;
+            return fail(&mut self.failed);
+        }
+        self.disk.write_at(at, bytes)
+    }
+
+    fn sync(&mut self) -> Result<(), DeviceFault>
+        ensures stable { D.honest (below self.old) →
+            OnOk result (Only (D.content (below self.old)) (D.images (below self.new))) }
+        ensures failed { D.honest (below self.old) →
+            OnErr result (Same (D.images (below self.old)) (D.images (below self.new))) }
+        ensures content { D.honest (below self.old) →
+            D.content (below self.new) ≡ D.content (below self.old) }
+        ensures size { length (D.content (below self.new)) ≡ length (D.content (below self.old)) }
+        ensures images { D.honest (below self.old) →
+            Within (D.images (below self.new)) (D.images (below self.old)) }
+        ensures time { D.honest (below self.old) →
+            Elapses (D.moment (below self.old)) (D.moment (below self.new))
+            (D.images_since (below self.old)) (D.images_since (below self.new)) (D.images (below self.new)) }
+        ensures cause { HasCause (all_failures D.failures self.old) (all_failures D.failures self.new) result }
+        ensures honest { D.honest (below self.old) → D.honest (below self.new) }
+        ensures was_honest { D.honest (below self.new) → D.honest (below self.old) }
+
+        ensures fails { due self.old ≡ Some (calls_made self.old) → IsErr result × (due self.new ≡ None) }
+        ensures passed { due self.old ≢ Some (calls_made self.old) →
+            HasCause (D.failures (below self.old)) (D.failures (below self.new)) result × (due self.new ≡ due self.old) }
+        ensures nothing { due self.old ≡ Some (calls_made self.old) → below self.new ≡ below self.old }
+        ensures counted { IsOneMore (calls_made self.old) (calls_made self.new) }
+    {
+        if is_due(&mut self.due, &mut self.made) {
+            // Nothing becomes stable.
+            return fail(&mut self.failed);
+        }
+        self.disk.sync()
+    }
+}
