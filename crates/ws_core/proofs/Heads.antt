@@ -1,12 +1,12 @@
 -- The answers to whole heads.
-use Rattle.std.proofs.Common.{◌≡◌, ◌∙◌, ◌==◌, ◌-◌, Bool, List, ℕ, OnOk, Option, Result, Ok, Err, ap, cond, drop, length, length-drop, map, inl, inr, subst, sym, take}
-use Rattle.std.specs.Io.KnownBytes.{Appends, Consumes}
+use Rattle.std.proofs.Common.{◌≡◌, ◌∙◌, ◌==◌, ◌-◌, Bool, List, ℕ, Option, ap, cond, drop, false, length, length-drop, map, inl, inr, refl, subst, sym, take, true}
 use Rattle.httparse.specs.Spans.{IsRequestOf, name_and_value, span_bytes}
 use Rattle.httparse.specs.declared.spans.HeaderSpan.{HeaderSpan}
 use Rattle.httparse.specs.declared.spans.RequestSpans.{RequestSpans}
 use Rattle.websocket.specs.Headers.{Fields, fields_of}
 use Rattle.ws_core.specs.declared.answer.Answer.{Answer}
-use Rattle.ws_core.specs.declared.answer.Answer.TheVariants.{Accept}
+use Rattle.ws_core.specs.declared.answer.Answer.TheVariants.{Accept, Refuse}
+use Rattle.ws_core.specs.Greetings.{Greeter, Tells, answer_at}
 use Rattle.ws_core.specs.Handshakes.{IsAccepted, IsAnswer, IsAnswerTo, IsHead, accepting, as_refusal}
 
 -- the parts of a head that were found are the head's
@@ -34,11 +34,18 @@ accepted_head origins bytes answer accept_key has_stomp (inl head) is = subst (I
 accepted_head origins bytes answer accept_key has_stomp (inr (inl told)) is = absurd (cc (is, told.0))
 accepted_head origins bytes answer accept_key has_stomp (inr (inr told)) is = absurd (cc (is, told.0))
 
-module _ {S E : Type 0} (remaining contents : S → Option (List ℕ)) where
+-- a server that takes no one more accepts nobody
+accepts : (is_full : Bool) (given : Answer) (accept_key : List ℕ) (has_stomp : Bool) → Accept accept_key has_stomp ≡ answer_at is_full given
+    → (is_full ≡ false) × (given ≡ Accept accept_key has_stomp)
+accepts false given accept_key has_stomp is = (refl, sym is)
+accepts true (Accept a b) accept_key has_stomp is = absurd (cc is)
+accepts true (Refuse refusal) accept_key has_stomp is = absurd (cc is)
+
+module _ {S : Type 0} (remaining contents : S → Option (List ℕ)) where
   -- and gets the response that says so
-  pub accepted : (r : Result (Unit {0}) E) (origins : List (List ℕ)) (bytes : List ℕ) (answer : Answer) (accept_key : List ℕ) (has_stomp : Bool) (old between new : S)
-      → Consumes (remaining old) (remaining between) bytes → IsAnswerTo origins bytes answer → answer ≡ Accept accept_key has_stomp
-      → OnOk r (Appends (contents between) (contents new) (accepting accept_key has_stomp)) → OnOk r (IsAccepted remaining contents origins old new)
-  accepted (Ok u) origins bytes answer accept_key has_stomp old between new read answers is written =
-      record { between = between; bytes = bytes; accept_key = accept_key; has_stomp = has_stomp; read = read; head = accepted_head origins bytes answer accept_key has_stomp answers is; written = written }
-  accepted (Err e) origins bytes answer accept_key has_stomp old between new read answers is written = tt
+  pub accepted : (g : Greeter S) (head : List ℕ) (new : S) (accept_key : List ℕ) (has_stomp : Bool)
+      → Tells remaining contents g head new (Accept accept_key has_stomp) (accepting accept_key has_stomp)
+      → IsAccepted remaining contents g.origins g.opening new × (g.is_full ≡ false)
+  accepted g head new accept_key has_stomp tells =
+      let is = accepts g.is_full tells.given accept_key has_stomp tells.is in
+      (record { between = tells.between; bytes = head; accept_key = accept_key; has_stomp = has_stomp; read = tells.read; head = accepted_head g.origins head tells.given accept_key has_stomp tells.answered is.1; written = tells.wrote }, is.0)

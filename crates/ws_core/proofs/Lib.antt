@@ -1,2 +1,4 @@
 pub mod Consuming
 pub mod Heads
+pub mod Recalling
+pub mod Telling

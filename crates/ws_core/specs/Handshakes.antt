@@ -14,7 +14,7 @@ use Rattle.ws_core.specs.declared.answer.Answer.TheVariants.{Accept, Refuse}
 use Rattle.ws_core.specs.declared.offers.Choice.{Choice}
 use Rattle.ws_core.specs.declared.offers.Choice.TheVariants as choices
 use Rattle.ws_core.specs.declared.refusal.Refusal.{Refusal}
-use Rattle.ws_core.specs.declared.refusal.Refusal.TheVariants.{Malformed, Foreign, Method, NoUpgrade, Version, TooLarge}
+use Rattle.ws_core.specs.declared.refusal.Refusal.TheVariants.{Malformed, Foreign, Method, NoUpgrade, Version, TooLarge, Full}
 use Rattle.ws_core.specs.Fields.{values}
 use Rattle.ws_core.specs.Offers.{choice_of}
 
@@ -79,7 +79,12 @@ abbrev pub IsAnswerTo : List (List ℕ) → List ℕ → Answer → Type 0
 IsAnswerTo origins bytes answer =
     IsHead origins bytes answer ⊎ ((answer ≡ Refuse Malformed) × NeverHasRequest bytes) ⊎ ((answer ≡ Refuse TooLarge) × IsTooLarge bytes)
 
--- the status of a refusal, and its reason (RFC 9110, section 15.5; RFC 6585, section 5)
+-- what a server that takes no one more answers in the place of this (RFC 9110, section 15.6.4)
+abbrev pub as_full : Answer → Answer
+as_full (Accept accept_key has_stomp) = Refuse Full
+as_full (Refuse refusal) = Refuse refusal
+
+-- the status of a refusal, and its reason (RFC 9110, sections 15.5 and 15.6.4; RFC 6585, section 5)
 abbrev pub status_line : Refusal → List ℕ
 status_line Malformed = codes "400 Bad Request"
 status_line Foreign = codes "403 Forbidden"
@@ -87,9 +92,10 @@ status_line Method = codes "405 Method Not Allowed"
 status_line NoUpgrade = codes "426 Upgrade Required"
 status_line Version = codes "426 Upgrade Required"
 status_line TooLarge = codes "431 Request Header Fields Too Large"
+status_line Full = codes "503 Service Unavailable"
 
--- What it has to say beside that: the methods that are allowed, or what to upgrade to, and by which version (RFC 9110, sections
--- 15.5.6 and 15.5.22; RFC 6455, section 4.4). The connection is closed behind it.
+-- What it has to say beside that: the methods that are allowed, what to upgrade to, and by which version, or in how many seconds
+-- to ask again (RFC 9110, sections 15.5.6, 15.5.22 and 10.2.3; RFC 6455, section 4.4). The connection is closed behind it.
 abbrev pub further_fields : Refusal → List ℕ
 further_fields Malformed = codes "Connection: close\r\n"
 further_fields Foreign = codes "Connection: close\r\n"
@@ -97,6 +103,7 @@ further_fields Method = codes "Connection: close\r\nAllow: GET\r\n"
 further_fields NoUpgrade = codes "Connection: close, Upgrade\r\nUpgrade: websocket\r\nSec-WebSocket-Version: 13\r\n"
 further_fields Version = codes "Connection: close, Upgrade\r\nUpgrade: websocket\r\nSec-WebSocket-Version: 13\r\n"
 further_fields TooLarge = codes "Connection: close\r\n"
+further_fields Full = codes "Connection: close\r\nRetry-After: 10\r\n"
 
 -- its text
 abbrev pub body_of : Refusal → List ℕ
@@ -106,6 +113,7 @@ body_of Method = codes "A WebSocket is asked for by GET.\n"
 body_of NoUpgrade = codes "This is a server for WebSockets alone: connect with ws:// in place of http://.\n"
 body_of Version = codes "This server speaks version 13 of WebSocket alone.\n"
 body_of TooLarge = codes "The head of this request is too large.\n"
+body_of Full = codes "This server has as many clients as it takes.\n"
 
 -- the whole response
 abbrev pub refusal_bytes : Refusal → List ℕ
@@ -121,6 +129,19 @@ accepting accept_key has_stomp =
     ++ field_line (codes "upgrade") (codes "websocket")
     ++ field_line (codes "sec-websocket-accept") accept_key
     ++ cond has_stomp (field_line (codes "sec-websocket-protocol") (codes "v12.stomp")) [] ++ crlf
+
+-- what is written to who is answered so
+abbrev pub response_to : Answer → List ℕ
+response_to (Accept accept_key has_stomp) = accepting accept_key has_stomp
+response_to (Refuse refusal) = refusal_bytes refusal
+
+-- Reads took on: where a stream had lost this head in all before them, it has lost that one now.
+abbrev pub ReadsOn : Option (List ℕ) → Option (List ℕ) → List ℕ → List ℕ → Type 0
+ReadsOn old new before now = (unread : Option (List ℕ)) → Consumes unread old before → Consumes unread new now
+
+-- Writes went on: where these bytes had been written in all before them, those have been now.
+abbrev pub WritesOn : Option (List ℕ) → Option (List ℕ) → List ℕ → List ℕ → Type 0
+WritesOn old new before now = (held : Option (List ℕ)) → Appends held old before → Appends held new now
 
 -- The stream gave a whole head that is to be accepted, and nothing behind it; then the response that says so was written.
 pub record IsAccepted {S : Type 0} (remaining contents : S → Option (List ℕ)) (origins : List (List ℕ)) (old new : S) : Type 0 where

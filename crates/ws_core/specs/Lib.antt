@@ -1,5 +1,7 @@
 pub mod Closing
 pub mod Fields
+pub mod Greeted
+pub mod Greetings
 pub mod Handshakes
 pub mod Limits
 pub mod Links

@@ -1,28 +1,56 @@
 -- What a link holds.
-use Rattle.std.specs.Prelude.{◌≡◌, Bool, true, false, Some, refl}
-use Rattle.std.specs.Coded.{Coded, code_by, coded×, coded_bool}
+use Rattle.std.specs.Prelude.{◌≡◌, ◌≢◌, ◌==◌, ℕ, Bool, false, Option, Some, List, [], cond, refl}
+use Rattle.std.specs.Coded.{Coded, code_by, coded×, coded_bool, coded_ℕ}
 use Rattle.websocket.specs.declared.protocol.config.Role.TheVariants.{Server}
-use Rattle.tungstenite.specs.Socket.{Socket, socket_code, IsFresh}
+use Rattle.tungstenite.specs.Connection.{close_step}
+use Rattle.tungstenite.specs.Socket.{Socket, socket_code, IsFresh, Writes}
+use Rattle.ws_core.specs.declared.closing.CloseReason.{CloseReason}
+use Rattle.ws_core.specs.declared.phase.Phase.{Phase}
+use Rattle.ws_core.specs.declared.phase.Phase.TheVariants.{Open, Closing, Over}
+use Rattle.ws_core.specs.Closing.{close_of}
 
--- A WebSocket, and whether the link is over for good.
+-- A WebSocket, how far the link has come, and whether the stream has not taken all that it was last offered.
 pub record Linked (S : Type 0) : Type 0 where
   pub socket : Socket S
-  pub over : Bool
+  pub phase : Phase
+  pub held_up : Bool
+
+abbrev phase_number : Phase → ℕ
+phase_number Open = 0
+phase_number Closing = 1
+phase_number Over = 2
+
+abbrev phase_of : ℕ → Phase
+phase_of n = cond (n == 0) Open (cond (n == 1) Closing Over)
+
+pub phase_back : (phase : Phase) → phase_of (phase_number phase) ≡ phase
+phase_back Open = refl
+phase_back Closing = refl
+phase_back Over = refl
+
+abbrev phase_code : Coded Phase
+phase_code = code_by ℕ coded_ℕ phase_number phase_of phase_back
 
 module _ {S : Type 0} where
   abbrev pub linked_code : Coded S → Coded (Linked S)
-  linked_code stream = code_by (Socket S × Bool) (coded× (socket_code stream) coded_bool) (λ l. (l.socket, l.over)) (λ p. record { socket = p.0; over = p.1 }) (λ _. refl)
+  linked_code stream =
+      code_by (Socket S × (Phase × Bool)) (coded× (socket_code stream) (coded× phase_code coded_bool))
+      (λ l. (l.socket, (l.phase, l.held_up))) (λ p. record { socket = p.0; phase = p.1.0; held_up = p.1.1 }) (λ _. refl)
 
   -- A link whose handshake has just been done: nothing is read or waits to be sent, a message and a frame of it may have
   -- 131,072 bytes, and the peer's frames are masked (RFC 6455, section 5.1).
   pub record IsReady (l : Linked S) : Type 0 where
     pub is_fresh : (stream : S) × IsFresh l.socket stream Server
-    pub goes_on : l.over ≡ false
+    pub goes_on : l.phase ≡ Open
+    pub free : l.held_up ≡ false
     pub message : l.socket.conn.config.max_message_size ≡ Some 131072
     pub frame : l.socket.conn.config.max_frame_size ≡ Some 131072
     pub masked : l.socket.conn.config.accept_unmasked_frames ≡ false
 
-  -- a link that went on is over
-  pub record Ends (old new : Linked S) : Type 0 where
-    pub before : old.over ≡ false
-    pub after : new.over ≡ true
+  -- The close frame with that reason went to the stream (section 5.5.1), or waits behind what still does, and the link is being
+  -- closed.
+  pub record Ends (contents : S → Option (List ℕ)) (reason : CloseReason) (old new : Linked S) : Type 0 where
+    pub written : Writes contents old.socket new.socket (close_step old.socket.conn (close_of reason))
+    pub rest : new.held_up ≡ false → new.socket.output ≡ []
+    pub before : old.phase ≡ Open
+    pub after : new.phase ≡ Closing

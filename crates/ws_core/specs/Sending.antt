@@ -1,11 +1,12 @@
 -- What a send of a link does.
-use Rattle.std.specs.Prelude.{◌≡◌, ◌++◌, ◌∷◌, [], ℕ, List, Option, option_map, true, false}
+use Rattle.std.specs.Prelude.{◌≡◌, ◌≢◌, ◌++◌, ◌∷◌, [], ℕ, List, Bool, not, Option, option_map, true, false}
 use Rattle.std.specs.Str.{IsUtf8}
 use Rattle.tungstenite.specs.Content.{Content, text, binary, ping, pong, close}
 use Rattle.tungstenite.specs.Connection.{write_step}
-use Rattle.tungstenite.specs.Socket.{Writes}
+use Rattle.tungstenite.specs.Socket.{Flushed, Writes}
 use Rattle.ws_core.specs.declared.fault.LinkFault.{LinkFault}
 use Rattle.ws_core.specs.declared.fault.LinkFault.TheVariants.{Memory, Gone}
+use Rattle.ws_core.specs.declared.phase.Phase.TheVariants as phases
 use Rattle.ws_core.specs.Links.{Linked}
 
 -- one message more, where the link tells them
@@ -21,16 +22,37 @@ IsMessageOf bytes (pong _) = ⊥
 IsMessageOf bytes (close _) = ⊥
 
 module _ {S : Type 0} where
-  -- One message of these bytes went to the stream as one frame (sections 5.2 and 5.6), behind what still waited.
-  pub record Sends (contents : S → Option (List ℕ)) (old new : Linked S) (bytes : List ℕ) : Type 0 where
-    pub message : Content
-    pub is_message : IsMessageOf bytes message
+  -- The message is one frame more behind what still waited (sections 5.2 and 5.6), of which the stream took what it would. A
+  -- stream that had not taken all is not told to have done so.
+  pub record Puts (contents : S → Option (List ℕ)) (message : Content) (old new : Linked S) : Type 0 where
     pub written : Writes contents old.socket new.socket (write_step old.socket.conn message)
-    pub all_sent : new.socket.output ≡ []
-    pub before : old.over ≡ false
-    pub after : new.over ≡ false
+    pub held_up : old.held_up ≡ true → new.held_up ≡ true
+    pub before : old.phase ≡ phases.Open
+    pub after : new.phase ≡ phases.Open
 
-  -- what a refusal leaves: the same link for want of memory, or else one that is over
+  -- one message of these bytes
+  abbrev pub Sends : (S → Option (List ℕ)) → List ℕ → Linked S → Linked S → Type 0
+  Sends contents bytes old new = (message : Content) × IsMessageOf bytes message × Puts contents message old new
+
+  -- a ping with no payload (section 5.5.2)
+  abbrev pub Pings : (S → Option (List ℕ)) → Linked S → Linked S → Type 0
+  Pings contents old new = Puts contents (ping []) old new
+
+  -- Some of what waited went to the stream, and nothing else changed. Where that is said, nothing waits any more.
+  pub record Flushes (contents : S → Option (List ℕ)) (old new : Linked S) (all : Bool) : Type 0 where
+    pub flushed : Flushed contents old.socket new.socket
+    pub rest : all ≡ true → new.socket.output ≡ []
+    pub held_up : new.held_up ≡ not all
+    pub before : old.phase ≢ phases.Over
+    pub after : new.phase ≡ old.phase
+
+  -- What a refusal leaves: the same link for want of memory, and where it was ended or over before; or else one that is over.
   abbrev pub Refuses : Linked S → Linked S → LinkFault → Type 0
   Refuses old new Memory = new ≡ old
-  Refuses old new Gone = (new.over ≡ true) × (old.over ≡ true → new ≡ old)
+  Refuses old new Gone = (old.phase ≡ phases.Open → new.phase ≡ phases.Over) × (old.phase ≢ phases.Open → new ≡ old)
+
+  -- what a flush leaves that failed: a link that is over
+  pub record Fails (old new : Linked S) (fault : LinkFault) : Type 0 where
+    pub gone : fault ≡ Gone
+    pub over : new.phase ≡ phases.Over
+    pub stays : old.phase ≡ phases.Over → new ≡ old

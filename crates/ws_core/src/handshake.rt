@@ -1,20 +1,12 @@
-//! The opening handshake (RFC 6455, section 4.2).
+//! How the request of an opening handshake is read (RFC 6455, section 4.2.1).
 
-ghost use Rattle.std.specs.Prelude.{◌≡◌, ◌++◌, List, ℕ, IfOk, OnOk, false, map, true};
-ghost use Rattle.std.specs.Io.KnownBytes.{Appends, Consumes};
-ghost use Rattle.tungstenite.specs.Socket.{IsFresh};
-ghost use Rattle.websocket.specs.declared.protocol.config.Role.TheVariants.{Server};
-ghost use Rattle.ws_core.specs.Handshakes.{IsAccepted, IsAnswerTo, accepting, refusal_bytes};
+ghost use Rattle.std.specs.Prelude.{◌≡◌, ◌++◌, IfOk, IfSome, OnOk, map};
+ghost use Rattle.ws_core.specs.Handshakes.{IsAnswerTo, ReadsOn};
 
 use crate::answer::{Answer, answer_to};
 use crate::fault::LinkFault;
 use crate::refusal::Refusal;
-use httparse::Header;
-use std::alloc::Global;
-use std::io::{Read, Write};
-use tungstenite::{NoMask, Role, WebSocket};
-use websocket::handshake::HandshakeError;
-use websocket::handshake::server::write_response;
+use std::io::{ErrorKind, Read};
 
 // How many bytes one read of a head asks for, and the most bytes of a head.
 const PIECE_BYTES: usize = 4_096;
@@ -28,60 +20,31 @@ const FREE_READS: usize = 64;
 
 const LEAST_BYTES: usize = 128;
 
-// Reads the request and answers it. A peer that is refused is told why by a status.
-pub fn shake_hands<S: Read + Write + Drop>(
-    alloc: Global,
-    stream: S,
-    origins: &[Vec<u8>],
-) -> Result<WebSocket<S, NoMask>, LinkFault>
-    ensures { IfOk result (λ socket. ((fresh : S) × IsFresh socket fresh Server)
-        × IsAccepted S.remaining S.contents (map (λ origin. origin.items) origins.now) stream socket.stream) }
-{
-    let mut stream = stream;
-    match welcome(alloc, &mut stream, origins) {
-        Ok(()) => Ok(WebSocket::from_raw_socket(alloc, stream, NoMask, Role::Server, None)),
-        Err(fault) => Err(fault),
-    }
-}
-
-// Reads a head, and writes its answer. It is `Gone` where that is a refusal.
-fn welcome<S: Read + Write>(
-    alloc: Global,
+/// Reads on until the head is whole or is none, and says what is answered; `None` where the stream has no more of it now. So many
+/// reads have been made for it.
+pub fn hear_head<S: Read>(
     stream: &mut S,
+    head: &mut Vec<u8>,
+    reads: &mut usize,
     origins: &[Vec<u8>],
-) -> Result<(), LinkFault>
-    ensures { OnOk result (IsAccepted S.remaining S.contents (map (λ origin. origin.items) origins.now) stream.old stream.new) }
+) -> Result<Option<Answer>, LinkFault>
+    ensures reads { OnOk result (ReadsOn (S.remaining stream.old) (S.remaining stream.new) head.old.items head.new.items) }
+    ensures answered { IfOk result (λ answer. IfSome answer (IsAnswerTo (map (λ origin. origin.items) origins.now) head.new.items)) }
 {
-    match hear_head(alloc, stream, origins)? {
-        Answer::Accept(accept_key, has_stomp) => accept(alloc, stream, &accept_key, has_stomp),
-        Answer::Refuse(refusal) => {
-            refuse(alloc, stream, refusal)?;
-            Err(LinkFault::Gone)
+    for _read in 0..MOST_READS {
+        if !hear_piece(stream, head)? {
+            return Ok(None);
         }
-    }
-}
-
-// Reads on until the head is whole or is none, and says what is answered.
-fn hear_head<S: Read>(
-    alloc: Global,
-    stream: &mut S,
-    origins: &[Vec<u8>],
-) -> Result<Answer, LinkFault>
-    ensures { IfOk result (λ answer. (bytes : List ℕ) × Consumes (S.remaining stream.old) (S.remaining stream.new) bytes
-        × IsAnswerTo (map (λ origin. origin.items) origins.now) bytes answer) }
-{
-    let mut head = Vec::new(alloc);
-    for reads in 0..MOST_READS {
-        hear_piece(stream, &mut head)?;
         if let Some(answer) = answer_to(origins, head.as_slice()) {
-            return Ok(answer);
+            return Ok(Some(answer));
         }
         if head.len() > HEAD_BYTES {
-            return Ok(Answer::Refuse(Refusal::TooLarge));
+            return Ok(Some(Answer::Refuse(Refusal::TooLarge)));
         }
-        if is_too_slow(reads, head.len()) {
+        if is_too_slow(*reads, head.len()) {
             return Err(LinkFault::Gone);
         }
+        *reads = reads.saturating_add(1);
     }
     Err(LinkFault::Gone)
 }
@@ -91,85 +54,21 @@ fn is_too_slow(reads: usize, bytes: usize) -> bool {
     reads >= FREE_READS && bytes / LEAST_BYTES <= reads
 }
 
-// Reads the next piece of a head. A stream that has ended, or gives nothing for as long as it waits, is gone.
-fn hear_piece<S: Read>(stream: &mut S, head: &mut Vec<u8>) -> Result<(), LinkFault>
-    ensures { OnOk result ((piece : List ℕ) × Consumes (S.remaining stream.old) (S.remaining stream.new) piece
-        × (head.new.items ≡ head.old.items ++ piece)) }
+// Reads the next piece of a head, and answers whether there may be more now. A stream that has ended is gone.
+fn hear_piece<S: Read>(stream: &mut S, head: &mut Vec<u8>) -> Result<bool, LinkFault>
+    ensures { OnOk result (ReadsOn (S.remaining stream.old) (S.remaining stream.new) head.old.items head.new.items) }
 {
     let mut piece = [0u8; PIECE_BYTES];
-    let Ok(count) = stream.read(&mut piece) else {
-        return Err(LinkFault::Gone);
-    };
-    if count == 0 {
-        return Err(LinkFault::Gone);
-    }
-    match head.extend_from_slice(&piece[..count]) {
-        Ok(()) => Ok(()),
-        Err(_) => Err(LinkFault::Memory),
-    }
-}
-
-// Writes that the WebSocket is there, and its subprotocol.
-fn accept<S: Write>(
-    alloc: Global,
-    stream: &mut S,
-    accept_key: &[u8; 28],
-    has_stomp: bool,
-) -> Result<(), LinkFault>
-    ensures { OnOk result (Appends (S.contents stream.old) (S.contents stream.new) (accepting accept_key.now has_stomp)) }
-{
-    let mut response = Vec::new(alloc);
-    if put_acceptance(accept_key, has_stomp, &mut response).is_err() {
-        return Err(LinkFault::Memory);
-    }
-    say(stream, response.as_slice())
-}
-
-fn put_acceptance(
-    accept_key: &[u8; 28],
-    has_stomp: bool,
-    response: &mut Vec<u8>,
-) -> Result<(), HandshakeError>
-    ensures { OnOk result (response.new.items ≡ response.old.items ++ accepting accept_key.now has_stomp) }
-{
-    if has_stomp {
-        put_stomp(accept_key, response)
-    } else {
-        put_plain(accept_key, response)
-    }
-}
-
-fn put_stomp(accept_key: &[u8; 28], response: &mut Vec<u8>) -> Result<(), HandshakeError>
-    ensures { OnOk result (response.new.items ≡ response.old.items ++ accepting accept_key.now true) }
-{
-    let subprotocol = Header {
-        name: "sec-websocket-protocol",
-        value: b"v12.stomp",
-    };
-    write_response(accept_key, &[subprotocol], response)
-}
-
-fn put_plain(accept_key: &[u8; 28], response: &mut Vec<u8>) -> Result<(), HandshakeError>
-    ensures { OnOk result (response.new.items ≡ response.old.items ++ accepting accept_key.now false) }
-{
-    write_response(accept_key, &[], response)
-}
-
-// Writes why there is no WebSocket.
-fn refuse<S: Write>(alloc: Global, stream: &mut S, refusal: Refusal) -> Result<(), LinkFault>
-    ensures { OnOk result (Appends (S.contents stream.old) (S.contents stream.new) (refusal_bytes refusal)) }
-{
-    match refusal.response(alloc) {
-        Ok(response) => say(stream, response.as_bytes()),
-        Err(_) => Err(LinkFault::Memory),
-    }
-}
-
-fn say<S: Write>(stream: &mut S, bytes: &[u8]) -> Result<(), LinkFault>
-    ensures { OnOk result (Appends (S.contents stream.old) (S.contents stream.new) bytes.now) }
-{
-    match stream.write_all(bytes) {
-        Ok(()) => Ok(()),
-        Err(_) => Err(LinkFault::Gone),
+    match stream.read(&mut piece) {
+        Ok(0) => Err(LinkFault::Gone),
+        Ok(count) => match head.extend_from_slice(&piece[..count]) {
+            Ok(()) => Ok(true),
+            Err(_) => Err(LinkFault::Memory),
+        },
+        Err(error) => match error.kind() {
+            ErrorKind::WouldBlock => Ok(false),
+            ErrorKind::Interrupted => Ok(true),
+            _ => Err(LinkFault::Gone),
+        },
     }
 }

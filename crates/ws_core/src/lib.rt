@@ -1,4 +1,4 @@
-//! The server's side of a WebSocket (RFC 6455) that carries one STOMP stream, over any stream of bytes.
+//! The server's side of a WebSocket (RFC 6455) that carries one STOMP stream, over any stream of bytes. No call waits.
 
 #![tactic(auto)]
 
@@ -6,18 +6,23 @@ mod answer;
 mod closing;
 mod fault;
 mod fields;
+mod greeting;
 mod handshake;
 mod link;
 mod mem_link;
 mod messages;
 mod offers;
+mod phase;
 mod refusal;
+mod saying;
 mod ws_link;
 
 pub use answer::{Answer, answer_to};
 pub use closing::CloseReason;
 pub use fault::LinkFault;
+pub use greeting::{Greeted, Greeting};
 pub use link::{Link, Outgoing, Received};
 pub use mem_link::MemLink;
+pub use phase::Phase;
 pub use refusal::Refusal;
 pub use ws_link::WsLink;

@@ -1,8 +1,9 @@
 //! What the broker asks of a connection.
 
-ghost use Rattle.std.specs.Prelude.{◌≡◌, ℕ, List, Option, None, OnOk, OnErr, IfErr, ⊤};
+ghost use Rattle.std.specs.Prelude.{◌≡◌, ℕ, List, Bool, false, not, Option, None, IfOk, OnOk, OnErr, IfErr, ⊤};
 ghost use Rattle.frame_core.specs.Writable.{Writable};
 ghost use Rattle.frame_core.specs.Written.{written};
+ghost use Rattle.ws_core.specs.Receiving.{with_received};
 ghost use Rattle.ws_core.specs.Sending.{with_message};
 
 use crate::closing::CloseReason;
@@ -16,53 +17,90 @@ use std::alloc::Global;
 pub enum Received {
     /// The next bytes of the peer's STOMP stream. A frame may be cut over several of these.
     Bytes(Vec<u8>),
-    /// A ping or a pong, or no whole message yet: the stream has nothing to give now.
+    /// Nothing for the STOMP stream: a ping or a pong, or a message that came behind the link's end. More may be there at once.
+    Skipped,
+    /// The stream has nothing to give now. There may be more once it can be read again, or takes bytes again where some wait.
     Nothing,
     /// The peer has closed, or the link has failed, for want of memory too. It is over for good.
     Closed,
 }
 
 /// The part of a connection that sends what may leave. Each frame goes out as one message. Who has this alone can neither
-/// read the connection nor close it.
+/// read the connection nor close it. No call waits.
 ///
 /// A link may tell what was sent: then contracts see a list of the messages, to which only a send that answers Ok adds
-/// one. It may tell too what a refusal leaves, by its fault: then nobody can take one fault for another.
+/// one. It may tell what was received: then they see all the bytes that reads gave, to which only a read adds. It may tell too
+/// what a refusal leaves, by its fault: then nobody can take one fault for another.
 pub trait Outgoing {
     ghost use Rattle.ws_core.specs.declared.fault.LinkFault.{LinkFault};
 
     /// The messages that were sent, where the link tells them.
     ghost sent: { Self → Option (List (List ℕ)) } = { λ _. None };
 
+    /// The bytes that were received, where the link tells them.
+    ghost received: { Self → Option (List ℕ) } = { λ _. None };
+
     /// What a refusal with that fault leaves, where the link tells it: the link before the call, and after it.
     ghost refuses: { Self → Self → LinkFault → Type 0 } = { λ _ _ _. ⊤ };
 
-    /// Sends what may leave, as one message. `Memory` leaves the link as it was, and the call may be made again; `Gone` says
-    /// that the link was over or now is.
+    /// Whether the stream has not taken all that it was last offered.
+    ghost is_held_up: { Self → Bool } = { λ _. false };
+
+    /// Sends what may leave, as one message, behind all that was sent before. It is Ok also where the stream takes only a part
+    /// now, or nothing: the rest waits in the link, and leaves by later calls. `flush` has all leave that was sent since the last
+    /// one, in as few writes as can be.
+    ///
+    /// `Memory` leaves the link as it was, and the call may be made again. `Gone` says that the link was ended or over, or now is
+    /// over: where too much waits too, which it never does where nothing is sent while `waits`.
     fn send(&mut self, alloc: Global, released: &Released) -> Result<(), LinkFault>
         ensures told { OnOk result (sent self.new ≡ with_message (written released.now.frame) (sent self.old)) }
         ensures untold { OnErr result (sent self.new ≡ sent self.old) }
+        ensures unread { received self.new ≡ received self.old }
         ensures memory { IfErr result (λ fault. fault ≡ LinkFault.Memory → self.new ≡ self.old) }
         ensures refused { IfErr result (λ fault. refuses self.old self.new fault) };
+
+    /// Writes what waits, as far as the stream takes it, and answers whether nothing waits any more. `Gone` says that the link was
+    /// over or now is.
+    fn flush(&mut self) -> Result<bool, LinkFault>
+        ensures told { sent self.new ≡ sent self.old }
+        ensures unread { received self.new ≡ received self.old }
+        ensures rest { IfOk result (λ all. is_held_up self.new ≡ not all) }
+        ensures gone { IfErr result (λ fault. fault ≡ LinkFault.Gone) };
+
+    /// Whether the stream has not taken all that it was last offered: behind a flush, whether something waits to be written. While
+    /// it does, nothing more should be sent; a flush once the stream takes bytes again ends it.
+    fn waits(&self) -> bool
+        ensures { result ≡ is_held_up self.now };
 }
 
 /// A connection to one client, which carries one STOMP stream each way.
 pub trait Link: Outgoing {
-    /// Reads one message, or as much of it as there is. A link that is over answers `Closed`.
+    /// Reads one message, or as much of it as there is. A link that was ended drops what comes, until the peer's close or the
+    /// stream's end. One that is over answers `Closed`.
     fn receive(&mut self, alloc: Global) -> Received
-        ensures { Self.sent self.new ≡ Self.sent self.old };
+        ensures told { Self.sent self.new ≡ Self.sent self.old }
+        ensures read { Self.received self.new ≡ with_received result (Self.received self.old) };
 
-    /// Sends an ERROR that doesn't wait for the broker, as one message. `Memory` leaves the link as it was, and the call
-    /// may be made again; `Gone` says that the link was over or now is.
+    /// Sends an ERROR that doesn't wait for the broker, as `send` does.
     fn send_direct(&mut self, alloc: Global, frame: &Frame) -> Result<(), LinkFault>
         requires error { frame.now.verb ≡ Verb.Error }
         requires writable { Writable frame.now }
         ensures told { OnOk result (Self.sent self.new ≡ with_message (written frame.now) (Self.sent self.old)) }
         ensures untold { OnErr result (Self.sent self.new ≡ Self.sent self.old) }
+        ensures unread { Self.received self.new ≡ Self.received self.old }
         ensures memory { IfErr result (λ fault. fault ≡ LinkFault.Memory → self.new ≡ self.old) };
 
-    /// Closes the connection with that reason, and hears the peer's close; what else comes is dropped. The link is over
-    /// then. `Memory` leaves it as it was; `Gone` says that it was over, or that its stream failed.
+    /// Sends a ping with no payload (RFC 6455, section 5.5.2), as `send` does. It is no message of the STOMP stream.
+    fn ping(&mut self) -> Result<(), LinkFault>
+        ensures told { Self.sent self.new ≡ Self.sent self.old }
+        ensures unread { Self.received self.new ≡ Self.received self.old }
+        ensures memory { IfErr result (λ fault. fault ≡ LinkFault.Memory → self.new ≡ self.old) };
+
+    /// Says the close with that reason, behind all that was sent, as far as the stream takes it; the rest leaves by later calls.
+    /// From then on the link sends nothing, and `receive` hears the peer's close. `Memory` leaves it as it was; `Gone` says that
+    /// it was ended or over, or that its stream failed.
     fn end(&mut self, reason: CloseReason) -> Result<(), LinkFault>
         ensures told { Self.sent self.new ≡ Self.sent self.old }
+        ensures unread { Self.received self.new ≡ Self.received self.old }
         ensures memory { IfErr result (λ fault. fault ≡ LinkFault.Memory → self.new ≡ self.old) };
 }

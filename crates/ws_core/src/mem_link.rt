@@ -11,11 +11,15 @@ use frame_core::{Frame, Verb, write_frame};
 use std::alloc::Global;
 use std::collections::VecDeque;
 use std::marker::Model;
+use std::snapshot::Snapshot;
 
-/// A link that gives the messages it was made with, and keeps what it sends. Contracts see the messages still to be
-/// received, those that were sent, and whether the link is over.
+/// A link that gives the messages it was made with, and keeps what it sends. Nothing waits in it, and its peer closes as soon as
+/// it is ended. Contracts see the messages still to be received, those that were sent, the bytes of those that were received, and
+/// whether the link is over.
 #[derive(Drop)]
 pub struct MemLink {
+    // All messages that it was made with.
+    all: Snapshot<Vec<Vec<u8>>>,
     coming: VecDeque<Vec<u8>>,
     sent: Vec<Vec<u8>>,
     over: bool,
@@ -23,11 +27,14 @@ pub struct MemLink {
 
 impl Model for MemLink {
     ghost use Rattle.std.specs.Prelude.{map};
-    ghost use Rattle.ws_core.specs.Memory.{Remembered, remembered};
+    ghost use Rattle.ws_core.specs.Memory.{IsRest, Remembered, joined_before, remembered};
 
     ghost Value = { Remembered };
 
-    ghost view = { λ a. remembered (map (λ v. v.items) a.coming.items) (map (λ v. v.items) a.sent.items) a.over };
+    ghost view = { λ a. remembered (map (λ v. v.items) a.coming.items) (map (λ v. v.items) a.sent.items)
+        (joined_before (map (λ v. v.items) a.all.value.items) (map (λ v. v.items) a.coming.items)) a.over };
+
+    ghost invariant = { λ a. IsRest (map (λ v. v.items) a.all.value.items) (map (λ v. v.items) a.coming.items) };
 }
 
 impl MemLink {
@@ -38,9 +45,11 @@ impl MemLink {
 
     /// A link that is to receive these messages in their order, and then nothing. No memory is taken.
     pub fn new(alloc: Global, messages: Vec<Vec<u8>>) -> MemLink
-        ensures { result ≡ remembered (map (λ v. v.items) messages.items) [] false }
+        ensures { result ≡ remembered (map (λ v. v.items) messages.items) [] [] false }
     {
+        let all = Snapshot::of(&messages);
         MemLink {
+            all,
             coming: VecDeque::from(messages),
             sent: Vec::new(alloc),
             over: false,
@@ -66,16 +75,21 @@ impl MemLink {
             return Err(LinkFault::Gone);
         }
         let bytes = write_frame(alloc, frame).map_err(|_| LinkFault::Memory)?;
-        self.sent.push(bytes).map_err(|_| LinkFault::Memory)
+        match self.sent.push(bytes) {
+            Ok(()) => Ok(()),
+            Err(_) => Err(LinkFault::Memory),
+        }
     }
 }
 
 impl Outgoing for MemLink {
-    ghost use Rattle.std.specs.Prelude.{◌≡◌, Some, Err, OnOk, OnErr, IfErr, true};
+    ghost use Rattle.std.specs.Prelude.{◌≡◌, Some, Err, OnOk, OnErr, IfOk, IfErr, IsOk, false, true};
     ghost use Rattle.frame_core.specs.Written.{written};
     ghost use Rattle.ws_core.specs.Memory.{Forgoes, with_sent};
 
     ghost sent = { λ a. Some a.sent };
+
+    ghost received = { λ a. Some a.received };
 
     ghost refuses = { Forgoes };
 
@@ -87,10 +101,28 @@ impl Outgoing for MemLink {
     {
         self.keep(alloc, released.frame())
     }
+
+    fn flush(&mut self) -> Result<bool, LinkFault>
+        ensures same { self.new ≡ self.old }
+        ensures gone { self.old.over ≡ true → result ≡ Err LinkFault.Gone }
+        ensures first { self.old.over ≡ false → IsOk result }
+        ensures all { IfOk result (λ all. all ≡ true) }
+    {
+        if self.over {
+            return Err(LinkFault::Gone);
+        }
+        Ok(true)
+    }
+
+    fn waits(&self) -> bool
+        ensures { result ≡ false }
+    {
+        false
+    }
 }
 
 impl Link for MemLink {
-    ghost use Rattle.std.specs.Prelude.{◌≡◌, Err, OnOk, OnErr, IsOk, IfErr, true};
+    ghost use Rattle.std.specs.Prelude.{◌≡◌, Err, OnOk, OnErr, IsOk, IfErr, true, false};
     ghost use Rattle.frame_core.specs.Writable.{Writable};
     ghost use Rattle.frame_core.specs.Written.{written};
     ghost use Rattle.ws_core.specs.Memory.{Recalls, with_sent, ended};
@@ -101,10 +133,10 @@ impl Link for MemLink {
         if self.over {
             return Received::Closed;
         }
-        match self.coming.pop_front() {
-            Some(message) => Received::Bytes(message),
-            None => Received::Nothing,
-        }
+        let Some(message) = self.coming.pop_front() else {
+            return Received::Nothing;
+        };
+        Received::Bytes(message)
     }
 
     fn send_direct(&mut self, alloc: Global, frame: &Frame) -> Result<(), LinkFault>
@@ -116,6 +148,17 @@ impl Link for MemLink {
         ensures memory { self.old.over ≡ false → IfErr result (λ fault. fault ≡ LinkFault.Memory) }
     {
         self.keep(alloc, frame)
+    }
+
+    fn ping(&mut self) -> Result<(), LinkFault>
+        ensures same { self.new ≡ self.old }
+        ensures gone { self.old.over ≡ true → result ≡ Err LinkFault.Gone }
+        ensures first { self.old.over ≡ false → IsOk result }
+    {
+        if self.over {
+            return Err(LinkFault::Gone);
+        }
+        Ok(())
     }
 
     fn end(&mut self, _reason: CloseReason) -> Result<(), LinkFault>

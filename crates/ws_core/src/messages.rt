@@ -1,12 +1,12 @@
 //! The messages that carry a STOMP stream, and the frames that close it.
 
-ghost use Rattle.std.specs.Prelude.{◌≡◌, IfOk, IfErr, OnOk, IsTrue};
+ghost use Rattle.std.specs.Prelude.{◌≡◌, IfOk, IfErr, OnOk, IsTrue, [], false, true, ◌⊎◌};
 ghost use Rattle.tungstenite.specs.Failure.{IsIo};
 ghost use Rattle.tungstenite.specs.declared.error.Error.TheVariants.{OutOfMemory};
-ghost use Rattle.tungstenite.specs.Socket.{content_of, Writes};
-ghost use Rattle.tungstenite.specs.Connection.{close_step};
+ghost use Rattle.tungstenite.specs.Socket.{content_of, Flushed, Writes};
+ghost use Rattle.tungstenite.specs.Connection.{close_step, write_step};
 ghost use Rattle.ws_core.specs.Closing.{close_of};
-ghost use Rattle.ws_core.specs.Receiving.{Hears, Holds};
+ghost use Rattle.ws_core.specs.Receiving.{Drops, Hears, Holds};
 ghost use Rattle.ws_core.specs.Sending.{IsMessageOf};
 
 use crate::closing::CloseReason;
@@ -17,11 +17,6 @@ use std::io::{ErrorKind, Read, Write};
 use tungstenite::{Bytes, CloseCode, CloseFrame, Error, Message, NoMask, Utf8Bytes, WebSocket};
 use websocket::error::ProtocolError;
 
-// How many messages are heard, and how many reads may find nothing, before the peer's close is waited for no longer.
-const CLOSING_READS: u32 = 64;
-
-const CLOSING_WAITS: u32 = 3;
-
 // Reads once, and says what came for the STOMP stream. Where the connection fails, the peer is told why (RFC 6455,
 // section 7.1.7), if it still listens.
 pub fn hear<S: Read + Write + Drop>(alloc: Global, socket: &mut WebSocket<S, NoMask>) -> Received
@@ -30,7 +25,7 @@ pub fn hear<S: Read + Write + Drop>(alloc: Global, socket: &mut WebSocket<S, NoM
     match socket.read() {
         Ok(Message::Text(text)) => bytes_of(alloc, text.as_str().as_bytes()),
         Ok(Message::Binary(bytes)) => bytes_of(alloc, bytes.as_slice()),
-        Ok(Message::Ping(_)) | Ok(Message::Pong(_)) => Received::Nothing,
+        Ok(Message::Ping(_)) | Ok(Message::Pong(_)) => Received::Skipped,
         Ok(Message::Close(_)) => {
             // The answer to it waits in the socket.
             let _ = socket.flush();
@@ -38,11 +33,38 @@ pub fn hear<S: Read + Write + Drop>(alloc: Global, socket: &mut WebSocket<S, NoM
         }
         Err(error) => {
             if is_wait(&error) {
-                return Received::Nothing;
+                return nothing(&error);
             }
             tell_failure(socket, &error);
             Received::Closed
         }
+    }
+}
+
+// Reads once behind the close frame that was sent, and drops what came, until the peer's close or the stream's end (RFC 6455,
+// section 7.1.2).
+pub fn hear_close<S: Read + Write + Drop>(socket: &mut WebSocket<S, NoMask>) -> Received
+    ensures { Drops S.remaining socket.old socket.new result }
+{
+    match socket.read() {
+        Ok(Message::Close(_)) => Received::Closed,
+        Ok(_) => Received::Skipped,
+        Err(error) => {
+            if is_wait(&error) {
+                return nothing(&error);
+            }
+            Received::Closed
+        }
+    }
+}
+
+// What a read gave that failed only for now: one that was interrupted is to be made again.
+fn nothing(error: &Error) -> Received
+    ensures { (result ≡ Received.Skipped) ⊎ (result ≡ Received.Nothing) }
+{
+    match error {
+        Error::Io(error) if error.kind() == ErrorKind::Interrupted => Received::Skipped,
+        _ => Received::Nothing,
     }
 }
 
@@ -101,30 +123,54 @@ pub fn message_of(bytes: Vec<u8>) -> Result<Message, LinkFault>
     }
 }
 
-// Sends the close frame.
+// Puts a message behind what waits to be sent, and answers whether the stream has taken all that it was offered.
+pub fn put<S: Read + Write + Drop>(
+    socket: &mut WebSocket<S, NoMask>,
+    message: Message,
+) -> Result<bool, Error>
+    ensures wrote { OnOk result (Writes S.contents socket.old socket.new (write_step socket.old.conn (content_of message))) }
+    ensures memory { IfErr result (λ error. error ≡ OutOfMemory → socket.new ≡ socket.old) }
+{
+    match socket.write(message) {
+        Ok(()) => Ok(true),
+        Err(error) => held_up(error),
+    }
+}
+
+// Writes what waits to be sent, and answers whether the stream has taken all of it.
+pub fn flush<S: Read + Write + Drop>(socket: &mut WebSocket<S, NoMask>) -> Result<bool, Error>
+    ensures wrote { OnOk result (Flushed S.contents socket.old socket.new) }
+    ensures rest { IfOk result (λ all. all ≡ true → socket.new.output ≡ []) }
+    ensures failed { IfErr result IsIo }
+{
+    match socket.flush() {
+        Ok(()) => Ok(true),
+        Err(error) => held_up(error),
+    }
+}
+
+// Puts the close frame behind what waits to be sent, writes all that, and answers whether the stream has taken it.
 pub fn say_close<S: Read + Write + Drop>(
     socket: &mut WebSocket<S, NoMask>,
     reason: CloseReason,
-) -> Result<(), Error>
+) -> Result<bool, Error>
     ensures wrote { OnOk result (Writes S.contents socket.old socket.new (close_step socket.old.conn (close_of reason))) }
+    ensures rest { IfOk result (λ all. all ≡ true → socket.new.output ≡ []) }
     ensures memory { IfErr result (λ error. error ≡ OutOfMemory → socket.new ≡ socket.old) }
 {
-    socket.close(Some(reason.frame()))
+    match socket.close(Some(reason.frame())) {
+        Ok(()) => Ok(true),
+        Err(error) => held_up(error),
+    }
 }
 
-// Reads on to the peer's close, so that the stream isn't cut while it still sends. A peer that says nothing is given up
-// after three waits: each may last as long as the stream lets a read wait.
-pub(crate) fn hear_close<S: Read + Write + Drop>(socket: &mut WebSocket<S, NoMask>) {
-    let mut waits_left = CLOSING_WAITS;
-    for _ in 0..CLOSING_READS {
-        match socket.read() {
-            Ok(_) => {}
-            Err(error) => {
-                if !is_wait(&error) || waits_left <= 1 {
-                    return;
-                }
-                waits_left -= 1;
-            }
-        }
+// What a write that failed came to: where the stream only takes nothing more now, what it has not taken waits.
+fn held_up(error: Error) -> Result<bool, Error>
+    ensures now { IfOk result (λ all. (all ≡ false) × IsIo error) }
+    ensures failed { IfErr result (λ same. same ≡ error) }
+{
+    if is_wait(&error) {
+        return Ok(false);
     }
+    Err(error)
 }

@@ -22,6 +22,8 @@ pub enum Refusal {
     Version,
     /// 431: its head has more than 65,536 bytes or 124 fields.
     TooLarge,
+    /// 503: it would get one, but the server takes no one more now. It is told to ask again in ten seconds.
+    Full,
 }
 
 impl Refusal {
@@ -46,6 +48,7 @@ impl Refusal {
             Refusal::NoUpgrade => "426 Upgrade Required",
             Refusal::Version => "426 Upgrade Required",
             Refusal::TooLarge => "431 Request Header Fields Too Large",
+            Refusal::Full => "503 Service Unavailable",
         }
     }
 
@@ -64,6 +67,7 @@ impl Refusal {
                 "Connection: close, Upgrade\r\nUpgrade: websocket\r\nSec-WebSocket-Version: 13\r\n"
             }
             Refusal::TooLarge => "Connection: close\r\n",
+            Refusal::Full => "Connection: close\r\nRetry-After: 10\r\n",
         }
     }
 
@@ -79,6 +83,7 @@ impl Refusal {
             }
             Refusal::Version => "This server speaks version 13 of WebSocket alone.\n",
             Refusal::TooLarge => "The head of this request is too large.\n",
+            Refusal::Full => "This server has as many clients as it takes.\n",
         }
     }
 }

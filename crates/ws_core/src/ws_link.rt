@@ -5,30 +5,36 @@ ghost use Rattle.ws_core.specs.Limits.{HasOurLimits};
 
 use crate::closing::CloseReason;
 use crate::fault::LinkFault;
-use crate::handshake::shake_hands;
 use crate::link::{Link, Outgoing, Received};
-use crate::messages::{hear, hear_close, message_of, say_close};
+use crate::messages::{flush, hear, hear_close, message_of, put, say_close};
+use crate::phase::Phase;
 use claim_core::Released;
 use frame_core::{Frame, Verb, write_frame};
 use std::alloc::Global;
 use std::io::{Read, Write};
 use std::marker::Model;
-use tungstenite::{Error, NoMask, WebSocket, WebSocketConfig};
+use tungstenite::{Bytes, Error, Message, NoMask, Role, WebSocket, WebSocketConfig};
 
 // The most bytes of a message that a peer may send, and of a frame of it.
 const MESSAGE_BYTES: usize = 131_072;
 // The most bytes that may wait to be sent.
 const WAITING_BYTES: usize = 1_048_576;
+// How many of them a send leaves to the next flush.
+const WRITING_BYTES: usize = 65_536;
 // What one read of the stream asks for.
 const READ_BYTES: usize = 16_384;
 
-/// A WebSocket over a stream, after its handshake. A read of the stream that has nothing to give yet fails with `WouldBlock`;
-/// any other failure but `Interrupted` ends the link, and so does a write that was given up. Contracts see the socket, and
-/// whether the link is over.
+/// A WebSocket over a stream, after its handshake. Of a stream that has nothing to give, or takes nothing, a read or a write fails
+/// with `WouldBlock`; any other failure but `Interrupted` ends the link. Contracts see the socket, how far the link has come, and
+/// whether the stream has not taken all that it was last offered.
+///
+/// A message may have 131,072 bytes, and so may a frame of it. A link is `Gone` where a message would make over 1,048,576 bytes
+/// wait to be sent; from 65,536 on a send offers them to the stream, so that many messages may be sent before a flush.
 #[derive(Drop)]
 pub struct WsLink<S> {
     socket: WebSocket<S, NoMask>,
-    over: bool,
+    phase: Phase,
+    held_up: bool,
 }
 
 impl<S> Model for WsLink<S> {
@@ -38,7 +44,7 @@ impl<S> Model for WsLink<S> {
 
     ghost coded = { linked_code S.code };
 
-    ghost view = { λ a. record { socket = a.socket; over = a.over } };
+    ghost view = { λ a. record { socket = a.socket; phase = a.phase; held_up = a.held_up } };
 }
 
 fn limits() -> WebSocketConfig
@@ -48,79 +54,116 @@ fn limits() -> WebSocketConfig
         .max_message_size(Some(MESSAGE_BYTES))
         .max_frame_size(Some(MESSAGE_BYTES))
         .max_write_buffer_size(WAITING_BYTES)
+        .write_buffer_size(WRITING_BYTES)
         .read_buffer_size(READ_BYTES)
 }
 
 impl<S: Read + Write + Drop> WsLink<S> {
-    ghost use Rattle.std.specs.Prelude.{◌≡◌, ◌≢◌, IfOk, OnOk, IfErr, map, true};
+    ghost use Rattle.std.specs.Prelude.{◌≡◌, ◌≢◌, OnOk, IfErr};
+    ghost use Rattle.tungstenite.specs.Socket.{content_of};
     ghost use Rattle.tungstenite.specs.declared.error.Error.TheVariants.{OutOfMemory};
-    ghost use Rattle.ws_core.specs.Handshakes.{IsAccepted};
+    ghost use Rattle.ws_core.specs.declared.phase.Phase.TheVariants.{Open, Over};
     ghost use Rattle.ws_core.specs.Links.{IsReady};
-    ghost use Rattle.ws_core.specs.Sending.{Sends, Refuses};
+    ghost use Rattle.ws_core.specs.Sending.{Puts, Sends, Refuses};
     ghost use Rattle.frame_core.specs.Writable.{Writable};
     ghost use Rattle.frame_core.specs.Written.{written};
 
-    /// Reads a client's handshake and answers it (RFC 6455, section 4.2), whatever path it asks for. The subprotocol is
-    /// `v12.stomp` where the client offers it, and none where it offers none. A browser's page, which sends its origin, is served
-    /// where that is among these, or where none is named. Everyone else is told why not, by a response with a status.
-    ///
-    /// `Gone` where the client is refused, the stream fails, or its reads would block: give it a time limit, not none.
-    /// A head may have 65,536 bytes and 124 fields, and from the 65th read on at least 128 bytes a read; beyond that the
-    /// stream is given up, so a client that never ends its head costs no more than that.
-    pub fn accept(alloc: Global, stream: S, origins: &[Vec<u8>]) -> Result<WsLink<S>, LinkFault>
-        ensures ready { IfOk result IsReady }
-        ensures accepted { IfOk result (λ link. IsAccepted S.remaining S.contents (map (λ origin. origin.items) origins.now) stream link.socket.stream) }
+    /// The link of a client to which this stream leads, and whose handshake is done. No memory is taken.
+    pub(crate) fn new(alloc: Global, stream: S) -> WsLink<S>
+        ensures ready { IsReady result }
+        ensures stream { result.socket.stream ≡ stream }
     {
-        let mut socket = shake_hands(alloc, stream, origins)?;
+        let mut socket = WebSocket::from_raw_socket(alloc, stream, NoMask, Role::Server, None);
         socket.set_config(limits());
-        Ok(WsLink {
+        WsLink {
             socket,
-            over: false,
-        })
+            phase: Phase::Open,
+            held_up: false,
+        }
     }
 
     // Sends a frame as one message.
     fn send_frame(&mut self, alloc: Global, frame: &Frame) -> Result<(), LinkFault>
         requires { Writable frame.now }
-        ensures sends { OnOk result (Sends S.contents self.old self.new (written frame.now)) }
+        ensures sends { OnOk result (Sends S.contents (written frame.now) self.old self.new) }
         ensures refuses { IfErr result (Refuses self.old self.new) }
     {
-        if self.over {
+        if self.phase != Phase::Open {
             return Err(LinkFault::Gone);
         }
         let bytes = write_frame(alloc, frame).map_err(|_| LinkFault::Memory)?;
         let message = message_of(bytes)?;
-        if let Err(error) = self.socket.send(message) {
-            return Err(self.refuse(&error));
+        self.put(message)
+    }
+
+    // Puts a message behind what waits to be sent.
+    fn put(&mut self, message: Message) -> Result<(), LinkFault>
+        requires { self.old.phase ≡ Open }
+        ensures puts { OnOk result (Puts S.contents (content_of message) self.old self.new) }
+        ensures refuses { IfErr result (Refuses self.old self.new) }
+    {
+        match put(&mut self.socket, message) {
+            Ok(true) => Ok(()),
+            Ok(false) => {
+                self.held_up = true;
+                Ok(())
+            }
+            Err(error) => Err(self.refuse(&error)),
         }
-        Ok(())
     }
 
     // What a failed write leaves: a link that is over, but for want of memory.
     fn refuse(&mut self, error: &Error) -> LinkFault
         ensures memory { error.now ≡ OutOfMemory → (result ≡ LinkFault.Memory) × (self.new ≡ self.old) }
-        ensures gone { error.now ≢ OutOfMemory → (result ≡ LinkFault.Gone) × (self.new.over ≡ true) }
+        ensures gone { error.now ≢ OutOfMemory → (result ≡ LinkFault.Gone) × (self.new.phase ≡ Over) }
     {
         if matches!(error, Error::OutOfMemory) {
             return LinkFault::Memory;
         }
-        self.over = true;
+        self.phase = Phase::Over;
         LinkFault::Gone
     }
 }
 
 impl<S: Read + Write + Drop> Outgoing for WsLink<S> {
-    ghost use Rattle.std.specs.Prelude.{OnOk, IfErr};
+    ghost use Rattle.std.specs.Prelude.{◌≡◌, IfOk, OnOk, IfErr};
     ghost use Rattle.frame_core.specs.Written.{written};
-    ghost use Rattle.ws_core.specs.Sending.{Sends, Refuses};
+    ghost use Rattle.ws_core.specs.Sending.{Fails, Flushes, Sends, Refuses};
 
     ghost refuses = { Refuses };
 
+    ghost is_held_up = { λ a. a.held_up };
+
     fn send(&mut self, alloc: Global, released: &Released) -> Result<(), LinkFault>
-        ensures sends { OnOk result (Sends S.contents self.old self.new (written released.now.frame)) }
+        ensures sends { OnOk result (Sends S.contents (written released.now.frame) self.old self.new) }
         ensures refuses { IfErr result (Refuses self.old self.new) }
     {
         self.send_frame(alloc, released.frame())
+    }
+
+    fn flush(&mut self) -> Result<bool, LinkFault>
+        ensures flushes { IfOk result (Flushes S.contents self.old self.new) }
+        ensures fails { IfErr result (Fails self.old self.new) }
+    {
+        if self.phase == Phase::Over {
+            return Err(LinkFault::Gone);
+        }
+        match flush(&mut self.socket) {
+            Ok(all) => {
+                self.held_up = !all;
+                Ok(all)
+            }
+            Err(_) => {
+                self.phase = Phase::Over;
+                Err(LinkFault::Gone)
+            }
+        }
+    }
+
+    fn waits(&self) -> bool
+        ensures { result ≡ self.now.held_up }
+    {
+        self.held_up
     }
 }
 
@@ -130,40 +173,55 @@ impl<S: Read + Write + Drop> Link for WsLink<S> {
     ghost use Rattle.frame_core.specs.Written.{written};
     ghost use Rattle.ws_core.specs.Links.{Ends};
     ghost use Rattle.ws_core.specs.Receiving.{Receives};
-    ghost use Rattle.ws_core.specs.Sending.{Sends, Refuses};
+    ghost use Rattle.ws_core.specs.Sending.{Pings, Sends, Refuses};
 
     fn receive(&mut self, alloc: Global) -> Received
         ensures { Receives S.remaining self.old self.new result }
     {
-        if self.over {
-            return Received::Closed;
+        let received = match self.phase {
+            Phase::Open => hear(alloc, &mut self.socket),
+            Phase::Closing => hear_close(&mut self.socket),
+            Phase::Over => return Received::Closed,
+        };
+        if matches!(received, Received::Closed) {
+            self.phase = Phase::Over;
         }
-        let received = hear(alloc, &mut self.socket);
-        self.over = matches!(received, Received::Closed);
         received
     }
 
     fn send_direct(&mut self, alloc: Global, frame: &Frame) -> Result<(), LinkFault>
         requires error { frame.now.verb ≡ Verb.Error }
         requires writable { Writable frame.now }
-        ensures sends { OnOk result (Sends S.contents self.old self.new (written frame.now)) }
+        ensures sends { OnOk result (Sends S.contents (written frame.now) self.old self.new) }
         ensures refuses { IfErr result (Refuses self.old self.new) }
     {
         self.send_frame(alloc, frame)
     }
 
-    fn end(&mut self, reason: CloseReason) -> Result<(), LinkFault>
-        ensures ends { OnOk result (Ends self.old self.new) }
+    fn ping(&mut self) -> Result<(), LinkFault>
+        ensures pings { OnOk result (Pings S.contents self.old self.new) }
         ensures refuses { IfErr result (Refuses self.old self.new) }
     {
-        if self.over {
+        if self.phase != Phase::Open {
             return Err(LinkFault::Gone);
         }
-        if let Err(error) = say_close(&mut self.socket, reason) {
-            return Err(self.refuse(&error));
+        self.put(Message::Ping(Bytes::new()))
+    }
+
+    fn end(&mut self, reason: CloseReason) -> Result<(), LinkFault>
+        ensures ends { OnOk result (Ends S.contents reason self.old self.new) }
+        ensures refuses { IfErr result (Refuses self.old self.new) }
+    {
+        if self.phase != Phase::Open {
+            return Err(LinkFault::Gone);
         }
-        self.over = true;
-        hear_close(&mut self.socket);
-        Ok(())
+        match say_close(&mut self.socket, reason) {
+            Ok(all) => {
+                self.held_up = !all;
+                self.phase = Phase::Closing;
+                Ok(())
+            }
+            Err(error) => Err(self.refuse(&error)),
+        }
     }
 }

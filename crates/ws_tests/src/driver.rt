@@ -5,8 +5,9 @@ use crate::wire::Wire;
 use frame_core::{Bytes, Frame, Headers, Verb, writable};
 use std::alloc::{AllocError, Global};
 use std::io::ErrorKind;
+use std::sync::Arc;
 use std::test::Fail;
-use ws_core::{CloseReason, Link, LinkFault, Received, WsLink};
+use ws_core::{CloseReason, Greeted, Greeting, Link, LinkFault, Outgoing, Received, WsLink};
 
 /// The request of RFC 6455, section 1.2, with no subprotocol.
 pub const REQUEST: &str =
@@ -21,9 +22,13 @@ pub enum Do {
     Send(&'static [u8]),
     /// The same with a body of so many bytes.
     SendLong(usize),
+    Flush,
+    Ping,
     End(CloseReason),
     /// So many bytes behind the request are open.
     Open(usize),
+    /// The stream takes so many bytes more, and then it would block.
+    Take(usize),
     /// The stream takes nothing more: each write fails.
     Cut,
     /// The same, and each write was tried for as long as it is given.
@@ -37,6 +42,7 @@ fn put_received(shown: &mut Vec<u8>, received: &Received) -> Result<(), AllocErr
             shown.extend_from_slice(bytes.as_slice())?;
             shown.push(b'>')?;
         }
+        Received::Skipped => shown.push(b'-')?,
         Received::Nothing => shown.push(b'.')?,
         Received::Closed => shown.push(b'!')?,
     }
@@ -46,6 +52,35 @@ fn put_received(shown: &mut Vec<u8>, received: &Received) -> Result<(), AllocErr
 fn put_done(shown: &mut Vec<u8>, done: &Result<(), LinkFault>) -> Result<(), AllocError> {
     shown.push(match done {
         Ok(()) => b'k',
+        Err(LinkFault::Memory) => b'm',
+        Err(LinkFault::Gone) => b'g',
+    })?;
+    Ok(())
+}
+
+// What a send shows.
+fn put_sent(
+    shown: &mut Vec<u8>,
+    link: &WsLink<&Wire>,
+    done: &Result<(), LinkFault>,
+) -> Result<(), AllocError> {
+    if done.is_ok() && link.waits() {
+        shown.push(b'w')?;
+        return Ok(());
+    }
+    put_done(shown, done)
+}
+
+// What a flush shows. Behind it something waits just where it says so.
+fn put_flushed(
+    shown: &mut Vec<u8>,
+    link: &WsLink<&Wire>,
+    flushed: &Result<bool, LinkFault>,
+) -> Result<(), Fail> {
+    shown.push(match flushed {
+        Ok(all) if *all == link.waits() => return Err(Fail::from("a flush says otherwise")),
+        Ok(true) => b't',
+        Ok(false) => b'f',
         Err(LinkFault::Memory) => b'm',
         Err(LinkFault::Gone) => b'g',
     })?;
@@ -90,25 +125,62 @@ fn act(
 ) -> Result<(), Fail> {
     match one {
         Do::Hear => put_received(shown, &link.receive(alloc))?,
-        Do::Send(body) => put_done(shown, &send(alloc, link, body)?)?,
-        Do::SendLong(length) => put_done(shown, &send_long(alloc, link, length)?)?,
+        Do::Send(body) => {
+            let done = send(alloc, link, body)?;
+            put_sent(shown, link, &done)?;
+        }
+        Do::SendLong(length) => {
+            let done = send_long(alloc, link, length)?;
+            put_sent(shown, link, &done)?;
+        }
+        Do::Flush => {
+            let flushed = link.flush();
+            put_flushed(shown, link, &flushed)?;
+        }
+        Do::Ping => put_done(shown, &link.ping())?,
         Do::End(reason) => put_done(shown, &link.end(reason))?,
         Do::Open(count) => wire.open_to(REQUEST.len().saturating_add(count)),
+        Do::Take(count) => wire.take_only(count),
         Do::Cut => wire.break_with(ErrorKind::ConnectionReset),
         Do::Stall => wire.break_with(ErrorKind::TimedOut),
     }
     Ok(wire.move_output(shown)?)
 }
 
-/// What these acts show of a link whose handshake is done. A read shows bytes between < and >, a point for nothing and ! for a
-/// closed link; a send and an end show k, or m and g for their faults. Behind it stands what was written.
+/// No origins, so that all are served.
+pub fn all_origins(alloc: Global) -> Result<Arc<Vec<Vec<u8>>>, AllocError> {
+    Ok(Arc::new(alloc, Vec::new(alloc))?)
+}
+
+/// The link of a client that is accepted at once.
+pub fn accepted(alloc: Global, wire: &Wire) -> Result<WsLink<&Wire>, Fail> {
+    let origins = all_origins(alloc)?;
+    match Greeting::new(alloc, wire, origins).greet(alloc) {
+        Greeted::Accepted(link) => Ok(link),
+        _ => Err(Fail::from("not accepted")),
+    }
+}
+
+/// What these acts show of a link whose handshake is done. A read shows bytes between < and >, a dash for what is skipped, a point
+/// for nothing and ! for a closed link; a send, a ping and an end show k, or w where a send finds that the stream doesn't take all,
+/// or m and g for their faults; a flush shows t where nothing waits any more, and else f. Behind it stands what was written.
 pub fn run(alloc: Global, wire: &Wire, acts: &[Do]) -> Result<Vec<u8>, Fail> {
+    let mut link = accepted(alloc, wire)?;
+    let mut response = Vec::new(alloc);
+    wire.move_output(&mut response)?;
+    go_on(alloc, wire, &mut link, acts)
+}
+
+/// The same of that link.
+pub fn go_on(
+    alloc: Global,
+    wire: &Wire,
+    link: &mut WsLink<&Wire>,
+    acts: &[Do],
+) -> Result<Vec<u8>, Fail> {
     let mut shown = Vec::new(alloc);
-    let mut link = WsLink::accept(alloc, wire, &[])?;
-    wire.move_output(&mut shown)?;
-    shown.clear();
     for one in acts {
-        act(alloc, wire, &mut link, *one, &mut shown)?;
+        act(alloc, wire, link, *one, &mut shown)?;
     }
     Ok(shown)
 }

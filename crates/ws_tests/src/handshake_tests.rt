@@ -1,24 +1,36 @@
-use crate::driver::REQUEST;
+use crate::driver::{REQUEST, all_origins};
 use crate::wire::Wire;
-use std::alloc::Global;
+use std::alloc::{AllocError, Global};
+use std::sync::Arc;
 use std::test::Fail;
-use ws_core::WsLink;
+use ws_core::{Greeted, Greeting, Refusal};
 
 // The accept key of section 1.3.
 const ACCEPT: &str = "sec-websocket-accept: s3pPLMBiTxaQ9kYGzzhZRbK+xOo=";
 
 // What is written to a client with this request, and whether it is accepted.
 fn answered(alloc: Global, request: &str) -> Result<(bool, String), Fail> {
-    answered_for(alloc, request, &[])
+    answered_for(alloc, request, all_origins(alloc)?)
 }
 
 // The same where pages of these origins are served alone.
-fn answered_for(alloc: Global, request: &str, origins: &[Vec<u8>]) -> Result<(bool, String), Fail> {
+fn answered_for(
+    alloc: Global,
+    request: &str,
+    origins: Arc<Vec<Vec<u8>>>,
+) -> Result<(bool, String), Fail> {
     let wire = Wire::new(alloc, request.as_bytes(), b"", usize::MAX)?;
-    let accepted = WsLink::accept(alloc, &wire, origins).is_ok();
-    let mut answer = Vec::new(alloc);
-    wire.move_output(&mut answer)?;
-    Ok((accepted, String::from_utf8(answer)?))
+    let greeted = Greeting::new(alloc, &wire, origins).greet(alloc);
+    let is_accepted = matches!(greeted, Greeted::Accepted(_));
+    drop(greeted);
+    Ok((is_accepted, written(alloc, &wire)?))
+}
+
+// What was written since this was last asked.
+fn written(alloc: Global, wire: &Wire) -> Result<String, Fail> {
+    let mut bytes = Vec::new(alloc);
+    wire.move_output(&mut bytes)?;
+    Ok(String::from_utf8(bytes)?)
 }
 
 // The request with more header lines.
@@ -154,16 +166,20 @@ const ORIGINS: &[(&str, bool)] = &[
     ("Origin: \r\n", false),
 ];
 
-#[test]
-fn pages_of_other_origins_are_told_403(rt: HostRuntime) -> Result<(), Fail> {
-    let alloc = rt.alloc();
+fn two_origins(alloc: Global) -> Result<Arc<Vec<Vec<u8>>>, AllocError> {
     let mut served = Vec::new(alloc);
     served.push(b"http://a.example".to_vec(alloc)?)?;
     served.push(b"null".to_vec(alloc)?)?;
+    Ok(Arc::new(alloc, served)?)
+}
+
+#[test]
+fn pages_of_other_origins_are_told_403(rt: HostRuntime) -> Result<(), Fail> {
+    let alloc = rt.alloc();
     for (lines, accepts) in ORIGINS {
         let request = REQUEST.replace(alloc, "Origin: http://example.com\r\n", *lines)?;
         let (all, _) = answered(alloc, request.as_str())?;
-        let (is_accepted, answer) = answered_for(alloc, request.as_str(), served.as_slice())?;
+        let (is_accepted, answer) = answered_for(alloc, request.as_str(), two_origins(alloc)?)?;
         assert!(rt; all && is_accepted == *accepts, "{lines}");
         assert!(rt;
             *accepts || answer.as_str().starts_with("HTTP/1.1 403 "),
@@ -177,9 +193,11 @@ fn pages_of_other_origins_are_told_403(rt: HostRuntime) -> Result<(), Fail> {
 fn bytes_read(alloc: Global, step: usize) -> Result<Option<usize>, Fail> {
     let endless = vec![in alloc; b'a'; 1_000_000]?;
     let wire = Wire::new(alloc, b"", endless.as_slice(), step)?;
-    if WsLink::accept(alloc, &wire, &[]).is_ok() {
+    let greeted = Greeting::new(alloc, &wire, all_origins(alloc)?).greet(alloc);
+    if matches!(greeted, Greeted::Accepted(_)) {
         return Ok(None);
     }
+    drop(greeted);
     Ok(Some(wire.read_so_far()))
 }
 
@@ -192,5 +210,124 @@ fn a_head_that_does_not_end_is_given_up(rt: HostRuntime) -> Result<(), Fail> {
         };
         assert!(rt; count <= most, "{count}");
     }
+    Ok(())
+}
+
+// A handshake that waits, or what it has come to: + for a client that is accepted, - for one that is refused, ! where it failed.
+fn outcome(greeted: Greeted<&Wire>) -> Result<Greeting<&Wire>, u8> {
+    match greeted {
+        Greeted::Waits(greeting) => Ok(greeting),
+        Greeted::Accepted(_link) => Err(b'+'),
+        Greeted::Refused(_refusal) => Err(b'-'),
+        Greeted::Failed(_fault) => Err(b'!'),
+    }
+}
+
+// What the next call makes of it: a point where it waits.
+fn mark_of_next(alloc: Global, greeting: Greeting<&Wire>) -> u8 {
+    match outcome(greeting.greet(alloc)) {
+        Ok(_greeting) => b'.',
+        Err(mark) => mark,
+    }
+}
+
+// What a handshake comes to at the first call, a point where it waits, and what is written then; and what it comes to at the next
+// one, before which the stream is open and takes all.
+fn greeted_twice(
+    alloc: Global,
+    wire: &Wire,
+    origins: Arc<Vec<Vec<u8>>>,
+) -> Result<(u8, String, u8), Fail> {
+    let first = outcome(Greeting::new(alloc, wire, origins).greet(alloc));
+    let mut shown = Vec::new(alloc);
+    wire.move_output(&mut shown)?;
+    wire.open_to(usize::MAX);
+    wire.take_only(usize::MAX);
+    let (before, after) = match first {
+        Ok(greeting) => (b'.', mark_of_next(alloc, greeting)),
+        Err(mark) => (mark, mark),
+    };
+    Ok((before, String::from_utf8(shown)?, after))
+}
+
+#[test]
+fn a_request_may_come_in_two_parts(rt: HostRuntime) -> Result<(), Fail> {
+    let alloc = rt.alloc();
+    let (_, response) = answered(alloc, REQUEST)?;
+    for open in 0..REQUEST.len() {
+        let wire = Wire::new(alloc, REQUEST.as_bytes(), b"", usize::MAX)?;
+        wire.open_to(open);
+        let (before, shown, after) = greeted_twice(alloc, &wire, all_origins(alloc)?)?;
+        assert!(rt; before == b'.' && shown.is_empty() && after == b'+');
+        assert_eq!(rt; written(alloc, &wire)?.as_str(), response.as_str());
+    }
+    Ok(())
+}
+
+// How a response goes out of which the stream takes so many bytes first: whether it waits then, having written just these, and what
+// it comes to with the rest.
+fn goes_out_in_two(alloc: Global, request: &str, room: usize, response: &str) -> Result<u8, Fail> {
+    let wire = Wire::new(alloc, request.as_bytes(), b"", usize::MAX)?;
+    wire.take_only(room);
+    let (before, shown, after) = greeted_twice(alloc, &wire, two_origins(alloc)?)?;
+    let rest = written(alloc, &wire)?;
+    let is_cut = before == b'.' && shown.len() == room;
+    let whole = format!(in alloc; "{shown}{rest}")?;
+    if !is_cut || whole.as_str() != response {
+        return Err(Fail::from("another response"));
+    }
+    Ok(after)
+}
+
+#[test]
+fn nobody_is_accepted_or_refused_before_the_whole_response_is_written(
+    rt: HostRuntime,
+) -> Result<(), Fail> {
+    let alloc = rt.alloc();
+    let served = REQUEST.replace(alloc, "http://example.com", "http://a.example")?;
+    for (request, outcome) in [(served.as_str(), b'+'), (REQUEST, b'-')] {
+        let (_, response) = answered_for(alloc, request, two_origins(alloc)?)?;
+        for room in 0..response.len() {
+            let after = goes_out_in_two(alloc, request, room, response.as_str())?;
+            assert_eq!(rt; after, outcome);
+        }
+    }
+    Ok(())
+}
+
+#[test]
+fn a_response_may_go_out_a_byte_at_a_time(rt: HostRuntime) -> Result<(), Fail> {
+    let alloc = rt.alloc();
+    let (_, response) = answered(alloc, REQUEST)?;
+    let wire = Wire::new(alloc, REQUEST.as_bytes(), b"", usize::MAX)?;
+    wire.take_by(1);
+    let (first, shown, _) = greeted_twice(alloc, &wire, all_origins(alloc)?)?;
+    assert!(rt; first == b'+' && shown.as_str() == response.as_str());
+    Ok(())
+}
+
+// What a server that takes no one more answers, and whether it tells that it is full.
+fn answered_in_full(alloc: Global, request: &str) -> Result<(bool, String), Fail> {
+    let wire = Wire::new(alloc, request.as_bytes(), b"", usize::MAX)?;
+    let greeted = Greeting::full(alloc, &wire, two_origins(alloc)?).greet(alloc);
+    let is_full = matches!(greeted, Greeted::Refused(Refusal::Full));
+    drop(greeted);
+    Ok((is_full, written(alloc, &wire)?))
+}
+
+#[test]
+fn one_client_too_many_is_told_503_and_when_to_ask_again(rt: HostRuntime) -> Result<(), Fail> {
+    let alloc = rt.alloc();
+    let served = REQUEST.replace(alloc, "http://example.com", "http://a.example")?;
+    let (is_full, answer) = answered_in_full(alloc, served.as_str())?;
+    let answer = answer.as_str();
+    assert!(rt; is_full && answer.starts_with("HTTP/1.1 503 "), "{answer}");
+    assert!(rt;
+        is_refusal(answer) && answer.contains("\r\nRetry-After: 10\r\n"),
+        "{answer}"
+    );
+    // Who would be refused by any server is told that.
+    let (is_full, answer) = answered_in_full(alloc, REQUEST)?;
+    assert!(rt; !is_full && answer.as_str().starts_with("HTTP/1.1 403 "));
     Ok(())
 }

@@ -27,9 +27,9 @@ const MESSAGES: &[Row] = &[
     (
         &[(0x01, b"Hel"), (0x89, b"Hello"), (0x80, b"lo")],
         TWICE,
-        b".<Hello>\x8a\x05Hello",
+        b"-<Hello>\x8a\x05Hello",
     ),
-    (&[(0x8a, b"Hello"), (0x82, b"a")], TWICE, b".<a>"),
+    (&[(0x8a, b"Hello"), (0x82, b"a")], TWICE, b"-<a>"),
     (
         &[(0x88, b"\x03\xe8"), (0x82, b"a")],
         TWICE,
@@ -97,7 +97,7 @@ fn what_breaks_the_protocol_closes_the_link(rt: HostRuntime) -> Result<(), Fail>
 const UNANSWERED: &[Row] = &[(
     &[(0x89, b"Hello"), (0x82, b"a"), (0x82, b"b")],
     &[Do::Stall, Do::Hear, Do::Hear, Do::Hear],
-    b".!!",
+    b"-!!",
 )];
 
 #[test]
@@ -133,6 +133,22 @@ fn a_text_comes_masked_and_whole_or_nothing_comes_yet(rt: HostRuntime) -> Result
     ];
     for (input, acts, want) in rows {
         assert_eq!(rt; shown(alloc, input, usize::MAX, acts)?.as_slice(), want);
+    }
+    Ok(())
+}
+
+#[test]
+fn nothing_comes_at_each_place_of_a_frame_and_then_all_of_it(rt: HostRuntime) -> Result<(), Fail> {
+    for open in 0..MASKED_HELLO.len() {
+        let acts = [
+            Do::Open(open),
+            Do::Hear,
+            Do::Hear,
+            Do::Open(MASKED_HELLO.len()),
+            Do::Hear,
+        ];
+        let shown = shown(rt.alloc(), MASKED_HELLO, usize::MAX, &acts)?;
+        assert_eq!(rt; shown.as_slice(), b"..<Hello>".as_slice());
     }
     Ok(())
 }

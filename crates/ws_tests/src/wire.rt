@@ -16,6 +16,10 @@ pub struct Wire {
     open: Cell<usize>,
     at: Cell<usize>,
     output: RefCell<Vec<u8>>,
+    // How many bytes a write takes at most, how many more are taken at all, and how many writes took some.
+    gulp: Cell<usize>,
+    room: Cell<usize>,
+    writes: Cell<u64>,
     // What each write fails with from now on.
     broken: Cell<Option<ErrorKind>>,
     // What a read that finds nothing open is refused with, and how many were.
@@ -35,6 +39,9 @@ impl Wire {
             open,
             at: Cell::new(0),
             output: RefCell::new(Vec::new(alloc)),
+            gulp: Cell::new(usize::MAX),
+            room: Cell::new(usize::MAX),
+            writes: Cell::new(0),
             broken: Cell::new(None),
             refusal: ErrorKind::WouldBlock,
             refused: Cell::new(0),
@@ -70,6 +77,21 @@ impl Wire {
         Ok(())
     }
 
+    /// From now on a write takes at most so many bytes.
+    pub fn take_by(&self, gulp: usize) {
+        self.gulp.set(gulp);
+    }
+
+    /// So many bytes more are taken, and then each write would block.
+    pub fn take_only(&self, room: usize) {
+        self.room.set(room);
+    }
+
+    /// How many writes took something.
+    pub fn writes_so_far(&self) -> u64 {
+        self.writes.get()
+    }
+
     /// From now on each write fails with this error.
     pub fn break_with(&self, error: ErrorKind) {
         self.broken.set(Some(error));
@@ -102,12 +124,19 @@ impl Write for &Wire {
         if let Some(error) = self.broken.get() {
             return Err(io::Error::from(error));
         }
+        let room = self.room.get();
+        if room == 0 {
+            return Err(io::Error::from(ErrorKind::WouldBlock));
+        }
+        let n = buf.len().min(self.gulp.get()).min(room);
         match self.output.try_borrow_mut() {
             Ok(mut output) => {
-                if output.extend_from_slice(buf).is_err() {
+                if output.extend_from_slice(&buf[..n]).is_err() {
                     return Err(io::Error::from(ErrorKind::OutOfMemory));
                 }
-                Ok(buf.len())
+                self.room.set(room - n);
+                self.writes.set(self.writes.get().saturating_add(1));
+                Ok(n)
             }
             Err(_) => Err(io::Error::from(ErrorKind::Other)),
         }

@@ -1,5 +1,5 @@
-use Rattle.std.specs.Io.KnownBytes.{Consumes}
+use Rattle.ws_core.specs.Handshakes.{ReadsOn}
 use Rattle.ws_core.proofs.handshake.hear_head.Given as goal
 
-abbrev pub invariant-loop-reads : goal.invariant-loop-reads
-invariant-loop-reads g l = Consumes (g.S.Read.remaining l.fn.stream) (g.S.Read.remaining l.stream) l.head.items
+abbrev pub invariant-loop-read : goal.invariant-loop-read
+invariant-loop-read g l = ReadsOn (g.S.Read.remaining l.fn.stream) (g.S.Read.remaining l.stream) l.fn.head.items l.head.items

@@ -1,0 +1,20 @@
+-- What a handshake comes to.
+use Rattle.std.specs.Prelude.{◌≡◌, ℕ, List, Bool, false, Option, ⊤}
+use Rattle.ws_core.specs.declared.answer.Answer.TheVariants.{Refuse}
+use Rattle.ws_core.specs.declared.greeting.Greeted.{Greeted}
+use Rattle.ws_core.specs.declared.greeting.Greeted.TheVariants as outcomes
+use Rattle.ws_core.specs.Greetings.{Greeter, Tells}
+use Rattle.ws_core.specs.Handshakes.{IsAccepted, refusal_bytes}
+use Rattle.ws_core.specs.Links.{IsReady}
+
+module _ {S : Type 0} where
+  -- Who waits goes on as the same handshake. Who is accepted has sent a whole head that is to be accepted, over all the handshake's
+  -- life, and was written the whole response that says so, by a server that takes one more; who is refused, the whole response of
+  -- that refusal.
+  abbrev pub Greets : (S → Option (List ℕ)) → (S → Option (List ℕ)) → Greeter S → Greeted S → Type 0
+  Greets remaining contents g (outcomes.Waits next) = next ≡ g
+  Greets remaining contents g (outcomes.Accepted link) =
+      IsReady link × IsAccepted remaining contents g.origins g.opening link.socket.stream × (g.is_full ≡ false)
+  Greets remaining contents g (outcomes.Refused refusal) =
+      (head : List ℕ) × (new : S) × Tells remaining contents g head new (Refuse refusal) (refusal_bytes refusal)
+  Greets remaining contents g (outcomes.Failed fault) = ⊤

@@ -1,0 +1,41 @@
+-- A handshake that goes on from call to call.
+use Rattle.std.specs.Prelude.{◌≡◌, ◌≤◌, ℕ, List, Bool, false, Option, None, Some, cond, length, take, ⊤}
+use Rattle.std.specs.Io.KnownBytes.{Appends, Consumes}
+use Rattle.ws_core.specs.declared.answer.Answer.{Answer}
+use Rattle.ws_core.specs.declared.answer.Answer.TheVariants.{Refuse}
+use Rattle.ws_core.specs.declared.saying.Saying.{Saying}
+use Rattle.ws_core.specs.Handshakes.{IsAnswerTo, as_full, response_to}
+
+-- The stream as it was given, the origins whose pages are served, and whether the server takes no one more.
+pub record Greeter (S : Type 0) : Type 0 where
+  pub opening : S
+  pub origins : List (List ℕ)
+  pub is_full : Bool
+
+abbrev pub greeter : {S : Type 0} → S → List (List ℕ) → Bool → Greeter S
+greeter opening origins is_full = record { opening = opening; origins = origins; is_full = is_full }
+
+-- the answer, unless the server takes no one more
+abbrev pub answer_at : Bool → Answer → Answer
+answer_at is_full answer = cond is_full (as_full answer) answer
+
+module _ {S : Type 0} (remaining contents : S → Option (List ℕ)) where
+  -- The stream gave these bytes, and is answered so; then this was written.
+  pub record Tells (g : Greeter S) (head : List ℕ) (new : S) (answer : Answer) (written : List ℕ) : Type 0 where
+    pub between : S
+    pub read : Consumes (remaining g.opening) (remaining between) head
+    pub given : Answer
+    pub answered : IsAnswerTo g.origins head given
+    pub is : answer ≡ answer_at g.is_full given
+    pub wrote : Appends (contents between) (contents new) written
+
+  -- so much of the response was written
+  pub record Says (g : Greeter S) (head : List ℕ) (new : S) (saying : Saying) : Type 0 where
+    pub within : saying.said ≤ length saying.response.items
+    pub response : saying.response.items ≡ response_to saying.answer
+    pub tells : Tells g head new saying.answer (take saying.said saying.response.items)
+
+  -- All that the stream gave is kept, until it has an answer; from then on only that is written.
+  abbrev pub IsUnderWay : Greeter S → List ℕ → S → Option Saying → Type 0
+  IsUnderWay g head new None = Consumes (remaining g.opening) (remaining new) head
+  IsUnderWay g head new (Some saying) = Says g head new saying

@@ -1,0 +1,217 @@
+//! An opening handshake that never waits (RFC 6455, section 4.2).
+
+ghost use Rattle.std.specs.Prelude.{◌≡◌, ℕ, List, IfOk, IfErr, false, map, true};
+ghost use Rattle.std.specs.Arc.{arc_value};
+ghost use Rattle.ws_core.specs.Greetings.{Greeter, Tells, answer_at, greeter};
+ghost use Rattle.ws_core.specs.Greeted.{Greets};
+ghost use Rattle.ws_core.specs.Handshakes.{response_to};
+
+use crate::answer::Answer;
+use crate::fault::LinkFault;
+use crate::handshake::hear_head;
+use crate::refusal::Refusal;
+use crate::saying::Saying;
+use crate::ws_link::WsLink;
+use std::alloc::Global;
+use std::io::{Read, Write};
+use std::marker::Model;
+use std::snapshot::Snapshot;
+use std::sync::Arc;
+
+/// A client's opening handshake over a stream, as far as it has come. A call of `greet` does what the stream lets it do and returns:
+/// a read that has nothing to give, and a write that takes nothing, fails with `WouldBlock`.
+///
+/// A client gets a WebSocket by a whole request for one, whatever path it names, with nothing behind it. The subprotocol is
+/// `v12.stomp` where the client offers it, and none where it offers none. A browser's page, which sends its origin, is served where
+/// that is among the named ones, or where none is named. Everyone else is told why not, by a response with a status.
+///
+/// A head may have 65,536 bytes and 124 fields, and from the 65th read on at least 128 bytes a read; beyond that the stream is
+/// given up, so a client that never ends its head costs no more than that. How long a client takes is the caller's to limit.
+///
+/// Contracts see the stream as it was given, the origins, and whether the server takes no one more.
+#[derive(Drop)]
+pub struct Greeting<S: Read + Write> {
+    // The stream as it was given.
+    opening: Snapshot<S>,
+    stream: S,
+    origins: Arc<Vec<Vec<u8>>>,
+    is_full: bool,
+    // What was read, and by how many reads.
+    head: Vec<u8>,
+    reads: usize,
+    // The answer, once there is one.
+    saying: Option<Saying>,
+}
+
+impl<S: Read + Write> Model for Greeting<S> {
+    ghost use Rattle.std.specs.Prelude.{map};
+    ghost use Rattle.std.specs.Arc.{arc_value};
+    ghost use Rattle.ws_core.specs.Greetings.{Greeter, IsUnderWay, greeter};
+
+    ghost Value = { Greeter S };
+
+    ghost view = { λ a. greeter a.opening.value (map (λ origin. origin.items) (arc_value a.origins).items) a.is_full };
+
+    ghost invariant = { λ a. IsUnderWay S.remaining S.contents
+        (greeter a.opening.value (map (λ origin. origin.items) (arc_value a.origins).items) a.is_full) a.head.items a.stream a.saying };
+}
+
+/// What a handshake has come to.
+#[derive(Drop)]
+pub enum Greeted<S: Read + Write> {
+    /// The stream gives or takes no more now: the handshake is to be gone on with once it does.
+    Waits(Greeting<S>),
+    /// The client has its WebSocket, and the whole response that says so is written.
+    Accepted(WsLink<S>),
+    /// The client gets none. The whole response that says why is written, and the stream is closed.
+    Refused(Refusal),
+    /// The handshake is given up, and the stream is closed: `Memory` where that was refused, `Gone` where the stream has ended or
+    /// failed, or gave its head too slowly.
+    Failed(LinkFault),
+}
+
+impl<S: Read + Write + Drop> Greeting<S> {
+    /// The handshake with a client to which that stream leads, of which nothing was read. Pages of these origins are served alone;
+    /// where none is named, all are. No memory is taken.
+    pub fn new(alloc: Global, stream: S, origins: Arc<Vec<Vec<u8>>>) -> Greeting<S>
+        ensures { result ≡ greeter stream (map (λ origin. origin.items) (arc_value origins).items) false }
+    {
+        Greeting::begin(alloc, stream, origins, false)
+    }
+
+    /// The same of a server that takes no one more: who would get a WebSocket is told `Refusal::Full`.
+    pub fn full(alloc: Global, stream: S, origins: Arc<Vec<Vec<u8>>>) -> Greeting<S>
+        ensures { result ≡ greeter stream (map (λ origin. origin.items) (arc_value origins).items) true }
+    {
+        Greeting::begin(alloc, stream, origins, true)
+    }
+
+    fn begin(alloc: Global, stream: S, origins: Arc<Vec<Vec<u8>>>, is_full: bool) -> Greeting<S>
+        ensures { result ≡ greeter stream (map (λ origin. origin.items) (arc_value origins).items) is_full }
+    {
+        let opening = Snapshot::of(&stream);
+        Greeting {
+            opening,
+            stream,
+            origins,
+            is_full,
+            head: Vec::new(alloc),
+            reads: 0,
+            saying: None,
+        }
+    }
+
+    /// Goes on with the handshake: reads the request as far as it has come, and once it has an answer writes that, as far as the
+    /// stream takes it.
+    pub fn greet(self, alloc: Global) -> Greeted<S>
+        ensures { Greets S.remaining S.contents self result }
+    {
+        match self.hear(alloc) {
+            Ok(greeting) => greeting.say(alloc),
+            Err(greeted) => greeted,
+        }
+    }
+
+    // Hears the request, unless it has its answer.
+    fn hear(self, alloc: Global) -> Result<Greeting<S>, Greeted<S>>
+        ensures same { IfOk result (λ greeting. greeting ≡ self) }
+        ensures greets { IfErr result (Greets S.remaining S.contents self) }
+    {
+        if self.saying.is_some() {
+            return Ok(self);
+        }
+        let Greeting {
+            opening,
+            mut stream,
+            origins,
+            is_full,
+            mut head,
+            mut reads,
+            saying,
+        } = self;
+        drop(saying);
+        match hear_head(&mut stream, &mut head, &mut reads, origins.as_slice()) {
+            Ok(Some(answer)) => match Saying::new(alloc, at(is_full, answer)) {
+                Ok(saying) => Ok(Greeting {
+                    opening,
+                    stream,
+                    origins,
+                    is_full,
+                    head,
+                    reads,
+                    saying: Some(saying),
+                }),
+                Err(fault) => Err(Greeted::Failed(fault)),
+            },
+            Ok(None) => Err(Greeted::Waits(Greeting {
+                opening,
+                stream,
+                origins,
+                is_full,
+                head,
+                reads,
+                saying: None,
+            })),
+            Err(fault) => Err(Greeted::Failed(fault)),
+        }
+    }
+
+    // Says the answer, where there is one.
+    fn say(self, alloc: Global) -> Greeted<S>
+        ensures { Greets S.remaining S.contents self result }
+    {
+        let Greeting {
+            opening,
+            mut stream,
+            origins,
+            is_full,
+            head,
+            reads,
+            saying,
+        } = self;
+        let Some(mut saying) = saying else {
+            return Greeted::Waits(Greeting {
+                opening,
+                stream,
+                origins,
+                is_full,
+                head,
+                reads,
+                saying: None,
+            });
+        };
+        match saying.go_on(&mut stream) {
+            Ok(true) => done(alloc, stream, saying.answer),
+            Ok(false) => Greeted::Waits(Greeting {
+                opening,
+                stream,
+                origins,
+                is_full,
+                head,
+                reads,
+                saying: Some(saying),
+            }),
+            Err(fault) => Greeted::Failed(fault),
+        }
+    }
+}
+
+// The answer, unless the server takes no one more.
+fn at(is_full: bool, answer: Answer) -> Answer
+    ensures { result ≡ answer_at is_full answer }
+{
+    match answer {
+        Answer::Accept(..) if is_full => Answer::Refuse(Refusal::Full),
+        answer => answer,
+    }
+}
+
+// What a handshake has come to whose answer is wholly written.
+fn done<S: Read + Write + Drop>(alloc: Global, stream: S, answer: Answer) -> Greeted<S>
+    ensures { (g : Greeter S) (head : List ℕ) → Tells S.remaining S.contents g head stream answer (response_to answer) → Greets S.remaining S.contents g result }
+{
+    match answer {
+        Answer::Accept(..) => Greeted::Accepted(WsLink::new(alloc, stream)),
+        Answer::Refuse(refusal) => Greeted::Refused(refusal),
+    }
+}
