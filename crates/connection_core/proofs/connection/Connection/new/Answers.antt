@@ -1,0 +1,7 @@
+use Rattle.std.proofs.Common.{subst, sym}
+use Rattle.connection_core.specs.Lives.{HasHeard}
+use Rattle.connection_core.proofs.Living.{begins_as}
+use Rattle.connection_core.proofs.connection.Connection.new.Goals as goal
+
+pub returns-clause-life : goal.returns-clause-life
+returns-clause-life c = begins_as _ c.new.ensures c.none.ensures

@@ -1,0 +1,110 @@
+-- What contracts see of a connection, and what its calls do.
+use Rattle.std.specs.Prelude.{◌≡◌, ◌∷◌, ℕ, List, [], Option, Some, None, cond}
+use Rattle.command_core.specs.declared.command.Op.{Op}
+use Rattle.frame_core.specs.declared.frame.Verb.{Verb}
+use Rattle.frame_core.specs.declared.frame.Verb.TheVariants as verbs
+use Rattle.session_core.specs.declared.act.Act.{Act}
+use Rattle.session_core.specs.declared.act.Act.TheVariants.{Do, Direct, Close}
+use Rattle.session_core.specs.declared.act.CloseCode.{CloseCode}
+use Rattle.session_core.specs.declared.act.CloseCode.TheVariants.{NormalClosure, ProtocolError}
+use Rattle.session_core.specs.declared.phase.Phase.TheVariants.{Failed}
+use Rattle.session_core.specs.Sessions.{HasForm, Hearing, Hears, after_loss, fresh, is_held, loss_of}
+use Rattle.connection_core.specs.Conversations.{IsNext, after, asked, over}
+use Rattle.connection_core.specs.Stages.{rested}
+use Rattle.connection_core.specs.Tasks.{Tasks, tasks, all_of}
+use Rattle.connection_core.specs.declared.said.Said.{Said}
+use Rattle.connection_core.specs.declared.said.Wanted.{Wanted}
+use Rattle.connection_core.specs.declared.said.Wanted.TheVariants.{Append, Tell, Done, Rest}
+use Rattle.connection_core.specs.declared.ended.Ended.TheVariants.{Bye, Bad}
+use Rattle.connection_core.specs.declared.progress.Progress.{Progress}
+use Rattle.connection_core.specs.declared.progress.Progress.TheVariants.{New}
+use Rattle.connection_core.specs.declared.stage.Stage.{Stage}
+use Rattle.connection_core.specs.declared.stage.Stage.TheVariants.{Running, GivingUp, Closing, Parting, Leaving, Over}
+
+-- Its session of STOMP; what that asked for and is still to be done; how far its conversation with the broker has come; the
+-- number of the DISCONNECT whose RECEIPT is the last frame; and what is to be done with it.
+pub record ConnectionValue : Type 0 where
+  pub session : Hearing
+  pub acts : Tasks
+  pub progress : Progress
+  pub last : Option ℕ
+  pub stage : Stage
+
+-- one that has heard nothing, and asked for nothing
+abbrev pub unheard : ConnectionValue
+unheard = record { session = fresh; acts = tasks None []; progress = New; last = None; stage = Running }
+
+-- its client may be heard: nothing else is to be done first
+abbrev pub Listens : ConnectionValue → Type 0
+Listens c = (c.stage ≡ Running) × (all_of c.acts ≡ [])
+
+-- the bytes were heard, and what they ask for is to be done
+pub record HearsBytes (old : ConnectionValue) (bytes : List ℕ) (new : ConnectionValue) : Type 0 where
+  pub acts : List Act
+  pub hears : Hears old.session bytes acts new.session
+  pub same : new ≡ record old { session = new.session; acts = tasks None acts }
+
+-- memory was refused for them, and the connection is given up
+pub record Fails (old new : ConnectionValue) : Type 0 where
+  pub failed : new.session.phase ≡ Failed (is_held old.session.phase)
+  pub same : new ≡ record old { session = new.session; stage = GivingUp }
+
+-- it is lost, which the broker is to hear
+abbrev pub IsLost : Stage → Type 0
+IsLost GivingUp = Unit {0}
+IsLost Leaving = Unit {0}
+IsLost _ = ⊥
+
+-- The act is the next: the first of those that wait; or, where none waits and the connection is lost, what its loss asks for.
+-- Nothing else of the connection has changed.
+pub record Takes (old new : ConnectionValue) (act : Option Act) : Type 0 where
+  pub first : (one : Act) (others : List Act) → all_of old.acts ≡ one ∷ others → (act ≡ Some one) × (all_of new.acts ≡ others) × (new.session ≡ old.session)
+  pub loss : all_of old.acts ≡ [] → IsLost old.stage
+      → (act ≡ loss_of old.session.phase) × (all_of new.acts ≡ []) × (new.session ≡ record { rest = old.session.rest; phase = after_loss old.session.phase })
+  pub none : all_of old.acts ≡ [] → (IsLost old.stage → ⊥) → (act ≡ None) × (all_of new.acts ≡ []) × (new.session ≡ old.session)
+  pub again : new.acts.again ≡ None
+  pub same : new ≡ record old { session = new.session; acts = new.acts }
+
+-- where a session's close is heard: behind a DISCONNECT at once, unless its RECEIPT is still to be sent; behind an ERROR once that is sent
+abbrev pub closed_by : CloseCode → Option ℕ → Stage → Stage
+closed_by NormalClosure None stage = Closing Bye
+closed_by NormalClosure (Some number) stage = stage
+closed_by ProtocolError last stage = stage
+
+-- What an operation asks for: its command, where that may be the next of the conversation.
+abbrev pub Asks : Progress → Op → Option (List ℕ) → Wanted → Type 0
+Asks progress op receipt (Append command) = (command ≡ asked progress op receipt) × IsNext progress command
+Asks progress op receipt Done = IsNext progress (asked progress op receipt) → ⊥
+Asks progress op receipt (Tell notice) = ⊥
+Asks progress op receipt Rest = ⊥
+
+-- What is wanted is what the next act asks for: that its command is appended, or that a frame is told. A close asks for nothing
+-- from outside. Where there is no act, the connection rests.
+abbrev pub WantsBy : ConnectionValue → ConnectionValue → Option Act → Wanted → Type 0
+WantsBy old new (Some (Do op receipt)) wanted = Asks old.progress op receipt wanted × (new.stage ≡ old.stage)
+WantsBy old new (Some (Direct frame)) wanted = (wanted ≡ Tell frame) × (new.stage ≡ old.stage)
+WantsBy old new (Some (Close code)) wanted = (wanted ≡ Done) × (new.stage ≡ closed_by code old.last old.stage)
+WantsBy old new None wanted = (wanted ≡ Rest) × (new.stage ≡ rested old.stage)
+
+pub record Wants (old new : ConnectionValue) (wanted : Wanted) : Type 0 where
+  pub act : Option Act
+  pub taken : Takes old (record new { stage = old.stage }) act
+  pub asked_for : WantsBy old new act wanted
+
+-- the form of a command that is wanted
+abbrev pub HasWantedForm : Wanted → Type 0
+HasWantedForm (Append command) = HasForm (Do command.op command.receipt)
+HasWantedForm _ = Unit {0}
+
+-- a command was appended with that ticket
+abbrev pub with_appended : ConnectionValue → Said → ℕ → ConnectionValue
+with_appended old said ticket =
+    record old { progress = after old.progress said.role ticket; last = cond said.is_last (Some ticket) old.last }
+
+-- The frame of that command and verb was sent. Behind an ERROR the connection is closed and nothing more is appended (STOMP 1.2,
+-- "ERROR"); behind the RECEIPT of the DISCONNECT it is closed ("DISCONNECT").
+abbrev pub IsSent : ConnectionValue → ℕ → Verb → ConnectionValue → Type 0
+IsSent old number verbs.Error new = new ≡ record old { progress = over old.progress; stage = Closing Bad }
+IsSent old number verbs.Receipt new =
+    (old.last ≡ Some number → new ≡ record old { stage = Closing Bye }) × ((old.last ≡ Some number → ⊥) → new ≡ old)
+IsSent old number verb new = new ≡ old

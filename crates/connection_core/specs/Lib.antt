@@ -1,0 +1,5 @@
+pub mod Connections
+pub mod Conversations
+pub mod Lives
+pub mod Stages
+pub mod Tasks

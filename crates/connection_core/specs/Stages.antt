@@ -1,0 +1,47 @@
+-- How a connection comes from one stage to another.
+use Rattle.connection_core.specs.declared.ended.Ended.TheVariants.{Bye, Bad, Lost, Stopped}
+use Rattle.connection_core.specs.declared.stage.Stage.{Stage}
+use Rattle.connection_core.specs.declared.stage.Stage.TheVariants.{Running, GivingUp, Closing, Parting, Leaving, Over}
+
+-- what was asked for is still to be appended
+abbrev pub Executes : Stage → Type 0
+Executes Running = Unit {0}
+Executes GivingUp = Unit {0}
+Executes Leaving = Unit {0}
+Executes (Closing ended) = ⊥
+Executes (Parting ended) = ⊥
+Executes (Over ended) = ⊥
+
+-- Behind the end of its link. A close that could not be said any more is none behind a DISCONNECT or an ERROR.
+abbrev pub lost : Stage → Stage
+lost Running = Leaving
+lost GivingUp = Leaving
+lost Leaving = Leaving
+lost (Closing Bye) = Over Lost
+lost (Closing Bad) = Over Lost
+lost (Closing ended) = Over ended
+lost (Parting ended) = Over ended
+lost (Over ended) = Over ended
+
+-- where it is given up: behind a close, or the end of its link, that is nothing new
+abbrev pub given_up : Stage → Stage
+given_up Running = GivingUp
+given_up stage = stage
+
+-- where the broker takes nothing more
+abbrev pub stopped : Stage → Stage
+stopped Running = Closing Stopped
+stopped GivingUp = Closing Stopped
+stopped Leaving = Closing Stopped
+stopped stage = stage
+
+-- where nothing that was asked for is left to be done
+abbrev pub rested : Stage → Stage
+rested GivingUp = Closing Lost
+rested Leaving = Over Lost
+rested stage = stage
+
+-- where the close was said
+abbrev pub parted : Stage → Stage
+parted (Closing ended) = Parting ended
+parted stage = stage

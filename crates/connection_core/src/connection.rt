@@ -1,0 +1,272 @@
+//! One connection.
+
+ghost use Rattle.std.specs.Prelude.{◌≡◌};
+
+use crate::acts::Acts;
+use crate::ended::Ended;
+use crate::progress::{Progress, Role};
+use crate::said::{Said, Wanted};
+use crate::stage::Stage;
+use command_core::{Command, HeaderText, Op};
+use frame_core::Verb;
+use session_core::{Act, CloseCode, Notice, Session, SessionFault};
+use std::alloc::Global;
+use std::marker::Model;
+use std::mem;
+
+/// One connection: what came goes in, what is to be done comes out, one at a time and in order, and what became of it goes in again.
+///
+/// What it wants appended is one conversation with the broker: an Open, then commands of the session whose number is the Open's
+/// ticket, and at most one End, behind which it wants nothing. These are what the client's bytes ask for, in that order,
+/// however they were cut; and where the connection is lost, the session's end.
+#[derive(Drop)]
+pub struct Connection {
+    session: Session,
+    // What the session has asked for and is still to be done.
+    acts: Acts,
+    progress: Progress,
+    // The number of the DISCONNECT whose RECEIPT is the last frame.
+    last_receipt: Option<u64>,
+    stage: Stage,
+}
+
+impl Model for Connection {
+    ghost use Rattle.connection_core.specs.Connections.{ConnectionValue};
+
+    ghost Value = { ConnectionValue };
+
+    ghost view = { λ a. record { session = a.session; acts = a.acts; progress = a.progress; last = a.last_receipt; stage = a.stage } };
+}
+
+impl Connection {
+    ghost use Rattle.std.specs.Prelude.{◌++◌, [], List, ℕ, Some, None, IfSome, OnOk, OnErr, true, false};
+    ghost use Rattle.session_core.specs.declared.act.Act.{Act};
+    ghost use Rattle.session_core.specs.declared.act.Act.TheVariants as acts;
+    ghost use Rattle.session_core.specs.Sessions.{HasForm};
+    ghost use Rattle.connection_core.specs.Connections.{Asks, Fails, HasWantedForm, HearsBytes, IsSent, Listens, Takes, Wants, closed_by, unheard, with_appended};
+    ghost use Rattle.connection_core.specs.Conversations.{number_in};
+    ghost use Rattle.connection_core.specs.Lives.{HasHeard, Went};
+    ghost use Rattle.connection_core.specs.Stages.{given_up, lost, parted, stopped};
+    ghost use Rattle.connection_core.specs.declared.stage.Stage.TheVariants.{Closing};
+    ghost use Rattle.connection_core.specs.declared.ended.Ended.TheVariants as ended;
+
+    /// One whose client was not heard yet. No memory is taken.
+    pub fn new(alloc: Global) -> Connection
+        ensures value { result ≡ unheard }
+        ensures life { HasHeard [] [] result }
+    {
+        Connection {
+            session: Session::new(alloc),
+            acts: Acts::none(alloc),
+            progress: Progress::New,
+            last_receipt: None,
+            stage: Stage::Running,
+        }
+    }
+
+    /// What is to be done with it.
+    pub fn stage(&self) -> Stage
+        ensures { result ≡ self.now.stage }
+    {
+        self.stage
+    }
+
+    /// How far its conversation with the broker has come.
+    pub fn progress(&self) -> Progress
+        ensures { result ≡ self.now.progress }
+    {
+        self.progress
+    }
+
+    /// The number of its session at the broker, once it has one.
+    pub fn number(&self) -> Option<u64>
+        ensures { result ≡ number_in self.now.progress }
+    {
+        self.progress.number()
+    }
+
+    /// Whether its client may be heard: nothing that it asked for is still to be done, and the connection runs.
+    pub fn listens(&self) -> bool
+        ensures yes { result ≡ true → Listens self.now }
+        ensures no { result ≡ false → Listens self.now → ⊥ }
+    {
+        self.stage == Stage::Running && self.acts.is_empty()
+    }
+
+    /// Hears the next bytes of its client. Where memory is refused the connection is given up: of these bytes nothing is asked for.
+    pub fn hear(&mut self, alloc: Global, bytes: &[u8]) -> Result<(), SessionFault>
+        requires { Listens self.old }
+        ensures heard { OnOk result (HearsBytes self.old bytes.now self.new) }
+        ensures failed { OnErr result (Fails self.old self.new) }
+        ensures life { (before : List ℕ) (taken : List Act) → HasHeard before taken self.old → OnOk result (HasHeard (before ++ bytes.now) taken self.new) }
+        ensures life_err { (before : List ℕ) (taken : List Act) → HasHeard before taken self.old → OnErr result (HasHeard before taken self.new) }
+    {
+        self.feed(alloc, bytes)
+    }
+
+    // The same, without what it means for all that was heard.
+    fn feed(&mut self, alloc: Global, bytes: &[u8]) -> Result<(), SessionFault>
+        requires { Listens self.old }
+        ensures heard { OnOk result (HearsBytes self.old bytes.now self.new) }
+        ensures failed { OnErr result (Fails self.old self.new) }
+    {
+        match self.session.feed(alloc, bytes) {
+            Ok(acts) => {
+                drop(mem::replace(&mut self.acts, Acts::all(acts)));
+                Ok(())
+            }
+            Err(fault) => {
+                self.stage = Stage::GivingUp;
+                Err(fault)
+            }
+        }
+    }
+
+    /// Its link is over.
+    pub fn lose(&mut self)
+        ensures { self.new ≡ record self.old { stage = lost self.old.stage } }
+    {
+        self.stage = self.stage.lost();
+    }
+
+    /// It is to be given up: its outbox was cut, or its client takes too long.
+    pub fn give_up(&mut self)
+        ensures { self.new ≡ record self.old { stage = given_up self.old.stage } }
+    {
+        self.stage = self.stage.given_up();
+    }
+
+    /// The broker takes nothing more.
+    pub fn stop(&mut self)
+        ensures { self.new ≡ record self.old { stage = stopped self.old.stage } }
+    {
+        self.stage = self.stage.stopped();
+    }
+
+    /// What it wants next.
+    pub fn next(&mut self) -> Wanted
+        ensures wants { Wants self.old self.new result }
+        ensures form { HasWantedForm result }
+        ensures first { self.new.acts.again ≡ None }
+        ensures life { (bytes : List ℕ) (taken : List Act) → HasHeard bytes taken self.old → Went bytes taken self.old self.new }
+    {
+        self.want()
+    }
+
+    // The same, without what it means for all that was heard.
+    fn want(&mut self) -> Wanted
+        ensures wants { Wants self.old self.new result }
+        ensures form { HasWantedForm result }
+        ensures first { self.new.acts.again ≡ None }
+    {
+        match self.next_act() {
+            Some(Act::Do(op, receipt)) => self.ask(op, receipt),
+            Some(Act::Direct(notice)) => Wanted::Tell(notice),
+            Some(Act::Close(code)) => {
+                self.close(code);
+                Wanted::Done
+            }
+            None => {
+                self.stage = self.stage.rested();
+                Wanted::Rest
+            }
+        }
+    }
+
+    // The next act: those that wait come first. Where the connection is lost, its loss is the last.
+    fn next_act(&mut self) -> Option<Act>
+        ensures takes { Takes self.old self.new result }
+        ensures form { IfSome result HasForm }
+    {
+        match self.acts.next() {
+            Some(act) => Some(act),
+            None if self.stage.is_lost() => self.session.lost(),
+            None => None,
+        }
+    }
+
+    // The command of an operation, where it may be the next of the conversation.
+    fn ask(&self, op: Op, receipt: Option<HeaderText>) -> Wanted
+        requires { HasForm (acts.Do op receipt) }
+        ensures asks { Asks self.now.progress op receipt result }
+        ensures form { HasWantedForm result }
+    {
+        let session = self.progress.session(Role::of(&op));
+        let command = Command::new(session, op, receipt);
+        if self.progress.admits(&command) {
+            Wanted::Append(command)
+        } else {
+            drop(command);
+            Wanted::Done
+        }
+    }
+
+    // A fault closes the connection once its ERROR is sent, a DISCONNECT at once or once its RECEIPT is sent.
+    fn close(&mut self, code: CloseCode)
+        ensures { self.new ≡ record self.old { stage = closed_by code self.old.last self.old.stage } }
+    {
+        if code == CloseCode::NormalClosure && self.last_receipt.is_none() {
+            self.stage = Stage::Closing(Ended::Bye);
+        }
+    }
+
+    /// Memory was refused for the command that it wanted appended: it is the next again.
+    pub fn retry(&mut self, command: Command)
+        requires form { HasForm (acts.Do command.op command.receipt) }
+        requires first { self.old.acts.again ≡ None }
+        ensures { self.new ≡ record self.old { acts = record self.old.acts { again = Some (acts.Do command.op command.receipt) } } }
+    {
+        let (_, op, receipt) = command.into_parts();
+        self.acts.put_back(Act::Do(op, receipt));
+    }
+
+    /// Memory was refused for the frame that it wanted to be told: it is the next again.
+    pub fn retry_telling(&mut self, notice: Notice)
+        requires first { self.old.acts.again ≡ None }
+        ensures { self.new ≡ record self.old { acts = record self.old.acts { again = Some (acts.Direct notice) } } }
+    {
+        self.acts.put_back(Act::Direct(notice));
+    }
+
+    /// A command that it wanted was appended with that ticket.
+    pub fn appended(&mut self, said: Said, ticket: u64)
+        ensures { self.new ≡ with_appended self.old said ticket }
+    {
+        self.progress = self.progress.after(said.role, ticket);
+        if said.is_last {
+            self.last_receipt = Some(ticket);
+        }
+    }
+
+    /// The frame that it wanted to be told was sent, an ERROR: it is to be closed.
+    pub fn told(&mut self)
+        ensures { self.new ≡ record self.old { stage = Closing ended.Bad } }
+    {
+        self.stage = Stage::Closing(Ended::Bad);
+    }
+
+    /// The frame of that command's output was sent.
+    pub fn sent(&mut self, number: u64, verb: Verb)
+        ensures { IsSent self.old number verb self.new }
+    {
+        match verb {
+            Verb::Error => {
+                self.progress = self.progress.over();
+                self.stage = Stage::Closing(Ended::Bad);
+            }
+            Verb::Receipt if self.last_receipt == Some(number) => {
+                self.stage = Stage::Closing(Ended::Bye);
+            }
+            _ => {}
+        }
+    }
+
+    /// The link has said that it closes.
+    pub fn parted(&mut self)
+        ensures { self.new ≡ record self.old { stage = parted self.old.stage } }
+    {
+        if let Stage::Closing(ended) = self.stage {
+            self.stage = Stage::Parting(ended);
+        }
+    }
+}

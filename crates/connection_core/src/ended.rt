@@ -1,0 +1,16 @@
+//! How a connection comes to its end.
+
+/// Why a connection is over, or a worker is done with it.
+#[derive(Clone, Copy, Debug, PartialEq, Eq)]
+pub enum Ended {
+    /// It was closed behind the client's DISCONNECT.
+    Bye,
+    /// It is gone, or was given up.
+    Lost,
+    /// It was closed once an ERROR was sent.
+    Bad,
+    /// It was closed because the broker takes nothing more.
+    Stopped,
+    /// The worker's turns are used up, and the connection goes on.
+    Turns,
+}

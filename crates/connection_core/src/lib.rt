@@ -1,0 +1,16 @@
+//! One connection of STOMP 1.2, as a value: it knows no thread, no ring, no socket and no clock.
+
+#![tactic(auto)]
+
+mod acts;
+mod connection;
+mod ended;
+mod progress;
+mod said;
+mod stage;
+
+pub use connection::Connection;
+pub use ended::Ended;
+pub use progress::{Progress, Role};
+pub use said::{Said, Wanted};
+pub use stage::Stage;
