@@ -50,4 +50,11 @@ impl Released {
     {
         self.out.number()
     }
+
+    /// The session that it goes to.
+    pub fn session(&self) -> u64
+        ensures { result ≡ self.now.session }
+    {
+        self.out.session()
+    }
 }

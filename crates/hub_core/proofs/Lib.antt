@@ -1,4 +1,3 @@
 pub mod Beginning
 pub mod Shown
-pub mod Talking
 pub mod Turning

@@ -4,9 +4,9 @@ ghost use Rattle.std.specs.Prelude.{◌≡◌, [], IfOk, None, OnErr, true, fals
 ghost use Rattle.flush_core.specs.Faults.{IsFlushCaused};
 ghost use Rattle.hub_core.specs.Flushes.{Flushes};
 
-use crate::pacing::Pacing;
 use crate::sizes::HubFlusher;
 use claim_core::BrokerRing;
+use desk_core::Pacing;
 use disk_core::Disk;
 use flush_core::FlushFault;
 use outbox_core::{Bell, OutSender};

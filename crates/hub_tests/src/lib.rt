@@ -6,6 +6,8 @@
 #[cfg(test)]
 mod closing_tests;
 #[cfg(test)]
+mod endless_tests;
+#[cfg(test)]
 mod full_hub_tests;
 #[cfg(test)]
 mod hubs;
@@ -17,6 +19,8 @@ mod links;
 mod many_commands_tests;
 #[cfg(test)]
 mod paces;
+#[cfg(test)]
+mod refusal_tests;
 #[cfg(test)]
 mod rows;
 #[cfg(test)]

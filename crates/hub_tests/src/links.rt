@@ -78,6 +78,14 @@ impl Outgoing for ScriptedLink {
         }
         self.link.send(alloc, released)
     }
+
+    fn flush(&mut self) -> Result<bool, LinkFault> {
+        self.link.flush()
+    }
+
+    fn waits(&self) -> bool {
+        false
+    }
 }
 
 impl Link for ScriptedLink {
@@ -99,11 +107,60 @@ impl Link for ScriptedLink {
         self.link.send_direct(alloc, frame)
     }
 
+    fn ping(&mut self) -> Result<(), LinkFault> {
+        self.link.ping()
+    }
+
     fn end(&mut self, reason: CloseReason) -> Result<(), LinkFault> {
         if is_refused(&self.short_ends) {
             return Err(LinkFault::Memory);
         }
         self.code = Some(reason.code());
+        self.link.end(reason)
+    }
+}
+
+/// A link whose reader never ends: behind the messages of the one below each read gives these bytes.
+#[derive(Drop)]
+pub struct Endless {
+    pub link: MemLink,
+    pub bytes: &'static [u8],
+}
+
+impl Outgoing for Endless {
+    fn send(&mut self, alloc: Global, released: &Released) -> Result<(), LinkFault> {
+        self.link.send(alloc, released)
+    }
+
+    fn flush(&mut self) -> Result<bool, LinkFault> {
+        self.link.flush()
+    }
+
+    fn waits(&self) -> bool {
+        self.link.waits()
+    }
+}
+
+impl Link for Endless {
+    fn receive(&mut self, alloc: Global) -> Received {
+        match self.link.receive(alloc) {
+            Received::Nothing => match Vec::from_slice(alloc, self.bytes) {
+                Ok(bytes) => Received::Bytes(bytes),
+                Err(_) => Received::Closed,
+            },
+            received => received,
+        }
+    }
+
+    fn send_direct(&mut self, alloc: Global, frame: &Frame) -> Result<(), LinkFault> {
+        self.link.send_direct(alloc, frame)
+    }
+
+    fn ping(&mut self) -> Result<(), LinkFault> {
+        self.link.ping()
+    }
+
+    fn end(&mut self, reason: CloseReason) -> Result<(), LinkFault> {
         self.link.end(reason)
     }
 }

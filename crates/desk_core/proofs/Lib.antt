@@ -1,0 +1,5 @@
+pub mod Lists
+pub mod Living
+pub mod Messages
+pub mod Standing
+pub mod Talking

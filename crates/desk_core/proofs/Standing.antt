@@ -1,0 +1,346 @@
+-- What stands at a desk.
+use Rattle.std.proofs.Common.{◌≡◌, ℕ, zero, suc, ◌+◌, ◌-◌, ◌<◌, ◌≤◌, List, [], ◌∷◌, ◌++◌, Option, Some, None, length, take, drop, get_or, refl, sym, ap, ◌∙◌, subst, inl, inr, append-nil, append_assoc, arith}
+use Rattle.std.specs.Prelude.{slice_get, set}
+use Rattle.std.specs.List.{AllByRecursion, sum_by}
+use Rattle.std.specs.Option.{option_map}
+use Rattle.std.proofs.lemmas.Bool.{cases_eq}
+use Rattle.std.proofs.lemmas.List.{length-append, length-set, length-map, map-set, map-append, set_split, set-get_or, get_or-set_same, get_or-set_other}
+use Rattle.std.proofs.lemmas.List.Sums.{sum_by-append, sum_by-set, sum_by_push, get_or-le-sum_by}
+use Rattle.std.proofs.lemmas.Option.{slice_get-get_or, slice_get-map, slice_get_within, get_or_from_slice_get}
+use Rattle.claim_core.specs.Counts.{Pair}
+use Rattle.claim_core.specs.Seats.{SessionSeatValue}
+use Rattle.connection_core.specs.Conversations.{number_in}
+use Rattle.connection_core.specs.declared.progress.Progress.{Progress}
+use Rattle.connection_core.specs.declared.progress.Progress.TheVariants.{New, Open, Ended, Gone}
+use Rattle.desk_core.specs.declared.place.Seated.{Seated}
+use Rattle.desk_core.specs.Continues.{Continues}
+use Rattle.desk_core.specs.Conversations.{Converse, IsConversation, IsPart, Speaks, holds, number_of, opens, part_of}
+use Rattle.desk_core.specs.Desks.{Admits, AreApart, DeskValue, IsDesk, Leaves, Others, SitsAt, Touches, Turns, desk, seated_at, stand_of}
+use Rattle.desk_core.specs.Lives.{GoesOn}
+use Rattle.desk_core.specs.Places.{ServedAt, UnservedAt, progress_at}
+use Rattle.desk_core.specs.Slots.{IsNew, Served, Unserved, number_at}
+use Rattle.desk_core.proofs.Lists.{all_weaker, cond_same}
+use Rattle.desk_core.proofs.Talking.{beside}
+
+-- ── a desk begins ──
+
+nobody : (n : ℕ) → IsPart n 0 0 []
+nobody n = record { most = omega arith; conversation = inl refl; begun = λ some. absurd (omega arith); opened = λ some. absurd (omega arith) }
+
+pub fresh : {B L : Type 0} (before seat : SessionSeatValue) (places : List (Option (Seated B L))) → before ≡ seat → places ≡ [] → IsDesk before seat places
+fresh before seat places same none = record {
+  ring = ap (λ (s : SessionSeatValue). s.ring) (sym same);
+  number = ap (λ (s : SessionSeatValue). s.number) (sym same);
+  speaks = subst (λ l. Speaks before.own seat.own (stand_of l)) (sym none)
+      (record { more = []; whole = ap (λ (s : SessionSeatValue). s.own) (sym same) ∙ sym (append-nil before.own); parts = nobody });
+}
+
+-- ── at one place ──
+
+-- where what sits at a place has a conversation that holds and opens no more
+as_many : (n h h' o o' : ℕ) (ps : List Pair) → h' ≡ h → o' ≤ o → IsPart n h o ps → IsPart n h' o' ps
+as_many n h h' o o' ps a b part = record { most = omega (arith, part.most); conversation = part.conversation; begun = λ some. part.begun (omega arith); opened = λ some. part.opened (omega arith) }
+
+fewer : (n h h' o o' : ℕ) (ps : List Pair) → h' ≤ h → o' ≤ o → IsPart n h o ps → IsPart n h' o' ps
+fewer n h h' o o' ps a b part = record { most = omega (arith, part.most); conversation = part.conversation; begun = λ some. part.begun (omega arith); opened = λ some. part.opened (omega arith) }
+
+stand_was : {B L : Type 0} (places : List (Option (Seated B L))) (at : ℕ) (was : Option (Seated B L)) → at < length places → was ≡ get_or places at was
+    → stand_of places ≡ take at (stand_of places) ++ progress_at was ∷ drop (suc at) (stand_of places)
+stand_was places at was within there =
+    let again : set places at was ≡ places = ap (λ x. set places at x) there ∙ set-get_or places at was in
+    ap (λ l. stand_of l) (sym again) ∙ map-set progress_at places at was
+    ∙ set_split (stand_of places) at (progress_at was) (omega (arith, length-map places progress_at))
+
+stand_is : {B L : Type 0} (places : List (Option (Seated B L))) (at : ℕ) (is : Option (Seated B L)) → at < length places
+    → stand_of (set places at is) ≡ take at (stand_of places) ++ progress_at is ∷ drop (suc at) (stand_of places)
+stand_is places at is within =
+    map-set progress_at places at is
+    ∙ set_split (stand_of places) at (progress_at is) (omega (arith, length-map places progress_at))
+
+-- what sits at a place goes on
+pub stepped : {B L : Type 0} (before old new : SessionSeatValue) (places : List (Option (Seated B L))) (at : ℕ) (was is : Option (Seated B L)) → at < length places → was ≡ get_or places at was
+    → Continues (progress_at was) old (progress_at is) new → IsDesk before old places → IsDesk before new (set places at is)
+stepped before old new places at was is within there c d = record {
+  ring = c.ring ∙ d.ring;
+  number = c.number ∙ d.number;
+  speaks = subst (λ l. Speaks before.own new.own l) (sym (stand_is places at is within))
+      (c.speaks before.own (take at (stand_of places)) (drop (suc at) (stand_of places)) (subst (λ l. Speaks before.own old.own l) (stand_was places at was within there) d.speaks));
+}
+
+-- what sits at a place is changed for what holds no more
+pub replaced : {B L : Type 0} (before seat : SessionSeatValue) (places : List (Option (Seated B L))) (at : ℕ) (was is : Option (Seated B L)) → at < length places → was ≡ get_or places at was
+    → ((n : ℕ) → holds n (progress_at is) ≤ holds n (progress_at was)) → ((n : ℕ) → opens n (progress_at is) ≤ opens n (progress_at was))
+    → IsDesk before seat places → IsDesk before seat (set places at is)
+replaced before seat places at was is within there hs os d =
+    let left : List Progress = take at (stand_of places) in
+    let right : List Progress = drop (suc at) (stand_of places) in
+    let split : Speaks before.own seat.own (left ++ progress_at was ∷ right) = subst (λ l. Speaks before.own seat.own l) (stand_was places at was within there) d.speaks in record {
+      ring = d.ring;
+      number = d.number;
+      speaks = subst (λ l. Speaks before.own seat.own l) (sym (stand_is places at is within)) record {
+        more = split.more;
+        whole = split.whole;
+        parts = λ n. fewer n _ _ _ _ (part_of n split.more)
+            (omega (arith, beside (holds n) left right (progress_at was), beside (holds n) left right (progress_at is), hs n))
+            (omega (arith, beside (opens n) left right (progress_at was), beside (opens n) left right (progress_at is), os n))
+            (split.parts n);
+      };
+    }
+
+-- ── one more place ──
+
+silent_part : (n h h' o o' : ℕ) (ps : List Pair) → h' ≡ h + 0 → o' ≡ o + 0 → IsPart n h o ps → IsPart n h' o' ps
+silent_part n h h' o o' ps a b part = record { most = omega (arith, part.most); conversation = part.conversation; begun = λ some. part.begun (omega arith); opened = λ some. part.opened (omega arith) }
+
+pub admitted : {B L : Type 0} (before seat : SessionSeatValue) (places : List (Option (Seated B L))) (s : Option (Seated B L)) → progress_at s ≡ New → IsDesk before seat places → IsDesk before seat (places ++ s ∷ [])
+admitted before seat places s anew d =
+    let stand : stand_of (places ++ s ∷ []) ≡ stand_of places ++ New ∷ [] = map-append progress_at places (s ∷ []) ∙ ap (λ p. stand_of places ++ p ∷ []) anew in record {
+      ring = d.ring;
+      number = d.number;
+      speaks = subst (λ l. Speaks before.own seat.own l) (sym stand) record {
+        more = d.speaks.more;
+        whole = d.speaks.whole;
+        parts = λ n. silent_part n _ _ _ _ (part_of n d.speaks.more) (sum_by_push (holds n) (stand_of places) New) (sum_by_push (opens n) (stand_of places) New) (d.speaks.parts n);
+      };
+    }
+
+-- ── what a desk shows ──
+
+pub converses : (before own : List Pair) (stand : List Progress) → Speaks before own stand → Converse before own
+converses before own stand s = record { more = s.more; whole = s.whole; each = λ n. (s.parts n).conversation }
+
+holds_its : (n : ℕ) (p : Progress) → number_in p ≡ Some n → holds n p ≡ 1
+holds_its n New e = absurd (cc)
+holds_its n (Open m) e = let same : m ≡ n = cc in cond_same m n 1 0 same
+holds_its n (Ended m) e = let same : m ≡ n = cc in cond_same m n 1 0 same
+holds_its n Gone e = absurd (cc)
+
+two : (n : ℕ) (ps : List Progress) (i j : ℕ) (p q : Progress) → (i ≡ j → ⊥) → slice_get ps i ≡ Some p → slice_get ps j ≡ Some q → holds n p ≡ 1 → holds n q ≡ 1 → 2 ≤ sum_by (holds n) ps
+two n ps i j p q apart pi qj hp hq =
+    let within : j < length (set ps i New) = omega (arith, length-set ps i New, slice_get_within ps j q qj) in
+    let less : sum_by (holds n) (set ps i New) + holds n (get_or ps i p) ≡ sum_by (holds n) ps + 0 = sum_by-set (holds n) ps i New p (slice_get_within ps i p pi) in
+    let at_i : holds n (get_or ps i p) ≡ 1 = ap (holds n) (get_or_from_slice_get ps i p p pi) ∙ hp in
+    let at_j : holds n (get_or (set ps i New) j q) ≡ 1 = ap (holds n) (get_or-set_other ps i j New q (λ e. apart (sym e)) ∙ get_or_from_slice_get ps j q q qj) ∙ hq in
+    omega (arith, less, at_i, at_j, get_or-le-sum_by (holds n) (set ps i New) j q within)
+
+pub apart : {B L : Type 0} (before own : List Pair) (places : List (Option (Seated B L))) → Speaks before own (stand_of places) → AreApart places
+apart before own places d i j n s t si tj ns nt =
+    elim (cases_eq i j) [
+      | inl same ↦ same
+      | inr other ↦
+          let si' : slice_get (stand_of places) i ≡ Some (progress_at (Some s)) = slice_get-map progress_at places i ∙ ap (λ o. option_map progress_at o) si in
+          let tj' : slice_get (stand_of places) j ≡ Some (progress_at (Some t)) = slice_get-map progress_at places j ∙ ap (λ o. option_map progress_at o) tj in
+          absurd (omega (arith, two n (stand_of places) i j (progress_at (Some s)) (progress_at (Some t)) other si' tj' (holds_its n s.slot.connection.progress ns) (holds_its n t.slot.connection.progress nt), (d.parts n).most))
+    ]
+
+pub get_other : {X : Type 0} (xs : List X) (i k : ℕ) (y : X) → (k ≡ i → ⊥) → slice_get (set xs i y) k ≡ slice_get xs k
+get_other [] i k y other = refl
+get_other (x ∷ xs) zero zero y other = absurd (other refl)
+get_other (x ∷ xs) zero (suc k) y other = refl
+get_other (x ∷ xs) (suc i) zero y other = refl
+get_other (x ∷ xs) (suc i) (suc k) y other = get_other xs i k y (λ e. other (ap suc e))
+
+pub get_same : {X : Type 0} (xs : List X) (i : ℕ) (y : X) → i < length xs → slice_get (set xs i y) i ≡ Some y
+get_same xs i y within = slice_get-get_or (set xs i y) i y (omega (arith, length-set xs i y)) ∙ ap (λ x. Some x) (get_or-set_same xs i y y within)
+
+pub others : {B L : Type 0} (old places : List (Option (Seated B L))) (at : ℕ) (is : Option (Seated B L)) → places ≡ old → Others old (set places at is) at
+others old places at is same =
+    subst (λ l. Others l (set places at is) at) same (record { count = length-set places at is; others = λ k other. get_other places at k is other })
+
+pub nothing_else : {B L : Type 0} (old new : List (Option (Seated B L))) (at : ℕ) → new ≡ old → Others old new at
+nothing_else old new at same = record { count = ap length same; others = λ k other. ap (λ l. slice_get l k) same }
+
+-- ── one client alone ──
+
+all_part : (n : ℕ) (ps : List Pair) → AllByRecursion (λ (p : Pair). number_of p ≡ n) ps → part_of n ps ≡ ps
+all_part n [] all = refl
+all_part n (p ∷ ps) all = cond_same (number_of p) n (p ∷ part_of n ps) (part_of n ps) all.0 ∙ ap (λ l. p ∷ l) (all_part n ps all.1)
+
+cancel : {X : Type 0} (xs ys zs : List X) → xs ++ ys ≡ xs ++ zs → ys ≡ zs
+cancel [] ys zs e = e
+cancel (x ∷ xs) ys zs e = cancel xs ys zs (tail e)
+  where
+    tail : x ∷ (xs ++ ys) ≡ x ∷ (xs ++ zs) → xs ++ ys ≡ xs ++ zs
+    tail f = cc
+
+one_number : (o : Option ℕ) (m k : ℕ) → o ≡ Some m → o ≡ Some k → k ≡ m
+one_number None m k a b = absurd (cc)
+one_number (Some n) m k a b = cc
+
+of_one : (is : Progress) (said : List Pair) → AllByRecursion (λ (p : Pair). number_in is ≡ Some (number_of p)) said → ((n : ℕ) → IsConversation n (part_of n said)) → (n : ℕ) × IsConversation n said
+of_one is [] all each = (0, inl refl)
+of_one is (p ∷ ps) all each = (
+  number_of p,
+  subst (λ l. IsConversation (number_of p) l)
+      (all_part (number_of p) (p ∷ ps) (all_weaker (λ (q : Pair). number_in is ≡ Some (number_of q)) (λ (q : Pair). number_of q ≡ number_of p) (λ q own. one_number (number_in is) (number_of p) (number_of q) all.0 own) (p ∷ ps) all))
+      (each (number_of p)),
+)
+
+-- what one connection alone says is one conversation
+pub alone : (is : Progress) (old new : SessionSeatValue) → Continues New old is new → (more : List Pair) × (new.own ≡ old.own ++ more) × (n : ℕ) × IsConversation n more
+alone is old new c =
+    let anew : Speaks old.own old.own ([] ++ New ∷ []) = record { more = []; whole = sym (append-nil old.own); parts = nobody } in
+    let now : Speaks old.own new.own ([] ++ is ∷ []) = c.speaks old.own [] [] anew in
+    let same : now.more ≡ c.said = cancel old.own now.more c.said (sym now.whole ∙ c.added) in
+    let each : (n : ℕ) → IsConversation n (part_of n c.said) = λ n. subst (λ l. IsConversation n (part_of n l)) same (now.parts n).conversation in
+    let found : (n : ℕ) × IsConversation n c.said = of_one is c.said c.of_it each in
+    (c.said, c.added, found.0, found.1)
+
+pub alone_from : (p is : Progress) (old new : SessionSeatValue) → p ≡ New → Continues p old is new → (more : List Pair) × (new.own ≡ old.own ++ more) × (n : ℕ) × IsConversation n more
+alone_from p is old new e c = alone is old new (subst (λ x. Continues x old is new) e c)
+
+-- ── nothing is said at a place ──
+
+pub unmoved : {B L : Type 0} (before seat : SessionSeatValue) (places : List (Option (Seated B L))) (at : ℕ) (was is : Option (Seated B L)) → at < length places → was ≡ get_or places at was
+    → progress_at is ≡ progress_at was → IsDesk before seat places → IsDesk before seat (set places at is)
+unmoved before seat places at was is within there same d = record {
+  ring = d.ring;
+  number = d.number;
+  speaks = subst (λ l. Speaks before.own seat.own l)
+      (stand_was places at was within there ∙ ap (λ p. take at (stand_of places) ++ p ∷ drop (suc at) (stand_of places)) (sym same) ∙ sym (stand_is places at is within)) d.speaks;
+}
+
+pub same_progress : {B L : Type 0} (sent : L → Option (List (List ℕ))) (was is : Option (Seated B L)) → UnservedAt sent was is → progress_at is ≡ progress_at was
+same_progress sent None is u = ap progress_at u
+same_progress sent (Some was) is u = ap progress_at u.1 ∙ u.2.progress
+
+sitting : {B L : Type 0} (places : List (Option (Seated B L))) (at : ℕ) (was : Option (Seated B L)) → at < length places → was ≡ get_or places at was → slice_get places at ≡ Some was
+sitting places at was within there = slice_get-get_or places at was within ∙ ap (λ x. Some x) (sym there)
+
+same_of : {X : Type 0} (x y : X) → Some x ≡ Some y → x ≡ y
+same_of x y e = cc
+
+pub touches : {B L : Type 0} (sent : L → Option (List (List ℕ))) (old : DeskValue B L) (before seat : SessionSeatValue) (places : List (Option (Seated B L))) (at : ℕ) (was is : Option (Seated B L))
+    → desk before seat places ≡ old → at < length places → was ≡ get_or places at was → UnservedAt sent was is → Touches sent old (desk before seat (set places at is)) at
+touches {B} {L} sent old before seat places at was is same within there u = record {
+  before = ap (λ (d : DeskValue B L). d.before) same;
+  seat = ap (λ (d : DeskValue B L). d.seat) same;
+  others = others old.places places at is (ap (λ (d : DeskValue B L). d.places) same);
+  unserved = λ w sat.
+      let it : was ≡ Some w = same_of _ _ (sym (sitting places at was within there) ∙ ap (λ (d : DeskValue B L). slice_get d.places at) same ∙ sat) in
+      let so : UnservedAt sent (Some w) is = subst (λ o. UnservedAt sent o is) it u in
+      (so.0, get_same places at is within ∙ ap (λ x. Some x) so.1, so.2);
+}
+
+pub touches_none : {B L : Type 0} (sent : L → Option (List (List ℕ))) (old new : DeskValue B L) (at : ℕ) → new ≡ old → Touches sent old new at
+touches_none {B} {L} sent old new at same = record {
+  before = ap (λ (d : DeskValue B L). d.before) same;
+  seat = ap (λ (d : DeskValue B L). d.seat) same;
+  others = nothing_else old.places new.places at (ap (λ (d : DeskValue B L). d.places) same);
+  unserved = λ w sat. (w, ap (λ (d : DeskValue B L). slice_get d.places at) same ∙ sat, record { progress = refl; outbox = refl; kept = refl; sent = refl });
+}
+
+pub unserved_some : {B L : Type 0} (sent : L → Option (List (List ℕ))) (o : Option (Seated B L)) (was is : Seated B L) → o ≡ Some was → Unserved sent was.slot was.link is.slot is.link → UnservedAt sent o (Some is)
+unserved_some sent o was is e u = subst (λ x. UnservedAt sent x (Some is)) (sym e) (is, refl, u)
+
+-- ── a turn ──
+
+pub turns : {B L : Type 0} (sent : L → Option (List (List ℕ))) (received : L → Option (List ℕ)) (old : DeskValue B L) (before seat after : SessionSeatValue) (places : List (Option (Seated B L))) (at : ℕ) (was is : Option (Seated B L))
+    → desk before seat places ≡ old → at < length places → was ≡ get_or places at was → Continues (progress_at was) seat (progress_at is) after → ServedAt sent received was seat is after
+    → Turns sent received old (desk before after (set places at is)) at
+turns {B} {L} sent received old before seat after places at was is same within there c s = record {
+  was = s.was;
+  is = s.is;
+  sat = ap (λ (d : DeskValue B L). slice_get d.places at) (sym same) ∙ sitting places at was within there ∙ ap (λ x. Some x) s.sat;
+  sits = get_same places at is within ∙ ap (λ x. Some x) s.sits;
+  served = s.served;
+  said = c.said;
+  added = c.added ∙ ap (λ (d : DeskValue B L). d.seat.own ++ c.said) same;
+  of_it = subst (λ p. AllByRecursion (λ (x : Pair). number_in p ≡ Some (number_of x)) c.said) (ap progress_at s.sits) c.of_it;
+  goes = subst (λ (x : SessionSeatValue). GoesOn received s.was.slot x s.was.link s.is.slot after s.is.link) (ap (λ (d : DeskValue B L). d.seat) same) s.goes;
+}
+
+-- ── one more client ──
+
+pub admits_in : {B L : Type 0} (old : DeskValue B L) (before seat : SessionSeatValue) (places : List (Option (Seated B L))) (at : ℕ) (seated : Seated B L) (link : L)
+    → desk before seat places ≡ old → slice_get places at ≡ Some None → seated.link ≡ link → IsNew seated.slot → Admits old (desk before seat (set places at (Some seated))) link at
+admits_in {B} {L} old before seat places at seated link same free link_is is_new = record {
+  seated = seated;
+  before = ap (λ (d : DeskValue B L). d.before) same;
+  seat = ap (λ (d : DeskValue B L). d.seat) same;
+  was_free = inl (ap (λ (d : DeskValue B L). slice_get d.places at) (sym same) ∙ free);
+  sits = get_same places at (Some seated) (slice_get_within places at None free);
+  link_is = link_is;
+  is_new = is_new;
+  others = λ k other. get_other places at k (Some seated) other ∙ ap (λ (d : DeskValue B L). slice_get d.places k) same;
+}
+
+get_pushed : {X : Type 0} (xs : List X) (y : X) → slice_get (xs ++ y ∷ []) (length xs) ≡ Some y
+get_pushed [] y = refl
+get_pushed (x ∷ xs) y = get_pushed xs y
+
+get_before : {X : Type 0} (xs : List X) (k : ℕ) (y : X) → (k ≡ length xs → ⊥) → slice_get (xs ++ y ∷ []) k ≡ slice_get xs k
+get_before [] zero y other = absurd (other refl)
+get_before [] (suc k) y other = refl
+get_before (x ∷ xs) zero y other = refl
+get_before (x ∷ xs) (suc k) y other = get_before xs k y (λ e. other (ap suc e))
+
+pub admits_last : {B L : Type 0} (old : DeskValue B L) (before seat : SessionSeatValue) (places : List (Option (Seated B L))) (all : List (Option (Seated B L))) (at : ℕ) (seated : Seated B L) (link : L)
+    → desk before seat places ≡ old → all ≡ places ++ Some seated ∷ [] → at ≡ length places → seated.link ≡ link → IsNew seated.slot → Admits old (desk before seat all) link at
+admits_last {B} {L} old before seat places all at seated link same all_is at_is link_is is_new = record {
+  seated = seated;
+  before = ap (λ (d : DeskValue B L). d.before) same;
+  seat = ap (λ (d : DeskValue B L). d.seat) same;
+  was_free = inr (at_is ∙ ap (λ (d : DeskValue B L). length d.places) same);
+  sits = ap (λ l. slice_get l at) all_is ∙ ap (λ k. slice_get (places ++ Some seated ∷ []) k) at_is ∙ get_pushed places (Some seated);
+  link_is = link_is;
+  is_new = is_new;
+  others = λ k other. ap (λ l. slice_get l k) all_is ∙ get_before places k (Some seated) (λ e. other (e ∙ sym at_is)) ∙ ap (λ (d : DeskValue B L). slice_get d.places k) same;
+}
+
+-- ── a client is let go ──
+
+pub leaves_it : {B L : Type 0} (old : DeskValue B L) (before seat : SessionSeatValue) (places : List (Option (Seated B L))) (at : ℕ) (seated : Seated B L)
+    → desk before seat places ≡ old → at < length places → Some seated ≡ get_or places at (Some seated) → Leaves old (desk before seat (set places at None)) at seated.link
+leaves_it {B} {L} old before seat places at seated same within there = record {
+  was = seated;
+  before = ap (λ (d : DeskValue B L). d.before) same;
+  seat = ap (λ (d : DeskValue B L). d.seat) same;
+  sat = ap (λ (d : DeskValue B L). slice_get d.places at) (sym same) ∙ sitting places at (Some seated) within there;
+  link_is = refl;
+  free = get_same places at None within;
+  others = others old.places places at None (ap (λ (d : DeskValue B L). d.places) same);
+}
+
+pub none_goes : (n : ℕ) (p : Progress) → (0 ≤ holds n p) × (0 ≤ opens n p)
+none_goes n p = (omega arith, omega arith)
+
+pub vacated : {B L : Type 0} (before seat : SessionSeatValue) (places : List (Option (Seated B L))) (at : ℕ) (was is : Option (Seated B L)) → at < length places → was ≡ get_or places at was
+    → is ≡ None → IsDesk before seat places → IsDesk before seat (set places at is)
+vacated before seat places at was is within there none d =
+    subst (λ o. IsDesk before seat (set places at o)) (sym none) (replaced before seat places at was None within there (λ n. (none_goes n (progress_at was)).0) (λ n. (none_goes n (progress_at was)).1) d)
+
+pub taken_place : {B L : Type 0} (before seat : SessionSeatValue) (places : List (Option (Seated B L))) (at : ℕ) (was is : Option (Seated B L)) → slice_get places at ≡ Some None → was ≡ get_or places at was
+    → progress_at is ≡ New → IsDesk before seat places → IsDesk before seat (set places at is)
+taken_place before seat places at was is free there anew d =
+    let within : at < length places = slice_get_within places at None free in
+    replaced before seat places at was is within there (λ n. subst (λ p. holds n p ≤ holds n (progress_at was)) (sym anew) (none_goes n (progress_at was)).0)
+    (λ n. subst (λ p. opens n p ≤ opens n (progress_at was)) (sym anew) (none_goes n (progress_at was)).1) d
+
+pub leaves_at : {B L : Type 0} (old : DeskValue B L) (before seat : SessionSeatValue) (places : List (Option (Seated B L))) (at : ℕ) (was is : Option (Seated B L)) (seated : Seated B L)
+    → desk before seat places ≡ old → at < length places → was ≡ get_or places at was → was ≡ Some seated → is ≡ None → Leaves old (desk before seat (set places at is)) at seated.link
+leaves_at old before seat places at was is seated same within there it none =
+    subst (λ o. Leaves old (desk before seat (set places at o)) at seated.link) (sym none)
+    (leaves_it old before seat places at seated same within (subst (λ o. o ≡ get_or places at o) it there))
+
+pub pushed : {B L : Type 0} (before seat : SessionSeatValue) (places all : List (Option (Seated B L))) (s : Option (Seated B L)) → all ≡ places ++ s ∷ [] → progress_at s ≡ New → IsDesk before seat places → IsDesk before seat all
+pushed before seat places all s is anew d = subst (λ l. IsDesk before seat l) (sym is) (admitted before seat places s anew d)
+
+pub admits_at : {B L : Type 0} (old : DeskValue B L) (before seat : SessionSeatValue) (places : List (Option (Seated B L))) (at : ℕ) (is : Option (Seated B L)) (seated : Seated B L) (link : L)
+    → desk before seat places ≡ old → slice_get places at ≡ Some None → is ≡ Some seated → seated.link ≡ link → IsNew seated.slot → Admits old (desk before seat (set places at is)) link at
+admits_at old before seat places at is seated link same free it link_is is_new =
+    subst (λ o. Admits old (desk before seat (set places at o)) link at) (sym it) (admits_in old before seat places at seated link same free link_is is_new)
+
+pub last_place : {X : Type 0} (xs all : List X) (y : X) (count : ℕ) → all ≡ xs ++ y ∷ [] → count ≡ length all → count - 1 ≡ length xs
+last_place xs all y count is counted = omega (arith, counted, ap length is, length-append xs (y ∷ []))
+
+-- where nobody sits nothing is done
+pub same_desk : {B L : Type 0} (old : DeskValue B L) (before seat after : SessionSeatValue) (places : List (Option (Seated B L))) (at : ℕ) (was is : Option (Seated B L))
+    → desk before seat places ≡ old → was ≡ get_or places at was → is ≡ was → after ≡ seat → desk before after (set places at is) ≡ old
+same_desk {B} {L} old before seat after places at was is same there e s =
+    ap (λ x. desk before x (set places at is)) s ∙ ap (λ o. desk before seat (set places at o)) (e ∙ there) ∙ ap (λ l. desk before seat l) (set-get_or places at was) ∙ same
+
+pub sits_there : {B L : Type 0} (old : DeskValue B L) (before seat : SessionSeatValue) (places : List (Option (Seated B L))) (at : ℕ) (was : Option (Seated B L))
+    → desk before seat places ≡ old → at < length places → was ≡ get_or places at was → seated_at old.places at ≡ was
+sits_there {B} {L} old before seat places at was same within there =
+    ap (λ (d : DeskValue B L). seated_at d.places at) (sym same) ∙ get_or_from_slice_get places at was None (sitting places at was within there)

@@ -1,0 +1,46 @@
+use Rattle.std.proofs.Common.{◌≡◌, Option, arith, ap, sym, subst}
+use Rattle.std.specs.Prelude.{IsSome}
+use Rattle.desk_core.specs.Conversations.{Converse}
+use Rattle.desk_core.specs.Desks.{AreApart, DeskValue}
+use Rattle.desk_core.proofs.Standing.{apart, converses, others, same_desk, sits_there, stepped, turns}
+use Rattle.desk_core.proofs.desk.Desk.turn.Goals as goal
+
+pub returns-then-at-len-clause-converse : goal.returns-then-at-len-clause-converse
+returns-then-at-len-clause-converse g c = subst (λ (d : DeskValue _ _). Converse d.before.own d.seat.own) c.self.view_is (converses _ _ _ c.self.invariant.speaks)
+
+pub returns-then-at-len-clause-apart : goal.returns-then-at-len-clause-apart
+returns-then-at-len-clause-apart g c = subst (λ (d : DeskValue _ _). AreApart d.places) c.self.view_is (apart _ _ _ c.self.invariant.speaks)
+
+pub invariant_of-self : goal.invariant_of-self
+invariant_of-self g c =
+    stepped c.self.inside.before.value c.self.inside.seat c.turn_at.new.seat c.self.inside.places.items c.args.at c.index_mut.result.now c.turn_at.new.place
+    (omega (arith, c.if-at-len.false, c.len.ensures)) c.index_mut.ensures.value c.turn_at.ensures.continues c.self.invariant
+
+pub returns-clause-others : goal.returns-clause-others
+returns-clause-others g c = others c.args.self.now.places c.self.inside.places.items c.args.at c.turn_at.new.place (ap (λ (d : DeskValue _ _). d.places) c.self.view_is)
+
+pub returns-clause-turns : goal.returns-clause-turns
+returns-clause-turns g c = λ some.
+    turns g.L.Outgoing.sent g.L.Outgoing.received c.args.self.now c.self.inside.before.value c.self.inside.seat c.turn_at.new.seat c.self.inside.places.items c.args.at c.index_mut.result.now c.turn_at.new.place
+    c.self.view_is (omega (arith, c.if-at-len.false, c.len.ensures)) c.index_mut.ensures.value c.turn_at.ensures.continues (c.turn_at.ensures.served some)
+
+pub returns-clause-none : goal.returns-clause-none
+returns-clause-none g c = λ none.
+    let same = c.turn_at.ensures.none none in
+    same_desk c.args.self.now c.self.inside.before.value c.self.inside.seat c.turn_at.new.seat c.self.inside.places.items c.args.at c.index_mut.result.now c.turn_at.new.place
+    c.self.view_is c.index_mut.ensures.value same.0 same.1
+
+pub returns-clause-some : goal.returns-clause-some
+returns-clause-some g c = λ some.
+    c.turn_at.ensures.some (subst (λ o. IsSome o) (sits_there c.args.self.now c.self.inside.before.value c.self.inside.seat c.self.inside.places.items c.args.at c.index_mut.result.now
+    c.self.view_is (omega (arith, c.if-at-len.false, c.len.ensures)) c.index_mut.ensures.value) some)
+
+pub returns-clause-converse : goal.returns-clause-converse
+returns-clause-converse g c =
+    converses _ _ _ (stepped c.self.inside.before.value c.self.inside.seat c.turn_at.new.seat c.self.inside.places.items c.args.at c.index_mut.result.now c.turn_at.new.place
+    (omega (arith, c.if-at-len.false, c.len.ensures)) c.index_mut.ensures.value c.turn_at.ensures.continues c.self.invariant).speaks
+
+pub returns-clause-apart : goal.returns-clause-apart
+returns-clause-apart g c =
+    apart _ _ _ (stepped c.self.inside.before.value c.self.inside.seat c.turn_at.new.seat c.self.inside.places.items c.args.at c.index_mut.result.now c.turn_at.new.place
+    (omega (arith, c.if-at-len.false, c.len.ensures)) c.index_mut.ensures.value c.turn_at.ensures.continues c.self.invariant).speaks

@@ -1,0 +1,20 @@
+use Rattle.std.proofs.Common.{ap}
+use Rattle.command_core.specs.Entries.{EntryValue}
+use Rattle.desk_core.proofs.Living.{refused_so, said_some}
+use Rattle.desk_core.proofs.slot.Slot.append.Goals as goal
+
+pub returns-in-Some-clause-lives : goal.returns-in-Some-clause-lives
+returns-in-Some-clause-lives g c = λ executes.
+    said_some _ c.args.self.now.connection c.speak.new.connection c.args.self.now.pending c.args.seat.now c.speak.new.seat c.args.pending.entry.command c.in-Ok-Some.field-0 c.in-Ok-Some.field-0-0
+    c.in-Ok-Some.field-0-is executes c.in-Ok-Some.ensures.spoken c.requires.nothing
+
+pub returns-in_default-clause-lives : goal.returns-in_default-clause-lives
+returns-in_default-clause-lives g c = λ executes.
+    said_some _ c.args.self.now.connection c.speak.new.connection c.args.self.now.pending c.args.seat.now c.speak.new.seat c.args.pending.entry.command c.in-Ok-Some.field-0 c.in-Ok-Some.field-0-0
+    c.in-Ok-Some.field-0-is executes c.in-Ok-Some.ensures.spoken c.requires.nothing
+
+pub returns-in-Err-clause-lives : goal.returns-in-Err-clause-lives
+returns-in-Err-clause-lives g c = λ executes.
+    let back = c.in-Err.ensures.back in
+    refused_so _ c.in-Err.refused c.args.self.now.connection c.speak.new.connection c.hold.new.self.connection c.hold.new.self.pending c.args.seat.now c.speak.new.seat c.args.pending.entry.command c.in-Err.entry.command
+    back.1 back.2 (ap (λ (e : EntryValue _). e.command) back.0) (c.hold.ensures.lives c.requires.nothing)

@@ -1,0 +1,17 @@
+use Rattle.std.proofs.Common.{◌⊎◌, inl, inr, ap, refl, sym, subst}
+use Rattle.connection_core.specs.Connections.{ConnectionValue}
+use Rattle.desk_core.specs.declared.appending.Step.TheVariants.{Rest}
+use Rattle.desk_core.specs.Holding.{Holds}
+use Rattle.desk_core.proofs.Living.{stopped_so}
+use Rattle.desk_core.proofs.slot.Slot.hold.Goals as goal
+
+pub returns-in-Stopped : goal.returns-in-Stopped
+returns-in-Stopped g c = record {
+  same = ap (λ (x : ConnectionValue). x.progress) c.stop.ensures;
+  stays = (refl, refl);
+  holds = elim c.in-Stopped.is [
+    | inl is ↦ subst (λ r. Holds c.args.pending r c.args.self.now.pending Rest) (sym is) refl
+    | inr is ↦ subst (λ r. Holds c.args.pending r c.args.self.now.pending Rest) (sym is) refl
+  ];
+  lives = λ none. stopped_so c.args.self.now.connection c.stop.new.self c.args.self.now.pending _ c.stop.ensures none;
+}

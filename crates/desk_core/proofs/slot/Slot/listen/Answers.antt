@@ -1,0 +1,19 @@
+use Rattle.std.proofs.Common.{◌≡◌, ◌∙◌, ap, refl, sym, subst, List, ℕ}
+use Rattle.std.specs.Prelude.{OnOk}
+use Rattle.connection_core.specs.Connections.{HearsBytes}
+use Rattle.desk_core.proofs.Living.{heeds_bytes, heeds_silence, loses, same_stage}
+use Rattle.desk_core.proofs.slot.Slot.listen.Goals as goal
+
+pub returns-in-Bytes-clause-lives : goal.returns-in-Bytes-clause-lives
+returns-in-Bytes-clause-lives g c =
+    heeds_bytes g.L.Outgoing.received c.args.self.now _ c.args.link.now c.receive.new.self c.in-Bytes.bytes.items c.hear.result c.requires.listens c.requires.nothing
+    (subst (λ (b : List ℕ). OnOk c.hear.result (HearsBytes c.args.self.now.connection b c.hear.new.self)) c.as_slice.ensures.value c.hear.ensures.heard) c.hear.ensures.failed c.in-Bytes.ensures.read refl
+
+pub returns-in-Skipped-clause-lives : goal.returns-in-Skipped-clause-lives
+returns-in-Skipped-clause-lives g c = heeds_silence g.L.Outgoing.received _ _ _ _ c.in-Skipped.ensures.read (same_stage _ _ refl) refl
+
+pub returns-in-Nothing-clause-lives : goal.returns-in-Nothing-clause-lives
+returns-in-Nothing-clause-lives g c = heeds_silence g.L.Outgoing.received _ _ _ _ c.in-Nothing.ensures.read (same_stage _ _ refl) refl
+
+pub returns-in-Closed-clause-lives : goal.returns-in-Closed-clause-lives
+returns-in-Closed-clause-lives g c = heeds_silence g.L.Outgoing.received _ _ _ _ c.in-Closed.ensures.read (loses _ _ c.lose.ensures) refl

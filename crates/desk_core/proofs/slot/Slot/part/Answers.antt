@@ -1,0 +1,12 @@
+use Rattle.std.proofs.Common.{refl}
+use Rattle.desk_core.proofs.Living.{heeds_quietly, loses, parts, same_stage}
+use Rattle.desk_core.proofs.slot.Slot.part.Goals as goal
+
+pub returns-in-Err-Memory-clause-lives : goal.returns-in-Err-Memory-clause-lives
+returns-in-Err-Memory-clause-lives g c = heeds_quietly g.L.Outgoing.received _ _ _ _ c.in-Err-Memory.ensures.unread (same_stage _ _ refl) refl
+
+pub returns-in-Ok-clause-lives : goal.returns-in-Ok-clause-lives
+returns-in-Ok-clause-lives g c = heeds_quietly g.L.Outgoing.received _ _ _ _ c.in-Ok.ensures.unread (parts _ _ c.parted.ensures) refl
+
+pub returns-in-Err-Gone-clause-lives : goal.returns-in-Err-Gone-clause-lives
+returns-in-Err-Gone-clause-lives g c = heeds_quietly g.L.Outgoing.received _ _ _ _ c.in-Err-Gone.ensures.unread (loses _ _ c.lose.ensures) refl

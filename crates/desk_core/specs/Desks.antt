@@ -1,0 +1,92 @@
+-- What contracts see of a desk.
+use Rattle.std.specs.Prelude.{◌≡◌, ◌≢◌, ◌⊎◌, ◌+◌, ℕ, List, [], ◌∷◌, ◌++◌, Option, Some, None, map, length, get_or, slice_get}
+use Rattle.claim_core.specs.Counts.{Pair}
+use Rattle.claim_core.specs.Seats.{SessionSeatValue}
+use Rattle.connection_core.specs.declared.progress.Progress.{Progress}
+use Rattle.desk_core.specs.declared.place.Seated.{Seated}
+use Rattle.desk_core.specs.Continues.{AreSaid}
+use Rattle.desk_core.specs.Conversations.{Speaks}
+use Rattle.desk_core.specs.Lives.{GoesOn}
+use Rattle.desk_core.specs.Places.{ServedAt, progress_at}
+use Rattle.desk_core.specs.Slots.{IsNew, Served, Unserved, number_at}
+
+-- The seat as it was when the desk was made, as it is, and what sits at the places.
+pub record DeskValue (B L : Type 0) : Type 0 where
+  pub before : SessionSeatValue
+  pub seat : SessionSeatValue
+  pub places : List (Option (Seated B L))
+
+abbrev pub desk : {B L : Type 0} → SessionSeatValue → SessionSeatValue → List (Option (Seated B L)) → DeskValue B L
+desk before seat places = record { before = before; seat = seat; places = places }
+
+-- how far the conversations have come
+abbrev pub stand_of : {B L : Type 0} → List (Option (Seated B L)) → List Progress
+stand_of places = map progress_at places
+
+-- the conversations of its connections are what its seat's own commands say
+pub record IsDesk {B L : Type 0} (before seat : SessionSeatValue) (places : List (Option (Seated B L))) : Type 0 where
+  pub ring : seat.ring ≡ before.ring
+  pub number : seat.number ≡ before.number
+  pub speaks : Speaks before.own seat.own (stand_of places)
+
+-- Every other place stays as it was: its connection, its outbox, the output that it keeps, and its link with what was sent.
+pub record Others {B L : Type 0} (old new : List (Option (Seated B L))) (at : ℕ) : Type 0 where
+  pub count : length new ≡ length old
+  pub others : (k : ℕ) → k ≢ at → slice_get new k ≡ slice_get old k
+
+-- this connection sits there
+abbrev pub SitsAt : {B L : Type 0} → List (Option (Seated B L)) → ℕ → Seated B L → Type 0
+SitsAt places at seated = slice_get places at ≡ Some (Some seated)
+
+-- who sits there, if anybody does
+abbrev pub seated_at : {B L : Type 0} → List (Option (Seated B L)) → ℕ → Option (Seated B L)
+seated_at places at = get_or places at None
+
+-- The client at that place is served, what the seat got are commands of its own session, and they are what it has next of what
+-- its bytes ask for.
+pub record Turns {B L : Type 0} (sent : L → Option (List (List ℕ))) (received : L → Option (List ℕ)) (old new : DeskValue B L) (at : ℕ) : Type 0 where
+  pub was : Seated B L
+  pub is : Seated B L
+  pub sat : SitsAt old.places at was
+  pub sits : SitsAt new.places at is
+  pub served : Served sent was.slot was.link is.slot is.link
+  pub said : List Pair
+  pub added : new.seat.own ≡ old.seat.own ++ said
+  pub of_it : AreSaid is.slot.connection.progress said
+  pub goes : GoesOn received was.slot old.seat was.link is.slot new.seat is.link
+
+-- no two places have one session
+abbrev pub AreApart : {B L : Type 0} → List (Option (Seated B L)) → Type 0
+AreApart places = (i j n : ℕ) (s t : Seated _ _) → SitsAt places i s → SitsAt places j t → number_at s.slot ≡ Some n → number_at t.slot ≡ Some n → i ≡ j
+
+-- nobody sits there: the place is free, or the next one behind all
+abbrev pub IsFree : {B L : Type 0} → List (Option (Seated B L)) → ℕ → Type 0
+IsFree places at = (slice_get places at ≡ Some None) ⊎ (at ≡ length places)
+
+-- The link's client sits at a place that was free, and was not heard yet. All other places stay as they were.
+pub record Admits {B L : Type 0} (old new : DeskValue B L) (link : L) (at : ℕ) : Type 0 where
+  pub seated : Seated B L
+  pub before : new.before ≡ old.before
+  pub seat : new.seat ≡ old.seat
+  pub was_free : IsFree old.places at
+  pub sits : SitsAt new.places at seated
+  pub link_is : seated.link ≡ link
+  pub is_new : IsNew seated.slot
+  pub others : (k : ℕ) → k ≢ at → slice_get new.places k ≡ slice_get old.places k
+
+-- What sits at that place is left as it stands, and its place is free.
+pub record Leaves {B L : Type 0} (old new : DeskValue B L) (at : ℕ) (link : L) : Type 0 where
+  pub was : Seated B L
+  pub before : new.before ≡ old.before
+  pub seat : new.seat ≡ old.seat
+  pub sat : SitsAt old.places at was
+  pub link_is : link ≡ was.link
+  pub free : slice_get new.places at ≡ Some None
+  pub others : Others old.places new.places at
+
+-- Nothing was said or sent at any place, and nothing has changed but what the connection at that place is told.
+pub record Touches {B L : Type 0} (sent : L → Option (List (List ℕ))) (old new : DeskValue B L) (at : ℕ) : Type 0 where
+  pub before : new.before ≡ old.before
+  pub seat : new.seat ≡ old.seat
+  pub others : Others old.places new.places at
+  pub unserved : (was : Seated B L) → SitsAt old.places at was → (is : Seated B L) × SitsAt new.places at is × Unserved sent was.slot was.link is.slot is.link

@@ -1,0 +1,9 @@
+pub mod Boxes
+pub mod Continues
+pub mod Conversations
+pub mod Desks
+pub mod Holding
+pub mod Lives
+pub mod Places
+pub mod Relays
+pub mod Slots

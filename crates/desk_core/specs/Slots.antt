@@ -1,0 +1,98 @@
+-- What contracts see of a slot, and what its client is sent.
+use Rattle.std.specs.Prelude.{◌≡◌, ◌⊎◌, ℕ, List, [], ◌∷◌, ◌++◌, Option, Some, None, map, option_map}
+use Rattle.std.proofs.Common.{inl, inr}
+use Rattle.std.specs.List.{AllByRecursion}
+use Rattle.command_core.specs.Outs.{OutValue}
+use Rattle.frame_core.specs.declared.frame.Frame.{Frame}
+use Rattle.frame_core.specs.declared.frame.Verb.TheVariants as verbs
+use Rattle.frame_core.specs.Written.{written}
+use Rattle.outbox_core.specs.Boxes.{TakerValue}
+use Rattle.connection_core.specs.Connections.{unheard}
+use Rattle.connection_core.specs.Conversations.{number_in}
+use Rattle.desk_core.specs.declared.kept.Kept.{Kept}
+use Rattle.desk_core.specs.declared.kept.Kept.TheVariants as kept
+use Rattle.desk_core.specs.declared.slot.Slot.{Slot}
+
+-- a connection that was not heard yet: nothing waits for the ring, and there is no outbox
+pub record IsNew {B : Type 0} (slot : Slot B) : Type 0 where
+  pub connection : slot.connection ≡ unheard
+  pub pending : slot.pending ≡ None
+  pub outbox : slot.outbox ≡ None
+  pub kept : slot.kept ≡ kept.Nothing
+
+-- the number of a slot's session
+abbrev pub number_at : {B : Type 0} → Slot B → Option ℕ
+number_at slot = number_in slot.connection.progress
+
+-- what was taken out of an outbox, where there is one
+abbrev pub taken_of : Option TakerValue → List OutValue
+taken_of None = []
+taken_of (Some taker) = taker.taken
+
+-- the output that was taken and not sent
+abbrev pub kept_of : Kept → List OutValue
+kept_of kept.Nothing = []
+kept_of (kept.Waits out) = out ∷ []
+kept_of (kept.Unsent out) = out ∷ []
+
+-- What a slot has taken out of its outbox, what it keeps of that, and what its link tells that it sent.
+pub record Passed : Type 0 where
+  pub taken : List OutValue
+  pub kept : List OutValue
+  pub sent : Option (List (List ℕ))
+
+abbrev pub passed : {B L : Type 0} → (L → Option (List (List ℕ))) → Slot B → L → Passed
+passed sent slot link = record { taken = taken_of slot.outbox; kept = kept_of slot.kept; sent = sent link }
+
+-- a message for a client: an ERROR that doesn't wait for the broker, or an output's frame
+abbrev pub Message : Type 0
+Message = Frame ⊎ OutValue
+
+abbrev pub bytes_of : Message → List ℕ
+bytes_of (inl frame) = written frame
+bytes_of (inr out) = written out.frame
+
+abbrev pub outs_of : List Message → List OutValue
+outs_of [] = []
+outs_of (inl frame ∷ messages) = outs_of messages
+outs_of (inr out ∷ messages) = out ∷ outs_of messages
+
+-- it is for the client of the session of that number
+abbrev pub IsOwn : Option ℕ → Message → Type 0
+IsOwn number (inl frame) = frame.verb ≡ verbs.Error
+IsOwn number (inr out) = number ≡ Some out.session
+
+-- The link was sent these messages, each for its own client. The outputs among them are, in their order, the one that was kept and
+-- those that its own outbox gave; what was not sent of these is kept.
+pub record Passes (number : Option ℕ) (old new : Passed) : Type 0 where
+  pub messages : List Message
+  pub got : List OutValue
+  pub told : new.sent ≡ option_map (λ sent. sent ++ map bytes_of messages) old.sent
+  pub own : AllByRecursion (IsOwn number) messages
+  pub taken : new.taken ≡ old.taken ++ got
+  pub whole : old.kept ++ got ≡ outs_of messages ++ new.kept
+
+-- the taking end of that box
+abbrev pub IsTakerOf : TakerValue → Option TakerValue → Type 0
+IsTakerOf t None = ⊥
+IsTakerOf t (Some taker) = taker.box ≡ t.box
+
+-- The client was sent messages of its own alone. A session's number stays, and so does its outbox, once there is one.
+pub record Served {B L : Type 0} (sent : L → Option (List (List ℕ))) (was : Slot B) (before : L) (is : Slot B) (after : L) : Type 0 where
+  pub stays : (n : ℕ) → number_at was ≡ Some n → number_at is ≡ Some n
+  pub one_box : (t : TakerValue) → was.outbox ≡ Some t → IsTakerOf t is.outbox
+  pub passes : Passes (number_at is) (passed sent was before) (passed sent is after)
+
+-- Nothing was sent to the client: a session's number and its outbox stay, and so does what is kept.
+pub record Stays {B : Type 0} (was is : Slot B) : Type 0 where
+  pub stays : (n : ℕ) → number_at was ≡ Some n → number_at is ≡ Some n
+  pub one_box : (t : TakerValue) → was.outbox ≡ Some t → IsTakerOf t is.outbox
+  pub taken : taken_of is.outbox ≡ taken_of was.outbox
+  pub kept : is.kept ≡ was.kept
+
+-- The same, with its link: nothing was sent, and the conversation stands where it stood.
+pub record Unserved {B L : Type 0} (told : L → Option (List (List ℕ))) (was : Slot B) (before : L) (is : Slot B) (after : L) : Type 0 where
+  pub progress : is.connection.progress ≡ was.connection.progress
+  pub outbox : is.outbox ≡ was.outbox
+  pub kept : is.kept ≡ was.kept
+  pub sent : told after ≡ told before

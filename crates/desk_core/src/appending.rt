@@ -1,0 +1,216 @@
+//! How what a connection wants is done.
+
+ghost use Rattle.std.specs.Prelude.{◌≡◌, None};
+ghost use Rattle.session_core.specs.Sessions.{HasForm};
+ghost use Rattle.session_core.specs.declared.act.Act.TheVariants as acts;
+
+use crate::pending::Pending;
+use crate::ringers::Ringers;
+use crate::slot::Slot;
+use crate::speaking::speak;
+use claim_core::{BrokerRing, BrokerSeat, Refused};
+use command_core::Command;
+use connection_core::Wanted;
+use outbox_core::{Bell, OutSender};
+use session_core::Notice;
+use std::alloc::Global;
+use ws_core::{Link, LinkFault};
+
+// How many acts of a connection are done in a turn at most.
+const ACTS: u32 = 64;
+
+/// What one act, or the entry that is kept, came to.
+#[derive(Clone, Copy)]
+pub enum Step {
+    /// A command was appended.
+    Appended,
+    /// The act is done, and no command was appended.
+    Done,
+    /// The window is full at that mark; the entry is kept.
+    Full(u64),
+    /// Memory was refused, and the act is kept.
+    Short,
+    /// Nothing is left to be done.
+    Rest,
+}
+
+/// What the acts of a turn came to.
+#[derive(Clone, Copy)]
+pub struct Executed {
+    /// A command was appended.
+    pub appended: bool,
+    /// What the last one came to: `Appended` or `Done` where more may be done at once.
+    pub last: Step,
+}
+
+impl<B: Bell> Slot<B> {
+    ghost use Rattle.std.specs.Prelude.{[], Some};
+    ghost use Rattle.outbox_core.specs.Boxes.{TakerValue};
+    ghost use Rattle.desk_core.specs.declared.appending.Step.TheVariants.{Appended};
+    ghost use Rattle.connection_core.specs.Stages.{Executes};
+    ghost use Rattle.connection_core.specs.declared.said.Wanted.TheVariants.{Append, Tell};
+    ghost use Rattle.desk_core.specs.Continues.{Continues};
+    ghost use Rattle.desk_core.specs.Holding.{Holds};
+    ghost use Rattle.desk_core.specs.Lives.{DoesWanted, GoesOn, LivesOn};
+    ghost use Rattle.desk_core.specs.Slots.{Served, Stays};
+
+    // Does what the connection wants, in order, until something has to wait or so much was done.
+    pub(crate) fn execute<M: Ringers<B>, L: Link>(
+        &mut self,
+        alloc: Global,
+        ring: &BrokerRing<OutSender<B>>,
+        seat: &mut BrokerSeat<OutSender<B>>,
+        link: &mut L,
+        ringers: &M,
+    ) -> Executed
+        requires { seat.old.ring ≡ ring.now }
+        ensures continues { Continues self.old.connection.progress seat.old self.new.connection.progress seat.new }
+        ensures served { Served L.sent self.old link.old self.new link.new }
+        ensures lives { GoesOn L.received self.old seat.old link.old self.new seat.new link.new }
+    {
+        let mut executed = Executed {
+            appended: false,
+            last: Step::Done,
+        };
+        for _ in 0..ACTS {
+            executed.last = self.step(alloc, ring, seat, link, ringers);
+            match executed.last {
+                Step::Appended => executed.appended = true,
+                Step::Done => {}
+                Step::Full(_) | Step::Short | Step::Rest => return executed,
+            }
+        }
+        executed
+    }
+
+    // The entry that waits, or else the next that the connection wants.
+    fn step<M: Ringers<B>, L: Link>(
+        &mut self,
+        alloc: Global,
+        ring: &BrokerRing<OutSender<B>>,
+        seat: &mut BrokerSeat<OutSender<B>>,
+        link: &mut L,
+        ringers: &M,
+    ) -> Step
+        requires { seat.old.ring ≡ ring.now }
+        ensures continues { Continues self.old.connection.progress seat.old self.new.connection.progress seat.new }
+        ensures served { Served L.sent self.old link.old self.new link.new }
+        ensures lives { GoesOn L.received self.old seat.old link.old self.new seat.new link.new }
+    {
+        if !self.connection.stage().executes() {
+            return Step::Rest;
+        }
+        if let Some(pending) = self.pending.take() {
+            return self.append(ring, seat, pending);
+        }
+        match self.connection.next() {
+            Wanted::Append(command) => self.prepare(alloc, ring, seat, ringers, command),
+            Wanted::Tell(notice) => self.tell(alloc, link, notice),
+            Wanted::Done => Step::Done,
+            Wanted::Rest => Step::Rest,
+        }
+    }
+
+    // Makes the entry of a command and appends it. Where memory is refused, the connection wants the command again.
+    fn prepare<M: Ringers<B>>(
+        &mut self,
+        alloc: Global,
+        ring: &BrokerRing<OutSender<B>>,
+        seat: &mut BrokerSeat<OutSender<B>>,
+        ringers: &M,
+        command: Command,
+    ) -> Step
+        requires ring { seat.old.ring ≡ ring.now }
+        requires form { HasForm (acts.Do command.op command.receipt) }
+        requires first { self.old.connection.acts.again ≡ None }
+        requires nothing { self.old.pending ≡ None }
+        ensures continues { Continues self.old.connection.progress seat.old self.new.connection.progress seat.new }
+        ensures stays { Stays self.old self.new }
+        ensures lives { Executes self.old.connection.stage → DoesWanted (Append command) self.old.connection seat.old self.new.connection self.new.pending seat.new }
+    {
+        match Pending::new(alloc, ringers, command) {
+            Ok(pending) => self.append(ring, seat, pending),
+            Err(command) => {
+                self.connection.retry(command);
+                Step::Short
+            }
+        }
+    }
+
+    // Appends an entry, or keeps it where the window is full.
+    fn append(
+        &mut self,
+        ring: &BrokerRing<OutSender<B>>,
+        seat: &mut BrokerSeat<OutSender<B>>,
+        pending: Pending<B>,
+    ) -> Step
+        requires ring { seat.old.ring ≡ ring.now }
+        requires nothing { self.old.pending ≡ None }
+        ensures continues { Continues self.old.connection.progress seat.old self.new.connection.progress seat.new }
+        ensures stays { Stays self.old self.new }
+        ensures taker { (taker : TakerValue) → pending.taker ≡ Some taker → result ≡ Appended → self.new.outbox ≡ Some taker }
+        ensures lives { Executes self.old.connection.stage → DoesWanted (Append pending.entry.command) self.old.connection seat.old self.new.connection self.new.pending seat.new }
+    {
+        let Pending { entry, taker } = pending;
+        match speak(ring, seat, &mut self.connection, entry) {
+            Ok(None) => {
+                drop(taker);
+                Step::Done
+            }
+            Ok(Some(_)) => {
+                if let Some(taker) = taker {
+                    self.outbox = Some(taker);
+                }
+                Step::Appended
+            }
+            Err((entry, refused)) => self.hold(Pending { entry, taker }, refused),
+        }
+    }
+
+    // An entry that the ring refused is kept for as long as the window is full. A ring that takes nothing more ends the
+    // connection.
+    fn hold(&mut self, pending: Pending<B>, refused: Refused) -> Step
+        ensures same { self.new.connection.progress ≡ self.old.connection.progress }
+        ensures stays { (self.new.outbox ≡ self.old.outbox) × (self.new.kept ≡ self.old.kept) }
+        ensures holds { Holds pending refused self.new.pending result }
+        ensures lives { self.old.pending ≡ None → LivesOn (Append pending.entry.command) self.old.connection self.new.connection self.new.pending [] }
+    {
+        match refused {
+            Refused::Busy(mark) => {
+                drop(self.pending.replace(pending));
+                Step::Full(mark)
+            }
+            Refused::Stopped | Refused::Exhausted => {
+                drop(pending);
+                self.connection.stop();
+                Step::Rest
+            }
+        }
+    }
+
+    // Tells the client an ERROR that doesn't wait for the broker, which is the last frame.
+    fn tell<L: Link>(&mut self, alloc: Global, link: &mut L, notice: Notice) -> Step
+        requires first { self.old.connection.acts.again ≡ None }
+        requires nothing { self.old.pending ≡ None }
+        ensures same { self.new.connection.progress ≡ self.old.connection.progress }
+        ensures served { Served L.sent self.old link.old self.new link.new }
+        ensures unread { L.received link.new ≡ L.received link.old }
+        ensures lives { Executes self.old.connection.stage → LivesOn (Tell notice) self.old.connection self.new.connection self.new.pending [] }
+    {
+        match link.send_direct(alloc, notice.frame()) {
+            Ok(()) => {
+                drop(notice);
+                self.connection.told();
+            }
+            Err(LinkFault::Gone) => {
+                drop(notice);
+                self.connection.lose();
+            }
+            Err(LinkFault::Memory) => {
+                self.connection.retry_telling(notice);
+                return Step::Short;
+            }
+        }
+        Step::Done
+    }
+}

@@ -1,0 +1,189 @@
+//! A desk: one seat, and many connections that speak through it.
+
+ghost use Rattle.std.specs.Prelude.{◌≡◌, IfOk, IfSome, IsNone, length};
+
+use crate::place::{Place, Seated};
+use crate::placing::{is_free, lose_at, ping_at, take_place, turn_at, vacate};
+use crate::ringers::Ringers;
+use crate::slot::Slot;
+use crate::turned::Turned;
+use claim_core::{BrokerRing, BrokerSeat};
+use outbox_core::{Bell, OutSender};
+use std::alloc::{AllocError, Global};
+use std::marker::Model;
+use std::snapshot::Snapshot;
+use ws_core::Link;
+
+/// One seat at the broker, and the connections that speak through it, each at a place of its own. Contracts see the seat as it was
+/// when the desk was made and as it is, and what sits at the places.
+///
+/// Behind what was the seat's own when the desk was made, what belongs to each session is one conversation, and no two
+/// connections have one session: that is so of each desk, whatever was called of it.
+#[derive(Drop)]
+pub struct Desk<B: Bell, L> {
+    seat: BrokerSeat<OutSender<B>>,
+    places: Vec<Place<B, L>>,
+    // Places from which a connection went, to be taken again.
+    free: Vec<usize>,
+    // The seat as it was when the desk was made.
+    before: Snapshot<BrokerSeat<OutSender<B>>>,
+}
+
+impl<B: Bell, L> Model for Desk<B, L> {
+    ghost use Rattle.desk_core.specs.Desks.{DeskValue, IsDesk, desk};
+
+    ghost Value = { DeskValue B L };
+
+    ghost view = { λ a. desk a.before.value a.seat a.places.items };
+
+    ghost invariant = { λ a. IsDesk a.before.value a.seat a.places.items };
+}
+
+impl<B: Bell, L: Link + Drop> Desk<B, L> {
+    ghost use Rattle.std.specs.Prelude.{[], None, OnErr, IsSome, Some, slice_get};
+    ghost use Rattle.desk_core.specs.Conversations.{Converse};
+    ghost use Rattle.desk_core.specs.Desks.{Admits, AreApart, Leaves, Others, Turns, Touches, desk, seated_at};
+
+    /// A desk with no connection. No memory is taken.
+    pub fn new(alloc: Global, seat: BrokerSeat<OutSender<B>>) -> Desk<B, L>
+        ensures { result ≡ desk seat seat [] }
+    {
+        Desk {
+            before: Snapshot::of(&seat),
+            seat,
+            places: Vec::new(alloc),
+            free: Vec::new(alloc),
+        }
+    }
+
+    /// How many places there are, free ones counted. What is so of each desk is known with that.
+    pub fn len(&self) -> usize
+        ensures count { result ≡ length self.now.places }
+        ensures seat { (self.now.seat.ring ≡ self.now.before.ring) × (self.now.seat.number ≡ self.now.before.number) }
+        ensures converse { Converse self.now.before.own self.now.seat.own }
+        ensures apart { AreApart self.now.places }
+    {
+        self.places.len()
+    }
+
+    /// Takes a client in, at a free place, which it answers. Where memory is refused, its link is let go.
+    pub fn admit(&mut self, alloc: Global, link: L) -> Result<usize, AllocError>
+        ensures ok { IfOk result (Admits self.old self.new link) }
+        ensures err { OnErr result (self.new ≡ self.old) }
+    {
+        let seated = Seated {
+            slot: Slot::new(alloc),
+            link,
+        };
+        match self.free_place() {
+            Some(at) => {
+                take_place(&mut self.places[at], seated);
+                Ok(at)
+            }
+            None => {
+                self.places.push(Some(seated))?;
+                Ok(self.places.len() - 1)
+            }
+        }
+    }
+
+    // A place that is free, to be taken now.
+    fn free_place(&mut self) -> Option<usize>
+        ensures same { self.new ≡ self.old }
+        ensures free { IfSome result (λ at. slice_get self.new.places at ≡ Some None) }
+    {
+        let at = self.free.pop()?;
+        if is_free(self.places.as_slice(), at) {
+            Some(at)
+        } else {
+            None
+        }
+    }
+
+    /// Lets the connection at that place go on by one turn, as `Slot::turn` says; `None` where there is none. All other connections,
+    /// with their links and what those sent, stay as they are.
+    pub fn turn<M: Ringers<B>>(
+        &mut self,
+        alloc: Global,
+        ring: &BrokerRing<OutSender<B>>,
+        at: usize,
+        ringers: &M,
+    ) -> Option<Turned>
+        requires { self.old.seat.ring ≡ ring.now }
+        ensures before { self.new.before ≡ self.old.before }
+        ensures ring { self.new.seat.ring ≡ self.old.seat.ring }
+        ensures others { Others self.old.places self.new.places at }
+        ensures turns { IsSome result → Turns L.sent L.received self.old self.new at }
+        ensures none { IsNone result → self.new ≡ self.old }
+        ensures some { IsSome (seated_at self.old.places at) → IsSome result }
+        ensures converse { Converse self.new.before.own self.new.seat.own }
+        ensures apart { AreApart self.new.places }
+    {
+        if at >= self.places.len() {
+            return None;
+        }
+        turn_at(alloc, ring, &mut self.seat, &mut self.places[at], ringers)
+    }
+
+    /// The connection at that place is over: its link has failed, or took too long. Its next turns end it.
+    pub fn lose(&mut self, at: usize)
+        ensures { Touches L.sent self.old self.new at }
+    {
+        if at < self.places.len() {
+            lose_at(&mut self.places[at]);
+        }
+    }
+
+    /// Sends a ping to the client at that place (RFC 6455, section 5.5.2), as far as its stream takes it. Nothing where there is none,
+    /// or where memory is refused; a link that is over is found so by the connection's next turn.
+    pub fn ping(&mut self, at: usize)
+        ensures { Touches L.sent self.old self.new at }
+    {
+        if at < self.places.len() {
+            ping_at(&mut self.places[at]);
+        }
+    }
+
+    /// Whether the client at that place has opened its session.
+    pub fn is_open(&self, at: usize) -> bool {
+        match self.places.get(at) {
+            Some(Some(seated)) => seated.slot.connection.number().is_some(),
+            _ => false,
+        }
+    }
+
+    /// Lets the connection at that place go, and hands its link back; `None` where there is none. Its conversation is left as it
+    /// stands: let it come to its end first.
+    pub fn dismiss(&mut self, at: usize) -> Option<L>
+        ensures left { IfSome result (Leaves self.old self.new at) }
+        ensures none { IsNone result → self.new ≡ self.old }
+        ensures some { IsSome (seated_at self.old.places at) → IsSome result }
+    {
+        if at >= self.places.len() {
+            return None;
+        }
+        let Seated { slot, link } = vacate(&mut self.places[at])?;
+        drop(slot);
+        // Where memory is refused for it, the place is taken no more.
+        let _ = self.free.push(at);
+        Some(link)
+    }
+
+    /// The seat, with all that was said. The connections are let go, with their links.
+    pub fn into_seat(self) -> BrokerSeat<OutSender<B>>
+        ensures same { result ≡ self.seat }
+        ensures seat { (result.ring ≡ self.before.ring) × (result.number ≡ self.before.number) }
+        ensures converse { Converse self.before.own result.own }
+    {
+        let Desk {
+            seat,
+            places,
+            free,
+            before,
+        } = self;
+        drop(places);
+        drop(free);
+        drop(before);
+        seat
+    }
+}

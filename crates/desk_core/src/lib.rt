@@ -1,0 +1,30 @@
+//! A desk: connections that speak to the broker through one seat, each with its link and its outbox.
+
+#![tactic(auto)]
+
+mod appending;
+mod desk;
+mod kept;
+mod pacing;
+mod passing;
+mod pending;
+mod place;
+mod placing;
+mod relaying;
+mod ringers;
+mod slot;
+mod speaking;
+mod turned;
+mod turning;
+mod working;
+
+pub use connection_core::Ended;
+pub use desk::Desk;
+pub use kept::{Kept, Relayed};
+pub use pacing::Pacing;
+pub use place::Seated;
+pub use relaying::relay;
+pub use ringers::Ringers;
+pub use slot::Slot;
+pub use turned::{Next, Turned};
+pub use working::worker;

@@ -1,0 +1,118 @@
+//! How a connection's outputs are sent.
+
+ghost use Rattle.std.specs.Prelude.{◌≡◌};
+ghost use Rattle.claim_core.specs.Seats.{with_seen};
+
+use crate::kept::Relayed;
+use crate::relaying::relay;
+use crate::slot::Slot;
+use claim_core::{BrokerRing, BrokerSeat};
+use connection_core::Stage;
+use outbox_core::{Bell, OutSender};
+use std::alloc::Global;
+use ws_core::{Link, LinkFault};
+
+// How many outputs of a connection are sent in a turn at most, and behind how many bytes of bodies no other follows. Their frames
+// may wait in the link until the turn's flush, which has room for 1,048,576 bytes: a body has 65,536 at most, a head some 17,000.
+const RELAYS: u32 = 32;
+
+const RELAYED_BYTES: usize = 131_072;
+
+/// What became of the outputs of a turn.
+#[derive(Clone, Copy, PartialEq, Eq)]
+pub enum PassedOn {
+    /// All that may leave was sent.
+    All,
+    /// There may be more to send at once.
+    More,
+    /// Memory was refused for one, which is kept.
+    Short,
+}
+
+impl<B: Bell> Slot<B> {
+    ghost use Rattle.std.specs.Prelude.{[]};
+    ghost use Rattle.desk_core.specs.Continues.{Continues};
+    ghost use Rattle.desk_core.specs.Conversations.{StaysOrEnds};
+    ghost use Rattle.desk_core.specs.Lives.{GoesOn, Heeds, Restaged};
+    ghost use Rattle.desk_core.specs.Slots.{Served};
+
+    // Sends what may leave, until nothing more may or so much was sent. A link that has not taken all before gets nothing more.
+    pub(crate) fn pass_on<L: Link>(
+        &mut self,
+        alloc: Global,
+        ring: &BrokerRing<OutSender<B>>,
+        seat: &mut BrokerSeat<OutSender<B>>,
+        link: &mut L,
+    ) -> PassedOn
+        requires { seat.old.ring ≡ ring.now }
+        ensures continues { Continues self.old.connection.progress seat.old self.new.connection.progress seat.new }
+        ensures served { Served L.sent self.old link.old self.new link.new }
+        ensures lives { GoesOn L.received self.old seat.old link.old self.new seat.new link.new }
+    {
+        let mut bytes = 0usize;
+        for _ in 0..RELAYS {
+            if bytes >= RELAYED_BYTES || link.waits() || self.connection.stage() != Stage::Running {
+                return PassedOn::More;
+            }
+            match self.pass_one(alloc, ring, seat, link) {
+                Ok(Some(sent)) => bytes = bytes.saturating_add(sent),
+                Ok(None) => return PassedOn::All,
+                Err(_) => return PassedOn::Short,
+            }
+        }
+        PassedOn::More
+    }
+
+    // Sends one output, and answers how many bytes its body has; nothing where none may leave.
+    fn pass_one<L: Link>(
+        &mut self,
+        alloc: Global,
+        ring: &BrokerRing<OutSender<B>>,
+        seat: &mut BrokerSeat<OutSender<B>>,
+        link: &mut L,
+    ) -> Result<Option<usize>, LinkFault>
+        requires { seat.old.ring ≡ ring.now }
+        ensures ends { StaysOrEnds self.old.connection.progress self.new.connection.progress }
+        ensures seen { seat.new ≡ with_seen seat.old seat.new.seen }
+        ensures served { Served L.sent self.old link.old self.new link.new }
+        ensures lives { Heeds L.received self.old link.old self.new link.new [] }
+    {
+        let Some(session) = self.connection.number() else {
+            return Ok(None);
+        };
+        let Some(taker) = &mut self.outbox else {
+            return Ok(None);
+        };
+        match relay(alloc, ring, seat, session, taker, &mut self.kept, link) {
+            Ok(relayed) => Ok(self.note(relayed)),
+            Err(LinkFault::Memory) => Err(LinkFault::Memory),
+            Err(LinkFault::Gone) => {
+                self.connection.lose();
+                Ok(None)
+            }
+        }
+    }
+
+    // What comes of an output that was handled. One whose outbox is cut is given up, and one whose outbox has another's output.
+    fn note(&mut self, relayed: Relayed) -> Option<usize>
+        ensures ends { StaysOrEnds self.old.connection.progress self.new.connection.progress }
+        ensures same { (self.new.outbox ≡ self.old.outbox) × (self.new.kept ≡ self.old.kept) }
+        ensures rest { Restaged self.old.connection self.new.connection × (self.new.pending ≡ self.old.pending) }
+    {
+        match relayed {
+            Relayed::Sent {
+                number,
+                verb,
+                bytes,
+            } => {
+                self.connection.sent(number, verb);
+                Some(bytes)
+            }
+            Relayed::Cut | Relayed::Foreign => {
+                self.connection.give_up();
+                None
+            }
+            Relayed::Waits | Relayed::Empty => None,
+        }
+    }
+}

@@ -1,0 +1,65 @@
+//! A command on its way into the ring.
+
+ghost use Rattle.std.specs.Prelude.{◌≡◌, ◌≢◌, [], Some, None, IfOk, IfErr};
+ghost use Rattle.connection_core.specs.Conversations.{role_of};
+ghost use Rattle.connection_core.specs.declared.progress.Role.TheVariants.{Opens};
+ghost use Rattle.outbox_core.specs.Boxes.{TakerValue};
+ghost use Rattle.desk_core.specs.Boxes.{IsBoxFor, box_of};
+
+use crate::ringers::Ringers;
+use command_core::{Command, Entry};
+use connection_core::Role;
+use outbox_core::{Bell, BoxSize, OutSender, OutTaker, outbox};
+use std::alloc::{AllocError, Global};
+
+/// The entry of a command that is to be appended. That of an Open carries the giving end of a new outbox, whose taking end is kept
+/// beside it, for the connection to have once the Open is appended. No other command has a box.
+#[derive(Drop)]
+pub struct Pending<B: Bell> {
+    pub(crate) entry: Entry<OutSender<B>>,
+    pub(crate) taker: Option<OutTaker>,
+    ghost opens: { (t : TakerValue) → taker ≡ Some t → (role_of entry.command.op ≡ Opens) × (t.taken ≡ []) },
+    ghost one_box: { (t : TakerValue) → taker ≡ Some t → box_of entry.outbox ≡ Some t.box },
+    ghost has_box: { role_of entry.command.op ≡ Opens → taker ≢ None },
+}
+
+impl<B: Bell> Pending<B> {
+    /// The entry of a command. Where memory is refused, for the entry or for the outbox, the command comes back.
+    pub(crate) fn new<M: Ringers<B>>(
+        alloc: Global,
+        ringers: &M,
+        command: Command,
+    ) -> Result<Pending<B>, Command>
+        ensures ok { IfOk result (λ pending. pending.entry.command ≡ command) }
+        ensures back { IfErr result (λ back. back ≡ command) }
+    {
+        let role = Role::of(command.op());
+        let (sender, taker) = match box_for(alloc, ringers, role) {
+            Ok(ends) => ends,
+            Err(_) => return Err(command),
+        };
+        match Entry::new(alloc, command, sender) {
+            Ok(entry) => Ok(Pending { entry, taker }),
+            Err((command, sender)) => {
+                drop(sender);
+                drop(taker);
+                Err(command)
+            }
+        }
+    }
+}
+
+// The ends of a new outbox, for an Open alone.
+fn box_for<B: Bell, M: Ringers<B>>(
+    alloc: Global,
+    ringers: &M,
+    role: Role,
+) -> Result<(Option<OutSender<B>>, Option<OutTaker>), AllocError>
+    ensures { IfOk result (λ ends. IsBoxFor role ends.0 ends.1) }
+{
+    if role != Role::Opens {
+        return Ok((None, None));
+    }
+    let (sender, taker) = outbox(alloc, ringers.bell()?, BoxSize::SERVER)?;
+    Ok((Some(sender), Some(taker)))
+}

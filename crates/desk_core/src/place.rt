@@ -1,0 +1,34 @@
+//! A place at a desk.
+
+use crate::slot::Slot;
+use outbox_core::Bell;
+use ws_core::Link;
+
+/// A connection at a desk, with its link.
+#[derive(Drop)]
+pub struct Seated<B: Bell, L> {
+    pub(crate) slot: Slot<B>,
+    pub(crate) link: L,
+}
+
+/// A place at a desk, free or not.
+pub(crate) type Place<B, L> = Option<Seated<B, L>>;
+
+impl<B: Bell, L: Link> Seated<B, L> {
+    ghost use Rattle.desk_core.specs.Slots.{Unserved};
+
+    // Its link is over.
+    pub(crate) fn lose(&mut self)
+        ensures { Unserved L.sent self.old.slot self.old.link self.new.slot self.new.link }
+    {
+        self.slot.connection.lose();
+    }
+
+    // Sends its client a ping.
+    pub(crate) fn ping(&mut self)
+        ensures { Unserved L.sent self.old.slot self.old.link self.new.slot self.new.link }
+    {
+        let _ = self.link.ping();
+        let _ = self.link.flush();
+    }
+}

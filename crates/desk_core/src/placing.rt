@@ -1,0 +1,79 @@
+//! What is done at a place of a desk.
+
+ghost use Rattle.std.specs.Prelude.{◌≡◌, Some, None, IsNone, IsSome, true, slice_get};
+ghost use Rattle.desk_core.specs.Continues.{Continues};
+ghost use Rattle.desk_core.specs.Places.{ServedAt, UnservedAt, progress_at};
+
+use crate::place::{Place, Seated};
+use crate::ringers::Ringers;
+use crate::turned::Turned;
+use claim_core::{BrokerRing, BrokerSeat};
+use outbox_core::{Bell, OutSender};
+use std::alloc::Global;
+use std::mem;
+use ws_core::Link;
+
+// A turn of the connection that sits there, if one does.
+pub fn turn_at<B: Bell, M: Ringers<B>, L: Link>(
+    alloc: Global,
+    ring: &BrokerRing<OutSender<B>>,
+    seat: &mut BrokerSeat<OutSender<B>>,
+    place: &mut Place<B, L>,
+    ringers: &M,
+) -> Option<Turned>
+    requires { seat.old.ring ≡ ring.now }
+    ensures continues { Continues (progress_at place.old) seat.old (progress_at place.new) seat.new }
+    ensures served { IsSome result → ServedAt L.sent L.received place.old seat.old place.new seat.new }
+    ensures none { IsNone result → (place.new ≡ place.old) × (seat.new ≡ seat.old) }
+    ensures some { IsSome place.old → IsSome result }
+{
+    match place {
+        Some(seated) => {
+            Some(
+                seated
+                    .slot
+                    .turn(alloc, ring, seat, &mut seated.link, ringers),
+            )
+        }
+        None => None,
+    }
+}
+
+// The link there is over.
+pub fn lose_at<B: Bell, L: Link>(place: &mut Place<B, L>)
+    ensures { UnservedAt L.sent place.old place.new }
+{
+    if let Some(seated) = place {
+        seated.lose();
+    }
+}
+
+// Sends the client there a ping.
+pub fn ping_at<B: Bell, L: Link>(place: &mut Place<B, L>)
+    ensures { UnservedAt L.sent place.old place.new }
+{
+    if let Some(seated) = place {
+        seated.ping();
+    }
+}
+
+// Nobody sits there any more.
+pub fn vacate<B: Bell, L>(place: &mut Place<B, L>) -> Place<B, L>
+    ensures { (result ≡ place.old) × (place.new ≡ None) }
+{
+    mem::take(place)
+}
+
+// From now on that connection sits there.
+pub fn take_place<B: Bell, L: Drop>(place: &mut Place<B, L>, seated: Seated<B, L>)
+    ensures { place.new ≡ Some seated }
+{
+    drop(mem::replace(place, Some(seated)));
+}
+
+// Whether there is that place, and nobody sits there.
+pub fn is_free<B: Bell, L>(places: &[Place<B, L>], at: usize) -> bool
+    ensures { result ≡ true → slice_get places.now at ≡ Some None }
+{
+    matches!(places.get(at), Some(None))
+}

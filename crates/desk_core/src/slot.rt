@@ -1,0 +1,38 @@
+//! One connection at a seat, with its outbox.
+
+ghost use Rattle.std.specs.Prelude.{◌≡◌, None};
+ghost use Rattle.connection_core.specs.Conversations.{number_in};
+
+use crate::kept::Kept;
+use crate::pending::Pending;
+use connection_core::Connection;
+use outbox_core::{Bell, OutTaker};
+use std::alloc::Global;
+
+/// One connection at a seat, with its outbox. Its link is lent to each turn.
+#[derive(Drop)]
+pub struct Slot<B: Bell> {
+    pub(crate) connection: Connection,
+    // An entry that found the window full.
+    pub(crate) pending: Option<Pending<B>>,
+    // What comes for the session, once its Open is appended.
+    pub(crate) outbox: Option<OutTaker>,
+    pub(crate) kept: Kept,
+    ghost opened: { number_in connection.progress ≡ None → outbox ≡ None },
+}
+
+impl<B: Bell> Slot<B> {
+    ghost use Rattle.desk_core.specs.Slots.{IsNew};
+
+    /// A connection whose client was not heard yet. No memory is taken.
+    pub fn new(alloc: Global) -> Slot<B>
+        ensures { IsNew result }
+    {
+        Slot {
+            connection: Connection::new(alloc),
+            pending: None,
+            outbox: None,
+            kept: Kept::Nothing,
+        }
+    }
+}

@@ -1,0 +1,32 @@
+//! What a turn of a connection came to.
+
+use connection_core::Ended;
+
+/// What a turn of a connection came to, and what it waits for.
+#[derive(Clone, Copy)]
+pub struct Turned {
+    /// A command was put into the ring.
+    pub appended: bool,
+    /// Something came from its client.
+    pub heard: bool,
+    pub next: Next,
+}
+
+/// What a connection waits for before its next turn.
+#[derive(Clone, Copy)]
+pub enum Next {
+    /// Nothing: there may be more to do at once.
+    Go,
+    /// Bytes of its client, or a ring of its bell.
+    Read,
+    /// That its socket takes bytes again. It hears its client no more until then.
+    Write,
+    /// A mark over this one: as many commands of its seat as may are not under it.
+    Room(u64),
+    /// Memory, which was refused.
+    Memory,
+    /// Its peer's close. Where something was heard, there may be more to hear at once.
+    Close,
+    /// It has ended.
+    Over(Ended),
+}

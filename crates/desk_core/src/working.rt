@@ -1,0 +1,89 @@
+//! One connection alone at a seat.
+
+ghost use Rattle.std.specs.Prelude.{◌≡◌, ◌++◌, List, ℕ, option_map};
+ghost use Rattle.claim_core.specs.Counts.{Pair};
+ghost use Rattle.desk_core.specs.Conversations.{IsConversation};
+ghost use Rattle.desk_core.specs.Lives.{Did};
+
+use crate::pacing::Pacing;
+use crate::ringers::Ringers;
+use crate::slot::Slot;
+use crate::turned::{Next, Turned};
+use claim_core::{BrokerRing, BrokerSeat};
+use connection_core::Ended;
+use outbox_core::{Bell, OutSender};
+use std::alloc::Global;
+use ws_core::Link;
+
+/// Serves one connection to its end, or for so many turns, those that its pace held up counted: a desk of one place, whose link may
+/// wait within its calls.
+///
+/// What it appends is one conversation: an Open, then commands of the session whose number is the Open's ticket, and
+/// last, where it comes to that, the session's End. It is what the bytes ask for that the link gave, however they were cut: no
+/// command is left out, and none is put before another.
+pub fn worker<B: Bell, M: Ringers<B>, L: Link, P: Pacing>(
+    alloc: Global,
+    ring: &BrokerRing<OutSender<B>>,
+    seat: &mut BrokerSeat<OutSender<B>>,
+    link: &mut L,
+    ringers: &M,
+    pace: &P,
+    turns: u64,
+) -> Ended
+    requires { seat.old.ring ≡ ring.now }
+    ensures seat { (seat.new.ring ≡ seat.old.ring) × (seat.new.number ≡ seat.old.number) }
+    ensures asked { (more : List Pair) × (seat.new.own ≡ seat.old.own ++ more) × (n : ℕ) × IsConversation n more }
+    ensures did { (more : List Pair) × (seat.new.own ≡ seat.old.own ++ more) × (got : List ℕ)
+        × (L.received link.new ≡ option_map (λ bytes. bytes ++ got) (L.received link.old)) × Did got more }
+{
+    let mut slot = Slot::new(alloc);
+    let ended = slot.run(alloc, ring, seat, link, ringers, pace, turns);
+    drop(slot);
+    ended
+}
+
+impl<B: Bell> Slot<B> {
+    ghost use Rattle.desk_core.specs.Continues.{Continues};
+    ghost use Rattle.desk_core.specs.Lives.{GoesOn};
+
+    // So many turns, or until it has ended.
+    fn run<M: Ringers<B>, L: Link, P: Pacing>(
+        &mut self,
+        alloc: Global,
+        ring: &BrokerRing<OutSender<B>>,
+        seat: &mut BrokerSeat<OutSender<B>>,
+        link: &mut L,
+        ringers: &M,
+        pace: &P,
+        turns: u64,
+    ) -> Ended
+        requires { seat.old.ring ≡ ring.now }
+        ensures continues { Continues self.old.connection.progress seat.old self.new.connection.progress seat.new }
+        ensures lives { GoesOn L.received self.old seat.old link.old self.new seat.new link.new }
+    {
+        let number = seat.number();
+        for turn in 0..turns {
+            if !pace.pass(number, turn) {
+                continue;
+            }
+            let turned = self.turn(alloc, ring, seat, link, ringers);
+            if let Next::Over(ended) = turned.next {
+                return ended;
+            }
+            wait(pace, number, turned);
+        }
+        Ended::Turns
+    }
+}
+
+// Tells the pace of a turn, and leaves it to the pace when the next comes, where the window was found full or memory was refused.
+fn wait<P: Pacing>(pace: &P, worker: u32, turned: Turned) {
+    if turned.appended {
+        pace.appended(worker);
+    }
+    match turned.next {
+        Next::Room(mark) => pace.wait_for_room(worker, mark),
+        Next::Memory => pace.wait_for_memory(worker),
+        _ => {}
+    }
+}
