@@ -1,3 +1,3 @@
-pub mod Faults
+pub mod Bells
+pub mod Handing
 pub mod Serving
-pub mod Streams

@@ -8,8 +8,8 @@ use Rattle.limits_core.specs.declared.TheConstants.{SEATS}
 use Rattle.disk_core.specs.declared.file.FileDisk.{FileDisk}
 use Rattle.flush_core.specs.Flushed.{Flushed}
 use Rattle.hub_core.specs.Hubs.{HubValue, IsWhole}
-use Rattle.server_core.specs.declared.fault.ServeFault.{ServeFault}
-use Rattle.server_core.specs.declared.fault.ServeFault.TheVariants.{Output, Flushing}
+use Rattle.serve_faults.specs.declared.fault.ServeFault.{ServeFault}
+use Rattle.serve_faults.specs.declared.fault.ServeFault.TheVariants.{Output, Flushing}
 
 -- The port; the ring at which all meet; the seats that no worker has yet; and the flusher.
 pub record ServerValue : Type 0 where

@@ -1,39 +1,46 @@
-//! What wakes a worker that waits for its socket.
+//! What wakes a worker that waits for its sockets.
 
-ghost use Rattle.std.specs.Prelude.{◌≡◌, IfOk};
-ghost use Rattle.std.specs.Arc.{arc_value};
-ghost use Rattle.server_core.specs.Streams.{rung_by};
+ghost use Rattle.std.specs.Prelude.{◌≡◌, ◌+◌, IfOk, OnOk, length};
+ghost use Rattle.server_core.specs.Bells.{reach_of};
+ghost use Rattle.clients_core.specs.declared.clients.TheConstants.{CLIENTS};
 
-use hub_core::Ringers;
+use clients_core::CLIENTS;
 use mio::{Registry, Token, Waker};
-use outbox_core::Bell;
-use std::alloc::AllocError;
+use std::alloc::{AllocError, Global};
 use std::io;
-use std::sync::Arc;
 use std::sync::atomic::{AtomicBool, Ordering};
 
-/// Ends the wait of one worker. A ring is never lost: one that comes while the worker is awake keeps it from falling asleep
-/// once. Only a ring of a sleeping worker costs a call of the system.
+/// Ends the wait of one worker, and says for which of its clients.
+///
+/// No ring is lost. A call raises its client's flag, then says that there was a ring, then looks whether the worker sleeps;
+/// the worker says that it sleeps, then looks whether there was a ring, and once it is awake takes the ring back before it
+/// looks at the flags. All of these steps stand in one order. So a call whose flag the worker has not seen comes to its
+/// second step after the worker took the ring back: the worker finds that ring before it sleeps the next time, or else has
+/// said by then that it sleeps, and is woken. Only a ring of a sleeping worker costs a call of the system.
+///
+/// A number that was a client's and is another's by now may still be called for the one that is gone. Then the other gets a
+/// turn in which it finds nothing.
 #[derive(Drop)]
 pub struct Doorbell {
     waker: Waker,
     asleep: AtomicBool,
     rung: AtomicBool,
-    // Whether an outbox was to have a rope to it, which it is once its client has opened a session.
-    wanted: AtomicBool,
-    // Whether the worker has begun to close the connection.
-    closing: AtomicBool,
+    // Whether a client was called for since the worker looked, by the clients' numbers.
+    calls: Vec<AtomicBool>,
 }
 
 impl Doorbell {
     /// The doorbell of the one who waits for what is registered there.
-    pub(crate) fn new(registry: &Registry, token: Token) -> io::Result<Doorbell> {
+    pub(crate) fn new(alloc: Global, registry: &Registry, token: Token) -> io::Result<Doorbell>
+        ensures { IfOk result (λ bell. reach_of bell ≡ CLIENTS) }
+    {
+        let mut calls = Vec::new(alloc);
+        hang(&mut calls)?;
         Ok(Doorbell {
             waker: Waker::new(registry, token)?,
             asleep: AtomicBool::new(false),
             rung: AtomicBool::new(false),
-            wanted: AtomicBool::new(false),
-            closing: AtomicBool::new(false),
+            calls,
         })
     }
 
@@ -45,68 +52,42 @@ impl Doorbell {
         }
     }
 
+    /// Rings for that client.
+    pub(crate) fn call(&self, client: usize) {
+        if client < self.calls.len() {
+            self.calls[client].store(true, Ordering::SeqCst);
+        }
+        self.ring();
+    }
+
+    /// Whether that client was called for since this was asked last.
+    pub(crate) fn takes_call(&self, client: usize) -> bool {
+        if client >= self.calls.len() || !self.calls[client].load(Ordering::SeqCst) {
+            return false;
+        }
+        self.calls[client].swap(false, Ordering::SeqCst)
+    }
+
     /// Says that the worker is about to wait, and answers whether it may: it may not where the bell was rung since it last
-    /// woke. It has to look whether there is something for it then.
+    /// woke.
     pub(crate) fn falls_asleep(&self) -> bool {
         self.asleep.store(true, Ordering::SeqCst);
-        // A ring before this is seen here, and a ring after it sees that the worker is asleep.
         !self.rung.load(Ordering::SeqCst)
     }
 
-    /// Says that the worker is awake, and answers whether the bell was rung: it has to look then whether there is something
-    /// for it, whatever else it woke for.
+    /// Says that the worker is awake, and answers whether the bell was rung: it has to look then for whom.
     pub(crate) fn wakes_up(&self) -> bool {
         self.asleep.store(false, Ordering::SeqCst);
         self.rung.swap(false, Ordering::SeqCst)
     }
-
-    /// Whether the worker's client has opened a session, or was about to.
-    pub(crate) fn has_session(&self) -> bool {
-        self.wanted.load(Ordering::SeqCst)
-    }
-
-    /// Whether the worker has begun to close the connection.
-    pub(crate) fn is_closing(&self) -> bool {
-        self.closing.load(Ordering::SeqCst)
-    }
 }
 
-/// What rings a doorbell from afar: the outbox of a worker's session has one.
-#[derive(Drop)]
-pub struct BellRope(Arc<Doorbell>);
-
-impl BellRope {
-    /// One that rings that doorbell. No memory is taken.
-    pub(crate) fn new(bell: Arc<Doorbell>) -> BellRope
-        ensures { rung_by result ≡ arc_value bell }
-    {
-        BellRope(bell)
+// Adds a flag for each client.
+fn hang(calls: &mut Vec<AtomicBool>) -> Result<(), AllocError>
+    ensures { OnOk result (length calls.new.items ≡ length calls.old.items + CLIENTS) }
+{
+    for _client in 0..CLIENTS {
+        calls.push(AtomicBool::new(false))?;
     }
-
-    /// Another rope to the same doorbell.
-    pub(crate) fn another(&self) -> Result<BellRope, AllocError>
-        ensures { IfOk result (λ rope. rung_by rope ≡ rung_by self.now) }
-    {
-        Ok(BellRope(self.0.clone()?))
-    }
-
-    /// Says that the worker begins to close the connection: its reads have a common deadline from then on.
-    pub(crate) fn begin_closing(&self) {
-        self.0.closing.store(true, Ordering::SeqCst);
-    }
-}
-
-impl Bell for BellRope {
-    fn ring(&self) {
-        self.0.ring();
-    }
-}
-
-impl Ringers<BellRope> for BellRope {
-    fn bell(&self) -> Result<BellRope, AllocError>
-        ensures { IfOk result (λ rope. rung_by rope ≡ rung_by self.now) }
-    {
-        self.0.wanted.store(true, Ordering::SeqCst);
-        Ok(BellRope(self.0.clone()?))
-    }
+    Ok(())
 }

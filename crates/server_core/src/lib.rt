@@ -2,15 +2,18 @@
 
 #![tactic(auto)]
 
+mod door;
 mod doorbell;
-mod fault;
 mod pace;
+mod post;
 mod serving;
-mod socket_link;
-mod socket_stream;
+mod shared;
+mod shift;
+mod station;
 mod teller;
+mod worker;
 
-pub use doorbell::BellRope;
-pub use fault::ServeFault;
-pub use serving::{Server, Worker};
-pub use socket_stream::SocketStream;
+pub use post::BellRope;
+pub use serve_faults::ServeFault;
+pub use serving::{MOST_CLIENTS, Server};
+pub use worker::Worker;

@@ -2,21 +2,19 @@
 
 ghost use Rattle.std.specs.Prelude.{◌≡◌, ◌<◌, ◌≤◌};
 
+use crate::post::Post;
 use crate::teller::{Compaction, Teller};
 use hub_core::Pacing;
 use std::io::Write;
-use std::sync::Wait;
 use std::sync::atomic::{AtomicBool, AtomicU64, Ordering};
+use std::sync::{Arc, Wait};
 use std::thread;
 use std::thread::Parker;
 use std::time::{Clock, Duration};
 
-/// For how many seconds a thread sleeps at most before it looks again. Nothing waits for this to end: whoever sleeps is
-/// woken when there is something to do, and when the flusher has failed.
+/// For how many seconds the flusher sleeps at most before it looks again. Nothing waits for this to end: it is woken when there
+/// is something to do.
 const LONGEST_SLEEP: u64 = 10;
-
-/// For how many milliseconds a worker rests that was refused memory, before it tries again.
-const SHORTAGE: u64 = 20;
 
 /// A turn of the flusher that took so many microseconds was on a slow disk.
 const SLOW: u64 = 2_000;
@@ -38,10 +36,12 @@ fn rest_behind(micros: u64, commands: u64) -> u64
     (micros / 4).min(LONGEST_REST)
 }
 
-/// Has the flusher sleep until a command was put into the ring, and a worker with a full window until the mark has risen or
+/// Has the flusher sleep until a command was put into the ring, and tells workers that wait for the mark once it has risen or
 /// will rise no more.
 ///
-/// No wake is lost, and only a wake of a thread that sleeps costs a call of the system.
+/// No wake is lost, and only a wake of a thread that sleeps costs a call of the system. A worker says that it waits, and then
+/// reads the mark; the flusher raises the mark, and then looks who waits. These steps stand in one order, so one of the two
+/// sees what the other did.
 #[derive(Drop)]
 pub struct Pace<T> {
     rt: T,
@@ -53,6 +53,7 @@ pub struct Pace<T> {
     // greater one.
     mark: AtomicU64,
     waiting: AtomicU64,
+    posts: Vec<Arc<Post>>,
     // When the flusher's turn began, in microseconds of the clock.
     began: AtomicU64,
     // For how many microseconds the flusher rests before its next turn.
@@ -61,14 +62,15 @@ pub struct Pace<T> {
 }
 
 impl<T: Wait> Pace<T> {
-    /// The pace of a server whose mark is this, and which tells so of compactions.
-    pub(crate) fn new(rt: T, mark: u64, teller: Teller) -> Pace<T> {
+    /// The pace of a server whose mark is this, which tells so of compactions, and whose workers have these posts.
+    pub(crate) fn new(rt: T, mark: u64, teller: Teller, posts: Vec<Arc<Post>>) -> Pace<T> {
         Pace {
             rt,
             flusher: Parker::new(),
             took: AtomicBool::new(false),
             mark: AtomicU64::new(mark),
             waiting: AtomicU64::new(0),
+            posts,
             began: AtomicU64::new(0),
             rest: AtomicU64::new(0),
             teller,
@@ -93,19 +95,6 @@ impl<T: Wait> Pace<T> {
         self.flusher.unpark();
     }
 
-    /// Returns once a mark over this one is published, or once none will be; or else when the time is up.
-    fn await_mark(&self, mark: u64) {
-        self.waiting.fetch_add(1, Ordering::SeqCst);
-        let seen = self.mark.load(Ordering::SeqCst);
-        if seen <= mark {
-            // It sleeps only while the word (its lower half) is what was read, so that a mark published since then is not missed.
-            let longest = Duration::from_secs(LONGEST_SLEEP);
-            let low = (seen % 4_294_967_296) as u32;
-            self.mark.park_timeout(&self.rt, low, longest);
-        }
-        self.waiting.fetch_sub(1, Ordering::SeqCst);
-    }
-
     /// Says that the flusher took something, and that the mark is this now.
     fn raise(&self, mark: u64) {
         self.took.store(true, Ordering::SeqCst);
@@ -115,17 +104,42 @@ impl<T: Wait> Pace<T> {
 
     /// Says that no greater mark will be published.
     fn stop(&self) {
-        // Of the two greatest numbers the one that is odd where the mark is even: so the word changes, whatever it was.
-        let last = self.mark.load(Ordering::SeqCst);
-        self.mark.store(u64::MAX - last % 2, Ordering::SeqCst);
+        self.mark.store(u64::MAX, Ordering::SeqCst);
         self.wake_workers();
     }
 
     // Wakes the workers that wait for a greater mark.
     fn wake_workers(&self) {
         if self.waiting.load(Ordering::SeqCst) > 0 {
-            self.mark.wake_all();
+            for post in &self.posts {
+                post.tell_mark();
+            }
         }
+    }
+}
+
+impl<T> Pace<T> {
+    /// The posts of the workers.
+    pub(crate) fn posts(&self) -> &[Arc<Post>] {
+        &self.posts
+    }
+
+    /// The mark that was published last, or a number over every mark once none will be.
+    pub(crate) fn mark(&self) -> u64 {
+        self.mark.load(Ordering::SeqCst)
+    }
+
+    /// Says that this worker waits for a greater mark from now on: it is told of one that is published from then on. It has to
+    /// look at the mark before it sleeps.
+    pub(crate) fn begin_to_wait(&self, post: &Post) {
+        post.await_mark(true);
+        self.waiting.fetch_add(1, Ordering::SeqCst);
+    }
+
+    /// Says that this worker waits no more.
+    pub(crate) fn end_to_wait(&self, post: &Post) {
+        post.await_mark(false);
+        self.waiting.fetch_sub(1, Ordering::SeqCst);
     }
 }
 
@@ -165,14 +179,6 @@ impl<T: Wait + Clock> Pacing for Pace<T> {
 
     fn appended(&self, _worker: u32) {
         self.wake_flusher();
-    }
-
-    fn wait_for_room(&self, _worker: u32, mark: u64) {
-        self.await_mark(mark);
-    }
-
-    fn wait_for_memory(&self, _worker: u32) {
-        thread::sleep(&self.rt, Duration::from_millis(SHORTAGE));
     }
 
     fn published(&self, mark: u64) {

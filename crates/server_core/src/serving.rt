@@ -1,66 +1,50 @@
-//! A server and its workers.
+//! A server.
 
 ghost use Rattle.std.specs.Prelude.{◌≡◌, ◌≢◌, ◌+◌, [], true, length, IfOk, IfErr, OnOk, OnErr, MatchOption};
 ghost use Rattle.std.specs.Arc.{arc_value};
 ghost use Rattle.std.specs.Io.KnownBytes.{Appends};
-ghost use Rattle.std.specs.Net.Tcp.{stream_raw_fd};
-ghost use Rattle.server_core.specs.Faults.{IsNotStarted};
+ghost use Rattle.serve_faults.specs.Faults.{IsNotStarted};
 ghost use Rattle.server_core.specs.Serving.{AreAt, IsReady, IsNewHub, IsOpened, HandsOut, IsEnd, announced};
-ghost use Rattle.server_core.specs.Streams.{bell_of, rung_by, socket_of};
-ghost use Rattle.server_core.specs.declared.fault.ServeFault.TheVariants.{Output};
+ghost use Rattle.serve_faults.specs.declared.fault.ServeFault.TheVariants.{Output};
 
-use crate::doorbell::BellRope;
-use crate::fault::ServeFault;
+use crate::door::Door;
 use crate::pace::Pace;
-use crate::socket_link::SocketLink;
-use crate::socket_stream::SocketStream;
+use crate::post::{BellRope, Post};
+use crate::shared::{ServerRing, ServerSeat, Shared};
+use crate::station::{Station, man};
 use crate::teller::Teller;
-use claim_core::{BrokerRing, BrokerSeat};
+use crate::worker::Worker;
 use disk_core::FileDisk;
 use flush_core::FlushFault;
-use hub_core::{Hub, HubFlusher, flush_loop, worker};
+use hub_core::{Hub, HubFlusher, flush_loop};
 use limits_core::SEATS;
-use outbox_core::OutSender;
+use serve_faults::ServeFault;
 use std::alloc::Global;
 use std::fs::{File, Files};
 use std::io::Write;
 use std::marker::Model;
 use std::net::{Net, TcpListener, TcpStream};
 use std::sync::{Arc, Wait};
+use std::thread;
 use std::thread::Threads;
 use std::time::{Clock, Duration};
-use std::{io, thread};
-use ws_core::WsLink;
 
 type ServerHub = Hub<FileDisk, BellRope>;
 
 type ServerFlusher = HubFlusher<FileDisk, BellRope>;
 
-type ServerRing = BrokerRing<OutSender<BellRope>>;
+// Where clients come in, and the posts of the workers that get them.
+#[derive(Drop)]
+struct Entrance {
+    door: Door,
+    posts: Vec<Arc<Post>>,
+}
 
-type ServerSeat = BrokerSeat<OutSender<BellRope>>;
-
-/// For how many milliseconds a worker rests where a connection was not accepted.
-const REST: u64 = 20;
+/// How many clients a server takes at a time.
+pub const MOST_CLIENTS: u64 = 16_384;
 
 /// How many milliseconds the workers have, once nothing more is acknowledged, to tell their clients that the broker stops.
 const FAREWELL: u64 = 1_000;
-
-/// Where clients come in, and the origins whose pages are served: all, where none is named.
-#[derive(Drop)]
-pub struct Door {
-    listener: TcpListener,
-    origins: Vec<Vec<u8>>,
-}
-
-/// What the threads of a server share.
-#[derive(Drop)]
-pub struct Shared<R> {
-    rt: R,
-    ring: ServerRing,
-    door: Door,
-    pace: Pace<R>,
-}
 
 /// A server whose journal and port are open. It is the flusher, and has the seats of its workers until they are started.
 #[derive(Drop)]
@@ -68,10 +52,13 @@ pub struct Server<R: Drop> {
     shared: Arc<Shared<R>>,
     port: u16,
     seats: Vec<ServerSeat>,
+    // One for each seat.
+    stations: Vec<Station>,
     flusher: ServerFlusher,
 }
 
 impl<R: Drop> Model for Server<R> {
+    ghost use Rattle.std.specs.Prelude.{◌≡◌, length};
     ghost use Rattle.std.specs.Arc.{arc_value};
     ghost use Rattle.server_core.specs.Serving.{ServerValue, IsServer, server};
 
@@ -79,26 +66,7 @@ impl<R: Drop> Model for Server<R> {
 
     ghost view = { λ a. server a.port (arc_value a.shared).ring a.seats.items a.flusher };
 
-    ghost invariant = { λ a. IsServer (server a.port (arc_value a.shared).ring a.seats.items a.flusher) };
-}
-
-/// A worker of a server, which serves one connection after another with a seat of its own.
-#[derive(Drop)]
-pub struct Worker<R: Drop> {
-    shared: Arc<Shared<R>>,
-    seat: ServerSeat,
-}
-
-impl<R: Drop> Model for Worker<R> {
-    ghost use Rattle.std.specs.Prelude.{◌≡◌};
-    ghost use Rattle.std.specs.Arc.{arc_value};
-    ghost use Rattle.server_core.specs.Serving.{WorkerValue};
-
-    ghost Value = { WorkerValue };
-
-    ghost view = { λ a. record { ring = (arc_value a.shared).ring; seat = a.seat } };
-
-    ghost invariant = { λ a. a.seat.ring ≡ (arc_value a.shared).ring };
+    ghost invariant = { λ a. IsServer (server a.port (arc_value a.shared).ring a.seats.items a.flusher) × (length a.stations.items ≡ length a.seats.items) };
 }
 
 impl<R> Server<R>
@@ -107,8 +75,9 @@ where
 {
     /// Opens the journal in a file, whose lock the server has from then on until its flusher is gone, and the port at 127.0.0.1.
     /// Pages of these origins are served alone; where none is named, all are. `File` where the file can't be opened, or another
-    /// server has its lock: nothing of it is read or written then. `Opening` where the journal is refused, and `Port` where the
-    /// port can't be opened: what opening a journal leaves is said there. No lock is kept of a refusal.
+    /// server has its lock: nothing of it is read or written then. `Opening` where the journal is refused, `Port` where the
+    /// port can't be opened, and `Threads` where the system refuses what workers wait by: what opening a journal leaves is said
+    /// there. No lock is kept of a refusal.
     pub fn open(
         alloc: Global,
         rt: &R,
@@ -118,44 +87,40 @@ where
     ) -> Result<Server<R>, ServeFault>
         ensures { IfOk result (IsOpened port) }
     {
-        match open_hub(alloc, rt, path) {
-            Ok(hub) => Server::over(alloc, rt, hub, port, origins),
-            Err(fault) => {
-                drop(origins);
-                Err(fault)
-            }
-        }
+        Server::open_for(alloc, rt, path, port, origins, MOST_CLIENTS)
     }
 
-    // A server over a hub that was just opened.
-    fn over(
+    /// The same of a server that takes so many clients at a time, in place of `MOST_CLIENTS`. One more is told so (503).
+    pub fn open_for(
         alloc: Global,
         rt: &R,
-        hub: ServerHub,
+        path: &str,
         port: u16,
         origins: Vec<Vec<u8>>,
+        most_clients: u64,
     ) -> Result<Server<R>, ServeFault>
-        requires whole { IsNewHub hub }
         ensures { IfOk result (IsOpened port) }
     {
-        match TcpListener::bind(rt, ("127.0.0.1", port)) {
-            Ok(listener) => {
-                let door = Door { listener, origins };
-                Server::listening(alloc, rt, hub, door, port)
-            }
-            Err(refused) => {
-                drop(refused);
+        let hub = match open_hub(alloc, rt, path) {
+            Ok(hub) => hub,
+            Err(fault) => {
                 drop(origins);
+                return Err(fault);
+            }
+        };
+        match Door::open(alloc, rt, port, origins, most_clients) {
+            Ok(door) => Server::behind(alloc, rt, hub, door, port),
+            Err(fault) => {
                 drop(hub);
-                Err(ServeFault::Port)
+                Err(fault)
             }
         }
     }
 }
 
-impl<R: Wait + Clone + Drop> Server<R> {
-    // A server over a hub, which accepts connections there.
-    fn listening(
+impl<R: Net + Wait + Clone + Drop> Server<R> {
+    // A server over a hub that was just opened, which accepts clients there.
+    fn behind(
         alloc: Global,
         rt: &R,
         hub: ServerHub,
@@ -163,6 +128,35 @@ impl<R: Wait + Clone + Drop> Server<R> {
         port: u16,
     ) -> Result<Server<R>, ServeFault>
         requires whole { IsNewHub hub }
+        ensures { IfOk result (IsOpened port) }
+    {
+        let mut stations = Vec::new(alloc);
+        let mut posts = Vec::new(alloc);
+        match man(alloc, rt, &mut stations, &mut posts) {
+            Ok(()) => Server::manned(alloc, rt, hub, Entrance { door, posts }, port, stations),
+            Err(fault) => {
+                drop(stations);
+                drop(posts);
+                drop(hub);
+                drop(door);
+                Err(fault)
+            }
+        }
+    }
+}
+
+impl<R: Wait + Clone + Drop> Server<R> {
+    // The same, with the stations of its workers.
+    fn manned(
+        alloc: Global,
+        rt: &R,
+        hub: ServerHub,
+        entrance: Entrance,
+        port: u16,
+        stations: Vec<Station>,
+    ) -> Result<Server<R>, ServeFault>
+        requires whole { IsNewHub hub }
+        requires count { length stations.items ≡ SEATS }
         ensures { IfOk result (IsOpened port) }
     {
         let mut hub = hub;
@@ -171,41 +165,24 @@ impl<R: Wait + Clone + Drop> Server<R> {
             Ok(()) => {}
             Err(fault) => {
                 drop(seats);
+                drop(stations);
                 drop(hub);
-                drop(door);
+                drop(entrance);
                 return Err(fault);
             }
         }
         let flusher = hub.flusher().unwrap();
-        let ring = hub.into_ring();
-        Server::flushing(alloc, rt, ring, door, port, seats, flusher)
-    }
-
-    // The server, of all its parts.
-    fn flushing(
-        alloc: Global,
-        rt: &R,
-        ring: ServerRing,
-        door: Door,
-        port: u16,
-        seats: Vec<ServerSeat>,
-        flusher: ServerFlusher,
-    ) -> Result<Server<R>, ServeFault>
-        requires ready { IsReady ring flusher }
-        requires seated { AreAt ring seats.items }
-        requires count { length seats.items ≡ SEATS }
-        requires fresh { flusher.seat.taken ≡ [] }
-        ensures { IfOk result (IsOpened port) }
-    {
-        match share(alloc, rt, ring, door, flusher.mark()) {
+        match share(alloc, rt, hub.into_ring(), entrance, flusher.mark()) {
             Ok(shared) => Ok(Server {
                 shared,
                 port,
                 seats,
+                stations,
                 flusher,
             }),
             Err(fault) => {
                 drop(seats);
+                drop(stations);
                 drop(flusher);
                 Err(fault)
             }
@@ -225,30 +202,25 @@ impl<R: Drop> Server<R> {
             Ok(shared) => shared,
             Err(_) => return Err(ServeFault::Memory),
         };
-        match self.seats.pop() {
-            Some(seat) => Ok(Some(Worker { shared, seat })),
-            None => {
-                drop(shared);
-                Ok(None)
-            }
-        }
+        let Some(seat) = self.seats.pop() else {
+            drop(shared);
+            return Ok(None);
+        };
+        let station = self.stations.pop().unwrap();
+        Ok(Some(Worker {
+            shared,
+            seat,
+            station,
+        }))
     }
 }
 
 impl<R> Server<R>
 where
-    R: Threads
-        + Net<Listener = TcpListener, Stream = TcpStream>
-        + Wait
-        + Clock
-        + Clone
-        + Drop
-        + Send
-        + Sync
-        + 'static,
+    R: Threads + Wait + Clock + Clone + Drop + Send + Sync + 'static,
 {
-    /// Starts all workers, each in a thread of its own. `Threads` where the system starts no more, and `Memory` where that is
-    /// refused: those that were started go on.
+    /// Starts all workers, each in a thread of its own, and a thread that accepts clients and hands them to workers. `Threads`
+    /// where the system starts no more, and `Memory` where that is refused: those that were started go on.
     pub fn start_workers(&mut self, rt: &R, alloc: Global) -> Result<(), ServeFault>
         ensures all { OnOk result (self.new.seats ≡ []) }
         ensures same { self.new ≡ record self.old { seats = self.new.seats } }
@@ -257,7 +229,18 @@ where
         for _seat in 0..self.seats.len() {
             start_worker(rt, alloc, self)?;
         }
-        Ok(())
+        self.start_accepting(rt)
+    }
+
+    // Starts the thread that accepts clients.
+    fn start_accepting(&self, rt: &R) -> Result<(), ServeFault>
+        ensures { IfErr result IsNotStarted }
+    {
+        let shared = self.shared.clone().map_err(|_| ServeFault::Memory)?;
+        match thread::spawn(rt, move || shared.accept_all()) {
+            Ok(_) => Ok(()),
+            Err(_) => Err(ServeFault::Threads),
+        }
     }
 
     /// Starts the thread that tells an operator of each compaction of the journal, a line each: the bytes that it won, and the
@@ -297,47 +280,28 @@ impl<R: Wait + Clock + Drop> Server<R> {
         ServeFault::Flushing(flush(alloc, &self.shared, &mut self.flusher))
     }
 
-    /// Ends the server: outboxes, disk and lock go with the flusher, which wakes the workers that wait for their sockets; those that
-    /// waited for the mark were woken by the failed step. All have a second to tell their clients that the broker stops.
+    /// Ends the server: outboxes, disk and lock go with the flusher, which calls the workers for each client that has a session;
+    /// those that waited for the mark were woken by the failed step. All have a second to tell their clients that the broker stops.
     pub fn close(self) {
         let Server {
             shared,
             port: _,
             seats,
+            stations,
             flusher,
         } = self;
         drop(flusher);
         thread::sleep(&shared.rt, Duration::from_millis(FAREWELL));
         drop(shared);
         drop(seats);
-    }
-}
-
-impl<R: Net + Wait + Clock + Clone + Drop> Worker<R> {
-    /// Accepts a connection, serves it to its end, and accepts the next. It does not return.
-    pub fn run(self, alloc: Global) {
-        let Worker { shared, mut seat } = self;
-        for _connection in shared.rt.forever() {
-            match shared.door.listener.accept() {
-                Ok((socket, _)) => serve_one(alloc, &shared, &mut seat, socket),
-                Err(_) => thread::sleep(&shared.rt, Duration::from_millis(REST)),
-            }
-        }
+        drop(stations);
     }
 }
 
 // Starts the next worker, if there is one.
 fn start_worker<R>(rt: &R, alloc: Global, server: &mut Server<R>) -> Result<(), ServeFault>
 where
-    R: Threads
-        + Net<Listener = TcpListener, Stream = TcpStream>
-        + Wait
-        + Clock
-        + Clone
-        + Drop
-        + Send
-        + Sync
-        + 'static,
+    R: Threads + Wait + Clock + Clone + Drop + Send + Sync + 'static,
     ensures one { server.old.seats ≢ [] → OnOk result (length server.old.seats ≡ length server.new.seats + 1) }
     ensures same { server.new ≡ record server.old { seats = server.new.seats } }
     ensures refused { IfErr result IsNotStarted }
@@ -405,15 +369,16 @@ fn share<R: Wait + Clone + Drop>(
     alloc: Global,
     rt: &R,
     ring: ServerRing,
-    door: Door,
+    entrance: Entrance,
     mark: u64,
 ) -> Result<Arc<Shared<R>>, ServeFault>
     ensures { IfOk result (λ shared. (arc_value shared).ring ≡ ring) }
 {
+    let Entrance { door, posts } = entrance;
     let teller = Teller::new(alloc)?;
     let mine = rt.clone()?;
     let its = rt.clone()?;
-    let pace = Pace::new(its, mark, teller);
+    let pace = Pace::new(its, mark, teller, posts);
     let shared = Shared {
         rt: mine,
         ring,
@@ -443,42 +408,4 @@ fn flush<R: Wait + Clock + Drop>(
         }
     }
     unreachable!()
-}
-
-// Serves one connection to its end. One whose handshake is refused is dropped, once it was told why.
-fn serve_one<R: Net + Wait + Clock + Clone + Drop>(
-    alloc: Global,
-    shared: &Shared<R>,
-    seat: &mut ServerSeat,
-    socket: TcpStream,
-)
-    requires { seat.old.ring ≡ shared.now.ring }
-    ensures { seat.new.ring ≡ seat.old.ring }
-{
-    let Ok((stream, rope)) = stream_of(alloc, &shared.rt, socket) else {
-        return;
-    };
-    let Ok(link) = WsLink::accept(alloc, stream, shared.door.origins.as_slice()) else {
-        return;
-    };
-    let Ok(mut link) = SocketLink::new(link, &rope) else {
-        return;
-    };
-    let ring = &shared.ring;
-    let _ended = worker(alloc, ring, seat, &mut link, &rope, &shared.pace, u64::MAX);
-}
-
-// The stream of a connection that was just accepted, and what wakes its reader.
-fn stream_of<R: Net + Clock + Clone + Drop>(
-    alloc: Global,
-    rt: &R,
-    socket: TcpStream,
-) -> io::Result<(SocketStream<R>, BellRope)>
-    ensures socket { IfOk result (λ both. socket_of both.0 ≡ stream_raw_fd socket) }
-    ensures bell { IfOk result (λ both. rung_by both.1 ≡ bell_of both.0) }
-{
-    let rt = rt.clone()?;
-    let stream = SocketStream::new(alloc, rt, socket)?;
-    let rope = stream.rope()?;
-    Ok((stream, rope))
 }

@@ -46,6 +46,21 @@ impl<R: Net<Stream = TcpStream> + RandomSource + Clone + Drop> Client<R> {
             }
         }
     }
+
+    /// Whether the next message is a ping. It waits for ten seconds at most.
+    pub fn hears_a_ping(&mut self) -> bool {
+        match self.0.read() {
+            Ok(message) => {
+                let is_ping = matches!(message, Message::Ping(_));
+                drop(message);
+                is_ping
+            }
+            Err(fault) => {
+                drop(fault);
+                false
+            }
+        }
+    }
 }
 
 // Whether a message is a text that begins so.

@@ -1,5 +1,4 @@
-use crate::client::Client;
-use crate::servers::{CONNECT, CONNECTED, fill, opened, serve};
+use crate::servers::{fill, greet, greeted, opened_over, serve};
 use crate::writers::Buffered;
 use server_core::Server;
 use std::alloc::Global;
@@ -14,50 +13,18 @@ const PORT: u16 = 47_629;
 
 const JOURNAL: &str = "server_with_a_crowd";
 
-// How many connections are served at once (README.md).
-const AT_ONCE: usize = 64;
+// Each worker has two clients then, and two workers have three.
+const AT_ONCE: usize = 130;
 
-// A client that is CONNECTED. It waits for ten seconds at most.
-fn greeted(rt: &HostRuntime, alloc: Global) -> Option<Client<HostRuntime>> {
-    match Client::connect(rt, alloc, PORT) {
-        Some(mut client) => {
-            if client.send(alloc, CONNECT) && client.reads(CONNECTED) {
-                Some(client)
-            } else {
-                drop(client);
-                None
-            }
-        }
-        None => None,
-    }
-}
+// An area that has room for the sessions of all.
+const AREA: u64 = 65_536;
 
-// How many of so many clients are CONNECTED, which all stay.
-fn greet(
-    rt: &HostRuntime,
-    alloc: Global,
-    clients: &mut Vec<Client<HostRuntime>>,
-    wanted: usize,
-) -> usize {
-    for count in 0..wanted {
-        match greeted(rt, alloc) {
-            Some(client) => {
-                if clients.push(client).is_err() {
-                    return count;
-                }
-            }
-            None => return count,
-        }
-    }
-    wanted
-}
-
-// The same of the first and of the others, and then the first sends until the server ends.
+// How many clients are CONNECTED at once, which all stay until the first of them has sent until the server ended.
 fn crowd(rt: &HostRuntime, alloc: Global) -> usize {
-    match greeted(rt, alloc) {
+    match greeted(rt, alloc, PORT) {
         Some(mut first) => {
             let mut others = Vec::new(alloc);
-            let count = greet(rt, alloc, &mut others, AT_ONCE - 1);
+            let count = greet(rt, alloc, PORT, &mut others, AT_ONCE - 1);
             let filled = fill(alloc, &mut first);
             drop(others);
             drop(first);
@@ -91,7 +58,7 @@ where
         + Sync
         + 'static,
 {
-    match opened(rt, alloc, JOURNAL, PORT) {
+    match opened_over(rt, alloc, JOURNAL, PORT, AREA) {
         Some(mut server) => {
             let mut written = Buffered::new(alloc);
             let started = server.start_workers(rt, alloc).is_ok();
@@ -104,7 +71,7 @@ where
 }
 
 #[test]
-fn clients_are_served_at_once_up_to_the_limit(rt: HostRuntime) -> Result<(), Fail> {
+fn several_clients_are_served_at_each_desk(rt: HostRuntime) -> Result<(), Fail> {
     let ran = run(&rt, &rt, rt.alloc());
     let _ = fs::remove_file(&rt, JOURNAL);
     assert_eq!(rt; ran, Some((AT_ONCE, true)));

@@ -8,6 +8,8 @@ mod client;
 #[cfg(test)]
 mod crowd_tests;
 #[cfg(test)]
+mod full_tests;
+#[cfg(test)]
 mod handshake_tests;
 #[cfg(test)]
 mod journals;
@@ -16,8 +18,10 @@ mod loopback_tests;
 #[cfg(test)]
 mod opening_tests;
 #[cfg(test)]
+mod quiet_tests;
+#[cfg(test)]
 mod servers;
 #[cfg(test)]
-mod stream_tests;
+mod slow_tests;
 #[cfg(test)]
 mod writers;

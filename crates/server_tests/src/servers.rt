@@ -1,7 +1,7 @@
 //! Servers that run until their journal is full, and what clients say to them.
 
 use crate::client::Client;
-use crate::journals::make_journal;
+use crate::journals::{SMALLEST, make_journal_of};
 use crate::writers::Buffered;
 use flush_core::FlushFault;
 use server_core::{ServeFault, Server};
@@ -24,10 +24,54 @@ pub fn opened<R>(rt: &R, alloc: Global, path: &str, port: u16) -> Option<Server<
 where
     R: Files<File = File> + Net<Listener = TcpListener, Stream = TcpStream> + Wait + Clone + Drop,
 {
-    if !make_journal(rt, alloc, path) {
+    opened_over(rt, alloc, path, port, SMALLEST)
+}
+
+/// The same over a journal of areas of so many bytes.
+pub fn opened_over<R>(rt: &R, alloc: Global, path: &str, port: u16, area: u64) -> Option<Server<R>>
+where
+    R: Files<File = File> + Net<Listener = TcpListener, Stream = TcpStream> + Wait + Clone + Drop,
+{
+    if !make_journal_of(rt, alloc, path, area) {
         return None;
     }
     Server::open(alloc, rt, path, port, Vec::new(alloc)).ok()
+}
+
+/// A client that is CONNECTED. It waits for ten seconds at most.
+pub fn greeted(rt: &HostRuntime, alloc: Global, port: u16) -> Option<Client<HostRuntime>> {
+    match Client::connect(rt, alloc, port) {
+        Some(mut client) => {
+            if client.send(alloc, CONNECT) && client.reads(CONNECTED) {
+                Some(client)
+            } else {
+                drop(client);
+                None
+            }
+        }
+        None => None,
+    }
+}
+
+/// How many of so many clients are CONNECTED, which all stay.
+pub fn greet(
+    rt: &HostRuntime,
+    alloc: Global,
+    port: u16,
+    clients: &mut Vec<Client<HostRuntime>>,
+    wanted: usize,
+) -> usize {
+    for count in 0..wanted {
+        match greeted(rt, alloc, port) {
+            Some(client) => {
+                if clients.push(client).is_err() {
+                    return count;
+                }
+            }
+            None => return count,
+        }
+    }
+    wanted
 }
 
 /// Runs the server until the journal is full, and ends it. Whether it was that.
@@ -42,10 +86,15 @@ pub fn serve<R: Wait + Clock + Drop>(
     matches!(fault, ServeFault::Flushing(FlushFault::Full))
 }
 
-/// Sends until the journal, of two areas of 4,096 bytes, is full: the server ends then.
+/// Sends to a queue until the journal is full, which it is before the queue where its areas are small: the server ends then.
 pub fn fill(alloc: Global, client: &mut Client<HostRuntime>) -> bool {
+    fill_with(alloc, client, SEND)
+}
+
+/// The same with that frame, whose receipt is `r1`.
+pub fn fill_with(alloc: Global, client: &mut Client<HostRuntime>, frame: &str) -> bool {
     for _ in 0..10_000u32 {
-        if !client.send(alloc, SEND) || !client.reads(RECEIPT) {
+        if !client.send(alloc, frame) || !client.reads(RECEIPT) {
             return true;
         }
     }

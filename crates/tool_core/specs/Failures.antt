@@ -9,7 +9,7 @@ use Rattle.area_core.specs.Texts.{format_text}
 use Rattle.disk_core.specs.File.{open_error_text}
 use Rattle.engine_core.specs.FaultTexts.{fault_text}
 use Rattle.journal_files.specs.JournalFiles.{Shows, show_text}
-use Rattle.server_core.specs.Faults.{serve_text}
+use Rattle.serve_faults.specs.Faults.{serve_text}
 use Rattle.broker_core.specs.States.{empty_state}
 use Rattle.engine_core.specs.Runs.{Stops}
 use Rattle.engine_core.specs.declared.fault.ScriptFault.{ScriptFault}

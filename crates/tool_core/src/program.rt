@@ -16,7 +16,7 @@ use clap::error::ErrorKind;
 use disk_core::{FileDisk, MemDisk, OpenError};
 use engine_core::{ScriptFault, run_script};
 use journal_files::{ShowFault, show, show_held};
-use server_core::ServeFault;
+use serve_faults::ServeFault;
 use std::alloc::{AllocError, Global};
 use std::convert::AsStr;
 use std::fs::File;

@@ -1,0 +1,51 @@
+-- For how long a worker waits for a client. All is in milliseconds; where less would be left than nothing, nothing is left.
+use Rattle.std.specs.Prelude.{ℕ, Bool, Option, Some, None, zero, suc, ◌+◌, ◌-◌, ◌*◌, ◌==◌, nat_lt, min, cond}
+use Rattle.clients_core.specs.declared.patience.TheConstants.{LONGEST_PART, LONGEST_GREETING, QUIET, PINGS, LONGEST_WRITE, LONGEST_CLOSE}
+use Rattle.clients_core.specs.declared.patience.Due.{Due}
+use Rattle.clients_core.specs.declared.patience.Due.TheVariants.{GivenUp, Ping, In}
+use Rattle.clients_core.specs.declared.patience.Patience.{Patience}
+use Rattle.clients_core.specs.declared.patience.Phase.{Phase}
+use Rattle.clients_core.specs.declared.patience.Phase.TheVariants.{Greeting, Unopened, Open}
+
+-- what is left of so long since then
+abbrev pub left_of : ℕ → ℕ → ℕ → ℕ
+left_of longest since now = longest - (now - since)
+
+-- the less of that, and of what is left of so long since then, if it has begun
+abbrev pub left_before : ℕ → ℕ → Option ℕ → ℕ → ℕ
+left_before left longest None now = left
+left_before left longest (Some since) now = min left (left_of longest since now)
+
+-- what is left for a client that has come so far: for the next part of its handshake, for its session, and for any answer at all
+abbrev pub left_in : Phase → Patience → ℕ → ℕ
+left_in Greeting p now = min (left_of LONGEST_GREETING p.since now) (left_of LONGEST_PART p.heard now)
+left_in Unopened p now = min (left_of LONGEST_GREETING p.since now) (left_of (QUIET * (PINGS + 1)) p.heard now)
+left_in Open p now = left_of (QUIET * (PINGS + 1)) p.heard now
+
+-- the same with what is left for it to take what is written, and to close
+abbrev pub left : Patience → Phase → ℕ → ℕ
+left p phase now = left_before (left_before (left_in phase p now) LONGEST_WRITE p.held_up now) LONGEST_CLOSE p.parting now
+
+-- after how long the next ping is due, where so many were sent
+abbrev pub next_ping : Patience → ℕ → Option ℕ
+next_ping p now = cond (nat_lt p.pings PINGS) (Some (left_of (QUIET * (p.pings + 1)) p.heard now)) None
+
+-- the same, where nothing waits to be written and no close is waited for
+abbrev pub ping_unless : Option ℕ → Option ℕ → Patience → ℕ → Option ℕ
+ping_unless None None p now = next_ping p now
+ping_unless _ _ p now = None
+
+-- after how long a client is to be sent a ping, once it has its WebSocket
+abbrev pub ping_in : Patience → Phase → ℕ → Option ℕ
+ping_in p Greeting now = None
+ping_in p Unopened now = ping_unless p.held_up p.parting p now
+ping_in p Open now = ping_unless p.held_up p.parting p now
+
+-- what is due where so much is left, and a ping is due after so long
+abbrev pub due_by : ℕ → Option ℕ → Due
+due_by left None = In left
+due_by left (Some ping) = cond (ping == 0) Ping (In (min left ping))
+
+-- A client for which nothing is left is given up.
+abbrev pub due : Patience → Phase → ℕ → Due
+due p phase now = cond (left p phase now == 0) GivenUp (due_by (left p phase now) (ping_in p phase now))

@@ -1,0 +1,54 @@
+//! Why a server does not serve.
+
+use disk_core::OpenError;
+use flush_core::FlushFault;
+use recover_core::OpenFault;
+use std::alloc::AllocError;
+use std::{error, fmt};
+
+/// Why a server was not started, or has ended. A journal that was opened holds all that was acknowledged.
+#[derive(Debug, Drop)]
+pub enum ServeFault {
+    /// The file was not opened: it is missing, or another server has its lock, or the system refuses it.
+    File(OpenError),
+    /// The port was not opened: it is taken, or the system refuses it.
+    Port,
+    /// The journal was not opened.
+    Opening(OpenFault),
+    /// Memory was refused while the server was started.
+    Memory,
+    /// The system starts no more threads.
+    Threads,
+    /// That it listens could not be written.
+    Output,
+    /// A step of the flusher failed: nothing more is acknowledged.
+    Flushing(FlushFault),
+}
+
+/// The text for the user.
+impl fmt::Display for ServeFault {
+    ghost use Rattle.std.specs.Prelude.{Some};
+    ghost use Rattle.serve_faults.specs.Faults.{serve_text};
+
+    ghost output = { λ fault. Some (serve_text fault) };
+
+    fn fmt<W: fmt::Write>(&self, f: &mut fmt::Formatter<W>) -> fmt::Result {
+        match self {
+            ServeFault::File(error) => write!(f, "{error}"),
+            ServeFault::Port => f.write_str("cannot open"),
+            ServeFault::Opening(fault) => write!(f, "{fault}"),
+            ServeFault::Memory => f.write_str("no memory"),
+            ServeFault::Threads => f.write_str("cannot start a thread"),
+            ServeFault::Output => f.write_str("input or output failed"),
+            ServeFault::Flushing(fault) => write!(f, "{fault}"),
+        }
+    }
+}
+
+impl error::Error for ServeFault {}
+
+impl From<AllocError> for ServeFault {
+    fn from(_: AllocError) -> ServeFault {
+        ServeFault::Memory
+    }
+}

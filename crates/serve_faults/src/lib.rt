@@ -1,0 +1,7 @@
+//! Why a server does not serve.
+
+#![tactic(auto)]
+
+mod fault;
+
+pub use fault::ServeFault;

@@ -1,0 +1,39 @@
+//! What the threads of a server share.
+
+use crate::door::Door;
+use crate::pace::Pace;
+use crate::post::BellRope;
+use claim_core::{BrokerRing, BrokerSeat};
+use outbox_core::OutSender;
+use std::sync::Wait;
+use std::time::Clock;
+
+pub(crate) type ServerRing = BrokerRing<OutSender<BellRope>>;
+
+pub(crate) type ServerSeat = BrokerSeat<OutSender<BellRope>>;
+
+/// What the threads of a server share.
+#[derive(Drop)]
+pub struct Shared<R> {
+    pub(crate) rt: R,
+    pub(crate) ring: ServerRing,
+    pub(crate) door: Door,
+    pub(crate) pace: Pace<R>,
+}
+
+impl<R: Wait + Clock> Shared<R> {
+    /// Accepts clients for ever.
+    pub(crate) fn accept_all(&self) {
+        self.door.accept_all(&self.rt, self.pace.posts());
+    }
+}
+
+impl<R: Clock> Shared<R> {
+    /// The moment, in milliseconds of the clock; 0 where it can't be read.
+    pub(crate) fn moment(&self) -> u64 {
+        match self.rt.monotonic() {
+            Ok(time) => u64::try_from(time.as_millis()).unwrap_or(0),
+            Err(_) => 0,
+        }
+    }
+}

@@ -1,0 +1,252 @@
+//! What a worker does: it waits for its clients, and serves them in turn.
+
+ghost use Rattle.std.specs.Prelude.{◌≡◌};
+
+use crate::post::{Arrival, BellRope, Post, Ropes};
+use crate::shared::{ServerSeat, Shared};
+use crate::station::{Room, Station};
+use clients_core::{Clients, Due, Phase, Portions, Standing};
+use hub_core::{Desk, Next, Pacing};
+use mio::net::TcpStream;
+use mio::{Events, Interest, Poll, Token};
+use std::alloc::Global;
+use std::sync::{Arc, Wait};
+use std::time::{Clock, Duration};
+use std::{io, mem};
+use ws_core::{Greeted, Greeting, WsLink};
+
+/// For how many milliseconds a worker waits at most before it looks again. Nothing waits for this to end.
+const LONGEST_SLEEP: u64 = 10_000;
+
+/// How many new clients a worker takes in at most before it serves those that it has.
+const NEW_CLIENTS: u32 = 64;
+
+/// A worker at work: its desk, its clients, and what it waits by.
+#[derive(Drop)]
+pub(crate) struct Shift<'a, R: Drop> {
+    alloc: Global,
+    shared: &'a Shared<R>,
+    post: Arc<Post>,
+    poll: Poll,
+    events: Events<Global>,
+    desk: Desk<BellRope, WsLink<Portions>>,
+    clients: Clients,
+    // The moment of this round, in milliseconds of the clock.
+    now: u64,
+    // Whether a command was put into the ring in this round.
+    appended: bool,
+    ghost at_ring: { desk.seat.ring ≡ shared.now.ring },
+}
+
+impl<'a, R: Wait + Clock + Drop> Shift<'a, R> {
+    /// That of the worker with this seat, this station and this room.
+    pub(crate) fn new(
+        alloc: Global,
+        shared: &'a Shared<R>,
+        seat: ServerSeat,
+        station: Station,
+        room: Room,
+    ) -> Shift<'a, R>
+        requires { seat.ring ≡ shared.now.ring }
+    {
+        let Station { poll, post } = station;
+        let Room { events, clients } = room;
+        let now = shared.moment();
+        Shift {
+            alloc,
+            shared,
+            post,
+            poll,
+            events,
+            desk: Desk::new(alloc, seat),
+            clients,
+            now,
+            appended: false,
+        }
+    }
+
+    /// Waits until there is something to do, and gives each client that is ready one turn.
+    pub(crate) fn round(&mut self) {
+        self.wait();
+        self.look();
+        self.serve();
+    }
+
+    // Waits for its sockets and its bell, unless a client is ready.
+    fn wait(&mut self) {
+        let awaits_mark = self.clients.await_mark();
+        if awaits_mark {
+            self.shared.pace.begin_to_wait(&self.post);
+        }
+        let longest = self.longest_wait();
+        let _ = self
+            .poll
+            .poll(&mut self.events, Some(Duration::from_millis(longest)));
+        if awaits_mark {
+            self.shared.pace.end_to_wait(&self.post);
+        }
+        self.now = self.shared.moment();
+    }
+
+    // For how many milliseconds it may wait. Whoever has something for it from then on, wakes it.
+    fn longest_wait(&self) -> u64 {
+        if self.clients.count_ready() > 0 || !self.post.bell().falls_asleep() {
+            return 0;
+        }
+        // The mark is read once the flusher can see that it is waited for.
+        if self.clients.is_over(self.shared.pace.mark()) {
+            return 0;
+        }
+        let until = self.clients.until();
+        LONGEST_SLEEP.min(until.saturating_sub(self.now).saturating_add(1))
+    }
+
+    // Finds out which of its clients are ready.
+    fn look(&mut self) {
+        self.clients.note(&self.events, self.now);
+        if self.post.bell().wakes_up() {
+            self.hear_calls();
+        }
+        self.clients.let_in(self.shared.pace.mark());
+        self.clients.retry(self.now);
+        self.look_at_timers();
+    }
+
+    // Finds out for whom the bell was rung: new clients, or those that it has.
+    fn hear_calls(&mut self) {
+        for number in 0..self.clients.reach() {
+            if self.post.bell().takes_call(number) {
+                self.clients.wake(number);
+            }
+        }
+        self.take_in();
+    }
+
+    // Takes in the clients that were handed to it. Where there are more, it does not sleep before it has taken in those too.
+    fn take_in(&mut self) {
+        for _client in 0..NEW_CLIENTS {
+            match self.post.next(&self.shared.rt) {
+                Some(arrival) => self.admit(arrival),
+                None => return,
+            }
+        }
+        self.post.bell().ring();
+    }
+
+    // Takes a client in. Where there is no room for it, or the system refuses what it is waited for by, its socket is closed.
+    fn admit(&mut self, arrival: Arrival) {
+        if self.begin(arrival).is_err() {
+            self.post.leaves();
+        }
+    }
+
+    fn begin(&mut self, arrival: Arrival) -> io::Result<()> {
+        let Some(number) = self.clients.next_number() else {
+            drop(arrival);
+            return Err(io::Error::from(io::ErrorKind::OutOfMemory));
+        };
+        let Arrival { socket, is_full } = arrival;
+        socket.set_nodelay(true)?;
+        socket.set_nonblocking(true)?;
+        let mut stream = TcpStream::from_std(socket);
+        let interests = Interest::READABLE | Interest::WRITABLE;
+        self.poll
+            .registry()
+            .register(&mut stream, Token(number), interests)?;
+        let (stream, rest) = Portions::new(self.alloc, stream)?;
+        let origins = self.shared.door.origins.clone()?;
+        let greeting = if is_full {
+            Greeting::full(self.alloc, stream, origins)
+        } else {
+            Greeting::new(self.alloc, stream, origins)
+        };
+        self.clients.admit(greeting, rest, self.now)?;
+        Ok(())
+    }
+
+    // Does what is due of clients.
+    fn look_at_timers(&mut self) {
+        for _due in 0..self.clients.reach() {
+            match self.clients.take_due(self.now) {
+                Some(number) => self.come_due(number),
+                None => return,
+            }
+        }
+    }
+
+    fn come_due(&mut self, number: usize) {
+        let Some(client) = self.clients.get(number) else {
+            return;
+        };
+        let place = client.place();
+        let phase = match place {
+            Some(place) if self.desk.is_open(place) => Phase::Open,
+            Some(_) => Phase::Unopened,
+            None => Phase::Greeting,
+        };
+        match (self.clients.come_due(number, phase, self.now), place) {
+            (Due::Ping, Some(place)) => self.desk.ping(place),
+            (Due::GivenUp, Some(place)) => {
+                self.desk.lose(place);
+                self.clients.wake(number);
+            }
+            (Due::GivenUp, None) => self.leave(number),
+            _ => {}
+        }
+    }
+
+    // Gives each client that stands in line now one turn.
+    fn serve(&mut self) {
+        for _client in 0..self.clients.count_ready() {
+            match self.clients.next() {
+                Some((number, Standing::Seated(place))) => self.turn(number, place),
+                Some((number, Standing::Greeting(greeting))) => self.greet(number, greeting),
+                Some((_, Standing::Away)) => {}
+                None => break,
+            }
+        }
+        if mem::take(&mut self.appended) {
+            self.shared.pace.appended(0);
+        }
+    }
+
+    // Gives a client at the desk a turn.
+    fn turn(&mut self, number: usize, place: usize) {
+        let ropes = Ropes {
+            post: &self.post,
+            client: number,
+        };
+        let Some(turned) = self.desk.turn(self.alloc, &self.shared.ring, place, &ropes) else {
+            return;
+        };
+        self.appended |= turned.appended;
+        match turned.next {
+            Next::Over(_) => {
+                drop(self.desk.dismiss(place));
+                self.leave(number);
+            }
+            _ => self.clients.settle(number, turned, self.now),
+        }
+    }
+
+    // Goes on with a client's handshake. Once it has its WebSocket, it sits at the desk.
+    fn greet(&mut self, number: usize, greeting: Greeting<Portions>) {
+        match greeting.greet(self.alloc) {
+            Greeted::Waits(greeting) => self.clients.stand(number, Standing::Greeting(greeting)),
+            Greeted::Accepted(link) => match self.desk.admit(self.alloc, link) {
+                Ok(place) => {
+                    self.clients.stand(number, Standing::Seated(place));
+                    self.clients.wake(number);
+                }
+                Err(_) => self.leave(number),
+            },
+            Greeted::Refused(_) | Greeted::Failed(_) => self.leave(number),
+        }
+    }
+
+    // Lets a client go.
+    fn leave(&mut self, number: usize) {
+        self.clients.remove(number);
+        self.post.leaves();
+    }
+}
