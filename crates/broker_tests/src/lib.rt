@@ -10,6 +10,8 @@ mod durable_tests;
 #[cfg(test)]
 mod parts_tests;
 #[cfg(test)]
+mod refusal_tests;
+#[cfg(test)]
 mod snapshot_tests;
 #[cfg(test)]
 mod tests;

@@ -2,9 +2,12 @@
 
 ghost use Rattle.std.specs.Prelude.{◌≡◌, ◌≤◌, IfSome, IsTrue};
 
-use crate::setups::{OPEN, SMALL_AREA, Setup, TestFlusher, append, open_both, set_up};
+use crate::setups::{
+    MemSetup, OPEN, SMALL_AREA, Setup, TestFlusher, append, formatted, open_both, set_up,
+    set_up_over,
+};
 use broker_core::Broker;
-use disk_core::{Call, FuseDisk, MemDisk};
+use disk_core::{Call, Disk, FuseDisk, MemDisk};
 use flush_core::FlushFault;
 use recover_core::{open, read, stored_broker};
 use snapshot_core::encode_state;
@@ -19,8 +22,8 @@ const ROOMY_AREA: u64 = 262_144;
 // A piece has at most so many bytes.
 const PIECE: u64 = 65_536;
 
-// What a stop may fill unsynced bytes with; none leaves what was there.
-const FILLS: [Option<u8>; 4] = [None, Some(0x00), Some(0x01), Some(0x37)];
+/// What a stop may fill unsynced bytes with; none leaves what was there.
+pub(crate) const FILLS: [Option<u8>; 4] = [None, Some(0x00), Some(0x01), Some(0x37)];
 
 // The first session takes from `/queue/q` as `s`, and acknowledges.
 const SUBSCRIBE: &[u8] = b"\0\0\0\0\0\0\0\0\0\x03\0\0\0\x01s\0\0\0\x08/queue/q\x01\0";
@@ -53,7 +56,7 @@ fn sending(alloc: Global, count: u16) -> Option<Vec<u8>> {
 }
 
 // The first session does that, and a turn makes it durable. What it is sent is let go. Answers whether all that was done.
-fn does(alloc: Global, setup: &mut Setup, record: &[u8]) -> bool
+fn does<D: Disk>(alloc: Global, setup: &mut Setup<D>, record: &[u8]) -> bool
     requires ring { (setup.old.first.ring ≡ setup.old.ring) × (setup.old.flusher.seat.ring ≡ setup.old.ring) }
     requires executed { setup.old.flusher.executed ≡ setup.old.flusher.stored }
     ensures ring { IsTrue result → (setup.new.first.ring ≡ setup.new.ring) × (setup.new.flusher.seat.ring ≡ setup.new.ring) }
@@ -70,7 +73,7 @@ fn does(alloc: Global, setup: &mut Setup, record: &[u8]) -> bool
 }
 
 // It does that so many times.
-fn does_often(alloc: Global, setup: &mut Setup, record: &[u8], times: u32) -> bool
+fn does_often<D: Disk>(alloc: Global, setup: &mut Setup<D>, record: &[u8], times: u32) -> bool
     requires ring { (setup.old.first.ring ≡ setup.old.ring) × (setup.old.flusher.seat.ring ≡ setup.old.ring) }
     requires executed { setup.old.flusher.executed ≡ setup.old.flusher.stored }
     ensures ring { IsTrue result → (setup.new.first.ring ≡ setup.new.ring) × (setup.new.flusher.seat.ring ≡ setup.new.ring) }
@@ -85,17 +88,24 @@ fn does_often(alloc: Global, setup: &mut Setup, record: &[u8], times: u32) -> bo
 }
 
 // Both sessions are open; the first has so many messages of 40,000 bytes, and has acknowledged none.
-fn loaded(alloc: Global, messages: u32) -> Option<Setup>
+fn loaded(alloc: Global, messages: u32) -> Option<MemSetup>
     ensures ring { IfSome result (λ s. (s.first.ring ≡ s.ring) × (s.flusher.seat.ring ≡ s.ring)) }
     ensures executed { IfSome result (λ s. s.flusher.executed ≡ s.flusher.stored) }
 {
-    let record = sending(alloc, 40_000)?;
-    match set_up(alloc, ROOMY_AREA) {
+    match formatted(alloc, ROOMY_AREA) {
+        Some(disk) => loaded_over(alloc, disk, messages),
+        None => None,
+    }
+}
+
+/// Those of the journal of a disk.
+pub(crate) fn loaded_over<D: Disk + Drop>(alloc: Global, disk: D, messages: u32) -> Option<Setup<D>>
+    ensures ring { IfSome result (λ s. (s.first.ring ≡ s.ring) × (s.flusher.seat.ring ≡ s.ring)) }
+    ensures executed { IfSome result (λ s. s.flusher.executed ≡ s.flusher.stored) }
+{
+    match set_up_over(alloc, disk) {
         Some(mut setup) => {
-            if open_both(alloc, &mut setup)
-                && does(alloc, &mut setup, SUBSCRIBE)
-                && does_often(alloc, &mut setup, record.as_slice(), messages)
-            {
+            if open_both(alloc, &mut setup) && load(alloc, &mut setup, messages) {
                 Some(setup)
             } else {
                 drop(setup);
@@ -106,8 +116,26 @@ fn loaded(alloc: Global, messages: u32) -> Option<Setup>
     }
 }
 
-// The state of a broker, as its snapshot spells it.
-fn state_of(alloc: Global, broker: &Broker) -> Option<Vec<u8>> {
+// The first session subscribes, and sends itself so many.
+fn load<D: Disk>(alloc: Global, setup: &mut Setup<D>, messages: u32) -> bool
+    requires ring { (setup.old.first.ring ≡ setup.old.ring) × (setup.old.flusher.seat.ring ≡ setup.old.ring) }
+    requires executed { setup.old.flusher.executed ≡ setup.old.flusher.stored }
+    ensures ring { IsTrue result → (setup.new.first.ring ≡ setup.new.ring) × (setup.new.flusher.seat.ring ≡ setup.new.ring) }
+    ensures executed { IsTrue result → setup.new.flusher.executed ≡ setup.new.flusher.stored }
+{
+    match sending(alloc, 40_000) {
+        Some(record) => {
+            let is_done = does(alloc, setup, SUBSCRIBE)
+                && does_often(alloc, setup, record.as_slice(), messages);
+            drop(record);
+            is_done
+        }
+        None => false,
+    }
+}
+
+/// The state of a broker, as its snapshot spells it.
+pub(crate) fn state_of(alloc: Global, broker: &Broker) -> Option<Vec<u8>> {
     if broker.is_broken()
         || broker.sessions().len() > 1_000
         || broker.subscription_count() > 1_000
@@ -117,16 +145,16 @@ fn state_of(alloc: Global, broker: &Broker) -> Option<Vec<u8>> {
     encode_state(alloc, broker).ok()
 }
 
-// The state that a disk stands for, its sessions included.
-fn stored_state(alloc: Global, disk: &mut MemDisk) -> Option<Vec<u8>> {
+/// The state that a disk stands for, its sessions included.
+pub(crate) fn stored_state(alloc: Global, disk: &mut MemDisk) -> Option<Vec<u8>> {
     match stored_broker(alloc, disk) {
         Ok(broker) => state_of(alloc, &broker),
         Err(_) => None,
     }
 }
 
-// The state with which a disk is opened.
-fn opened_state(alloc: Global, disk: MemDisk) -> Option<Vec<u8>> {
+/// The state with which a disk is opened.
+pub(crate) fn opened_state(alloc: Global, disk: MemDisk) -> Option<Vec<u8>> {
     match open(alloc, disk) {
         Ok(mut store) => match store.broker() {
             Some(broker) => state_of(alloc, &broker),
@@ -314,7 +342,7 @@ fn a_stop_with_any_selector_shows_the_same(rt: HostRuntime) -> Result<(), Fail> 
 }
 
 // The smallest journal, whose session opens and subscribes in one batch, and then sends so many times.
-fn accepted(alloc: Global, sends: u32) -> Option<Setup> {
+fn accepted(alloc: Global, sends: u32) -> Option<MemSetup> {
     let record = sending(alloc, 1_000)?;
     let mut setup = set_up(alloc, SMALL_AREA)?;
     let opened = append(alloc, &setup.ring, &mut setup.first, OPEN);

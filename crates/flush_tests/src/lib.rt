@@ -6,6 +6,10 @@
 #[cfg(test)]
 mod compacting_tests;
 #[cfg(test)]
+mod failing_tests;
+#[cfg(test)]
+mod refusal_tests;
+#[cfg(test)]
 mod setups;
 #[cfg(test)]
 mod step_tests;

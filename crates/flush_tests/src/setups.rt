@@ -1,14 +1,13 @@
 //! Flushers over journals in memory, before whose rings two sessions have seats.
 
 ghost use Rattle.std.specs.Prelude.{◌≡◌, ◌≤◌, ◌+◌, ◌*◌, ◌^◌, IfSome, IsSome, IsTrue, false};
-ghost use Rattle.disk_core.specs.Images.{IsImage};
 ghost use Rattle.recover_core.specs.Standing.{StandFor};
 ghost use Rattle.recover_core.specs.Stores.{disk_of, is_broken, opened_by};
 
 use area_core::format;
 use claim_core::{BrokerRing, BrokerSeat, Refused, Ring};
 use command_core::{Entry, decode};
-use disk_core::MemDisk;
+use disk_core::{Disk, MemDisk};
 use flush_core::{Flusher, Width};
 use outbox_core::{OutSender, Silent};
 use recover_core::{Store, open};
@@ -35,11 +34,13 @@ pub(crate) type TestFlusher<D> = Flusher<D, Silent, TestWidth>;
 
 pub(crate) type MemFlusher = TestFlusher<MemDisk>;
 
+pub(crate) type MemSetup = Setup<MemDisk>;
+
 /// The bytes of the smallest area.
 pub(crate) const SMALL_AREA: u64 = 4_096;
 
-// The disk of an empty journal with areas of so many bytes.
-fn formatted(alloc: Global, area_bytes: u64) -> Option<MemDisk>
+/// The disk of an empty journal with areas of so many bytes.
+pub(crate) fn formatted(alloc: Global, area_bytes: u64) -> Option<MemDisk>
     requires { (4096 ≤ area_bytes) × (area_bytes ≤ 262144) }
 {
     let mut disk = MemDisk::new(alloc, 32 + 2 * area_bytes).ok()?;
@@ -54,19 +55,19 @@ pub(crate) const OPEN: &[u8] = b"\0\0\0\0\0\0\0\0\0\x01\0";
 
 /// The ring before an empty journal, the seats of two sessions, and the flusher.
 #[derive(Drop)]
-pub(crate) struct Setup {
+pub(crate) struct Setup<D: Disk> {
     pub(crate) ring: TestRing,
     pub(crate) first: TestSeat,
     pub(crate) second: TestSeat,
-    pub(crate) flusher: MemFlusher,
+    pub(crate) flusher: TestFlusher<D>,
 }
 
 // That of a journal that was just opened.
-fn begin(alloc: Global, store: Store<MemDisk>) -> Option<Setup>
+fn begin<D: Disk + Drop>(alloc: Global, store: Store<D>) -> Option<Setup<D>>
     requires whole { is_broken store ≡ false }
     requires opened { IsSome (opened_by store) }
     requires small { IfSome (opened_by store) (λ broker. (broker.state.count ≤ 2 ^ 61) × (broker.broken ≡ false)) }
-    requires stands { IfSome (opened_by store) (λ broker. StandFor (IsImage (disk_of store).content (disk_of store).held) broker.state) }
+    requires stands { D.Disk.honest (disk_of store) → IfSome (opened_by store) (λ broker. StandFor (D.Disk.images (disk_of store)) broker.state) }
     ensures ring { IfSome result (λ s. (s.first.ring ≡ s.ring) × (s.second.ring ≡ s.ring) × (s.flusher.seat.ring ≡ s.ring)) }
     ensures executed { IfSome result (λ s. s.flusher.executed ≡ s.flusher.stored) }
 {
@@ -89,17 +90,25 @@ fn begin(alloc: Global, store: Store<MemDisk>) -> Option<Setup>
     }
 }
 
+/// That of the journal of a disk.
+pub(crate) fn set_up_over<D: Disk + Drop>(alloc: Global, disk: D) -> Option<Setup<D>>
+    ensures ring { IfSome result (λ s. (s.first.ring ≡ s.ring) × (s.second.ring ≡ s.ring) × (s.flusher.seat.ring ≡ s.ring)) }
+    ensures executed { IfSome result (λ s. s.flusher.executed ≡ s.flusher.stored) }
+{
+    match open(alloc, disk) {
+        Ok(store) => begin(alloc, store),
+        Err(_) => None,
+    }
+}
+
 /// That of an empty journal with areas of so many bytes.
-pub(crate) fn set_up(alloc: Global, area_bytes: u64) -> Option<Setup>
+pub(crate) fn set_up(alloc: Global, area_bytes: u64) -> Option<MemSetup>
     requires { (4096 ≤ area_bytes) × (area_bytes ≤ 262144) }
     ensures ring { IfSome result (λ s. (s.first.ring ≡ s.ring) × (s.second.ring ≡ s.ring) × (s.flusher.seat.ring ≡ s.ring)) }
     ensures executed { IfSome result (λ s. s.flusher.executed ≡ s.flusher.stored) }
 {
     match formatted(alloc, area_bytes) {
-        Some(disk) => match open(alloc, disk) {
-            Ok(store) => begin(alloc, store),
-            Err(_) => None,
-        },
+        Some(disk) => set_up_over(alloc, disk),
         None => None,
     }
 }
@@ -131,7 +140,7 @@ pub(crate) fn append(
 }
 
 /// Both sessions open, which is a turn of its own.
-pub(crate) fn open_both(alloc: Global, setup: &mut Setup) -> bool
+pub(crate) fn open_both<D: Disk>(alloc: Global, setup: &mut Setup<D>) -> bool
     requires ring { (setup.old.first.ring ≡ setup.old.ring) × (setup.old.second.ring ≡ setup.old.ring) × (setup.old.flusher.seat.ring ≡ setup.old.ring) }
     requires executed { setup.old.flusher.executed ≡ setup.old.flusher.stored }
     ensures ring { IsTrue result → (setup.new.first.ring ≡ setup.new.ring) × (setup.new.second.ring ≡ setup.new.ring) × (setup.new.flusher.seat.ring ≡ setup.new.ring) }

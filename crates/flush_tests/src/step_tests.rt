@@ -1,7 +1,8 @@
 ghost use Rattle.std.specs.Prelude.{◌≡◌, IfSome, IsTrue, true, false};
 
 use crate::setups::{
-    MemFlusher, SMALL_AREA, Setup, TestFlusher, TestRing, TestSeat, append, open_both, set_up,
+    MemFlusher, MemSetup, SMALL_AREA, Setup, TestFlusher, TestRing, TestSeat, append, open_both,
+    set_up,
 };
 use claim_core::{NotYet, Refused};
 use command_core::{Out, connected_reply};
@@ -11,14 +12,15 @@ use std::alloc::{AllocError, Global};
 use std::test::Fail;
 
 // What the two sessions send to `/queue/q` in turn: the last asks for a receipt.
-const FIRST_SEND: &[u8] = b"\0\0\0\0\0\0\0\0\0\x02\0\0\0\x08/queue/q\0\0\0\0\0\x01x";
+pub(crate) const FIRST_SEND: &[u8] = b"\0\0\0\0\0\0\0\0\0\x02\0\0\0\x08/queue/q\0\0\0\0\0\x01x";
 
-const SECOND_SEND: &[u8] = b"\0\0\0\0\0\0\0\x01\0\x02\0\0\0\x08/queue/q\0\0\0\0\0\x01y";
+pub(crate) const SECOND_SEND: &[u8] = b"\0\0\0\0\0\0\0\x01\0\x02\0\0\0\x08/queue/q\0\0\0\0\0\x01y";
 
-const LAST_SEND: &[u8] = b"\0\0\0\0\0\0\0\0\x01\0\0\0\x01r\x02\0\0\0\x08/queue/q\0\0\0\0\0\x01z";
+pub(crate) const LAST_SEND: &[u8] =
+    b"\0\0\0\0\0\0\0\0\x01\0\0\0\x01r\x02\0\0\0\x08/queue/q\0\0\0\0\0\x01z";
 
 // They send in turn.
-fn send_three(alloc: Global, setup: &mut Setup) -> bool
+fn send_three(alloc: Global, setup: &mut MemSetup) -> bool
     requires { (setup.old.first.ring ≡ setup.old.ring) × (setup.old.second.ring ≡ setup.old.ring) }
     ensures seats { (setup.new.first.ring ≡ setup.new.ring) × (setup.new.second.ring ≡ setup.new.ring) }
     ensures same { (setup.new.ring ≡ setup.old.ring) × (setup.new.flusher ≡ setup.old.flusher) }
@@ -30,7 +32,7 @@ fn send_three(alloc: Global, setup: &mut Setup) -> bool
 }
 
 // Two sessions that are open and have sent.
-fn opened(alloc: Global) -> Option<Setup>
+fn opened(alloc: Global) -> Option<MemSetup>
     ensures ring { IfSome result (λ s. (s.first.ring ≡ s.ring) × (s.second.ring ≡ s.ring) × (s.flusher.seat.ring ≡ s.ring)) }
     ensures executed { IfSome result (λ s. s.flusher.executed ≡ s.flusher.stored) }
 {
@@ -110,7 +112,7 @@ type Leaving = [Option<Result<u64, NotYet>>; 2];
 struct Sight([u64; 4], Leaving);
 
 // That after so many steps.
-fn see(alloc: Global, setup: &mut Setup, steps: u32) -> Option<Sight>
+fn see(alloc: Global, setup: &mut MemSetup, steps: u32) -> Option<Sight>
     requires ring { (setup.old.first.ring ≡ setup.old.ring) × (setup.old.second.ring ≡ setup.old.ring) × (setup.old.flusher.seat.ring ≡ setup.old.ring) }
     requires executed { setup.old.flusher.executed ≡ setup.old.flusher.stored }
 {
@@ -187,7 +189,7 @@ fn each_step_of_a_turn_does_its_part_alone(rt: HostRuntime) -> Result<(), Fail> 
 }
 
 // How many commands each of two gathers takes, and the mark once both are published.
-fn gather_twice(alloc: Global, setup: &mut Setup) -> Option<[u64; 3]>
+fn gather_twice(alloc: Global, setup: &mut MemSetup) -> Option<[u64; 3]>
     requires ring { (setup.old.first.ring ≡ setup.old.ring) × (setup.old.flusher.seat.ring ≡ setup.old.ring) }
     requires executed { setup.old.flusher.executed ≡ setup.old.flusher.stored }
 {

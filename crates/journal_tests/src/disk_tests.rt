@@ -8,14 +8,19 @@ use std::test::Fail;
 
 const FILLS: [Option<u8>; 4] = [None, Some(0x00), Some(0x01), Some(0x37)];
 
-fn write<D: Disk>(rt: &impl Abort, disk: &mut D, at: u64, bytes: &[u8]) -> Result<(), DeviceFault> {
+pub(crate) fn write<D: Disk>(
+    rt: &impl Abort,
+    disk: &mut D,
+    at: u64,
+    bytes: &[u8],
+) -> Result<(), DeviceFault> {
     let size = disk.size();
     assert!(rt; at <= size && bytes.len() as u64 <= size - at);
     disk.write_at(at, bytes)
 }
 
 // The content of a disk of six bytes.
-fn read<D: Disk>(rt: &impl Abort, disk: &mut D) -> Result<[u8; 6], DeviceFault> {
+pub(crate) fn read<D: Disk>(rt: &impl Abort, disk: &mut D) -> Result<[u8; 6], DeviceFault> {
     let mut bytes = [0xee; 6];
     assert!(rt; disk.size() == 6);
     disk.read_at(0, &mut bytes)?;

@@ -9,3 +9,5 @@ mod area_tests;
 mod call_tests;
 #[cfg(test)]
 mod disk_tests;
+#[cfg(test)]
+mod fail_once_tests;

@@ -10,7 +10,7 @@ use std::alloc::{AllocError, Global};
 use std::test::Fail;
 
 // Streams, the frames that are read of them, and the fault behind these.
-const STREAMS: [(&[u8], &str); 39] = [
+pub const STREAMS: [(&[u8], &str); 39] = [
     (b"", ""),
     // A counted body may have a NUL, and another length ends without one.
     (
@@ -97,8 +97,8 @@ fn pieces_of(alloc: Global, stream: &[u8], size: usize) -> Result<Vec<Vec<u8>>, 
     Ok(pieces)
 }
 
-// The frames, and the fault behind them.
-fn tell_fed(told: &mut String, fed: &Fed) -> Result<(), AllocError> {
+/// The frames, and the fault behind them.
+pub fn tell_fed(told: &mut String, fed: &Fed) -> Result<(), AllocError> {
     for frame in fed.frames.as_slice() {
         tell_frame(told, frame)?;
     }
@@ -181,15 +181,6 @@ fn frames_have_their_limits(rt: HostRuntime) -> Result<(), Fail> {
         drop(stream);
         assert!(rt; is_right?);
     }
-    Ok(())
-}
-
-#[test]
-fn a_million_ends_of_lines_give_nothing(rt: HostRuntime) -> Result<(), Fail> {
-    let stream = filled(rt.alloc(), b"", b"\n", 1_000_000, b"")?;
-    let is_right = is_read(rt.alloc(), stream.as_slice(), 65_536, "");
-    drop(stream);
-    assert!(rt; is_right?);
     Ok(())
 }
 

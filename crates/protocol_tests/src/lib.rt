@@ -9,9 +9,13 @@ mod command_tests;
 #[cfg(test)]
 mod frame_tests;
 #[cfg(test)]
+mod hostile_tests;
+#[cfg(test)]
 mod line_tests;
 #[cfg(test)]
 mod record_tests;
+#[cfg(test)]
+mod refusal_tests;
 #[cfg(test)]
 mod session_tests;
 #[cfg(test)]

@@ -5,10 +5,10 @@ use session_core::Session;
 use std::alloc::{AllocError, Global};
 use std::test::Fail;
 
-const CONNECT: &str = "CONNECT\naccept-version:1.2\n\n\0";
+pub const CONNECT: &str = "CONNECT\naccept-version:1.2\n\n\0";
 
 // Streams of a new session, and what is done for them.
-const NEW: [(&str, &str); 10] = [
+pub const NEW: [(&str, &str); 10] = [
     (
         "STOMP\naccept-version:1.1, 1.2 \nclient-id:c\nreceipt:r\n\n\0",
         "open client c ",
@@ -47,7 +47,7 @@ const NEW: [(&str, &str); 10] = [
 ];
 
 // Streams of an open session, and what is done for them.
-const OPEN: [(&str, &str); 51] = [
+pub const OPEN: [(&str, &str); 51] = [
     // What goes to the broker.
     (
         "SEND\ndestination:/queue/a\nk:v\nreceipt:r\n\nhi\0SEND\ndestination:/topic/t\n\n\0",
@@ -216,8 +216,13 @@ const OPEN: [(&str, &str); 51] = [
     ("BEGIN\n\nx", "end E19 body not allowed close 1002 "),
 ];
 
-// The session hears a piece, and what is done for it is told.
-fn hear(alloc: Global, session: &mut Session, piece: &[u8], told: &mut String) -> Result<(), Fail> {
+/// The session hears a piece, and what is done for it is told.
+pub fn hear(
+    alloc: Global,
+    session: &mut Session,
+    piece: &[u8],
+    told: &mut String,
+) -> Result<(), Fail> {
     let acts = session.feed(alloc, piece)?;
     let done = tell_acts(told, acts.as_slice());
     drop(acts);

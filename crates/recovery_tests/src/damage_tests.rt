@@ -62,7 +62,7 @@ const JOURNAL: [(u64, Patch); 15] = [
     (4_264, Patch::Bytes(SEND)),
 ];
 
-fn journal(rt: &impl Abort, alloc: Global) -> Result<MemDisk, Fail> {
+pub(crate) fn journal(rt: &impl Abort, alloc: Global) -> Result<MemDisk, Fail> {
     let mut disk = MemDisk::new(alloc, SIZE)?;
     for (at, patch) in JOURNAL {
         write_patch(rt, &mut disk, at, patch)?;
@@ -70,7 +70,7 @@ fn journal(rt: &impl Abort, alloc: Global) -> Result<MemDisk, Fail> {
     Ok(disk)
 }
 
-fn bytes_of(rt: &impl Abort, disk: &mut MemDisk) -> Result<[u8; SIZE as usize], Fail> {
+pub(crate) fn bytes_of(rt: &impl Abort, disk: &mut MemDisk) -> Result<[u8; SIZE as usize], Fail> {
     let mut bytes = [0; SIZE as usize];
     assert!(rt; disk.size() == SIZE);
     disk.read_at(0, &mut bytes)?;
@@ -218,45 +218,6 @@ fn each_byte_of_the_frame_counts(rt: HostRuntime) -> Result<(), Fail> {
         turn_over(&rt, &mut disk, at)?;
         let is_told = tells(rt.alloc(), disk, wanted_at(at))?;
         assert!(rt; is_told, "at {at}");
-    }
-    Ok(())
-}
-
-// Where the journal has bytes that are not zero: its header with the first area's front, and the second area.
-const WRITTEN: [(u64, u64); 2] = [(0, 73), (4_128, 4_294)];
-
-// A disk of so many bytes, the first of these, which are the journal's.
-fn cut_to(
-    rt: &impl Abort,
-    alloc: Global,
-    bytes: &[u8; SIZE as usize],
-    size: u64,
-) -> Result<MemDisk, Fail> {
-    let mut cut = MemDisk::new(alloc, size)?;
-    for (from, to) in WRITTEN {
-        let end = to.min(size);
-        if from < end {
-            assert!(rt; cut.size() == size && end <= SIZE);
-            cut.write_at(from, &bytes[from as usize..end as usize])?;
-        }
-    }
-    Ok(cut)
-}
-
-// Each length up to the whole.
-#[test]
-fn a_disk_that_is_cut_is_told(rt: HostRuntime) -> Result<(), Fail> {
-    let mut disk = journal(&rt, rt.alloc())?;
-    let bytes = bytes_of(&rt, &mut disk)?;
-    for size in 0..=SIZE {
-        let wanted = match size {
-            0..=31 => "J1 not a journal",
-            SIZE => "4 3",
-            _ => "J8 disk too small",
-        };
-        let cut = cut_to(&rt, rt.alloc(), &bytes, size)?;
-        let is_told = tells(rt.alloc(), cut, wanted)?;
-        assert!(rt; is_told, "{size} bytes");
     }
     Ok(())
 }

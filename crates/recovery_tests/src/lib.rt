@@ -3,13 +3,21 @@
 #![tactic(auto)]
 
 #[cfg(test)]
+mod any_bytes_tests;
+#[cfg(test)]
+mod count_tests;
+#[cfg(test)]
 mod damage_tests;
+#[cfg(test)]
+mod failing_tests;
 #[cfg(test)]
 mod journals;
 #[cfg(test)]
 mod old_journal_tests;
 #[cfg(test)]
 mod opening_tests;
+#[cfg(test)]
+mod refusal_tests;
 #[cfg(test)]
 mod script_tests;
 #[cfg(test)]

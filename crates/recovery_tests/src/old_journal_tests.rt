@@ -56,7 +56,7 @@ const WRITTEN: [(u64, &[u8]); 12] = [
 // What is left of that once both sessions have ended: nine commands and four deliveries, no session; `reader` of `anna`, for
 // which both messages to `/topic/news` wait again; and in `/queue/jobs` the message of command 6. That of command 5 was
 // refused, and is gone.
-const RESTARTED: &[u8] = b"\0\0\0\0\0\0\0\x09\0\0\0\0\0\0\0\x04\0\0\0\0\
+pub(crate) const RESTARTED: &[u8] = b"\0\0\0\0\0\0\0\x09\0\0\0\0\0\0\0\x04\0\0\0\0\
 \0\0\0\x01\0\0\0\x04anna\0\0\0\x06reader\0\0\0\x0b/topic/news\0\0\0\x02\
 \0\0\0\0\0\0\0\x03\0\0\0\0\0\0\0\x0b/topic/news\0\0\0\0\0\x05first\
 \0\0\0\0\0\0\0\x08\0\0\0\0\0\0\0\x0b/topic/news\0\0\0\0\0\x06second\
@@ -64,7 +64,7 @@ const RESTARTED: &[u8] = b"\0\0\0\0\0\0\0\x09\0\0\0\0\0\0\0\x04\0\0\0\0\
 \0\0\0\0\0\0\0\x06\0\0\0\0\0\0\0\x0b/queue/jobs\0\0\0\0\0\x01y\
 \0\0\0\0";
 
-fn journal(rt: &impl Abort, alloc: Global) -> Result<MemDisk, Fail> {
+pub(crate) fn journal(rt: &impl Abort, alloc: Global) -> Result<MemDisk, Fail> {
     let mut disk = MemDisk::new(alloc, SIZE)?;
     for (at, bytes) in WRITTEN {
         assert!(rt; disk.size() == SIZE && at <= 8_000 && bytes.len() <= 100);

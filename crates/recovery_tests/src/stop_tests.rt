@@ -32,7 +32,7 @@ pub(crate) fn stopped_opening(
 
 // A journal with one block behind the snapshot of the empty state, in the area of that number. Each opening writes into the
 // other area, the first into area 1.
-fn journal_in(alloc: Global, area: u8) -> Result<MemDisk, Fail> {
+pub(crate) fn journal_in(alloc: Global, area: u8) -> Result<MemDisk, Fail> {
     let disk = match area {
         0 => journal_of(alloc, &[])?,
         _ => formatted(alloc)?,
@@ -42,7 +42,7 @@ fn journal_in(alloc: Global, area: u8) -> Result<MemDisk, Fail> {
 
 // The restart of the state after that block: three commands, one delivery, and in `/queue/q` the message of command 1, which
 // was not acknowledged.
-const RESTARTED: &[u8] = b"\0\0\0\0\0\0\0\x03\0\0\0\0\0\0\0\x01\
+pub(crate) const RESTARTED: &[u8] = b"\0\0\0\0\0\0\0\x03\0\0\0\0\0\0\0\x01\
 \0\0\0\0\0\0\0\0\
 \0\0\0\x01\0\0\0\x08/queue/q\
 \0\0\0\x01\0\0\0\0\0\0\0\x01\0\0\0\0\0\0\0\x08/queue/q\0\0\0\0\0\x01x\

@@ -12,6 +12,8 @@ mod durable_tests;
 #[cfg(test)]
 mod file_tests;
 #[cfg(test)]
+mod refusal_tests;
+#[cfg(test)]
 mod start_tests;
 #[cfg(test)]
 mod stream_tests;

@@ -1,0 +1,251 @@
+//! Calls whose memory is refused. In an ordinary run nothing is, and each gives its whole answer; `tests/no_memory.py` has each
+//! growth refused in turn, and reads what these tests say of it.
+
+use broker_core::{Broker, BrokerFault};
+use command_core::{DecodeFault, decode};
+use snapshot_core::{decode_state, encode_state};
+use std::alloc::{AllocError, Global};
+use std::test::Fail;
+
+// What is seen of a call.
+#[derive(Clone, Copy, PartialEq, Eq)]
+enum Seen {
+    // It gave its whole answer.
+    Whole,
+    // It was refused memory, said so, and left what it should.
+    Refused,
+    // Memory was refused before it or behind it.
+    Unseen,
+    // It answered or left something else.
+    Wrong,
+}
+
+// What the script beside the gate reads.
+fn word_of(seen: Seen) -> &'static str {
+    match seen {
+        Seen::Whole => "whole",
+        Seen::Refused => "refused",
+        Seen::Unseen => "unseen",
+        Seen::Wrong => "wrong",
+    }
+}
+
+fn seen_if(is_right: bool, seen: Seen) -> Seen {
+    if is_right { seen } else { Seen::Wrong }
+}
+
+// Commands, and how many outputs each gives: `anna` opens a session; she listens to a topic under a durable name, and to a queue;
+// a message goes to each and is handed out; she refuses the first, which is kept, and is told so; a transaction sends another,
+// which is handed out, and acknowledges the second; what she has of the queue goes back as she leaves it; and her session ends.
+const COMMANDS: [(&[u8], usize); 9] = [
+    (b"\0\0\0\0\0\0\0\0\0\x01\x01\0\0\0\x04anna", 1),
+    (
+        b"\0\0\0\0\0\0\0\0\0\x03\0\0\0\x01d\0\0\0\x08/topic/t\x01\x01\0\0\0\x01n",
+        0,
+    ),
+    (
+        b"\0\0\0\0\0\0\0\0\0\x03\0\0\0\x01s\0\0\0\x08/queue/q\x01\0",
+        0,
+    ),
+    (
+        b"\0\0\0\0\0\0\0\0\0\x02\0\0\0\x08/queue/q\0\0\0\0\0\x01x",
+        1,
+    ),
+    (
+        b"\0\0\0\0\0\0\0\0\0\x02\0\0\0\x08/topic/t\0\0\0\0\0\x01y",
+        1,
+    ),
+    (b"\0\0\0\0\0\0\0\0\x01\0\0\0\x01r\x06\0\0\0\0\0\0\0\0", 1),
+    (
+        b"\0\0\0\0\0\0\0\0\0\x07\0\x02\x02\0\0\0\x08/queue/q\0\0\0\0\0\x01z\x05\0\0\0\0\0\0\0\x01",
+        1,
+    ),
+    (b"\0\0\0\0\0\0\0\0\0\x04\x01\0\0\0\x01s\0", 0),
+    (b"\0\0\0\0\0\0\0\0\0\x09\0", 0),
+];
+
+// Whether a broker that was refused memory holds nothing but its count, and stays so.
+fn has_broken(alloc: Global, broker: &mut Broker, count: u64) -> bool {
+    let holds_nothing = broker.is_broken() && broker.held().messages == 0;
+    let again = matches!(broker.restart(alloc), Err(BrokerFault::Broken));
+    holds_nothing && again && broker.count() == count
+}
+
+fn step_one(alloc: Global, broker: &mut Broker, record: &[u8], outputs: usize) -> Seen {
+    let count = broker.count();
+    if count >= 1 << 62 {
+        return Seen::Wrong;
+    }
+    match decode(alloc, record) {
+        Ok((command, _)) => match broker.step(alloc, command) {
+            Ok(outs) => seen_if(outs.len() == outputs, Seen::Whole),
+            Err(BrokerFault::Memory(_)) => seen_if(has_broken(alloc, broker, count), Seen::Refused),
+            Err(BrokerFault::Broken) => Seen::Wrong,
+        },
+        Err(DecodeFault::Memory(_)) => Seen::Unseen,
+        Err(DecodeFault::NoSpelling) => Seen::Wrong,
+    }
+}
+
+// Two messages are held then: `x` of the dead ones, and `z`. Three were handed out.
+fn step_all(alloc: Global) -> Seen {
+    let mut broker = Broker::new(alloc);
+    let mut seen = Seen::Whole;
+    for (record, outputs) in COMMANDS {
+        if seen == Seen::Whole {
+            seen = step_one(alloc, &mut broker, record, outputs);
+        }
+    }
+    let ends = (
+        broker.count(),
+        broker.held().messages,
+        broker.next_delivery(),
+    );
+    drop(broker);
+    if seen == Seen::Whole {
+        seen = seen_if(ends == (9, 2, 3), Seen::Whole);
+    }
+    seen
+}
+
+#[test]
+fn a_broker_that_is_refused_memory_holds_nothing_but_its_count(
+    rt: HostRuntime,
+) -> Result<(), Fail> {
+    let seen = step_all(rt.alloc());
+    println!(rt; "{}", word_of(seen))?;
+    assert!(rt; seen != Seen::Wrong);
+    Ok(())
+}
+
+// The snapshot after five commands and one delivery: the session 0 of `anna`; `reader` of `anna`, for which `hi` waits; `x` in
+// `/queue/q`; and two subscriptions of session 0, of which one has `y` unacknowledged.
+const SNAPSHOT: &[u8] = b"\0\0\0\0\0\0\0\x05\0\0\0\0\0\0\0\x01\
+\0\0\0\x01\0\0\0\0\0\0\0\0\x01\0\0\0\x04anna\
+\0\0\0\x01\0\0\0\x04anna\0\0\0\x06reader\0\0\0\x0b/topic/news\
+\0\0\0\x01\0\0\0\0\0\0\0\x03\0\0\0\0\0\0\0\x0b/topic/news\0\x01\0\0\0\x01k\0\0\0\x01v\0\0\0\x02hi\
+\0\0\0\x01\0\0\0\x08/queue/q\
+\0\0\0\x01\0\0\0\0\0\0\0\x02\0\0\0\0\0\0\0\x08/queue/q\0\0\0\0\0\x01x\
+\0\0\0\x02\0\0\0\0\0\0\0\0\0\0\0\x01s\0\0\0\x0b/queue/jobs\x01\0\
+\0\0\0\x01\0\0\0\0\0\0\0\0\0\0\0\0\0\0\0\x01\0\0\0\0\0\0\0\x0b/queue/jobs\0\0\0\0\0\x01y\
+\0\0\0\0\0\0\0\0\0\0\0\x01t\0\0\0\x08/topic/t\0\0\0\0\0\0\0\0\0\0";
+
+// Its restart: no session, and `y` in `/queue/jobs`.
+const RESTARTED: &[u8] = b"\0\0\0\0\0\0\0\x05\0\0\0\0\0\0\0\x01\
+\0\0\0\0\
+\0\0\0\x01\0\0\0\x04anna\0\0\0\x06reader\0\0\0\x0b/topic/news\
+\0\0\0\x01\0\0\0\0\0\0\0\x03\0\0\0\0\0\0\0\x0b/topic/news\0\x01\0\0\0\x01k\0\0\0\x01v\0\0\0\x02hi\
+\0\0\0\x02\0\0\0\x0b/queue/jobs\
+\0\0\0\x01\0\0\0\0\0\0\0\x01\0\0\0\0\0\0\0\x0b/queue/jobs\0\0\0\0\0\x01y\
+\0\0\0\x08/queue/q\
+\0\0\0\x01\0\0\0\0\0\0\0\x02\0\0\0\0\0\0\0\x08/queue/q\0\0\0\0\0\x01x\
+\0\0\0\0";
+
+// The snapshot of a broker, which is whole and small.
+fn snapshot(alloc: Global, broker: &Broker) -> Result<Option<Vec<u8>>, AllocError> {
+    if broker.is_broken()
+        || broker.sessions().len() > 1_000
+        || broker.subscription_count() > 1_000
+    {
+        return Ok(None);
+    }
+    Ok(Some(encode_state(alloc, broker)?))
+}
+
+// Whether that is its snapshot; nothing where memory is refused.
+fn has_snapshot(alloc: Global, broker: &Broker, wanted: &[u8]) -> Option<bool> {
+    match snapshot(alloc, broker) {
+        Ok(Some(bytes)) => {
+            let is_same = bytes.as_slice() == wanted;
+            drop(bytes);
+            Some(is_same)
+        }
+        Ok(None) => Some(false),
+        Err(_) => None,
+    }
+}
+
+fn seen_of(has_snapshot: Option<bool>) -> Seen {
+    match has_snapshot {
+        Some(is_right) => seen_if(is_right, Seen::Whole),
+        None => Seen::Unseen,
+    }
+}
+
+fn restart(alloc: Global, broker: &mut Broker) -> Seen {
+    match broker.restart(alloc) {
+        Ok(()) => seen_of(has_snapshot(alloc, broker, RESTARTED)),
+        Err(BrokerFault::Memory(_)) => seen_if(has_broken(alloc, broker, 5), Seen::Refused),
+        Err(BrokerFault::Broken) => Seen::Wrong,
+    }
+}
+
+fn decode_and_restart(alloc: Global) -> Seen {
+    match decode_state(alloc, SNAPSHOT) {
+        Ok(mut broker) => {
+            let seen = restart(alloc, &mut broker);
+            drop(broker);
+            seen
+        }
+        Err(DecodeFault::Memory(_)) => Seen::Unseen,
+        Err(DecodeFault::NoSpelling) => Seen::Wrong,
+    }
+}
+
+#[test]
+fn a_broker_whose_restart_is_refused_memory_holds_nothing(rt: HostRuntime) -> Result<(), Fail> {
+    let seen = decode_and_restart(rt.alloc());
+    println!(rt; "{}", word_of(seen))?;
+    assert!(rt; seen != Seen::Wrong);
+    Ok(())
+}
+
+fn decode_snapshot(alloc: Global) -> Seen {
+    match decode_state(alloc, SNAPSHOT) {
+        Ok(broker) => {
+            let is_right = broker.count() == 5 && broker.held().messages == 3;
+            drop(broker);
+            seen_if(is_right, Seen::Whole)
+        }
+        Err(DecodeFault::Memory(_)) => seen_if(
+            decode_state(alloc, SNAPSHOT).is_ok(),
+            Seen::Refused,
+        ),
+        Err(DecodeFault::NoSpelling) => Seen::Wrong,
+    }
+}
+
+#[test]
+fn a_snapshot_for_which_memory_is_refused_is_not_called_damaged(
+    rt: HostRuntime,
+) -> Result<(), Fail> {
+    let seen = decode_snapshot(rt.alloc());
+    println!(rt; "{}", word_of(seen))?;
+    assert!(rt; seen != Seen::Wrong);
+    Ok(())
+}
+
+// The snapshot is written again where memory was refused for it.
+fn encode_broker(alloc: Global) -> Seen {
+    match decode_state(alloc, SNAPSHOT) {
+        Ok(broker) => {
+            let first = has_snapshot(alloc, &broker, SNAPSHOT);
+            let again = has_snapshot(alloc, &broker, SNAPSHOT);
+            drop(broker);
+            match (first, again) {
+                (None, again) => seen_if(again == Some(true), Seen::Refused),
+                (Some(is_right), _) => seen_if(is_right, Seen::Whole),
+            }
+        }
+        Err(DecodeFault::Memory(_)) => Seen::Unseen,
+        Err(DecodeFault::NoSpelling) => Seen::Wrong,
+    }
+}
+
+#[test]
+fn a_state_for_whose_snapshot_memory_is_refused_is_whole(rt: HostRuntime) -> Result<(), Fail> {
+    let seen = encode_broker(rt.alloc());
+    println!(rt; "{}", word_of(seen))?;
+    assert!(rt; seen != Seen::Wrong);
+    Ok(())
+}

@@ -1,0 +1,326 @@
+//! A call of the disk fails, alone or with all behind it, while a flusher makes two batches durable or compacts.
+
+ghost use Rattle.std.specs.Prelude.{◌≡◌, ◌≤◌, IfSome, IsTrue};
+
+use crate::compacting_tests::{FILLS, loaded_over, opened_state, state_of, stored_state};
+use crate::setups::{SMALL_AREA, Setup, append, formatted, open_both, set_up, set_up_over};
+use crate::step_tests::{FIRST_SEND, LAST_SEND, SECOND_SEND};
+use claim_core::Refused;
+use disk_core::{Disk, FailOnce, FuseDisk, MemDisk};
+use flush_core::FlushFault;
+use std::alloc::Global;
+use std::process::Abort;
+use std::test::Fail;
+
+// What is seen behind it: whether all was done, whether the flusher is broken, what an append is answered, and the mark, under
+// which every number may have left.
+#[derive(Clone, Copy, Debug, PartialEq, Eq)]
+struct Sight {
+    done: bool,
+    broken: bool,
+    answer: Option<Result<u64, Refused>>,
+    mark: u64,
+}
+
+// Once a call has failed, with that mark.
+fn failed(mark: u64) -> Sight {
+    Sight {
+        done: false,
+        broken: true,
+        answer: Some(Err(Refused::Stopped)),
+        mark,
+    }
+}
+
+// Where none has, and five commands are durable.
+const DONE: Sight = Sight {
+    done: true,
+    broken: false,
+    answer: Some(Ok(5)),
+    mark: 5,
+};
+
+// What is seen of it.
+fn look_at<D: Disk>(alloc: Global, setup: &mut Setup<D>, done: bool) -> Sight
+    requires { setup.old.first.ring ≡ setup.old.ring }
+{
+    let mark = setup.ring.look(&mut setup.first);
+    Sight {
+        done,
+        broken: setup.flusher.is_broken(),
+        answer: append(alloc, &setup.ring, &mut setup.first, FIRST_SEND),
+        mark,
+    }
+}
+
+// Both sessions send in turn, which is one batch, and the first sends once more, which is another. Answers whether that was
+// done or the device failed.
+fn flush_two<D: Disk>(alloc: Global, setup: &mut Setup<D>) -> Option<bool>
+    requires ring { (setup.old.first.ring ≡ setup.old.ring) × (setup.old.second.ring ≡ setup.old.ring) × (setup.old.flusher.seat.ring ≡ setup.old.ring) }
+    requires executed { setup.old.flusher.executed ≡ setup.old.flusher.stored }
+    ensures { IfSome result (λ _. setup.new.first.ring ≡ setup.new.ring) }
+{
+    let x = append(alloc, &setup.ring, &mut setup.first, FIRST_SEND);
+    let y = append(alloc, &setup.ring, &mut setup.second, SECOND_SEND);
+    if x != Some(Ok(2)) || y != Some(Ok(3)) {
+        return None;
+    }
+    match setup.flusher.turn(alloc, &setup.ring) {
+        Ok(2) => {}
+        Err(FlushFault::Device) => return Some(false),
+        _ => return None,
+    }
+    let z = append(alloc, &setup.ring, &mut setup.first, LAST_SEND);
+    if z != Some(Ok(4)) {
+        return None;
+    }
+    match setup.flusher.turn(alloc, &setup.ring) {
+        Ok(1) => Some(true),
+        Err(FlushFault::Device) => Some(false),
+        _ => None,
+    }
+}
+
+// The journal of two open sessions, over a disk of which that call fails.
+fn failing_setup(alloc: Global, call: u64) -> Option<Setup<FailOnce<MemDisk>>>
+    ensures ring { IfSome result (λ s. (s.first.ring ≡ s.ring) × (s.second.ring ≡ s.ring) × (s.flusher.seat.ring ≡ s.ring)) }
+    ensures executed { IfSome result (λ s. s.flusher.executed ≡ s.flusher.stored) }
+{
+    let disk = formatted(alloc, SMALL_AREA)?;
+    match set_up_over(alloc, FailOnce::new(disk, call)) {
+        Some(mut setup) => {
+            if open_both(alloc, &mut setup) {
+                Some(setup)
+            } else {
+                drop(setup);
+                None
+            }
+        }
+        None => None,
+    }
+}
+
+// How many calls are made of its disk until then.
+fn calls_before(alloc: Global) -> Option<u64> {
+    let Setup { flusher, .. } = failing_setup(alloc, u64::MAX)?;
+    Some(flusher.into_disk().made())
+}
+
+// The two batches over a disk of which that call fails.
+fn fail_two(alloc: Global, call: u64) -> Option<(Sight, MemDisk)> {
+    let mut setup = failing_setup(alloc, call)?;
+    match flush_two(alloc, &mut setup) {
+        Some(done) => {
+            let sight = look_at(alloc, &mut setup, done);
+            let Setup { flusher, .. } = setup;
+            Some((sight, flusher.into_disk().into_inner()))
+        }
+        None => {
+            drop(setup);
+            None
+        }
+    }
+}
+
+// The same over a disk of which so many calls pass, and no later one.
+fn fused_setup(alloc: Global, passed: u64) -> Option<Setup<FuseDisk<MemDisk>>>
+    ensures ring { IfSome result (λ s. (s.first.ring ≡ s.ring) × (s.second.ring ≡ s.ring) × (s.flusher.seat.ring ≡ s.ring)) }
+    ensures executed { IfSome result (λ s. s.flusher.executed ≡ s.flusher.stored) }
+{
+    let mut setup = set_up(alloc, SMALL_AREA)?;
+    if !open_both(alloc, &mut setup) {
+        return None;
+    }
+    let Setup {
+        ring,
+        first,
+        second,
+        flusher,
+    } = setup;
+    Some(Setup {
+        ring,
+        first,
+        second,
+        flusher: flusher.fuse(passed),
+    })
+}
+
+fn stop_two(alloc: Global, passed: u64) -> Option<(Sight, MemDisk)> {
+    let mut setup = fused_setup(alloc, passed)?;
+    match flush_two(alloc, &mut setup) {
+        Some(done) => {
+            let sight = look_at(alloc, &mut setup, done);
+            let Setup { flusher, .. } = setup;
+            Some((sight, flusher.into_disk().into_inner()))
+        }
+        None => {
+            drop(setup);
+            None
+        }
+    }
+}
+
+// A block is written and synced, and then its gate is. Where that call of the eight fails, these are seen.
+fn wanted_of(call: u64) -> Sight {
+    match call {
+        0..=3 => failed(2),
+        4..=7 => failed(4),
+        _ => DONE,
+    }
+}
+
+// The snapshots of the states in which both sessions have ended: behind the two Opens; behind the first batch, of which `x`
+// and `y` wait in `/queue/q`; and behind the second, with `z`.
+const OPENS: &[u8] = b"\0\0\0\0\0\0\0\x02\0\0\0\0\0\0\0\0\
+\0\0\0\0\0\0\0\0\0\0\0\0\0\0\0\0";
+
+const FIRST_BATCH: &[u8] = b"\0\0\0\0\0\0\0\x04\0\0\0\0\0\0\0\0\
+\0\0\0\0\0\0\0\0\0\0\0\x01\0\0\0\x08/queue/q\0\0\0\x02\
+\0\0\0\0\0\0\0\x02\0\0\0\0\0\0\0\x08/queue/q\0\0\0\0\0\x01x\
+\0\0\0\0\0\0\0\x03\0\0\0\0\0\0\0\x08/queue/q\0\0\0\0\0\x01y\
+\0\0\0\0";
+
+const BOTH_BATCHES: &[u8] = b"\0\0\0\0\0\0\0\x05\0\0\0\0\0\0\0\0\
+\0\0\0\0\0\0\0\0\0\0\0\x01\0\0\0\x08/queue/q\0\0\0\x03\
+\0\0\0\0\0\0\0\x02\0\0\0\0\0\0\0\x08/queue/q\0\0\0\0\0\x01x\
+\0\0\0\0\0\0\0\x03\0\0\0\0\0\0\0\x08/queue/q\0\0\0\0\0\x01y\
+\0\0\0\0\0\0\0\x04\0\0\0\0\0\0\0\x08/queue/q\0\0\0\0\0\x01z\
+\0\0\0\0";
+
+// Where that call fails and the unsynced bytes are the fill, this is opened: a block is in where its gate was to be written
+// and is 1. Each has the commands under the mark.
+fn left_of(call: u64, fill: Option<u8>) -> &'static [u8] {
+    let is_gate_open = call % 4 >= 2 && fill == Some(1);
+    match (call, is_gate_open) {
+        (0..=3, false) => OPENS,
+        (0..=3, true) | (4..=7, false) => FIRST_BATCH,
+        _ => BOTH_BATCHES,
+    }
+}
+
+// Whether the disk is opened so after a stop that fills its unsynced bytes.
+fn is_opened_as(alloc: Global, disk: MemDisk, fill: Option<u8>, wanted: &[u8]) -> bool {
+    let mut disk = disk;
+    disk.crash(fill);
+    match opened_state(alloc, disk) {
+        Some(state) => {
+            let is_same = state.as_slice() == wanted;
+            drop(state);
+            is_same
+        }
+        None => false,
+    }
+}
+
+// Whether what is seen and left is as it should be where that call of the eight fails.
+fn is_as_wanted(alloc: Global, ran: Option<(Sight, MemDisk)>, call: u64, fill: Option<u8>) -> bool {
+    match ran {
+        Some((sight, disk)) => {
+            let is_left = is_opened_as(alloc, disk, fill, left_of(call, fill));
+            sight == wanted_of(call) && is_left
+        }
+        None => false,
+    }
+}
+
+#[test]
+fn a_call_that_fails_within_two_batches_leaves_all_that_was_released(
+    rt: HostRuntime,
+) -> Result<(), Fail> {
+    let Some(before) = calls_before(rt.alloc()) else {
+        panic!(rt; "no flusher was made")
+    };
+    for turn in 0..36_u64 {
+        let (call, fill) = (turn / 4, FILLS[(turn % 4) as usize]);
+        let ran = fail_two(rt.alloc(), before.saturating_add(call));
+        let is_right = is_as_wanted(rt.alloc(), ran, call, fill);
+        assert!(rt; is_right, "call {call}");
+    }
+    Ok(())
+}
+
+#[test]
+fn a_stop_within_two_batches_leaves_all_that_was_released(rt: HostRuntime) -> Result<(), Fail> {
+    for turn in 0..36_u64 {
+        let (call, fill) = (turn / 4, FILLS[(turn % 4) as usize]);
+        let ran = stop_two(rt.alloc(), call);
+        let is_right = is_as_wanted(rt.alloc(), ran, call, fill);
+        assert!(rt; is_right, "call {call}");
+    }
+    Ok(())
+}
+
+// The bytes of an area that has room for two messages of 40,000 bytes, whose snapshot is written in two pieces.
+const AREA: u64 = 98_304;
+
+// Compacts, and answers whether that was done or the device failed.
+fn compact<D: Disk>(alloc: Global, setup: &mut Setup<D>) -> Option<Sight>
+    requires ring { (setup.old.first.ring ≡ setup.old.ring) × (setup.old.flusher.seat.ring ≡ setup.old.ring) }
+    requires executed { setup.old.flusher.executed ≡ setup.old.flusher.stored }
+{
+    let done = match setup.flusher.compact(alloc, &setup.ring) {
+        Ok(()) => true,
+        Err(FlushFault::Device) => false,
+        Err(_) => return None,
+    };
+    Some(look_at(alloc, setup, done))
+}
+
+// The journal of two open sessions, of which the first has two messages, over a disk of which that call fails.
+fn loaded_setup(alloc: Global, call: u64) -> Option<Setup<FailOnce<MemDisk>>>
+    ensures ring { IfSome result (λ s. (s.first.ring ≡ s.ring) × (s.flusher.seat.ring ≡ s.ring)) }
+    ensures executed { IfSome result (λ s. s.flusher.executed ≡ s.flusher.stored) }
+{
+    let disk = formatted(alloc, AREA)?;
+    loaded_over(alloc, FailOnce::new(disk, call), 2)
+}
+
+fn calls_before_compacting(alloc: Global) -> Option<u64> {
+    let Setup { flusher, .. } = loaded_setup(alloc, u64::MAX)?;
+    Some(flusher.into_disk().made())
+}
+
+// A compaction of which that call fails: what is seen, the state that is compacted, and the disk.
+fn fail_compaction(alloc: Global, call: u64) -> Option<(Sight, Vec<u8>, MemDisk)> {
+    let mut setup = loaded_setup(alloc, call)?;
+    let Some(sight) = compact(alloc, &mut setup) else {
+        return None;
+    };
+    let Setup { flusher, .. } = setup;
+    let state = state_of(alloc, flusher.broker());
+    let disk = flusher.into_disk().into_inner();
+    match state {
+        Some(state) => Some((sight, state, disk)),
+        None => {
+            drop(disk);
+            None
+        }
+    }
+}
+
+// What is seen, and whether a stop with that fill leaves the state as it was.
+fn left_by_compaction(alloc: Global, call: u64, fill: Option<u8>) -> Option<(Sight, bool)> {
+    let (sight, state, mut disk) = fail_compaction(alloc, call)?;
+    disk.crash(fill);
+    let stored = stored_state(alloc, &mut disk);
+    drop(disk);
+    let is_left = matches!(&stored, Some(stored) if stored.as_slice() == state.as_slice());
+    drop(stored);
+    drop(state);
+    Some((sight, is_left))
+}
+
+// The calls are a write for each of two pieces, a sync, the selector's write, and a sync.
+#[test]
+fn a_call_that_fails_within_a_compaction_leaves_the_state(rt: HostRuntime) -> Result<(), Fail> {
+    let Some(before) = calls_before_compacting(rt.alloc()) else {
+        panic!(rt; "no flusher was made")
+    };
+    for turn in 0..24_u64 {
+        let (call, fill) = (turn / 4, FILLS[(turn % 4) as usize]);
+        let seen = left_by_compaction(rt.alloc(), before.saturating_add(call), fill);
+        let wanted = if call < 5 { failed(5) } else { DONE };
+        assert!(rt; seen == Some((wanted, true)), "call {call}");
+    }
+    Ok(())
+}

@@ -1,0 +1,331 @@
+//! Journals of which a byte is any, or that are cut, are read and opened as docs/JOURNAL.md says.
+use crate::damage_tests::{bytes_of, journal as journal_of_three};
+use crate::journals::SIZE;
+use area_core::ReadFault;
+use disk_core::{Disk, MemDisk};
+use recover_core::{OpenFault, open, read};
+use std::alloc::Global;
+use std::process::Abort;
+use std::test::Fail;
+
+// What is told of a disk: how many commands were carried out and how many messages are held, or why it is refused.
+#[derive(Clone, Copy, PartialEq, Eq)]
+pub(crate) enum Told {
+    Holds(u64, u64),
+    NotAJournal,
+    UnknownVersion,
+    TooSmall,
+    Damaged(u64),
+    TooMany,
+    // A failed device, a full journal or no memory: of none of these disks.
+    Other,
+}
+
+fn told_of(fault: &OpenFault) -> Told {
+    match fault {
+        OpenFault::Read(ReadFault::NotAJournal) => Told::NotAJournal,
+        OpenFault::Read(ReadFault::UnknownVersion) => Told::UnknownVersion,
+        OpenFault::Read(ReadFault::TooSmall) => Told::TooSmall,
+        OpenFault::Read(ReadFault::Damaged(place)) => Told::Damaged(*place),
+        OpenFault::CountTooLarge => Told::TooMany,
+        _ => Told::Other,
+    }
+}
+
+fn told_by_read(alloc: Global, disk: &mut MemDisk) -> Told {
+    match read(alloc, disk) {
+        Ok(seen) => Told::Holds(seen.count, seen.held.messages),
+        Err(fault) => told_of(&fault),
+    }
+}
+
+fn told_by_open(alloc: Global, disk: MemDisk) -> Told {
+    match open(alloc, disk) {
+        Ok(mut store) => match store.broker() {
+            Some(broker) => Told::Holds(broker.count(), broker.held().messages),
+            None => Told::Other,
+        },
+        Err((_, fault)) => told_of(&fault),
+    }
+}
+
+// The two versions of the journal of four commands in three blocks, whose second area is live. In the first version its name
+// ends with 1, and both areas begin with 0 in place of 2.
+#[derive(Clone, Copy)]
+enum Version {
+    First,
+    Second,
+}
+
+type Image = [u8; SIZE as usize];
+
+fn image_of(rt: &impl Abort, alloc: Global, version: Version) -> Result<Image, Fail> {
+    let mut disk = journal_of_three(rt, alloc)?;
+    let bytes = bytes_of(rt, &mut disk);
+    drop(disk);
+    let mut image = bytes?;
+    if let Version::First = version {
+        image[7] = b'1';
+        image[32] = 0;
+        image[4_128] = 0;
+    }
+    Ok(image)
+}
+
+// Where images have bytes that are not zero: the header and the first area's front, and the second area.
+const WRITTEN: [(usize, usize); 2] = [(0, 73), (4_128, 4_640)];
+
+// Writes the bytes that the image has from one place up to another, as far as it goes.
+fn write_range(
+    rt: &impl Abort,
+    disk: &mut MemDisk,
+    image: &[u8],
+    from: usize,
+    to: usize,
+) -> Result<(), Fail> {
+    let end = to.min(image.len());
+    if from < end {
+        assert!(rt; disk.size() == image.len() as u64);
+        disk.write_at(from as u64, &image[from..end])?;
+    }
+    Ok(())
+}
+
+// Writes those ranges, and the byte at that place.
+fn write_image(
+    rt: &impl Abort,
+    disk: &mut MemDisk,
+    image: &[u8],
+    place: usize,
+) -> Result<(), Fail> {
+    for (from, to) in WRITTEN {
+        write_range(rt, disk, image, from, to)?;
+    }
+    write_range(rt, disk, image, place, place.saturating_add(1))
+}
+
+// The disk of an image which is zero but for those ranges and the byte at that place.
+fn disk_of(rt: &impl Abort, alloc: Global, image: &[u8], place: usize) -> Result<MemDisk, Fail> {
+    let mut disk = MemDisk::new(alloc, image.len() as u64)?;
+    match write_image(rt, &mut disk, image, place) {
+        Ok(()) => Ok(disk),
+        Err(fail) => {
+            drop(disk);
+            Err(fail)
+        }
+    }
+}
+
+// Whether reading and opening the disk of that image tell that.
+pub(crate) fn tells(
+    rt: &impl Abort,
+    alloc: Global,
+    image: &[u8],
+    place: usize,
+    wanted: Told,
+) -> Result<bool, Fail> {
+    let mut disk = disk_of(rt, alloc, image, place)?;
+    let is_read = told_by_read(alloc, &mut disk) == wanted;
+    Ok(told_by_open(alloc, disk) == wanted && is_read)
+}
+
+// What the journal holds as it is: four commands, of which the last three each leave a message.
+const ALL: Told = Told::Holds(4, 3);
+
+// A number of eight bytes that are zero but for this byte at this place behind the first.
+fn number_of(place: u64, byte: u8) -> u64 {
+    let mut word = [0; 8];
+    if place < 8 {
+        word[place as usize] = byte;
+    }
+    u64::from_be_bytes(word)
+}
+
+// A byte of the header.
+fn told_in_header(at: u64, byte: u8) -> Told {
+    match at {
+        0..=5 => Told::NotAJournal,
+        6 | 7 => Told::UnknownVersion,
+        // Areas that are too short or do not fit.
+        8..=15 => Told::TooSmall,
+        // The area that is not live, as it was formatted.
+        16 if byte % 2 == 0 => Told::Holds(0, 0),
+        _ => ALL,
+    }
+}
+
+// A byte of the live area's front, from its version to the gate behind its snapshot. Behind another count the session that
+// opens is another one than that which sends.
+fn told_in_front(at: u64, byte: u8) -> Told {
+    match at {
+        4_128 if byte == 0 || byte == 2 => ALL,
+        // A snapshot of up to 288 bytes spells no state, and a longer one does not fit.
+        4_135 => Told::Damaged(4_136),
+        4_134 if byte == 1 => Told::Damaged(4_136),
+        4_128..=4_134 => Told::Damaged(4_128),
+        4_136..=4_143 => {
+            let count = number_of(at.saturating_sub(4_136), byte).saturating_add(4);
+            if count > 1 << 61 {
+                Told::TooMany
+            } else {
+                Told::Holds(count, 0)
+            }
+        }
+        // The next delivery is 2^63 at most.
+        4_144 if byte >= 0x80 => Told::Damaged(4_136),
+        4_144..=4_151 => ALL,
+        // One of four lists that has something, for which there are no bytes.
+        4_152..=4_167 => Told::Damaged(4_136),
+        _ => Told::Holds(0, 0),
+    }
+}
+
+// A byte of a block's length: at its last place, none; one, whose record is none; or more than the block has, so that the gate
+// behind it is read as a record. What is longer than the area is told at the length.
+fn told_in_length(at: u64, byte: u8, length: u64, gate: u64) -> Told {
+    match (length.saturating_add(7).saturating_sub(at), byte) {
+        (0, 0) => Told::Damaged(length),
+        (0, 1) => Told::Damaged(length.saturating_add(8)),
+        (0, _) | (1, 1) => Told::Damaged(gate),
+        _ => Told::Damaged(length),
+    }
+}
+
+// A byte of the record of a SEND that begins at that place.
+fn told_in_send(at: u64, byte: u8, record: u64) -> Told {
+    match (at.saturating_sub(record), byte) {
+        // The session is another one, which is not open: the message is not taken.
+        (0..=7, _) => Told::Holds(4, 2),
+        // An Open, which has eleven bytes, and behind it no record.
+        (9, 1) => Told::Damaged(record.saturating_add(11)),
+        // No body, and behind the record a byte that is none.
+        (27, 0) => Told::Damaged(record.saturating_add(28)),
+        // A body of another byte.
+        (28, _) => ALL,
+        _ => Told::Damaged(record),
+    }
+}
+
+// A byte of the blocks, from the first one's length on. What stands behind the last gate is not read where that is closed.
+fn told_in_blocks(at: u64, byte: u8) -> Told {
+    match at {
+        4_169..=4_176 => told_in_length(at, byte, 4_169, 4_217),
+        // The Open, whose session is 0, and which has no receipt and no client's name.
+        4_177..=4_187 => Told::Damaged(4_177),
+        4_188..=4_216 => told_in_send(at, byte, 4_188),
+        4_217 => Told::Holds(2, 1),
+        4_218..=4_225 => told_in_length(at, byte, 4_218, 4_255),
+        4_226..=4_254 => told_in_send(at, byte, 4_226),
+        4_255 => Told::Holds(3, 2),
+        4_256..=4_263 => told_in_length(at, byte, 4_256, 4_293),
+        4_264..=4_292 => told_in_send(at, byte, 4_264),
+        // A block of no bytes.
+        4_293 if byte == 1 => Told::Damaged(4_294),
+        _ => ALL,
+    }
+}
+
+// What is told once the byte at this place is this one, which is not the one that was there. The area that is not live is not
+// read.
+fn told_at(at: u64, byte: u8) -> Told {
+    match at {
+        0..=31 => told_in_header(at, byte),
+        32..=4_127 => ALL,
+        4_128..=4_168 => told_in_front(at, byte),
+        _ => told_in_blocks(at, byte),
+    }
+}
+
+const BYTES: [u8; 3] = [0x00, 0x01, 0xff];
+
+// Whether each of those bytes at this place is told as it should be.
+fn is_told_at(
+    rt: &impl Abort,
+    alloc: Global,
+    image: &mut Image,
+    place: usize,
+) -> Result<bool, Fail> {
+    assert!(rt; place < image.len());
+    let was = image[place];
+    for byte in BYTES {
+        let wanted = if byte == was {
+            ALL
+        } else {
+            told_at(place as u64, byte)
+        };
+        image[place] = byte;
+        if !tells(rt, alloc, &image[..], place, wanted)? {
+            return Ok(false);
+        }
+    }
+    image[place] = was;
+    Ok(true)
+}
+
+// Whether a place is tried: each of the header and of what is used of both areas, and every 29th of the rest.
+fn is_tried(place: usize) -> bool {
+    place < 80 || (place >= 4_096 && place < 4_352) || place % 29 == 0
+}
+
+// The first place where a byte is told otherwise.
+fn first_wrong(rt: &impl Abort, alloc: Global, image: &mut Image) -> Result<Option<usize>, Fail> {
+    for place in 0..SIZE as usize {
+        if is_tried(place) && !is_told_at(rt, alloc, image, place)? {
+            return Ok(Some(place));
+        }
+    }
+    Ok(None)
+}
+
+// Bytes of the journal are set to each of those.
+fn expect_each(rt: &impl Abort, alloc: Global, version: Version) -> Result<(), Fail> {
+    let mut image = image_of(rt, alloc, version)?;
+    let wrong = first_wrong(rt, alloc, &mut image)?;
+    assert_eq!(rt; wrong, None);
+    Ok(())
+}
+
+#[test]
+fn each_byte_of_a_journal_may_be_any(rt: HostRuntime) -> Result<(), Fail> {
+    expect_each(&rt, rt.alloc(), Version::Second)
+}
+
+#[test]
+fn each_byte_of_an_older_journal_may_be_any(rt: HostRuntime) -> Result<(), Fail> {
+    expect_each(&rt, rt.alloc(), Version::First)
+}
+
+// The first size of a disk that is cut to it and tells otherwise: one of fewer than 32 bytes is no journal, and any other one is
+// too small.
+fn first_wrong_size(rt: &impl Abort, alloc: Global, image: &Image) -> Result<Option<usize>, Fail> {
+    for size in 0..SIZE as usize {
+        let wanted = if size < 32 {
+            Told::NotAJournal
+        } else {
+            Told::TooSmall
+        };
+        if !tells(rt, alloc, &image[..size], 0, wanted)? {
+            return Ok(Some(size));
+        }
+    }
+    Ok(None)
+}
+
+fn expect_each_size(rt: &impl Abort, alloc: Global, version: Version) -> Result<(), Fail> {
+    let image = image_of(rt, alloc, version)?;
+    let is_whole = tells(rt, alloc, &image[..], 0, ALL)?;
+    let wrong = first_wrong_size(rt, alloc, &image)?;
+    assert!(rt; is_whole);
+    assert_eq!(rt; wrong, None);
+    Ok(())
+}
+
+#[test]
+fn each_shorter_disk_is_told(rt: HostRuntime) -> Result<(), Fail> {
+    expect_each_size(&rt, rt.alloc(), Version::Second)
+}
+
+#[test]
+fn each_shorter_disk_of_an_older_journal_is_told(rt: HostRuntime) -> Result<(), Fail> {
+    expect_each_size(&rt, rt.alloc(), Version::First)
+}
