@@ -83,6 +83,36 @@ def seconds_to_the_end(client, longest):
     return None
 
 
+def has_neighbours(broker, checks):
+    """one that sends empty fragments as fast as it can, and one that answers a close so, hold up nobody at their workers"""
+    flooder, parting = Client(broker.port).connect(), Client(broker.port).connect()
+    parting.send("DISCONNECT", [("receipt", "bye")])
+    parting.receipt("bye")
+    start = time.monotonic()
+    floods = []
+    for client in (flooder, parting):
+        client.write(fragment(opcode=TEXT))
+        floods.append(Dripping(client, 10_000 * fragment()))
+    # There are 64 workers, so two of these sit where those do.
+    others, longest, unserved = [], 0.0, 0
+    for _ in range(64):
+        begun = time.monotonic()
+        try:
+            others.append(Client(broker.port, timeout=5).connect())
+            others[-1].publish("/topic/none", "x")
+        except TimeoutError:
+            unserved += 1
+        longest = max(longest, time.monotonic() - begun)
+    checks.same("64 others are served", 64 - unserved, 64)
+    checks.check("each within two seconds", longest < 2, longest)
+    floods[1].join(max(0, start + LONGEST_CLOSE + SPARE - time.monotonic()))
+    checks.check(f"the one that was told a close is let go within {LONGEST_CLOSE} seconds", not floods[1].is_alive())
+    for flood in floods:
+        flood.stop()
+    for client in (flooder, parting, *others):
+        client.close()
+
+
 def answers_no_close(broker, checks):
     """one that answers the broker's close with drops of a message is let go once the time for its close is over"""
     for what, data in (("fragments", fragment(b"x")), ("pings", message_bytes(PING, b"x")), ("half a frame", b"\x81")):
@@ -145,4 +175,4 @@ def pings_and_never_reads(broker, checks):
 
 
 if __name__ == "__main__":
-    sys.exit(scenario.run(__doc__, [sends_fragments, answers_its_close, answers_no_close, pings_and_never_reads]))
+    sys.exit(scenario.run(__doc__, [sends_fragments, has_neighbours, answers_its_close, answers_no_close, pings_and_never_reads]))

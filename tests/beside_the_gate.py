@@ -1,11 +1,11 @@
 #!/usr/bin/env python3
-"""Runs all that stands beside the gate over the built program: what it tells and with which status, bin/serve, handshakes, disks that fail, traces
-of its system calls, and the clients. Its last line counts what passed, what failed, and what could not be run for want of a package.
+"""Runs all that stands beside the gate over the built program: what it tells and with which status, bin/serve, handshakes, attackers, disks that fail, refused
+memory, traces of its system calls, and the clients. Its last line counts what passed, what failed, and what could not be run for want of a package.
 
     python3 tests/beside_the_gate.py [PROGRAM] [--kills N] [--only WORD]
 
-PROGRAM is the built program; without it, bin/stompd builds it where that is needed. Needs Python 3; strace for the traces, Chromium and Debian's
-python3-stomp and python3-websocket for two of the clients. It takes some ten minutes, and ends with status 0 only where nothing failed.
+PROGRAM is the built program; without it, bin/stompd builds it where that is needed. Needs Python 3; strace for the traces, `rt` and a C compiler for
+refused memory, Chromium and Debian's python3-stomp and python3-websocket for two of the clients. It takes some thirteen minutes, and ends with status 0 only where nothing failed.
 """
 
 import argparse
@@ -28,8 +28,12 @@ SCRIPTS = [
     "tests/failing_disk.py",
     "tests/handshakes.py",
     "tests/refusals.py",
+    "tests/no_memory.py",
+    "tests/under_attack.py",
+    "tests/soak.py",
     "clients/rooms.py",
     "clients/crowd.py",
+    "clients/crowd_10000.py",
     "clients/slow_reader.py",
     "clients/waiting_queue.py",
     "clients/unread.py",
@@ -46,6 +50,9 @@ SCRIPTS = [
 # These kill the broker so often as is said.
 KILLING = {"clients/kills.py": "--rounds", "clients/compactions.py": "--kills", "clients/migrating.py": "--kills"}
 
+# How else these are run.
+MORE = {"tests/soak.py": ["--minutes", "1"]}
+
 # With this status a script says that it lacks a package.
 LACKS = 2
 
@@ -54,7 +61,7 @@ def words_for(script, program, kills):
     if script.endswith(".sh"):
         return ["sh", TOP / script, program]
     python = DEBIAN_PYTHON if script.endswith("/independent.py") and DEBIAN_PYTHON.exists() else sys.executable
-    more = [KILLING[script], str(kills)] if script in KILLING else []
+    more = [KILLING[script], str(kills)] if script in KILLING else MORE.get(script, [])
     return [python, TOP / script, program, *more]
 
 

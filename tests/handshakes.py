@@ -1,7 +1,8 @@
 #!/usr/bin/env python3
 """Asks a running server for a WebSocket late and in parts: docs/PROTOCOL.md gives a client time between two parts of its
 request, so each is to be accepted. Then clients that never open a session, each in its way, are to be let go once their
-minute is over, and one that has opened its session and says nothing more is to be kept; that takes a minute and a half. Needs
+minute is over, and so is one that has opened its session and answers no ping, once its 80 seconds are; one that answers is to
+be kept. That takes a minute and a half. Needs
 Python 3 alone; the gate does not run it.
 
     python3 tests/handshakes.py [PROGRAM]
@@ -22,9 +23,12 @@ REQUEST = (
     b"GET / HTTP/1.1\r\nHost: localhost\r\nUpgrade: websocket\r\nConnection: Upgrade\r\n"
     b"Sec-WebSocket-Key: dGhlIHNhbXBsZSBub25jZQ==\r\nSec-WebSocket-Version: 13\r\n\r\n"
 )
+CONNECT = b"CONNECT\naccept-version:1.2\n\n\0"
+# One that nobody asked for, which says that the peer is there (RFC 6455, section 5.5.3), masked with zeros.
+PONG = bytes([0x8A, 0x80]) + bytes(4)
 TRIES = 20
-# A minute to open a session, 20 seconds more for a read that waits then, and something for a busy machine.
-LONGEST = 60 + 20 + 10
+# A minute to open a session; 80 seconds for one that has a session and answers no ping; and something for a busy machine.
+LONGEST = 80 + 10
 
 
 def is_accepted(port, pauses):
@@ -67,7 +71,8 @@ def let_go(port):
         "sends its request slowly": (b"", [dribble[place : place + 400] for place in range(0, 8_000, 400)]),
         "has its WebSocket and says no more": (REQUEST, [b""]),
         "sends line ends now and then": (REQUEST, [message(b"\n")] * 50),
-        "has its session": (REQUEST, [message(b"CONNECT\naccept-version:1.2\n\n\0")]),
+        "has its session, and answers no ping": (REQUEST, [message(CONNECT)]),
+        "has its session, and sends a pong now and then": (REQUEST, [message(CONNECT)] + [PONG] * 50),
     }
     ends = dict.fromkeys(ways)
     open_ones = {way: socket.create_connection(("127.0.0.1", port)) for way in ways}
@@ -116,12 +121,13 @@ def main():
                     failed |= accepted < TRIES
                     print(f"handshakes: pauses of {pauses} s: {accepted} of {TRIES} accepted")
                 for way, end in let_go(port).items():
-                    kept = way == "has its session"
+                    kept = way == "has its session, and sends a pong now and then"
                     # A pause of over 20 seconds within the handshake ends it before.
                     failed |= (end is None) != kept
                     failed |= way in ("has its WebSocket and says no more", "sends line ends now and then") and not (
-                        end is not None and 57 <= end
+                        end is not None and 57 <= end <= 70
                     )
+                    failed |= way == "has its session, and answers no ping" and not (end is not None and 77 <= end)
                     told = "kept" if end is None else f"let go after {end:.0f} s"
                     print(f"handshakes: a client that {way}: {told}")
             finally:

@@ -1,0 +1,227 @@
+#!/usr/bin/env python3
+"""A server under attack: while 64 clients at a time stall, flood it or are half open, each kind in its way, others have their receipts, the broker's
+memory stays within what docs/RUNNING.md says, and the place of each attacker is free again when that says so.
+
+    python3 tests/under_attack.py [PROGRAM]
+
+PROGRAM is the built program; without it, bin/stompd. It takes some two and a half minutes, and needs Python 3 alone; half-open clients need `ip`
+and root, since they take a network of the script's own, and are left out where these are missing, which is said.
+
+- 64 attackers of a kind come behind 8 clients that behave. There are 64 workers, so each worker has an attacker then, and each of the 8 has one
+  at its own worker.
+- The 8 send in turn, one SEND with a receipt at a time. What 99 of 100 receipts take is compared with what it took on the same broker
+  without that kind just before: it may be twenty times that and 200 ms more, since this may run beside other work, and the figures are told.
+- A place is free once the server has no descriptor for its connection any more, as /proc/net/tcp tells.
+- Those that stall are all there at once, over one broker; meanwhile those that flood come one kind after another, each over a broker of its own.
+- At the end one shares its worker with a client that sends without end and reads its receipts, as all other workers have one.
+"""
+
+import ctypes
+import dataclasses
+import shutil
+import subprocess
+import sys
+import time
+import traceback
+
+import attackers
+from attackers import BODIES, BUSY, FLOODS, STALLED, UNREAD, Attack, count_of_threads, forget_peak, half_open, is_calm, last_words, memory
+
+import scenario  # noqa: E402
+from stomp_client import Client  # noqa: E402
+
+WORKERS = 64
+COUNT = 64
+OTHERS = 8
+# How many subscribe to what they never read, and how many send to them.
+READERS, WRITERS = 16, 4
+
+# For how many seconds receipts are measured, and how many at least.
+MEASURED = 3
+LEAST = 200
+# For how many seconds they are measured at most, and for how many one is waited for.
+MOST, LONGEST = 10, 5
+# What they may take in an attack, by what they take without: so many times that, and so many seconds more.
+TIMES, MORE = 20, 0.2
+# And where one shares its worker with a client that never waits, by what they take while all other workers have such a client.
+SHARED, SHARED_MORE = 5, 0.02
+
+# For a busy machine: how much later than it is said a place may be free, and how much earlier, since the server counts from what it saw first.
+SPARE, EARLY = 8, 2
+
+# What a connection may have at most, in KiB, without its outbox's messages: the places of the outbox, a message that comes, what one read gives, and
+# what waits to be sent. And a full outbox with the headers of its frames, and what the broker holds, beside what the program has at the beginning.
+CONNECTION = 111 + 128 + 16 + 1_024
+OUTBOX = 50_000
+HELD = 2 * 16_384
+
+CLONE_NEWNET = 0x40000000
+GONE = "10.9.9.9"
+
+
+def own_network():
+    """Gives this process, and all that it starts, a network of its own, of which one address can be taken away. It answers whether it could."""
+    if not shutil.which("ip") or ctypes.CDLL(None).unshare(CLONE_NEWNET):
+        return False
+    steps = ["link set lo up", "link add gone type veth", f"address add {GONE}/32 dev gone", "link set gone up"]
+    return all(subprocess.run(["ip", *step.split()], stderr=subprocess.DEVNULL).returncode == 0 for step in steps)
+
+
+@dataclasses.dataclass
+class Receipts:
+    """What receipts took, in seconds."""
+
+    seconds: list
+
+    def within(self, percent):
+        return sorted(self.seconds)[len(self.seconds) * percent // 100]
+
+    def __str__(self):
+        return f"{self.within(50) * 1000:.1f} and {self.within(99) * 1000:.1f} ms"
+
+
+class Others:
+    """Clients that behave, over a broker."""
+
+    def __init__(self, broker, count=OTHERS):
+        self.port = broker.port
+        self.clients = [self.another() for _ in range(count)]
+
+    def another(self):
+        return Client(self.port, timeout=LONGEST).connect()
+
+    def measure(self):
+        """What receipts take now. One that does not come counts for as long as it was waited for."""
+        seconds, start = [], time.monotonic()
+        while time.monotonic() - start < MEASURED or (len(seconds) < LEAST and time.monotonic() - start < MOST):
+            place, begun = len(seconds) % len(self.clients), time.perf_counter()
+            try:
+                self.clients[place].publish("/topic/none", "x")
+            except TimeoutError:
+                self.clients[place].close()
+                self.clients[place] = self.another()
+            seconds.append(time.perf_counter() - begun)
+        return Receipts(seconds)
+
+
+def judge_receipts(checks, kind, without, within):
+    most = TIMES * without.within(99) + MORE
+    name = f"while {COUNT} clients {kind.name}, 99 of 100 receipts of others take at most {TIMES} times what they took, and {MORE * 1000:.0f} ms"
+    checks.check(name, within.within(99) <= most, str(within))
+    checks.tell(f"half and 99 of 100 within {within}; without them {without}; {within.within(99) / without.within(99):.1f} times")
+
+
+def judge_places(checks, kind, seconds):
+    """Whether the places were free when they had to be."""
+    if kind.free_after is None:
+        return
+    freed = [one for one in seconds if one is not None]
+    name = f"clients that {kind.name} have lost their places after {kind.free_after} s"
+    checks.check(name, len(freed) == len(seconds) and max(freed) <= kind.free_after + SPARE, f"{len(freed)} of {len(seconds)}")
+    if freed:
+        checks.tell(f"{len(freed)} of {len(seconds)}, after {min(freed):.1f} to {max(freed):.1f} s")
+    if freed and not kind.flood and kind is not UNREAD:
+        checks.check("and none before", min(freed) >= kind.free_after - EARLY, min(freed))
+
+
+def judge_memory(checks, broker, start, connections, outboxes=0):
+    peak = memory(broker, "VmHWM")
+    most = start + HELD + connections * CONNECTION + outboxes * OUTBOX
+    checks.check(f"its memory is at most what {connections} connections and {outboxes} full outboxes may take", peak <= most, f"{peak} KiB")
+    checks.tell(f"{peak / 1024:.0f} MiB at most, {start / 1024:.0f} before them; {most / 1024:.0f} would be allowed")
+
+
+def stall(broker, checks, has_network):
+    """Begins those that stall, a kind behind another, and answers those that are under way. None of them has much to do with the processor."""
+    others, start = Others(broker), memory(broker, "VmRSS")
+    without, under_way = others.measure(), []
+    for kind in STALLED + ([half_open(GONE)] if has_network else []):
+        under_way.append((kind, Attack([kind] * COUNT, broker.port).begun()))
+        if kind not in STALLED:
+            subprocess.run(["ip", "link", "delete", "gone"], check=True)
+        judge_receipts(checks, kind, without, others.measure())
+    judge_memory(checks, broker, start, OTHERS + COUNT * len(under_way))
+    return under_way
+
+
+def flood(broker, checks, kind):
+    """A kind that floods the server."""
+    others, start = Others(broker), memory(broker, "VmRSS")
+    without = others.measure()
+    forget_peak(broker)
+    attack = Attack([kind] * COUNT, broker.port).begun()
+    judge_receipts(checks, kind, without, others.measure())
+    # Not all of them take nothing from the beginning: each has to have sent enough before.
+    seconds = attack.end(kind.free_after + 2 * SPARE if kind.free_after else 0)
+    judge_memory(checks, broker, start, OTHERS + COUNT)
+    judge_places(checks, kind, seconds)
+
+
+def unread_bodies(broker, checks):
+    """Bodies of 60,000 bytes, as fast as they can be sent, to a topic whose subscribers read nothing."""
+    others, start = Others(broker), memory(broker, "VmRSS")
+    without = others.measure()
+    forget_peak(broker)
+    readers = Attack([UNREAD] * READERS, broker.port).begun()
+    writers = Attack([BODIES] * WRITERS, broker.port).begun()
+    judge_receipts(checks, UNREAD, without, others.measure())
+    seconds = readers.end(UNREAD.free_after + SPARE)
+    writers.end()
+    judge_memory(checks, broker, start, OTHERS + READERS + WRITERS, READERS)
+    judge_places(checks, UNREAD, seconds)
+
+
+def share_a_worker(broker, checks):
+    """Receipts of one whose worker has nobody else, while each other worker has a client that never waits; and then of one at whose worker there is one too."""
+    others = Others(broker, 1)
+    busy = [Attack([BUSY] * (WORKERS - 1), broker.port).begun()]
+    alone = others.measure()
+    busy.append(Attack([BUSY], broker.port).begun())
+    shared = others.measure()
+    for attack in busy:
+        attack.end()
+    name = f"who shares a worker with one that never waits has 99 of 100 receipts within {SHARED} times what others take, and {SHARED_MORE * 1000:.0f} ms"
+    checks.check(name, shared.within(99) <= SHARED * alone.within(99) + SHARED_MORE, str(shared))
+    checks.tell(f"half and 99 of 100 within {shared}; where nobody shares it {alone}; {shared.within(99) / alone.within(99):.1f} times")
+
+
+def over_another(program, checks, scenario_of):
+    """Over a broker of its own, which has nothing to work off that others have sent."""
+    with scenario.serving(program) as broker:
+        threads = count_of_threads(broker)
+        scenario_of(broker)
+        checks.check("behind it a new client is served within a second, by as many threads as before", is_calm(broker, threads), last_words(broker))
+
+
+def attack_all(program, checks, has_network):
+    """Those that stall over one broker, and meanwhile the others, a kind behind another."""
+    with scenario.serving(program) as broker:
+        threads = count_of_threads(broker)
+        stalled = stall(broker, checks, has_network)
+        for kind in FLOODS:
+            over_another(program, checks, lambda broker: flood(broker, checks, kind))
+        over_another(program, checks, lambda broker: unread_bodies(broker, checks))
+        over_another(program, checks, lambda broker: share_a_worker(broker, checks))
+        for kind, attack in stalled:
+            judge_places(checks, kind, attack.end(kind.free_after + SPARE))
+        checks.check("behind it a new client is served within a second, by as many threads as before", is_calm(broker, threads), last_words(broker))
+
+
+def main():
+    program = scenario.words_of(__doc__).parse_args().program
+    attackers.take_descriptors()
+    checks, began = scenario.Checks(), time.monotonic()
+    has_network = own_network()
+    if not has_network:
+        checks.tell("half-open clients are left out: no network of its own was to be had, which takes `ip` and root")
+    try:
+        attack_all(program, checks, has_network)
+    except Exception as error:
+        traceback.print_exc()
+        checks.check("it runs to its end", False, error)
+    checks.tell(f"{time.monotonic() - began:.0f} s")
+    return 1 if checks.failed else 0
+
+
+if __name__ == "__main__":
+    sys.exit(main())
