@@ -43,12 +43,13 @@ SCRIPTS = [
     "clients/full_journal.py",
     "clients/browser.py",
     "clients/kills.py",
+    "clients/kills_crowd.py",
     "clients/compactions.py",
     "clients/migrating.py",
 ]
 
 # These kill the broker so often as is said.
-KILLING = {"clients/kills.py": "--rounds", "clients/compactions.py": "--kills", "clients/migrating.py": "--kills"}
+KILLING = {"clients/kills.py": "--rounds", "clients/kills_crowd.py": "--rounds", "clients/compactions.py": "--kills", "clients/migrating.py": "--kills"}
 
 # How else these are run.
 MORE = {"tests/soak.py": ["--minutes", "1"]}

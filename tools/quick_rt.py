@@ -7,7 +7,12 @@ toolchain's rt is not made as expected, this is rt itself.
 
     python3 tools/quick_rt.py check          in a crate's folder, as `rt check`
 
-With QUICK_RT_UNLOCKED=1 it takes no lock on the crates' folders: for bin/build, which holds them itself and proves several crates at a time.
+For bin/build, which proves several crates at a time:
+
+    QUICK_RT_UNLOCKED=1      it takes no lock on the crates' folders, which bin/build holds itself
+    QUICK_RT_STATEMENTS=1    of a library that is proved it keeps what others can cite of it, in out/statements, and none of its checked proofs, as
+                             `rt ci` does. So the crates above are proved sooner, since they load less. But nothing is kept of the proofs
+                             themselves: an edit of that crate has it proved from nothing
 """
 
 import importlib.machinery
@@ -46,6 +51,33 @@ def once_a_call(whole):
     return stamp
 
 
+def kept_as_statements(rtlib):
+    """Has libraries be built without their checked proofs, in a folder of their own."""
+    made, rattle = rtlib.Crate.__init__, rtlib.RATTLE
+
+    def make(self, *given, **named):
+        made(self, *given, **named)
+        self.rlib = f"{self.folder}/out/statements/{self.name}.rlib"
+
+    def is_built(self):
+        return os.path.isdir(self.rlib) and rtlib.text_of(f"{self.folder}/out/statements/stamp") == self.stamp()
+
+    def build_rlib(self, flags, anew):
+        if not anew and self.is_built():
+            return 0
+        made_from, folder = self.stamp(), os.path.dirname(self.rlib)
+        shutil.rmtree(folder, ignore_errors=True)
+        os.makedirs(folder)
+        status = self.call(rattle, "build", *self.words(flags, keeps=False), "--statements", "-o", self.rlib)
+        # What was edited meanwhile is built again.
+        if status == 0 and made_from == self.stamp():
+            with open(f"{folder}/stamp", "w", encoding="utf-8") as stamp:
+                stamp.write(made_from)
+        return status
+
+    rtlib.Crate.__init__, rtlib.Crate.is_built, rtlib.Crate.build_rlib = make, is_built, build_rlib
+
+
 def quick_main(path):
     """What the rt at that path does with its words, in less time; nothing where it is not made as expected."""
     try:
@@ -53,6 +85,8 @@ def quick_main(path):
         rt.rtlib.Crate.stamp = once_a_call(rt.rtlib.Crate.stamp)
         if os.environ.get("QUICK_RT_UNLOCKED") and rt.rtlib.lock:
             rt.rtlib.lock = lambda crates: []
+        if os.environ.get("QUICK_RT_STATEMENTS"):
+            kept_as_statements(rt.rtlib)
         return rt.main
     except (AttributeError, OSError, SyntaxError):
         return None
