@@ -14,13 +14,13 @@ ghost use Rattle.broker_state.specs.Settles.{SettlesSo};
 ghost use Rattle.command_core.specs.Outs.{OutValue};
 ghost use Rattle.broker_state.specs.declared.subscription.Subscription.{Subscription};
 
-use crate::order::Order;
 use crate::shared_lines::SharedLines;
 use crate::tables::Tables;
 use broker_state::{Held, LAST_DELIVERY, Subscription};
 use command_core::{AckMode, Out, message_reply};
 use line_core::{Message, size};
 use std::alloc::{AllocError, Global};
+use waiting_core::Order;
 
 /// The number by which a delivery is acknowledged, where it is to be.
 fn ack_of(sub: &Subscription, delivery: u64) -> Option<u64>
@@ -110,11 +110,16 @@ fn hand_to(
 }
 
 /// A subscription that was served waits last; gives its MESSAGE.
-fn wait_last(order: &mut Order, sub: Subscription, out: Out) -> Result<Out, AllocError>
+fn wait_last(
+    alloc: Global,
+    order: &mut Order,
+    sub: Subscription,
+    out: Out,
+) -> Result<Out, AllocError>
     ensures waits { OnOk result (order.new ≡ order.old ++ sub ∷ []) }
     ensures gives { IfOk result (λ given. given ≡ out) }
 {
-    match order.add(sub) {
+    match order.add(alloc, sub) {
         Ok(()) => Ok(out),
         Err(refused) => Err(refused),
     }
@@ -200,7 +205,7 @@ impl Tables {
             &mut self.held,
         )?;
         self.next_delivery += 1;
-        let out = wait_last(&mut self.order, sub, out)?;
+        let out = wait_last(alloc, &mut self.order, sub, out)?;
         Ok((self, out))
     }
 }
