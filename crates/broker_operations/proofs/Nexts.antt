@@ -143,4 +143,3 @@ pub count_alike : {X : Type 0} (p q : X → Bool) → ((x : X) → p x ≡ q x) 
 count_alike p q alike [] = refl
 count_alike {X} p q alike (x ∷ xs) =
     omega (arith, sum_by-cons (λ (y : X). one (p y)) x xs, sum_by-cons (λ (y : X). one (q y)) x xs, ap one (alike x), count_alike p q alike xs)
-

@@ -3,6 +3,7 @@
 #![tactic(auto)]
 
 mod acknowledging;
+mod due;
 mod hand_out;
 mod keyed_lines;
 mod refusing;

@@ -13,6 +13,7 @@ ghost use Rattle.broker_state.specs.States.{bytes, one};
 ghost use Rattle.broker_operations.specs.Places.{place_for};
 ghost use Rattle.broker_state.specs.declared.subscription.Subscription.{Subscription};
 
+use crate::due::{Key, mark_line};
 use crate::tables::Tables;
 use broker_state::{DurableName, GivenName, Held, MOST_NAMES, MOST_SUBSCRIPTIONS, Subscription};
 use command_core::{AckMode, Dest, Fault, HeaderText};
@@ -227,10 +228,13 @@ impl Tables {
         ensures same { IfOk result (λ r. IsErr r.1 → r.0 ≡ self) }
     {
         match self.bind(&sub) {
-            Ok(Ok(())) => match self.order.add(alloc, sub) {
-                Ok(()) => Ok((self, Ok(()))),
-                Err(refused) => Err(refused),
-            },
+            Ok(Ok(())) => {
+                self.due.push(Key::Session(sub.session))?;
+                match self.order.add(alloc, sub) {
+                    Ok(()) => Ok((self, Ok(()))),
+                    Err(refused) => Err(refused),
+                }
+            }
             Ok(Err(fault)) => Ok((self, Err(fault))),
             Err(refused) => Err(refused),
         }
@@ -365,6 +369,7 @@ impl Tables {
             → tables ≡ without self sub (remove self.subscriptions at)) }
     {
         let sub = self.order.remove(at);
+        mark_line(&mut self.due, &sub)?;
         let gone = self.shared.take_back(alloc, sub)?;
         let_line_go(&mut self.held, gone.line);
         let_deliveries_go(&mut self.held, gone.deliveries.as_slice());
@@ -394,6 +399,7 @@ impl Tables {
             tables = tables.end_one(alloc, 0)?;
         }
         tables.sessions = BTreeMap::new(alloc);
+        tables.due.clear();
         Ok(tables)
     }
 }

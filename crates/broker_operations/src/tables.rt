@@ -8,6 +8,7 @@ ghost use Rattle.broker_state.specs.PartsOf.{state_of_parts};
 ghost use Rattle.broker_state.specs.Sound.{IsSound};
 ghost use Rattle.broker_operations.specs.Tables.{IsTallied};
 
+use crate::due::Key;
 use crate::shared_lines::SharedLines;
 use broker_state::{DurableName, GivenName, Held, Parts};
 use command_core::{Dest, HeaderText};
@@ -30,17 +31,20 @@ pub struct Tables {
     pub(crate) shared: SharedLines,
     pub(crate) order: Order,
     pub(crate) held: Held,
+    /// Who can be served is under one of these keys: they grow with what a command touches, and none is left once all is
+    /// handed out.
+    pub(crate) due: Vec<Key>,
 }
 
 impl Model for Tables {
     ghost use Rattle.broker_state.specs.States.{State};
-    ghost use Rattle.broker_operations.specs.Tables.{IsTallied, shown};
+    ghost use Rattle.broker_operations.specs.Tables.{IsKept, shown};
 
     ghost Value = { State };
 
     ghost view = { λ a. shown a.count a.next_delivery a.sessions.entries a.durables.entries a.shared a.order };
 
-    ghost invariant = { λ a. IsTallied (shown a.count a.next_delivery a.sessions.entries a.durables.entries a.shared a.order) a.held };
+    ghost invariant = { λ a. IsKept (shown a.count a.next_delivery a.sessions.entries a.durables.entries a.shared a.order) a.held a.due.items };
 }
 
 impl Tables {
@@ -59,6 +63,7 @@ impl Tables {
                 messages: 0,
                 bytes: 0,
             },
+            due: Vec::new(alloc),
         }
     }
 
@@ -77,6 +82,7 @@ impl Tables {
             shared: SharedLines::of(parts.names, parts.queues),
             order: Order::of(alloc, parts.subscriptions)?,
             held,
+            due: Vec::new(alloc),
         })
     }
 
