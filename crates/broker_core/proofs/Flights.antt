@@ -1,4 +1,4 @@
-use Rattle.std.proofs.Common.{◌≡◌, ◌≤◌, ◌+◌, ◌++◌, ◌&&◌, ◌||◌, List, [], ◌∷◌, ℕ, suc, zero, Bool, true, false, cond, Option, Some, None, if◌then◌else◌, count_by, filter, length, map, refl, slice_get, sym, ap, ◌∙◌, subst, arith, take}
+use Rattle.std.proofs.Common.{◌≡◌, ◌≤◌, ◌+◌, ◌-◌, ◌<◌, ◌++◌, ◌&&◌, ◌||◌, List, [], ◌∷◌, ℕ, suc, zero, Bool, true, false, cond, Option, Some, None, if◌then◌else◌, count_by, filter, length, map, refl, slice_get, sym, ap, ◌∙◌, subst, arith, take}
 use Rattle.std.specs.List.{AllByRecursion, list_any, sum_by}
 use Rattle.std.specs.List.Sorted.{IsStrictlySortedBy}
 use Rattle.std.specs.Map.{keys_of}
@@ -27,7 +27,9 @@ use Rattle.broker_state.specs.States.{bytes, one, weight_of_subscription}
 use Rattle.broker_state.specs.Waiting.{is_own}
 use Rattle.broker_core.specs.Prechecks.{bytes_in, bytes_kept, deliveries_in, flight_of, flights_of, has, kept_bytes_in, kept_in, left_by, one_kept, sized}
 use Rattle.broker_operations.specs.Refusals.{all_kept, all_kept_bytes, refused_bytes, kept_bytes, kept_one}
+use Rattle.broker_state.proofs.Firsts.{found}
 use Rattle.broker_state.proofs.Weights.{ones, sum_by-part}
+use Rattle.waiting_core.specs.Tickets.{IsNext}
 
 -- what a flight's deliveries before a place have is under the number there
 module _ {X Y : Type 0} (f : X → Y) where
@@ -68,6 +70,22 @@ module _ (session : ℕ) (subs : List Subscription) (at : ℕ) (sub : Subscripti
 
   pub flights_same : is_of session sub ≡ false → flights_of session (take (at + 1) subs) ≡ flights_of session (take at subs)
   flights_same other = more_by false other ∙ nothing (filter (is_of session) (take at subs))
+
+-- those of other sessions add no flight
+module _ (session : ℕ) (subs : List Subscription) where
+  none_added : (n from : ℕ) → from + n ≤ length subs → ((i : ℕ) (sub : Subscription) → slice_get subs i ≡ Some sub → from ≤ i → i < from + n → is_of session sub ≡ false) → flights_of session (take (from + n) subs) ≡ flights_of session (take from subs)
+  none_added zero from within each = ap (λ k. flights_of session (take k subs)) (omega arith)
+  none_added (suc n) from within each =
+      let sub = found subs from (omega (arith, within)) in
+      ap (λ k. flights_of session (take k subs)) (omega arith)
+      ∙ none_added n (from + 1) (omega (arith, within)) (λ i other there after less. each i other there (omega (arith, after)) (omega (arith, less)))
+      ∙ flights_same session subs from sub.0 sub.1 (each from sub.0 sub.1 (omega arith) (omega arith))
+
+  pub flights_until : (from at : ℕ) → IsNext (is_of session) subs from at → flights_of session (take at subs) ≡ flights_of session (take from subs)
+  flights_until from at next =
+      let sum : from + (at - from) ≡ at = omega (arith, next.after) in
+      ap (λ k. flights_of session (take k subs)) (sym sum)
+      ∙ none_added (at - from) from (omega (arith, sum, next.within)) (λ i sub there after less. next.none i sub there after (omega (arith, less, sum)))
 
 -- what is settled is in the flights no more
 pub settled_counts : (delivery : ℕ) (flights : List PrecheckFlight) (at : ℕ) (flight : PrecheckFlight) (out : List (ℕ × PrecheckSize)) → slice_get flights at ≡ Some flight → out ≡ settled flight.mode delivery flight.deliveries → (length out ≤ deliveries_in flights) × (sum_by (λ item. item.1.bytes) out ≤ bytes_in flights)

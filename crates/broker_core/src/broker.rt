@@ -62,8 +62,9 @@ impl Broker {
             return Ok(None);
         }
         let held = held_of(&parts);
+        let tables = Tables::of(alloc, parts, held)?;
         Ok(Some(Broker {
-            tables: Tables::of(parts, held),
+            tables,
             broken: false,
         }))
     }

@@ -16,11 +16,12 @@ ghost use Rattle.broker_state.specs.Parts.{IsFirst, NonePass, find_room, without
 ghost use Rattle.broker_state.specs.States.{State};
 ghost use Rattle.broker_core.specs.Prechecks.{Leads, StandsFor, bytes_in, deliveries_in, flight_of, flights_of, has, kept_bytes_in, kept_in, left_by, sized};
 
-use broker_operations::{Order, Tables, copies_to, find_room, is_dropped, refused_size};
+use broker_operations::{Tables, copies_to, find_room, is_dropped, refused_size};
 use broker_state::{Held, MOST_BYTES, NackRule, Subscription, stand_in_order};
 use command_core::{AckMode, Fault, Member};
 use line_core::{Flight, Message, SettleFault, size};
 use std::alloc::{AllocError, Global};
+use waiting_core::Order;
 
 /// What decides whether a message that is not acknowledged finds room: its bytes, and those that it has in the queue of
 /// refused messages, unless it is dropped once it is refused.
@@ -90,12 +91,11 @@ fn flights_of(alloc: Global, order: &Order, session: u64) -> Result<Vec<Precheck
     ensures { IfOk result (λ flights. flights.items ≡ flights_of session order.now) }
 {
     let mut flights = Vec::new(alloc);
-    for at in 0..order.len() {
-        let sub = order.get(at);
-        if sub.session == session {
-            let flight = flight_of(alloc, sub)?;
-            flights.push(flight)?;
-        }
+    let mut at = order.next_of(session, 0);
+    while at < order.len() {
+        let flight = flight_of(alloc, order.get(at))?;
+        flights.push(flight)?;
+        at = order.next_of(session, at + 1);
     }
     Ok(flights)
 }

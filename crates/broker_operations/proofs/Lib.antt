@@ -1,2 +1,4 @@
+pub mod Dues
+pub mod Nexts
 pub mod Operating
 pub mod SettledSums

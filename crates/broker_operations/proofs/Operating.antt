@@ -1,11 +1,11 @@
-use Rattle.std.proofs.Common.{◌≡◌, ◌<◌, ◌≤◌, ◌+◌, ◌-◌, ◌&&◌, List, [], ◌∷◌, ℕ, suc, zero, Bool, true, false, IfSome, Option, Some, None, Result, Ok, Err, cond, count_by, filter, fold, is_some, length, nat_le, not, refl, remove, sym, ap, ◌∙◌, subst, arith, slice_get, slice_set, take}
+use Rattle.std.proofs.Common.{◌≡◌, ◌<◌, ◌≤◌, ◌+◌, ◌-◌, ◌&&◌, List, [], ◌∷◌, ℕ, suc, zero, Bool, true, false, IfSome, Option, Some, None, Result, Ok, Err, cond, count_by, filter, fold, is_some, length, nat_le, not, refl, remove, sym, ap, ◌∙◌, subst, arith, slice_get, take}
 use Rattle.std.specs.BTreeMap.{is_at}
 use Rattle.std.specs.List.{list_any, sum_by}
 use Rattle.std.specs.List.Sorted.{IsStrictlySortedBy}
 use Rattle.std.specs.Map.{keys_of, remove_entry}
 use Rattle.std.specs.Ordering.{nat_cmp}
 use Rattle.std.proofs.lemmas.Bool.{leb-true}
-use Rattle.std.proofs.lemmas.Option.{none-some, same_Some, slice_get_within}
+use Rattle.std.proofs.lemmas.Option.{same_Some, slice_get_within}
 use Rattle.record_core.specs.declared.ack_mode.AckMode.{AckMode}
 use Rattle.command_core.specs.declared.fault.Fault.{Fault}
 use Rattle.command_core.specs.declared.fault.Fault.TheVariants.{DurableSubscription, NoRoom, SubscriptionIdInUse, UnknownSubscription, UnknownAcknowledgement, TooManyEntries}
@@ -31,13 +31,6 @@ pub item_at : {X : Type 0} (xs : List X) (at : ℕ) → at < length xs → (x : 
 item_at [] at within = absurd (omega (arith, within))
 item_at (x ∷ xs) zero within = (x, refl)
 item_at (x ∷ xs) (suc at) within = item_at xs at (omega (arith, within))
-
--- another item in a place
-pub set_changed : {X : Type 0} (f : X → X) (xs : List X) (at : ℕ) (x y : X) → slice_get xs at ≡ Some x → y ≡ f x → slice_set xs at y ≡ changed at f xs
-set_changed f [] at x y is same = absurd (none-some x is)
-set_changed f (z ∷ xs) zero x y is same =
-    ap (λ w. w ∷ xs) (same ∙ sym (ap f (same_Some z x is)))
-set_changed f (z ∷ xs) (suc at) x y is same = ap (λ ws. z ∷ ws) (set_changed f xs at x y is same)
 
 -- a subscription has ended
 pub without_one : (s : State) (removed sub : Subscription) (others subs : List Subscription) (shared : Shared) → removed ≡ sub → subs ≡ others → shared ≡ returned s.shared removed → record s { shared = shared; subscriptions = subs } ≡ without s sub others

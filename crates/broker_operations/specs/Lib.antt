@@ -1,3 +1,4 @@
+pub mod Dues
 pub mod Handing
 pub mod Places
 pub mod Refusals

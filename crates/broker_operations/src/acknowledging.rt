@@ -4,22 +4,24 @@ ghost use Rattle.std.specs.Prelude.{◌≡◌, IfOk, IsErr, MatchOption};
 ghost use Rattle.broker_state.specs.Operations.{acknowledged, awaits};
 ghost use Rattle.broker_state.specs.Parts.{IsFirst, NonePass, leaving};
 
-use crate::order::Order;
+use crate::due::Key;
 use crate::subscribing::let_deliveries_go;
 use crate::tables::Tables;
 use command_core::Fault;
 use std::alloc::AllocError;
+use waiting_core::Order;
 
 /// Where the subscription of that session waits that has not acknowledged the delivery of that number.
 pub(crate) fn find_awaiting(order: &Order, session: u64, delivery: u64) -> Option<usize>
     ensures { MatchOption result (NonePass (awaits session delivery) order.now)
         (λ at. IsFirst (awaits session delivery) order.now at) }
 {
-    for at in 0..order.len() {
-        let sub = order.get(at);
-        if sub.session == session && sub.unacknowledged.contains(delivery) {
+    let mut at = order.next_of(session, 0);
+    while at < order.len() {
+        if order.get(at).unacknowledged.contains(delivery) {
             return Some(at);
         }
+        at = order.next_of(session, at + 1);
     }
     None
 }
@@ -39,6 +41,7 @@ impl Tables {
         let Some(at) = find_awaiting(&self.order, session, delivery) else {
             return Ok((self, Err(Fault::UnknownAcknowledgement)));
         };
+        self.due.push(Key::Session(session))?;
         let settled = self.order.settle(at, delivery)?;
         let_deliveries_go(&mut self.held, settled.as_slice());
         Ok((self, Ok(())))

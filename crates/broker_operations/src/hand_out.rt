@@ -14,13 +14,14 @@ ghost use Rattle.broker_state.specs.Settles.{SettlesSo};
 ghost use Rattle.command_core.specs.Outs.{OutValue};
 ghost use Rattle.broker_state.specs.declared.subscription.Subscription.{Subscription};
 
-use crate::order::Order;
+use crate::due::next_due;
 use crate::shared_lines::SharedLines;
 use crate::tables::Tables;
 use broker_state::{Held, LAST_DELIVERY, Subscription};
 use command_core::{AckMode, Out, message_reply};
 use line_core::{Message, size};
 use std::alloc::{AllocError, Global};
+use waiting_core::Order;
 
 /// The number by which a delivery is acknowledged, where it is to be.
 fn ack_of(sub: &Subscription, delivery: u64) -> Option<u64>
@@ -110,11 +111,16 @@ fn hand_to(
 }
 
 /// A subscription that was served waits last; gives its MESSAGE.
-fn wait_last(order: &mut Order, sub: Subscription, out: Out) -> Result<Out, AllocError>
+fn wait_last(
+    alloc: Global,
+    order: &mut Order,
+    sub: Subscription,
+    out: Out,
+) -> Result<Out, AllocError>
     ensures waits { OnOk result (order.new ≡ order.old ++ sub ∷ []) }
     ensures gives { IfOk result (λ given. given ≡ out) }
 {
-    match order.add(sub) {
+    match order.add(alloc, sub) {
         Ok(()) => Ok(out),
         Err(refused) => Err(refused),
     }
@@ -122,45 +128,55 @@ fn wait_last(order: &mut Order, sub: Subscription, out: Out) -> Result<Out, Allo
 
 impl Tables {
     /// Hands out what waits, one delivery after another, until nothing can be handed out; adds the MESSAGEs in their
-    /// order. The waiting order is gone through once: who could not be served before those behind it were can't be served
-    /// after. Where memory is refused, nothing is left of the tables.
+    /// order. Those who are due are gone through once, in waiting order: who could not be served before those behind it were
+    /// can't be served after. Where memory is refused, nothing is left of the tables.
     pub fn settle(self, alloc: Global, outs: &mut Vec<Out>) -> Result<Tables, AllocError>
         ensures state { IfOk result (λ tables. tables ≡ (settled self).state) }
         ensures outs { OnOk result (outs.new.items ≡ outs.old.items ++ (settled self).outs) }
     {
         let mut tables = self;
-        let mut at = 0;
+        let mut at = tables.next_ready(0);
         while at < tables.order().len() {
-            let (left, served) = tables.try_serve(alloc, at, outs)?;
+            let (left, from) = tables.try_serve(alloc, at, outs)?;
             tables = left;
-            if !served {
-                at += 1;
-            }
+            at = tables.next_ready(from);
         }
+        tables.due.clear();
         Ok(tables)
     }
 
-    /// Serves the subscription in that place, if it can be served, and adds the MESSAGE; answers whether it was served.
+    /// The place of the first subscription from a place on that may be one that can be served, or the end.
+    fn next_ready(&self, from: usize) -> usize
+        requires { from ≤ length self.now.subscriptions }
+        ensures after { from ≤ result }
+        ensures within { result ≤ length self.now.subscriptions }
+        ensures none { (i : ℕ) (sub : Subscription) → slice_get self.now.subscriptions i ≡ Some sub → from ≤ i → i < result
+            → can_take self.now sub ≡ false }
+    {
+        next_due(&self.order, &self.shared, self.due.as_slice(), from)
+    }
+
+    /// Serves the subscription in that place, if it can be served, and adds the MESSAGE; answers from where to go on, which
+    /// is the next place where it was not served, and else the same, where the next one stands then.
     fn try_serve(
         self,
         alloc: Global,
         at: usize,
         outs: &mut Vec<Out>,
-    ) -> Result<(Tables, bool), AllocError>
+    ) -> Result<(Tables, usize), AllocError>
         requires place { at < length self.subscriptions }
         ensures settles { IfOk result (λ r. (first : State) (before : List OutValue)
-            → SettlesSo first before self outs.old.items at
-            → SettlesSo first before r.0 outs.new.items (if r.1 then at else at + 1)) }
-        ensures served { IfOk result (λ r. r.1 ≡ true → waiting r.0 + 1 ≡ waiting self) }
-        ensures count { IfOk result (λ r. length r.0.subscriptions ≡ length self.subscriptions) }
-        ensures passed { IfOk result (λ r. r.1 ≡ false → r.0 ≡ self) }
+            → SettlesSo first before self outs.old.items at → SettlesSo first before r.0 outs.new.items r.1) }
+        ensures nearer { IfOk result (λ r. waiting r.0 + (length r.0.subscriptions - r.1)
+            < waiting self + (length self.subscriptions - at)) }
+        ensures within { IfOk result (λ r. r.1 ≤ length r.0.subscriptions) }
     {
         if !self.can_serve(at) {
-            return Ok((self, false));
+            return Ok((self, at + 1));
         }
         let (tables, out) = self.serve(alloc, at)?;
         outs.push(out)?;
-        Ok((tables, true))
+        Ok((tables, at))
     }
 
     /// Whether there is a number for one more delivery.
@@ -200,7 +216,7 @@ impl Tables {
             &mut self.held,
         )?;
         self.next_delivery += 1;
-        let out = wait_last(&mut self.order, sub, out)?;
+        let out = wait_last(alloc, &mut self.order, sub, out)?;
         Ok((self, out))
     }
 }

@@ -3,16 +3,15 @@
 #![tactic(auto)]
 
 mod acknowledging;
+mod due;
 mod hand_out;
 mod keyed_lines;
-mod order;
 mod refusing;
 mod sending;
 mod shared_lines;
 mod subscribing;
 mod tables;
 
-pub use order::Order;
 pub use refusing::{is_dropped, refused_size};
 pub use sending::{copies_to, find_room};
 pub use shared_lines::SharedLines;

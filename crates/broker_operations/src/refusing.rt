@@ -13,6 +13,7 @@ ghost use Rattle.broker_state.specs.Waiting.{is_own, with_message};
 ghost use Rattle.broker_operations.specs.Refusals.{all_kept, all_kept_bytes, kept_bytes, kept_one};
 
 use crate::acknowledging::find_awaiting;
+use crate::due::Key;
 use crate::shared_lines::SharedLines;
 use crate::subscribing::let_deliveries_go;
 use crate::tables::Tables;
@@ -219,6 +220,8 @@ impl Tables {
             command: self.count,
             place: 64 + 16 * member,
         };
+        self.due.push(Key::Session(session))?;
+        self.due.push(Key::Destination(dead_queue(alloc)?))?;
         let settled = self.order.settle(at, delivery)?;
         let_deliveries_go(&mut self.held, settled.as_slice());
         keep(alloc, &mut self.shared, &mut self.held, own, first, settled)?;

@@ -8,14 +8,15 @@ ghost use Rattle.broker_state.specs.Parts.{copies_to, find_room, leaving};
 ghost use Rattle.broker_operations.specs.Sendings.{IsFannedOut};
 ghost use Rattle.broker_state.specs.Waiting.{is_own};
 
-use crate::order::Order;
+use crate::due::{Key, mark_names};
 use crate::shared_lines::SharedLines;
 use crate::tables::Tables;
-use broker_state::{DurableName, Held, MOST_BYTES, MOST_MESSAGES, Subscription};
+use broker_state::{DurableName, Held, MOST_BYTES, MOST_MESSAGES};
 use command_core::{Dest, Fault, Sending};
 use line_core::{Message, MessageNumber, size};
 use std::alloc::{AllocError, Global};
 use std::collections::BTreeMap;
+use waiting_core::Order;
 
 /// How many durable names are bound to that topic.
 fn names_of(durables: &BTreeMap<DurableName, Dest>, to: &Dest) -> u64
@@ -25,25 +26,13 @@ fn names_of(durables: &BTreeMap<DurableName, Dest>, to: &Dest) -> u64
     durables.iter().filter(|(_, topic)| **topic == *to).count() as u64
 }
 
-/// Whether a message to that destination is copied into the subscription's own line.
-fn listens(sub: &Subscription, to: &Dest) -> bool
-    ensures { result ≡ (is_own sub.now && bytes_eq sub.now.destination to.now) }
-{
-    sub.has_own_line() && sub.destination == *to
-}
-
 /// How many subscriptions of that topic have a line of their own.
 fn listeners_of(order: &Order, to: &Dest) -> u64
+    requires topic { is_queue to.now ≡ false }
     ensures counted { result ≡ count_by (λ sub. is_own sub && bytes_eq sub.destination to.now) order.now }
     ensures few { result < 2 ^ 63 }
 {
-    let mut listeners = 0;
-    for at in 0..order.len() {
-        if listens(order.get(at), to) {
-            listeners += 1;
-        }
-    }
-    listeners
+    order.count_at(to) as u64
 }
 
 /// How many copies of a message to that destination are to be kept: one in a queue's line, or one for each durable name of
@@ -59,6 +48,7 @@ pub fn copies_to(tables: &Tables, to: &Dest) -> u64
 
 /// How many copies of a message to that topic are to be kept.
 fn copies_to_topic(tables: &Tables, to: &Dest) -> u64
+    requires topic { is_queue to.now ≡ false }
     ensures { result ≡ count_by (λ durable. bytes_eq durable.1 to.now) tables.now.durables
         + count_by (λ sub. is_own sub && bytes_eq sub.destination to.now) tables.now.subscriptions }
 {
@@ -76,12 +66,14 @@ pub fn find_room(held: &Held, copies: u64, size: u64) -> bool
 
 /// Each subscription of the message's topic with a line of its own gets a copy into it.
 fn copy_to_listeners(order: &mut Order, message: &Message) -> Result<(), AllocError>
+    requires topic { is_queue message.now.sending.destination ≡ false }
     ensures { OnOk result (order.new ≡ map (copied message.now) order.old) }
 {
-    for at in 0..order.len() {
-        if listens(order.get(at), message.sending.destination()) {
-            order.put(at, message.clone()?)?;
-        }
+    let to = message.sending.destination();
+    let mut at = order.next_at(to, 0);
+    while at < order.len() {
+        order.put(at, message.clone()?)?;
+        at = order.next_at(to, at + 1);
     }
     Ok(())
 }
@@ -161,6 +153,9 @@ impl Tables {
             },
             sending,
         };
+        let to = message.sending.destination().clone()?;
+        mark_names(&mut self.due, &self.durables, &to)?;
+        self.due.push(Key::Destination(to))?;
         fan_out(
             alloc,
             &self.durables,

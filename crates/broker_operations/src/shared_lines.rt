@@ -242,6 +242,7 @@ impl SharedLines {
     /// Takes the line under that durable name out, where there is one.
     pub(crate) fn forget(&mut self, alloc: Global, name: &DurableName) -> Line
         ensures line { result ≡ line_at name_cmp name.now self.old.names }
+        ensures empty { line_at name_cmp name.now self.new.names ≡ [] }
         ensures shared { self.new ≡ record self.old { names = remove_entry (is_at (name_cmp name.now)) self.old.names } }
         ensures weight { (weight : Message → ℕ) → weight_of_shared weight self.new + sum_by weight result ≡ weight_of_shared weight self.old }
     {

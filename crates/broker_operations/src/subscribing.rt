@@ -13,24 +13,26 @@ ghost use Rattle.broker_state.specs.States.{bytes, one};
 ghost use Rattle.broker_operations.specs.Places.{place_for};
 ghost use Rattle.broker_state.specs.declared.subscription.Subscription.{Subscription};
 
-use crate::order::Order;
+use crate::due::{Key, mark_line};
 use crate::tables::Tables;
 use broker_state::{DurableName, GivenName, Held, MOST_NAMES, MOST_SUBSCRIPTIONS, Subscription};
 use command_core::{AckMode, Dest, Fault, HeaderText};
 use line_core::{Flight, Line, Message, size};
 use std::alloc::{AllocError, Global};
 use std::collections::BTreeMap;
+use waiting_core::Order;
 
 /// Where the subscription of that session and id waits.
 fn find_named(order: &Order, session: u64, id: &HeaderText) -> Option<usize>
     ensures { MatchOption result (NonePass (is_named session id.now) order.now)
         (λ at. IsFirst (is_named session id.now) order.now at) }
 {
-    for at in 0..order.len() {
-        let sub = order.get(at);
-        if sub.session == session && *id == sub.id {
+    let mut at = order.next_of(session, 0);
+    while at < order.len() {
+        if *id == order.get(at).id {
             return Some(at);
         }
+        at = order.next_of(session, at + 1);
     }
     None
 }
@@ -45,19 +47,6 @@ fn find_given(order: &Order, session: u64, id: &Option<HeaderText>) -> Option<us
     }
 }
 
-/// How many subscriptions a session has.
-fn count_of(order: &Order, session: u64) -> usize
-    ensures { result ≡ count_by (is_of session) order.now }
-{
-    let mut count = 0;
-    for at in 0..order.len() {
-        if order.get(at).session == session {
-            count += 1;
-        }
-    }
-    count
-}
-
 /// Whether a session may have one more subscription, of that id: refused where it has one of that id, or 16.
 fn find_place(order: &Order, session: u64, id: &HeaderText) -> Result<(), Fault>
     ensures { result ≡ place_for order.now session id.now }
@@ -65,20 +54,10 @@ fn find_place(order: &Order, session: u64, id: &HeaderText) -> Result<(), Fault>
     if let Some(_taken) = find_named(order, session, id) {
         return Err(Fault::SubscriptionIdInUse);
     }
-    if count_of(order, session) >= MOST_SUBSCRIPTIONS {
+    if order.count_of(session) >= MOST_SUBSCRIPTIONS {
         return Err(Fault::TooManyEntries);
     }
     Ok(())
-}
-
-/// Whether the subscription is that of the durable name.
-fn uses(sub: &Subscription, name: &DurableName) -> bool
-    ensures { result ≡ uses name.now sub.now }
-{
-    match &sub.durable {
-        Some(other) => *name == *other,
-        None => false,
-    }
 }
 
 /// Whether a subscription in a place from `from` on and before `to` has the durable name.
@@ -86,12 +65,7 @@ fn is_used_between(order: &Order, name: &DurableName, from: usize, to: usize) ->
     requires { (from ≤ to) × (to ≤ length order.now) }
     ensures { result ≡ list_any (uses name.now) (drop from (take to order.now)) }
 {
-    for at in from..to {
-        if uses(order.get(at), name) {
-            return true;
-        }
-    }
-    false
+    order.next_under(name, from) < to
 }
 
 /// Whether a subscription has the durable name, other than the one in that place where a place is given.
@@ -226,31 +200,41 @@ impl Tables {
             return Ok((self, Err(fault)));
         }
         match self.name_for(session, &destination, durable)? {
-            Ok(durable) => self.begin(Subscription {
-                session,
-                id,
-                destination,
-                mode,
-                durable,
-                line: Line::new(alloc),
-                unacknowledged: Flight::new(alloc),
-            }),
+            Ok(durable) => self.begin(
+                alloc,
+                Subscription {
+                    session,
+                    id,
+                    destination,
+                    mode,
+                    durable,
+                    line: Line::new(alloc),
+                    unacknowledged: Flight::new(alloc),
+                },
+            ),
             Err(fault) => Ok((self, Err(fault))),
         }
     }
 
     /// A subscription begins and waits last. Refused where it has a durable name that somebody uses or that is another
     /// topic's, or that were the 257th, and then the tables are as they were.
-    fn begin(mut self, sub: Subscription) -> Result<(Tables, Result<(), Fault>), AllocError>
+    fn begin(
+        mut self,
+        alloc: Global,
+        sub: Subscription,
+    ) -> Result<(Tables, Result<(), Fault>), AllocError>
         requires fresh { (sub.line ≡ []) × (sub.unacknowledged ≡ []) }
         ensures begun { IfOk result (λ r. begun self sub ≡ leaving r.1 r.0) }
         ensures same { IfOk result (λ r. IsErr r.1 → r.0 ≡ self) }
     {
         match self.bind(&sub) {
-            Ok(Ok(())) => match self.order.add(sub) {
-                Ok(()) => Ok((self, Ok(()))),
-                Err(refused) => Err(refused),
-            },
+            Ok(Ok(())) => {
+                self.due.push(Key::Session(sub.session))?;
+                match self.order.add(alloc, sub) {
+                    Ok(()) => Ok((self, Ok(()))),
+                    Err(refused) => Err(refused),
+                }
+            }
             Ok(Err(fault)) => Ok((self, Err(fault))),
             Err(refused) => Err(refused),
         }
@@ -385,6 +369,7 @@ impl Tables {
             → tables ≡ without self sub (remove self.subscriptions at)) }
     {
         let sub = self.order.remove(at);
+        mark_line(&mut self.due, &sub)?;
         let gone = self.shared.take_back(alloc, sub)?;
         let_line_go(&mut self.held, gone.line);
         let_deliveries_go(&mut self.held, gone.deliveries.as_slice());
@@ -396,13 +381,10 @@ impl Tables {
         ensures ended { IfOk result (λ tables. tables ≡ ended self session) }
     {
         let mut tables = self;
-        let mut at = 0;
+        let mut at = tables.order().next_of(session, 0);
         while at < tables.order().len() {
-            if tables.order().get(at).session == session {
-                tables = tables.end_one(alloc, at)?;
-            } else {
-                at += 1;
-            }
+            tables = tables.end_one(alloc, at)?;
+            at = tables.order().next_of(session, at);
         }
         tables.sessions.remove(&session);
         Ok(tables)
@@ -417,6 +399,7 @@ impl Tables {
             tables = tables.end_one(alloc, 0)?;
         }
         tables.sessions = BTreeMap::new(alloc);
+        tables.due.clear();
         Ok(tables)
     }
 }

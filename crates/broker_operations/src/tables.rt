@@ -1,6 +1,6 @@
 //! What the broker keeps: sessions, durable names, lines and subscriptions, and how much is held.
 
-ghost use Rattle.std.specs.Prelude.{◌≡◌, OnOk};
+ghost use Rattle.std.specs.Prelude.{◌≡◌, IfOk, OnOk};
 ghost use Rattle.record_core.specs.Texts.{IsGiven};
 ghost use Rattle.broker_state.specs.Operations.{opened};
 ghost use Rattle.broker_state.specs.States.{empty_state, held_bytes, held_messages};
@@ -8,13 +8,14 @@ ghost use Rattle.broker_state.specs.PartsOf.{state_of_parts};
 ghost use Rattle.broker_state.specs.Sound.{IsSound};
 ghost use Rattle.broker_operations.specs.Tables.{IsTallied};
 
-use crate::order::Order;
+use crate::due::Key;
 use crate::shared_lines::SharedLines;
 use broker_state::{DurableName, GivenName, Held, Parts};
 use command_core::{Dest, HeaderText};
 use std::alloc::{AllocError, Global};
 use std::collections::BTreeMap;
 use std::marker::Model;
+use waiting_core::Order;
 
 /// How many commands were carried out, the open sessions, the durable names, the lines that stay and the subscriptions,
 /// and how much is held, so that nobody needs to count it. Contracts see the state that they show; what is counted as held
@@ -30,17 +31,20 @@ pub struct Tables {
     pub(crate) shared: SharedLines,
     pub(crate) order: Order,
     pub(crate) held: Held,
+    /// Who can be served is under one of these keys: they grow with what a command touches, and none is left once all is
+    /// handed out.
+    pub(crate) due: Vec<Key>,
 }
 
 impl Model for Tables {
     ghost use Rattle.broker_state.specs.States.{State};
-    ghost use Rattle.broker_operations.specs.Tables.{IsTallied, shown};
+    ghost use Rattle.broker_operations.specs.Tables.{IsKept, shown};
 
     ghost Value = { State };
 
     ghost view = { λ a. shown a.count a.next_delivery a.sessions.entries a.durables.entries a.shared a.order };
 
-    ghost invariant = { λ a. IsTallied (shown a.count a.next_delivery a.sessions.entries a.durables.entries a.shared a.order) a.held };
+    ghost invariant = { λ a. IsKept (shown a.count a.next_delivery a.sessions.entries a.durables.entries a.shared a.order) a.held a.due.items };
 }
 
 impl Tables {
@@ -59,25 +63,27 @@ impl Tables {
                 messages: 0,
                 bytes: 0,
             },
+            due: Vec::new(alloc),
         }
     }
 
-    /// The tables of a state that a broker can have, which holds so much. No memory is taken.
-    pub fn of(parts: Parts, held: Held) -> Tables
+    /// The tables of a state that a broker can have, which holds so much. Where memory is refused, nothing is left.
+    pub fn of(alloc: Global, parts: Parts, held: Held) -> Result<Tables, AllocError>
         requires sound { IsSound (state_of_parts parts) }
         requires messages { held.messages ≡ held_messages (state_of_parts parts) }
         requires bytes { held.bytes ≡ held_bytes (state_of_parts parts) }
-        ensures { result ≡ state_of_parts parts }
+        ensures { IfOk result (λ tables. tables ≡ state_of_parts parts) }
     {
-        Tables {
+        Ok(Tables {
             count: parts.count,
             next_delivery: parts.next_delivery,
             sessions: parts.sessions,
             durables: parts.durables,
             shared: SharedLines::of(parts.names, parts.queues),
-            order: Order::of(parts.subscriptions),
+            order: Order::of(alloc, parts.subscriptions)?,
             held,
-        }
+            due: Vec::new(alloc),
+        })
     }
 
     /// How many commands were carried out.

@@ -1,11 +1,17 @@
-use Rattle.std.proofs.Common.{◌∙◌, ap, arith, subst, sym}
+use Rattle.std.proofs.Common.{◌≡◌, ◌++◌, ◌∷◌, ◌∙◌, [], List, Some, ap, arith, refl, slice_get, subst, sym}
 use Rattle.std.specs.List.{AllByRecursion, sum_by}
-use Rattle.line_core.specs.Flights.{IsOver}
+use Rattle.std.proofs.lemmas.Bool.{and_parts}
+use Rattle.line_core.specs.Flights.{IsOver, has_delivery}
 use Rattle.broker_state.specs.declared.subscription.Subscription.{Subscription}
-use Rattle.broker_state.specs.Operations.{settled_by}
+use Rattle.broker_state.specs.Operations.{is_of, settled_by}
 use Rattle.broker_state.specs.States.{bytes, one, weight_of_subscription}
 use Rattle.broker_operations.proofs.Operating.{acknowledged_first, acknowledged_none, item_at}
 use Rattle.broker_state.proofs.Weights.{all_changed, over_settled_by, sum_by-changed, sum_by-part, weight-settled_by}
+use Rattle.broker_operations.specs.declared.due.Key.{Key}
+use Rattle.broker_operations.specs.declared.due.Key.TheVariants.{Session}
+use Rattle.broker_operations.specs.Dues.{AreDue}
+use Rattle.broker_operations.specs.Tables.{shown}
+use Rattle.broker_operations.proofs.Dues.{due_changed, grows, marked}
 use Rattle.broker_operations.proofs.tables.Tables.acknowledge.Goals as goal
 
 pub returns-in_default-clause-acknowledged : goal.returns-in_default-clause-acknowledged
@@ -28,7 +34,8 @@ let_deliveries_go-requires-clause-bytes c =
 
 pub invariant_of-self : goal.invariant_of-self
 invariant_of-self c =
-    let subs = c.self.inside.order in
+    let a = c.self.inside in
+    let subs = a.order in
     let tallied = c.self.invariant in
     let at = c.in-Some.at in
     let found = item_at subs at c.in-Some.ensures.within in
@@ -43,6 +50,12 @@ invariant_of-self c =
       small = omega (arith, tallied.small);
       next = subst (AllByRecursion IsUnder) (sym left) (all_changed IsUnder (settled_by c.args.delivery) (over_settled_by c.self.inside.next_delivery c.args.delivery) subs at tallied.next);
       deliveries = tallied.deliveries;
+      ready =
+          let s = shown a.count a.next_delivery a.sessions.entries a.durables.entries a.shared a.order in
+          let t = shown a.count a.next_delivery a.sessions.entries a.durables.entries a.shared c.settle.new.self in
+          let key = Session c.args.session in
+          let mine = λ (x : Subscription) (is : slice_get a.order at ≡ Some x). (and_parts (is_of c.args.session x) (has_delivery c.args.delivery x.unacknowledged) (c.in-Some.ensures.passing x is)).0 in
+          subst (λ (keys : List Key). AreDue keys t) (sym c.in_ok-push.ensures.items) (due_changed a.due.items s tallied.ready t (a.due.items ++ key ∷ []) (grows a.due.items key) refl (λ x other. refl) at (settled_by c.args.delivery) left (λ x is. marked a.due.items key (settled_by c.args.delivery x) (mine x is)));
     }
 
 pub returns-clause-acknowledged : goal.returns-clause-acknowledged

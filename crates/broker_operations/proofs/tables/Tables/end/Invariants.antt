@@ -1,4 +1,5 @@
-use Rattle.std.proofs.Common.{◌≡◌, ◌-◌, filter, fold, length, not, take}
+use Rattle.std.proofs.Common.{◌≡◌, ◌-◌, ◌≤◌, Some, filter, fold, length, not, slice_get, take, true}
+use Rattle.broker_state.specs.declared.subscription.Subscription.{Subscription}
 use Rattle.broker_state.specs.Operations.{is_of}
 use Rattle.broker_state.specs.Parts.{NonePass}
 use Rattle.broker_state.specs.Waiting.{returned}
@@ -6,6 +7,8 @@ use Rattle.broker_operations.proofs.tables.Tables.end.Given as goal
 
 abbrev pub invariant-loop-at : goal.invariant-loop-at
 invariant-loop-at l = record {
+  within : l.at ≤ length l.tables.subscriptions;
+  passing : (sub : Subscription) → slice_get l.tables.subscriptions l.at ≡ Some sub → is_of l.session sub ≡ true;
   before : NonePass (is_of l.session) (take l.at l.tables.subscriptions);
   count : l.tables.count ≡ l.fn.self.count;
   next : l.tables.next_delivery ≡ l.fn.self.next_delivery;

@@ -1,4 +1,4 @@
-use Rattle.std.proofs.Common.{◌∙◌, ap, arith, remove, subst, sym}
+use Rattle.std.proofs.Common.{◌∙◌, ap, arith, refl, remove, subst, sym}
 use Rattle.std.specs.List.{AllByRecursion, sum_by}
 use Rattle.std.proofs.lemmas.Option.{same_Some}
 use Rattle.line_core.specs.Flights.{IsOver}
@@ -6,6 +6,8 @@ use Rattle.broker_state.specs.States.{bytes, one, weight_of_subscription}
 use Rattle.broker_operations.specs.Tables.{shown}
 use Rattle.broker_operations.proofs.Operating.{without_one}
 use Rattle.broker_state.proofs.Weights.{all_removed, sum_by-removed}
+use Rattle.broker_state.specs.Waiting.{Shared, line_for}
+use Rattle.broker_operations.proofs.Dues.{due_left}
 use Rattle.broker_operations.proofs.tables.Tables.end_one.Goals as goal
 
 pub let_line_go-requires-clause-messages : goal.let_line_go-requires-clause-messages
@@ -35,6 +37,11 @@ invariant_of-self c =
       small = omega (arith, tallied.small);
       next = subst (AllByRecursion (λ sub. IsOver c.self.inside.next_delivery sub.unacknowledged)) (sym c.remove-sub.ensures.others) (all_removed (λ sub. IsOver c.self.inside.next_delivery sub.unacknowledged) subs c.args.at tallied.next);
       deliveries = tallied.deliveries;
+      ready =
+          let a = c.self.inside in
+          let s = shown a.count a.next_delivery a.sessions.entries a.durables.entries a.shared a.order in
+          let t = shown a.count a.next_delivery a.sessions.entries a.durables.entries c.take_back.new.self c.remove-sub.new.self in
+          due_left a.due.items s tallied.ready t c.mark_line.new.due.items c.in_ok-mark_line.ensures.kept refl (λ x other. ap (λ (h : Shared). line_for h x) c.in_ok-gone.ensures.shared ∙ c.in_ok-mark_line.ensures.marked a.shared x other) c.args.at c.remove-sub.ensures.others;
     }
 
 pub returns : goal.returns

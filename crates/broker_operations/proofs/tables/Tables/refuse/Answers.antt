@@ -1,15 +1,23 @@
-use Rattle.std.proofs.Common.{◌≡◌, ◌≤◌, ◌∙◌, ◌+◌, ◌-◌, true, false, Ok, ap, arith, nat_le, rules, subst, sym}
+use Rattle.std.proofs.Common.{◌≡◌, ◌≤◌, ◌++◌, ◌∷◌, ◌∙◌, ◌+◌, ◌-◌, [], List, ℕ, Some, true, false, Ok, ap, arith, nat_le, refl, rules, slice_get, subst, sym}
 use Rattle.std.proofs.lemmas.Option.{same_Some}
 use Rattle.std.specs.List.{AllByRecursion, sum_by}
-use Rattle.line_core.specs.Flights.{IsOver}
+use Rattle.std.proofs.lemmas.Bool.{and_parts}
+use Rattle.line_core.specs.Flights.{IsOver, has_delivery}
+use Rattle.broker_state.specs.Dead.{dead_queue}
+use Rattle.broker_state.proofs.Refusals.{kept_from}
 use Rattle.broker_state.specs.declared.subscription.Subscription.{Subscription}
-use Rattle.broker_state.specs.Operations.{settled_by}
+use Rattle.broker_state.specs.Operations.{is_of, settled_by}
 use Rattle.broker_state.specs.States.{bytes, held_bytes, held_messages, one, weight_of_subscription}
-use Rattle.broker_state.specs.Waiting.{is_own}
+use Rattle.broker_state.specs.Waiting.{Shared, is_own, line_for}
 use Rattle.broker_state.proofs.Weights.{all_changed, ones, over_settled_by, sum_by-part}
 use Rattle.broker_operations.specs.Refusals.{all_kept_bytes}
 use Rattle.broker_operations.specs.Tables.{shown}
 use Rattle.broker_operations.proofs.Operating.{gone_of, nack_by, nack_counts, nack_fewer, nack_lines, nack_none, nack_small, nack_state, part_of}
+use Rattle.broker_operations.specs.declared.due.Key.{Key}
+use Rattle.broker_operations.specs.declared.due.Key.TheVariants.{Destination, Session}
+use Rattle.broker_operations.specs.Dues.{AreDue, is_due}
+use Rattle.waiting_core.specs.Directories.{is_plain_at}
+use Rattle.broker_operations.proofs.Dues.{due_changed, grows, marked, refused_elsewhere, unless}
 use Rattle.broker_operations.proofs.tables.Tables.refuse.Goals as goal
 
 pub returns-in_default-clause-nacked : goal.returns-in_default-clause-nacked
@@ -103,6 +111,16 @@ invariant_of-self c =
       small = omega (arith, done.bytes, small);
       next = subst (AllByRecursion IsUnder) (sym left) (all_changed IsUnder (settled_by c.args.delivery) (over_settled_by a.next_delivery c.args.delivery) a.order at tallied.next);
       deliveries = tallied.deliveries;
+      ready =
+          let t = shown a.count a.next_delivery a.sessions.entries a.durables.entries c.keep.new.shared c.settle.new.self in
+          let mine = λ (x : Subscription) (is : slice_get a.order at ≡ Some x). (and_parts (is_of c.args.session x) (has_delivery c.args.delivery x.unacknowledged) (c.in-Some.ensures.passing x is)).0 in
+          let here = Session c.args.session in
+          let dead = Destination dead_queue in
+          let mid = a.due.items ++ here ∷ [] in
+          let keys = mid ++ dead ∷ [] in
+          let pushed = c.in_ok-push-2.ensures.items ∙ ap (λ (q : List ℕ). c.push.new.self.items ++ Destination q ∷ []) c.in_ok-dead_queue.ensures ∙ ap (λ (l : List Key). l ++ dead ∷ []) c.in_ok-push.ensures.items in
+          let same = λ (x : Subscription) (other : is_due keys x ≡ false). ap (λ (h : Shared). line_for h x) lines ∙ refused_elsewhere (kept_from s c.args.session c.args.member c.args.delivery sub) a.shared x (unless (is_plain_at dead_queue x) (is_due keys x) (marked mid dead x) other) in
+          subst (λ (l : List Key). AreDue l t) (sym pushed) (due_changed a.due.items s tallied.ready t keys (λ x is. grows mid dead x (grows a.due.items here x is)) refl same at (settled_by c.args.delivery) left (λ x is. grows mid dead (settled_by c.args.delivery x) (marked a.due.items here (settled_by c.args.delivery x) (mine x is))));
     }
 
 pub returns-clause-nacked : goal.returns-clause-nacked

@@ -1,4 +1,4 @@
-use Rattle.std.proofs.Common.{◌≡◌, ◌&&◌, ◌^◌, ◌∙◌, ℕ, Bool, true, false, ap, arith, drop, nat_lt, not, refl, sym}
+use Rattle.std.proofs.Common.{◌≡◌, ◌+◌, ◌&&◌, ◌++◌, ◌∷◌, ◌^◌, ◌∙◌, [], List, ℕ, remove, Bool, true, false, ap, arith, drop, nat_lt, not, refl, sym}
 use Rattle.std.proofs.lemmas.Bool.{and_parts}
 use Rattle.line_core.specs.declared.message.Message.{Message}
 use Rattle.line_core.specs.Flights.{IsOver}
@@ -10,6 +10,7 @@ use Rattle.broker_state.specs.declared.subscription.Subscription.{Subscription}
 use Rattle.broker_state.proofs.Firsts.{same_some}
 use Rattle.broker_state.proofs.Served.{count_others, counted_after, first_and_rest, handed_made, held_after, next_after, no_more_after, number_of_ready, one_of_all, sum_others, waits_less}
 use Rattle.broker_operations.specs.Tables.{shown}
+use Rattle.broker_operations.proofs.Dues.{due_served, same_keys}
 use Rattle.broker_operations.proofs.tables.Tables.serve.Goals as goal
 
 not_so : (b : Bool) → not b ≡ true → b ≡ false
@@ -58,6 +59,14 @@ invariant_of-self c =
       small = omega (arith, t.small, no_more_after (is_auto h.left.mode) _ _ _ h.lighter);
       next = rw subs (next_after a.next_delivery h.message a.order c.args.at c.remove-sub.result h.left c.remove-sub.ensures.taken flight t.next);
       deliveries = omega (arith, ready);
+      ready =
+          let s = shown a.count a.next_delivery a.sessions.entries a.durables.entries a.shared a.order in
+          let after = shown a.count (a.next_delivery + 1) a.sessions.entries a.durables.entries c.hand_to.new.shared c.wait_last.new.order in
+          let sub = c.remove-sub.result in
+          let can = (rw (← c.self.view_is) at c.requires.ready) sub c.remove-sub.ensures.taken in
+          let last : c.wait_last.new.order ≡ remove a.order c.args.at ++ c.hand_to.new.sub ∷ [] = c.in_ok-out-2.ensures.waits ∙ ap (λ (l : List Subscription). l ++ c.hand_to.new.sub ∷ []) c.remove-sub.ensures.others in
+          let keys = same_keys c.hand_to.new.sub sub (ap (λ (x : Subscription). x.session) h.handed ∙ ap (λ (x : Subscription). x.session) h.line) (ap (λ (x : Subscription). x.destination) h.handed ∙ ap (λ (x : Subscription). x.destination) h.line) (ap (λ (x : Subscription). x.durable) h.handed ∙ ap (λ (x : Subscription). x.durable) h.line) in
+          due_served a.due.items s t.ready after c.args.at sub c.hand_to.new.sub h.message (drop 1 (line_for a.shared sub)) c.remove-sub.ensures.taken can line h.rest refl last keys;
     }
 
 pub returns-clause-handed : goal.returns-clause-handed

@@ -1,12 +1,46 @@
-use Rattle.std.proofs.Common.{ap, arith, length}
+use Rattle.std.proofs.Common.{◌≤◌, ◌∙◌, [], List, ap, arith, length, subst, sym}
 use Rattle.broker_state.proofs.Serving.{begins, ends}
+use Rattle.broker_operations.specs.declared.due.Key.{Key}
+use Rattle.broker_operations.specs.Dues.{AreDue}
+use Rattle.broker_operations.specs.Tables.{shown}
+use Rattle.broker_operations.proofs.Dues.{goes_on, none_at_end}
 use Rattle.broker_operations.proofs.tables.Tables.settle.Goals as goal
 
 pub loop-at-init : goal.loop-at-init
-loop-at-init c = begins _ _
+loop-at-init c = record {
+  settles = goes_on c.args.self c.args.outs.now.items c.args.self c.args.outs.now.items 0 c.next_ready-at.result (begins c.args.self c.args.outs.now.items) c.next_ready-at.ensures.none;
+  within = c.next_ready-at.ensures.within;
+}
+
+pub loop-at-preserved : goal.loop-at-preserved
+loop-at-preserved c = record {
+  settles = goes_on c.args.self c.args.outs.now.items c.in_ok-left.left c.try_serve.new.outs.items c.in_ok-left.from c.next_ready-at-in-loop-at.result (c.in_ok-left.ensures.settles c.args.self c.args.outs.now.items c.loop-at.invariant.settles) c.next_ready-at-in-loop-at.ensures.none;
+  within = c.next_ready-at-in-loop-at.ensures.within;
+}
+
+pub invariant_of-tables : goal.invariant_of-tables
+invariant_of-tables c =
+    let a = c.tables-in-loop-at.inside in
+    let s = shown a.count a.next_delivery a.sessions.entries a.durables.entries a.shared a.order in
+    let kept = c.tables-in-loop-at.invariant in
+    let end : length c.loop-at.tables.subscriptions ≤ c.loop-at.at = omega (arith, ap length c.order.ensures, c.len.ensures.len, c.loop-at-test.false) in
+    let none = none_at_end c.args.self c.args.outs.now.items c.loop-at.tables c.loop-at.outs.items c.loop-at.at end c.loop-at.invariant.settles in
+    record {
+      messages = kept.messages;
+      bytes = kept.bytes;
+      few = kept.few;
+      small = kept.small;
+      next = kept.next;
+      deliveries = kept.deliveries;
+      ready = subst (λ (keys : List Key). AreDue keys s) (sym c.clear.ensures.items) (subst (AreDue []) (sym c.tables-in-loop-at.view_is) none);
+    }
 
 pub returns-clause-state : goal.returns-clause-state
-returns-clause-state c = (ends _ _ _ _ _ (omega (arith, ap length c.order.ensures)) c.loop-at.invariant).0
+returns-clause-state c =
+    let end : length c.loop-at.tables.subscriptions ≤ c.loop-at.at = omega (arith, ap length c.order.ensures, c.len.ensures.len, c.loop-at-test.false) in
+    c.tables-in-loop-at.view_is ∙ (ends c.args.self c.args.outs.now.items c.loop-at.tables c.loop-at.outs.items c.loop-at.at end c.loop-at.invariant.settles).0
 
 pub returns-clause-outs : goal.returns-clause-outs
-returns-clause-outs c = (ends _ _ _ _ _ (omega (arith, ap length c.order.ensures)) c.loop-at.invariant).1
+returns-clause-outs c =
+    let end : length c.loop-at.tables.subscriptions ≤ c.loop-at.at = omega (arith, ap length c.order.ensures, c.len.ensures.len, c.loop-at-test.false) in
+    (ends c.args.self c.args.outs.now.items c.loop-at.tables c.loop-at.outs.items c.loop-at.at end c.loop-at.invariant.settles).1

@@ -1,0 +1,4 @@
+pub mod Directories
+pub mod Members
+pub mod Rising
+pub mod Waiting
