@@ -1,5 +1,5 @@
 -- For how long a worker waits for a client. All is in milliseconds; where less would be left than nothing, nothing is left.
-use Rattle.std.specs.Prelude.{ℕ, Bool, Option, Some, None, zero, suc, ◌+◌, ◌-◌, ◌*◌, ◌==◌, nat_lt, min, cond}
+use Rattle.std.specs.Prelude.{ℕ, Option, Some, None, ◌+◌, ◌-◌, ◌*◌, ◌==◌, nat_lt, min, cond}
 use Rattle.clients_core.specs.declared.patience.TheConstants.{LONGEST_PART, LONGEST_GREETING, QUIET, PINGS, LONGEST_WRITE, LONGEST_CLOSE}
 use Rattle.clients_core.specs.declared.patience.Due.{Due}
 use Rattle.clients_core.specs.declared.patience.Due.TheVariants.{GivenUp, Ping, In}
@@ -49,3 +49,7 @@ due_by left (Some ping) = cond (ping == 0) Ping (In (min left ping))
 -- A client for which nothing is left is given up.
 abbrev pub due : Patience → Phase → ℕ → Due
 due p phase now = cond (left p phase now == 0) GivenUp (due_by (left p phase now) (ping_in p phase now))
+
+-- what is known of a client that was connected just now
+abbrev pub fresh : ℕ → Patience
+fresh now = record { since = now; heard = now; pings = 0; held_up = None; parting = None }

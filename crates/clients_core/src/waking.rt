@@ -1,15 +1,21 @@
 //! How a worker's clients come to stand in line for a turn, and what they wait for behind one.
 
-use crate::clients::{Client, Clients, SHORTAGE, Standing, Waiting};
+ghost use Rattle.std.specs.Prelude.{◌≡◌};
+
+use crate::clients::{Client, Clients, Standing};
 use crate::patience::{Due, Phase};
 use crate::timers::NEVER;
 use desk_core::{Next, Turned};
 use mio::Events;
 use mio::event::Event;
 use std::alloc::Global;
-use std::mem;
+
+/// For how many milliseconds those wait to whom memory was refused, before they try again.
+const SHORTAGE: u64 = 20;
 
 impl Clients {
+    ghost use Rattle.clients_core.specs.Turns.{MayWake, settled, woken};
+
     /// Has those stand in line for a turn of whose sockets the poll told anything.
     pub fn note(&mut self, events: &Events<Global>, now: u64) {
         for event in events.iter() {
@@ -19,41 +25,17 @@ impl Clients {
 
     fn note_one(&mut self, event: &Event, now: u64) {
         let number = event.token().0;
-        let Some(client) = self.all.get_mut(number) else {
-            return;
-        };
-        if event.is_writable() {
-            client.patience.took(now);
-        }
-        if event.is_readable() && matches!(client.standing, Standing::Greeting(_)) {
-            client.patience.heard(now);
+        self.hear_of(number, event.is_readable(), event.is_writable(), now);
+    }
+
+    // The poll told of a client's socket.
+    fn hear_of(&mut self, number: usize, is_readable: bool, is_writable: bool, now: u64)
+        ensures { self.new ≡ record self.old { all = self.new.all; lines = woken number self.old.lines } }
+    {
+        if let Some(client) = self.all.get_mut(number) {
+            client.hear_of(is_readable, is_writable, now);
         }
         self.wake(number);
-    }
-
-    /// Has those stand first in line whose mark this one is over, the first refused before all others.
-    pub fn let_in(&mut self, mark: u64) {
-        for _waiting in 0..self.waiting.len() {
-            let Some(last) = self.waiting.pop_back() else {
-                return;
-            };
-            if last.mark < mark {
-                self.wake_first(last.client);
-            } else {
-                let _ = self.waiting.push_front(last);
-            }
-        }
-    }
-
-    // Has a client stand first in line that waited for the mark.
-    fn wake_first(&mut self, number: usize) {
-        let Some(client) = self.all.get_mut(number) else {
-            return;
-        };
-        client.is_waiting = false;
-        if !mem::replace(&mut client.is_ready, true) {
-            let _ = self.ready.push_front(number);
-        }
     }
 
     /// Has those stand in line to whom memory was refused, where they are to try again.
@@ -63,11 +45,17 @@ impl Clients {
         }
         self.retry = NEVER;
         for number in 0..self.reach {
-            if let Some(client) = self.all.get_mut(number)
-                && client.is_short
-            {
+            if self.is_short(number) {
                 self.wake(number);
             }
+        }
+    }
+
+    // Whether memory was refused in a client's last turn.
+    fn is_short(&self, number: usize) -> bool {
+        match self.all.get(number) {
+            Some(client) => client.is_short,
+            None => false,
         }
     }
 
@@ -77,43 +65,28 @@ impl Clients {
     }
 
     /// What is to come of a client that had a turn and has not ended.
-    pub fn settle(&mut self, number: usize, turned: Turned, now: u64) {
+    pub fn settle(&mut self, number: usize, turned: Turned, now: u64)
+        ensures lines { MayWake number (settled number turned self.old.lines) self.new.lines }
+    {
+        self.lines.settle(number, turned);
+        self.await_client(number, turned, now);
+        self.go_on(number);
+    }
+
+    // Begins to wait for what a client is waited for behind a turn.
+    fn await_client(&mut self, number: usize, turned: Turned, now: u64)
+        ensures { self.new.lines ≡ self.old.lines }
+    {
         let Some(client) = self.all.get_mut(number) else {
             return;
         };
         if turned.heard {
             client.patience.heard(now);
         }
+        client.is_short = matches!(turned.next, Next::Memory);
         let at = client.wait(turned.next, now);
         self.timers.set_earlier(number, at);
-        match turned.next {
-            Next::Go => self.wake(number),
-            Next::Close if turned.heard => self.wake(number),
-            Next::Room(mark) => self.await_over(number, mark),
-            Next::Memory => self.run_short(number, now),
-            Next::Read | Next::Write | Next::Close | Next::Over(_) => {}
-        }
-        self.go_on(number);
-    }
-
-    // Has a client wait for a mark over this one, behind those that wait already. One that waits keeps its place.
-    fn await_over(&mut self, number: usize, mark: u64) {
-        let Some(client) = self.all.get_mut(number) else {
-            return;
-        };
-        if !mem::replace(&mut client.is_waiting, true) {
-            let waiting = Waiting {
-                client: number,
-                mark,
-            };
-            let _ = self.waiting.push_back(waiting);
-        }
-    }
-
-    // Has a client try again in a while.
-    fn run_short(&mut self, number: usize, now: u64) {
-        if let Some(client) = self.all.get_mut(number) {
-            client.is_short = true;
+        if let Next::Memory = turned.next {
             self.retry = self.retry.min(now.saturating_add(SHORTAGE));
         }
     }
@@ -139,6 +112,16 @@ impl Clients {
 }
 
 impl Client {
+    // The poll told of its socket.
+    fn hear_of(&mut self, is_readable: bool, is_writable: bool, now: u64) {
+        if is_writable {
+            self.patience.took(now);
+        }
+        if is_readable && matches!(self.standing, Standing::Greeting(_)) {
+            self.patience.heard(now);
+        }
+    }
+
     // Begins to wait, and answers the moment at which that is to be looked at: any later one has been set before.
     fn wait(&mut self, next: Next, now: u64) -> u64 {
         if !matches!(next, Next::Write) {
