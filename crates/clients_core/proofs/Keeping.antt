@@ -145,11 +145,11 @@ told_off n stands e = off (get_or stands n false) e
 
 -- one that may join is a client that does not stand there
 pub client_that_may : (order : List ℕ) (n : ℕ) → may_join n order ≡ true → n < CLIENTS
-client_that_may order n e = ltb-true n CLIENTS (both _ _ e).0
+client_that_may order n e = ltb-true n CLIENTS (both (ltb n CLIENTS) (ltb (times n order) 1) e).0
 
 pub off_where_may : (order : List ℕ) (stands : List Bool) (capacity n : ℕ) → IsKept order stands capacity → may_join n order ≡ true → get_or stands n false ≡ false
 off_where_may order stands capacity n kept e =
-    let none : times n order < 1 = ltb-true (times n order) 1 (both _ _ e).1 in
+    let none : times n order < 1 = ltb-true (times n order) 1 (both (ltb n CLIENTS) (ltb (times n order) 1) e).1 in
     told_off n stands (omega (arith, kept.each n, none))
 
 -- nobody stands there
