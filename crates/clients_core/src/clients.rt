@@ -6,13 +6,14 @@ ghost use Rattle.clients_core.specs.declared.limits.TheConstants.{CLIENTS};
 ghost use Rattle.clients_core.specs.declared.timers.TheConstants.{NEVER};
 ghost use Rattle.clients_core.specs.Lines.{is_over};
 ghost use Rattle.clients_core.specs.Patience.{fresh};
-ghost use Rattle.clients_core.specs.Timers.{IsDue, IsNotDue};
+ghost use Rattle.clients_core.specs.Timers.{IsDue, IsNotDue, looked_through};
 
 use crate::limits::CLIENTS;
 use crate::lines::Lines;
 use crate::patience::Patience;
 use crate::portions::{Portions, Rest};
 use crate::timers::{NEVER, Timers};
+use mio::net::TcpStream;
 use slab::Slab;
 use std::alloc::{AllocError, Global};
 use std::mem;
@@ -22,7 +23,7 @@ use ws_core::Greeting;
 #[derive(Drop)]
 pub enum Standing {
     /// Its handshake is under way.
-    Greeting(Greeting<Portions>),
+    Greeting(Greeting<Portions<TcpStream>>),
     /// It sits at that place of its worker's desk.
     Seated(usize),
     /// Its handshake is just gone on with, or it is gone.
@@ -94,7 +95,7 @@ impl Clients {
     /// Takes a client in, under the next number. It has a turn next.
     pub fn admit(
         &mut self,
-        greeting: Greeting<Portions>,
+        greeting: Greeting<Portions<TcpStream>>,
         rest: Rest,
         now: u64,
     ) -> Result<(), AllocError>
@@ -138,8 +139,8 @@ impl Clients {
 
     /// A client whose moment has come to be looked at. It has none until `come_due` sets one.
     pub fn take_due(&mut self, now: u64) -> Option<usize>
-        ensures due { IfSome result (λ client. IsDue now client self.old.timers × (self.new ≡ record self.old { timers = slice_set self.old.timers client NEVER })) }
-        ensures none { IsNone result → IsNotDue now self.old.timers × (self.new ≡ self.old) }
+        ensures due { IfSome result (λ client. IsDue now client self.old.timers.all × (self.new ≡ record self.old { timers = record self.old.timers { all = slice_set self.old.timers.all client NEVER } })) }
+        ensures none { IsNone result → IsNotDue now self.old.timers.all × (self.new ≡ record self.old { timers = looked_through now self.old.timers }) }
     {
         self.timers.take_due(now)
     }
@@ -208,7 +209,7 @@ impl Clients {
         }
     }
 
-    /// A client is where it is said to be now.
+    /// A client is where it is said to be now. It stands in line again where more of its bytes may be there.
     pub fn stand(&mut self, number: usize, standing: Standing)
         ensures lines { MayWake number self.old.lines self.new.lines }
         ensures rest { self.new ≡ record self.old { all = self.new.all; lines = self.new.lines } }

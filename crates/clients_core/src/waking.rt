@@ -1,17 +1,19 @@
 //! How a worker's clients come to stand in line for a turn, and what they wait for behind one.
 
-ghost use Rattle.std.specs.Prelude.{◌≡◌};
+ghost use Rattle.std.specs.Prelude.{◌≡◌, MatchOption, min};
+ghost use Rattle.clients_core.specs.declared.timers.TheConstants.{NEVER};
+ghost use Rattle.clients_core.specs.Clients.{IsWaitedFor, client_at};
+ghost use Rattle.clients_core.specs.Patience.{due, look_by, next_look, waited_by};
+ghost use Rattle.clients_core.specs.Timers.{with_moment};
 
 use crate::clients::{Client, Clients, Standing};
+use crate::limits::SHORTAGE;
 use crate::patience::{Due, Phase};
 use crate::timers::NEVER;
 use desk_core::{Next, Turned};
 use mio::Events;
 use mio::event::Event;
 use std::alloc::Global;
-
-/// For how many milliseconds those wait to whom memory was refused, before they try again.
-const SHORTAGE: u64 = 20;
 
 impl Clients {
     ghost use Rattle.clients_core.specs.Turns.{MayWake, settled, woken};
@@ -60,13 +62,16 @@ impl Clients {
     }
 
     /// Until when there is nothing to do of which neither the poll nor the doorbell tells.
-    pub fn until(&self) -> u64 {
+    pub fn until(&self) -> u64
+        ensures { result ≡ min self.now.timers.earliest self.now.retry }
+    {
         self.timers.earliest().min(self.retry)
     }
 
     /// What is to come of a client that had a turn and has not ended.
     pub fn settle(&mut self, number: usize, turned: Turned, now: u64)
         ensures lines { MayWake number (settled number turned self.old.lines) self.new.lines }
+        ensures rest { IsWaitedFor number turned now self.old self.new }
     {
         self.lines.settle(number, turned);
         self.await_client(number, turned, now);
@@ -75,7 +80,8 @@ impl Clients {
 
     // Begins to wait for what a client is waited for behind a turn.
     fn await_client(&mut self, number: usize, turned: Turned, now: u64)
-        ensures { self.new.lines ≡ self.old.lines }
+        ensures lines { self.new.lines ≡ self.old.lines }
+        ensures rest { IsWaitedFor number turned now self.old self.new }
     {
         let Some(client) = self.all.get_mut(number) else {
             return;
@@ -93,7 +99,10 @@ impl Clients {
 
     /// What is due of a client whose moment has come, whose session is open or is not, and where it is. Its next moment is set,
     /// unless it is to be given up.
-    pub fn come_due(&mut self, number: usize, phase: Phase, now: u64) -> Due {
+    pub fn come_due(&mut self, number: usize, phase: Phase, now: u64) -> Due
+        ensures due { MatchOption (client_at number self.old) (result ≡ Due.In NEVER) (λ client. result ≡ due client.patience phase now) }
+        ensures next { MatchOption (client_at number self.old) (self.new ≡ self.old) (λ client. self.new ≡ record self.old { all = self.new.all; timers = with_moment number (next_look client.patience phase now) self.old.timers }) }
+    {
         let Some(client) = self.all.get_mut(number) else {
             return Due::In(NEVER);
         };
@@ -123,7 +132,10 @@ impl Client {
     }
 
     // Begins to wait, and answers the moment at which that is to be looked at: any later one has been set before.
-    fn wait(&mut self, next: Next, now: u64) -> u64 {
+    fn wait(&mut self, next: Next, now: u64) -> u64
+        ensures patience { self.new ≡ record self.old { patience = waited_by next now self.old.patience } }
+        ensures moment { result ≡ look_by next (waited_by next now self.old.patience) now }
+    {
         if !matches!(next, Next::Write) {
             self.patience.took_all();
         }

@@ -30,7 +30,7 @@ pub(crate) struct Shift<'a, R: Drop> {
     post: Arc<Post>,
     poll: Poll,
     events: Events<Global>,
-    desk: Desk<BellRope, WsLink<Portions>>,
+    desk: Desk<BellRope, WsLink<Portions<TcpStream>>>,
     clients: Clients,
     // The moment of this round, in milliseconds of the clock.
     now: u64,
@@ -267,7 +267,7 @@ impl<'a, R: Wait + Clock + Drop> Shift<'a, R> {
     }
 
     // Goes on with a client's handshake. Once it has its WebSocket, it sits at the desk.
-    fn greet(&mut self, number: usize, greeting: Greeting<Portions>) {
+    fn greet(&mut self, number: usize, greeting: Greeting<Portions<TcpStream>>) {
         match greeting.greet(self.alloc) {
             Greeted::Waits(greeting) => self.clients.stand(number, Standing::Greeting(greeting)),
             Greeted::Accepted(link) => match self.desk.admit(self.alloc, link) {
