@@ -10,10 +10,15 @@ and root, since they take a network of the script's own, and are left out where 
 - 64 attackers of a kind come behind 8 clients that behave. There are 64 workers, so each worker has an attacker then, and each of the 8 has one
   at its own worker.
 - The 8 send in turn, one SEND with a receipt at a time. What 99 of 100 receipts take is compared with what it took on the same broker
-  without that kind just before: it may be twenty times that and 200 ms more, since this may run beside other work, and the figures are told.
+  without that kind just before: it may be twenty times that and 200 ms more, in the best of three measurements, since this may run beside other
+  work, and the figures are told.
 - A place is free once the server has no descriptor for its connection any more, as /proc/net/tcp tells.
 - Those that stall are all there at once, over one broker; meanwhile those that flood come one kind after another, each over a broker of its own.
-- At the end one shares its worker with a client that sends without end and reads its receipts, as all other workers have one.
+- At the end one that sends SENDs with receipts shares its worker with an attacker, one of each kind in its turn. 99 of 100 of its receipts take no more
+  than twice what they take while that attacker is at another worker. This may run beside other work, which comes and goes: so they are measured in
+  turns, with the attacker elsewhere and beside, three times, and the best of the three tells. What the neighbour costs is there each time, what else
+  runs is not. Where all other workers have a client that never waits it may be three times: the ring is full of what these have sent, so that one waits
+  once round for room in its window, and once round for its own.
 """
 
 import ctypes
@@ -25,7 +30,7 @@ import time
 import traceback
 
 import attackers
-from attackers import BODIES, BUSY, FLOODS, STALLED, UNREAD, Attack, count_of_threads, forget_peak, half_open, is_calm, last_words, memory
+from attackers import BODIES, BUSY, FLOODS, STALLED, UNREAD, Attack, count_of_threads, forget_peak, half_open, held_places, is_calm, last_words, memory
 
 import scenario  # noqa: E402
 from stomp_client import Client  # noqa: E402
@@ -43,8 +48,9 @@ LEAST = 200
 MOST, LONGEST = 10, 5
 # What they may take in an attack, by what they take without: so many times that, and so many seconds more.
 TIMES, MORE = 20, 0.2
-# And where one shares its worker with a client that never waits, by what they take while all other workers have such a client.
-SHARED, SHARED_MORE = 5, 0.02
+# And where one shares its worker with an attacker, by what they take while that is at another worker: so many times that, or so many where all other
+# workers have one that never waits; in the best of so many rounds, of so many seconds each.
+SHARED, AMONG, ROUNDS, ROUND = 2, 3, 3, 1.5
 
 # For a busy machine: how much later than it is said a place may be free, and how much earlier, since the server counts from what it saw first.
 SPARE, EARLY = 8, 2
@@ -90,10 +96,10 @@ class Others:
     def another(self):
         return Client(self.port, timeout=LONGEST).connect()
 
-    def measure(self):
+    def measure(self, measured=MEASURED):
         """What receipts take now. One that does not come counts for as long as it was waited for."""
         seconds, start = [], time.monotonic()
-        while time.monotonic() - start < MEASURED or (len(seconds) < LEAST and time.monotonic() - start < MOST):
+        while time.monotonic() - start < measured or (len(seconds) < LEAST and time.monotonic() - start < MOST):
             place, begun = len(seconds) % len(self.clients), time.perf_counter()
             try:
                 self.clients[place].publish("/topic/none", "x")
@@ -104,8 +110,13 @@ class Others:
         return Receipts(seconds)
 
 
-def judge_receipts(checks, kind, without, within):
+def judge_receipts(checks, kind, without, others):
+    """What receipts of others take in an attack, measured again where other work may have held them up."""
     most = TIMES * without.within(99) + MORE
+    for _ in range(ROUNDS):
+        within = others.measure()
+        if within.within(99) <= most:
+            break
     name = f"while {COUNT} clients {kind.name}, 99 of 100 receipts of others take at most {TIMES} times what they took, and {MORE * 1000:.0f} ms"
     checks.check(name, within.within(99) <= most, str(within))
     checks.tell(f"half and 99 of 100 within {within}; without them {without}; {within.within(99) / without.within(99):.1f} times")
@@ -139,7 +150,7 @@ def stall(broker, checks, has_network):
         under_way.append((kind, Attack([kind] * COUNT, broker.port).begun()))
         if kind not in STALLED:
             subprocess.run(["ip", "link", "delete", "gone"], check=True)
-        judge_receipts(checks, kind, without, others.measure())
+        judge_receipts(checks, kind, without, others)
     judge_memory(checks, broker, start, OTHERS + COUNT * len(under_way))
     return under_way
 
@@ -150,7 +161,7 @@ def flood(broker, checks, kind):
     without = others.measure()
     forget_peak(broker)
     attack = Attack([kind] * COUNT, broker.port).begun()
-    judge_receipts(checks, kind, without, others.measure())
+    judge_receipts(checks, kind, without, others)
     # Not all of them take nothing from the beginning: each has to have sent enough before.
     seconds = attack.end(kind.free_after + 2 * SPARE if kind.free_after else 0)
     judge_memory(checks, broker, start, OTHERS + COUNT)
@@ -164,25 +175,63 @@ def unread_bodies(broker, checks):
     forget_peak(broker)
     readers = Attack([UNREAD] * READERS, broker.port).begun()
     writers = Attack([BODIES] * WRITERS, broker.port).begun()
-    judge_receipts(checks, UNREAD, without, others.measure())
+    judge_receipts(checks, UNREAD, without, others)
     seconds = readers.end(UNREAD.free_after + SPARE)
     writers.end()
     judge_memory(checks, broker, start, OTHERS + READERS + WRITERS, READERS)
     judge_places(checks, UNREAD, seconds)
 
 
+def least_apart(rounds):
+    """Of measurements without something and with it, in turns, those that differ least."""
+    return min(rounds, key=lambda pair: pair[1].within(99) / pair[0].within(99))
+
+
+def in_attack(broker, kind, one, places):
+    """What receipts of one take while there is an attacker of this kind, and waits until it has gone: so many connections are there without it."""
+    attack = Attack([kind], broker.port).begun()
+    receipts = one.measure(ROUND)
+    attack.end()
+    end = time.monotonic() + LONGEST
+    while len(held_places(broker.port)) != places and time.monotonic() < end:
+        time.sleep(0.05)
+    return receipts
+
+
+def judge_neighbour(checks, kind, without, times, pair):
+    elsewhere, shared = pair
+    name = f"beside one at its worker that is to {kind.name}, 99 of 100 receipts take at most {times} times what they take {without}"
+    checks.check(name, shared.within(99) <= times * elsewhere.within(99), str(shared))
+    checks.tell(f"half and 99 of 100 within {shared}; {without} {elsewhere}; {shared.within(99) / elsewhere.within(99):.1f} times")
+
+
 def share_a_worker(broker, checks):
-    """Receipts of one whose worker has nobody else, while each other worker has a client that never waits; and then of one at whose worker there is one too."""
-    others = Others(broker, 1)
-    busy = [Attack([BUSY] * (WORKERS - 1), broker.port).begun()]
-    alone = others.measure()
-    busy.append(Attack([BUSY], broker.port).begun())
-    shared = others.measure()
-    for attack in busy:
-        attack.end()
-    name = f"who shares a worker with one that never waits has 99 of 100 receipts within {SHARED} times what others take, and {SHARED_MORE * 1000:.0f} ms"
-    checks.check(name, shared.within(99) <= SHARED * alone.within(99) + SHARED_MORE, str(shared))
-    checks.tell(f"half and 99 of 100 within {shared}; where nobody shares it {alone}; {shared.within(99) / alone.within(99):.1f} times")
+    """One whose worker has nobody else, while each other worker has a client that never waits; and now and then there is one at its own worker too."""
+    one = Others(broker, 1)
+    busy = Attack([BUSY] * (WORKERS - 1), broker.port).begun()
+    pair = least_apart([(one.measure(ROUND), in_attack(broker, BUSY, one, WORKERS)) for _ in range(ROUNDS)])
+    judge_neighbour(checks, BUSY, "while all other workers have one", AMONG, pair)
+    busy.end()
+
+
+def have_a_neighbour(broker, checks):
+    """One whose worker has nobody else, and one of each kind in turn, at another worker and at its own; the other workers have a client each that says
+    nothing."""
+    one = Others(broker, 1)
+    quiet = [attackers.in_session(broker.port) for _ in range(WORKERS - 2)]
+    for kind in [BUSY, BODIES, *FLOODS, *STALLED]:
+        judge_neighbour(checks, kind, "while it is at another", SHARED, least_apart([elsewhere_and_beside(broker, kind, one) for _ in range(ROUNDS)]))
+    for client in quiet:
+        client.close()
+
+
+def elsewhere_and_beside(broker, kind, one):
+    """What receipts of one take while one of this kind is at the worker that has nobody, and then at its own, since each other has one."""
+    elsewhere = in_attack(broker, kind, one, WORKERS - 1)
+    last = attackers.in_session(broker.port)
+    shared = in_attack(broker, kind, one, WORKERS)
+    last.close()
+    return elsewhere, shared
 
 
 def over_another(program, checks, scenario_of):
@@ -202,6 +251,7 @@ def attack_all(program, checks, has_network):
             over_another(program, checks, lambda broker: flood(broker, checks, kind))
         over_another(program, checks, lambda broker: unread_bodies(broker, checks))
         over_another(program, checks, lambda broker: share_a_worker(broker, checks))
+        over_another(program, checks, lambda broker: have_a_neighbour(broker, checks))
         for kind, attack in stalled:
             judge_places(checks, kind, attack.end(kind.free_after + SPARE))
         checks.check("behind it a new client is served within a second, by as many threads as before", is_calm(broker, threads), last_words(broker))

@@ -1,29 +1,32 @@
 //! The clients of a worker.
 
+ghost use Rattle.std.specs.Prelude.{◌≡◌, ◌<◌, ◌+◌, ◌≤◌, ◌||◌, ◌∷◌, [], None, false, IfOk, IfSome, IsNone, OnOk, OnErr, length, option_map, slice_set};
+ghost use Rattle.std.specs.Option.{option_copied};
+ghost use Rattle.clients_core.specs.declared.limits.TheConstants.{CLIENTS};
+ghost use Rattle.clients_core.specs.declared.timers.TheConstants.{NEVER};
+ghost use Rattle.clients_core.specs.Lines.{is_over};
+ghost use Rattle.clients_core.specs.Patience.{fresh};
+ghost use Rattle.clients_core.specs.Timers.{IsDue, IsNotDue, looked_through};
+
+use crate::limits::CLIENTS;
+use crate::lines::Lines;
 use crate::patience::Patience;
 use crate::portions::{Portions, Rest};
 use crate::timers::{NEVER, Timers};
+use mio::net::TcpStream;
 use slab::Slab;
 use std::alloc::{AllocError, Global};
-use std::collections::VecDeque;
 use std::mem;
 use ws_core::Greeting;
-
-/// How many clients a worker has at a time at most, those counted that are only told that the server is full. Each has a
-/// number at its worker, which is under this.
-pub const CLIENTS: usize = 512;
-
-/// For how many milliseconds those wait to whom memory was refused, before they try again.
-pub(crate) const SHORTAGE: u64 = 20;
 
 /// Where a client is.
 #[derive(Drop)]
 pub enum Standing {
     /// Its handshake is under way.
-    Greeting(Greeting<Portions>),
+    Greeting(Greeting<Portions<TcpStream>>),
     /// It sits at that place of its worker's desk.
     Seated(usize),
-    /// Its handshake is just gone on with.
+    /// Its handshake is just gone on with, or it is gone.
     Away,
 }
 
@@ -32,9 +35,6 @@ pub enum Standing {
 pub struct Client {
     pub(crate) standing: Standing,
     pub(crate) patience: Patience,
-    // Whether it stands in line for a turn, and whether it stands in line for the mark.
-    pub(crate) is_ready: bool,
-    pub(crate) is_waiting: bool,
     // Whether memory was refused in its last turn.
     pub(crate) is_short: bool,
     // Whether more of its bytes may be there than its last turn has read.
@@ -51,39 +51,33 @@ impl Client {
     }
 }
 
-/// One that waits for a mark over this.
-#[derive(Clone, Copy)]
-pub(crate) struct Waiting {
-    pub(crate) client: usize,
-    pub(crate) mark: u64,
-}
-
-/// The clients of a worker, by their numbers, and those of them that are to have a turn, in their order. Each stands in that
-/// line once at most, so that the line's room, which is made at the beginning, is enough.
+/// The clients of a worker, by their numbers; the lines in which they stand; and when each is to be looked at.
+///
+/// A number may stand in a line whose client has gone. Then there is a turn for which nobody is there, or in which the client that has the
+/// number now finds nothing.
 #[derive(Drop)]
 pub struct Clients {
     pub(crate) all: Slab<Client>,
     // No client has had a number that is not under this.
     pub(crate) reach: usize,
-    pub(crate) ready: VecDeque<usize>,
-    // Those that wait for the mark, in the order in which they were refused.
-    pub(crate) waiting: VecDeque<Waiting>,
+    pub(crate) lines: Lines,
     pub(crate) timers: Timers,
     // When those are to try again to whom memory was refused.
     pub(crate) retry: u64,
 }
 
 impl Clients {
-    ghost use Rattle.std.specs.Prelude.{◌≡◌, ◌<◌, IfOk, IfSome};
-    ghost use Rattle.clients_core.specs.declared.clients.TheConstants.{CLIENTS};
+    ghost use Rattle.clients_core.specs.Clients.{Admits, IsEmpty, Removes, client_at};
+    ghost use Rattle.clients_core.specs.Turns.{MayWake, after_let_in, let_in, woken};
 
     /// None yet.
-    pub fn new(alloc: Global) -> Result<Clients, AllocError> {
+    pub fn new(alloc: Global) -> Result<Clients, AllocError>
+        ensures { IfOk result IsEmpty }
+    {
         Ok(Clients {
             all: Slab::new(alloc),
             reach: 0,
-            ready: VecDeque::with_capacity(alloc, CLIENTS)?,
-            waiting: VecDeque::with_capacity(alloc, CLIENTS)?,
+            lines: Lines::new(alloc)?,
             timers: Timers::new(alloc, CLIENTS)?,
             retry: NEVER,
         })
@@ -91,7 +85,8 @@ impl Clients {
 
     /// The number of the next client; `None` where there are as many as there may be.
     pub fn next_number(&self) -> Option<usize>
-        ensures { IfSome result (λ number. number < CLIENTS) }
+        ensures number { IfSome result (λ number. (number ≡ self.now.all.vacant_key) × (number < CLIENTS)) }
+        ensures full { IsNone result → CLIENTS ≤ self.now.all.vacant_key }
     {
         let number = self.all.vacant_key();
         if number < CLIENTS { Some(number) } else { None }
@@ -100,15 +95,16 @@ impl Clients {
     /// Takes a client in, under the next number. It has a turn next.
     pub fn admit(
         &mut self,
-        greeting: Greeting<Portions>,
+        greeting: Greeting<Portions<TcpStream>>,
         rest: Rest,
         now: u64,
-    ) -> Result<(), AllocError> {
+    ) -> Result<(), AllocError>
+        ensures ok { OnOk result (Admits now self.old self.new (record { standing = Standing.Greeting greeting; patience = fresh now; is_short = false; rest = rest })) }
+        ensures err { OnErr result (self.new ≡ record self.old { all = self.new.all }) }
+    {
         let client = Client {
             standing: Standing::Greeting(greeting),
             patience: Patience::new(now),
-            is_ready: false,
-            is_waiting: false,
             is_short: false,
             rest,
         };
@@ -120,72 +116,104 @@ impl Clients {
     }
 
     /// Lets a client go.
-    pub fn remove(&mut self, number: usize) {
+    pub fn remove(&mut self, number: usize)
+        ensures { Removes self.old self.new number }
+    {
         drop(self.all.try_remove(number));
         self.timers.set(number, NEVER);
     }
 
     /// That client.
-    pub fn get(&self, number: usize) -> Option<&Client> {
+    pub fn get(&self, number: usize) -> Option<&Client>
+        ensures { option_copied result ≡ client_at number self.now }
+    {
         self.all.get(number)
     }
 
     /// No client has had a number that is not under this.
-    pub fn reach(&self) -> usize {
+    pub fn reach(&self) -> usize
+        ensures { result ≡ self.now.reach }
+    {
         self.reach
     }
 
     /// A client whose moment has come to be looked at. It has none until `come_due` sets one.
-    pub fn take_due(&mut self, now: u64) -> Option<usize> {
+    pub fn take_due(&mut self, now: u64) -> Option<usize>
+        ensures due { IfSome result (λ client. IsDue now client self.old.timers.all × (self.new ≡ record self.old { timers = record self.old.timers { all = slice_set self.old.timers.all client NEVER } })) }
+        ensures none { IsNone result → IsNotDue now self.old.timers.all × (self.new ≡ record self.old { timers = looked_through now self.old.timers }) }
+    {
         self.timers.take_due(now)
     }
 
-    /// Has a client stand in line for a turn.
-    pub fn wake(&mut self, number: usize) {
-        if let Some(client) = self.all.get_mut(number)
-            && !mem::replace(&mut client.is_ready, true)
-        {
-            let _ = self.ready.push_back(number);
-        }
+    /// Has a client stand in line for a turn, behind all others. Who stands there keeps its place.
+    pub fn wake(&mut self, number: usize)
+        ensures { self.new ≡ record self.old { lines = woken number self.old.lines } }
+    {
+        self.lines.wake(number);
     }
 
     /// How many stand in line for a turn.
-    pub fn count_ready(&self) -> usize {
-        self.ready.len()
+    pub fn count_ready(&self) -> usize
+        ensures { result ≡ length self.now.lines.ready }
+    {
+        self.lines.count_ready()
     }
 
-    /// Whether anyone waits for the mark.
-    pub fn await_mark(&self) -> bool {
-        !self.waiting.is_empty()
+    /// How many wait for the mark: for room, or for their next output to come under it.
+    pub fn count_waiting(&self) -> usize
+        ensures { result ≡ length self.now.lines.room.line + length self.now.lines.outputs.line }
+    {
+        self.lines.count_waiting()
     }
 
-    /// Whether the first that waits for the mark is to go on where it is this.
-    pub fn is_over(&self, mark: u64) -> bool {
-        match self.waiting.front() {
-            Some(first) => first.mark < mark,
-            None => false,
-        }
+    /// Whether somebody is let in where the mark is this.
+    pub fn is_over(&self, mark: u64) -> bool
+        ensures { result ≡ (is_over mark self.now.lines.room || is_over mark self.now.lines.outputs) }
+    {
+        self.lines.is_over(mark)
     }
 
     /// The next that has a turn, and where it is. It stands in line no more.
-    pub fn next(&mut self) -> Option<(usize, Standing)> {
-        let number = self.ready.pop_front()?;
+    pub fn next(&mut self) -> Option<(usize, Standing)>
+        ensures none { IsNone result → self.old.lines.ready ≡ [] }
+        ensures first { IfSome result (λ turn. self.old.lines.ready ≡ turn.0 ∷ self.new.lines.ready) }
+        ensures rest { self.new.lines ≡ record self.old.lines { ready = self.new.lines.ready; let_in = None } }
+    {
+        let number = self.lines.next()?;
+        Some((number, self.begin_turn(number)))
+    }
+
+    /// Who is let in where the mark is this, and where it is: the first that waits for room, or else the first whose output waits. It
+    /// has a turn before all that stand in line for one, and waits no more.
+    pub fn let_in(&mut self, mark: u64) -> Option<(usize, Standing)>
+        ensures who { option_map (λ turn. turn.0) result ≡ let_in mark self.old.lines }
+        ensures after { self.new.lines ≡ after_let_in mark self.old.lines }
+    {
+        let number = self.lines.let_in(mark)?;
+        Some((number, self.begin_turn(number)))
+    }
+
+    // Where a client is whose turn begins.
+    fn begin_turn(&mut self, number: usize) -> Standing
+        ensures { self.new ≡ record self.old { all = self.new.all } }
+    {
         match self.all.get_mut(number) {
             Some(client) => {
-                client.is_ready = false;
                 client.is_short = false;
-                let standing = match client.standing {
+                match client.standing {
                     Standing::Seated(place) => Standing::Seated(place),
                     _ => mem::replace(&mut client.standing, Standing::Away),
-                };
-                Some((number, standing))
+                }
             }
-            None => Some((number, Standing::Away)),
+            None => Standing::Away,
         }
     }
 
-    /// A client is where it is said to be now.
-    pub fn stand(&mut self, number: usize, standing: Standing) {
+    /// A client is where it is said to be now. It stands in line again where more of its bytes may be there.
+    pub fn stand(&mut self, number: usize, standing: Standing)
+        ensures lines { MayWake number self.old.lines self.new.lines }
+        ensures rest { self.new ≡ record self.old { all = self.new.all; lines = self.new.lines } }
+    {
         if let Some(client) = self.all.get_mut(number) {
             drop(mem::replace(&mut client.standing, standing));
         }
@@ -193,7 +221,10 @@ impl Clients {
     }
 
     // Has a client stand in line whose last turn left bytes that may be there.
-    pub(crate) fn go_on(&mut self, number: usize) {
+    pub(crate) fn go_on(&mut self, number: usize)
+        ensures lines { MayWake number self.old.lines self.new.lines }
+        ensures rest { self.new ≡ record self.old { lines = self.new.lines } }
+    {
         if let Some(client) = self.all.get(number)
             && client.rest.take()
         {

@@ -3,11 +3,16 @@
 #![tactic(auto)]
 
 mod clients;
+mod limits;
+mod line;
 mod lines;
 mod patience;
 mod portions;
 mod timers;
+mod waiting;
+mod waking;
 
-pub use clients::{CLIENTS, Client, Clients, Standing};
+pub use clients::{Client, Clients, Standing};
+pub use limits::CLIENTS;
 pub use patience::{Due, Phase};
 pub use portions::{Portions, Rest};

@@ -1,157 +1,107 @@
-//! How a worker's clients come to stand in line for a turn, and what they wait for behind one.
+//! The lines in which a worker's clients stand.
 
-use crate::clients::{Client, Clients, SHORTAGE, Standing, Waiting};
-use crate::patience::{Due, Phase};
-use crate::timers::NEVER;
+ghost use Rattle.std.specs.Prelude.{◌≡◌, ◌+◌, [], ◌∷◌, None, IfOk, MatchOption, length};
+ghost use Rattle.clients_core.specs.Lines.{is_over};
+ghost use Rattle.clients_core.specs.Turns.{woken, let_in, after_let_in, settled};
+
+use crate::line::Line;
+use crate::waiting::Waiting;
 use desk_core::{Next, Turned};
-use mio::Events;
-use mio::event::Event;
-use std::alloc::Global;
-use std::mem;
+use std::alloc::{AllocError, Global};
 
-impl Clients {
-    /// Has those stand in line for a turn of whose sockets the poll told anything.
-    pub fn note(&mut self, events: &Events<Global>, now: u64) {
-        for event in events.iter() {
-            self.note_one(event, now);
-        }
-    }
-
-    fn note_one(&mut self, event: &Event, now: u64) {
-        let number = event.token().0;
-        let Some(client) = self.all.get_mut(number) else {
-            return;
-        };
-        if event.is_writable() {
-            client.patience.took(now);
-        }
-        if event.is_readable() && matches!(client.standing, Standing::Greeting(_)) {
-            client.patience.heard(now);
-        }
-        self.wake(number);
-    }
-
-    /// Has those stand first in line whose mark this one is over, the first refused before all others.
-    pub fn let_in(&mut self, mark: u64) {
-        for _waiting in 0..self.waiting.len() {
-            let Some(last) = self.waiting.pop_back() else {
-                return;
-            };
-            if last.mark < mark {
-                self.wake_first(last.client);
-            } else {
-                let _ = self.waiting.push_front(last);
-            }
-        }
-    }
-
-    // Has a client stand first in line that waited for the mark.
-    fn wake_first(&mut self, number: usize) {
-        let Some(client) = self.all.get_mut(number) else {
-            return;
-        };
-        client.is_waiting = false;
-        if !mem::replace(&mut client.is_ready, true) {
-            let _ = self.ready.push_front(number);
-        }
-    }
-
-    /// Has those stand in line to whom memory was refused, where they are to try again.
-    pub fn retry(&mut self, now: u64) {
-        if now < self.retry {
-            return;
-        }
-        self.retry = NEVER;
-        for number in 0..self.reach {
-            if let Some(client) = self.all.get_mut(number)
-                && client.is_short
-            {
-                self.wake(number);
-            }
-        }
-    }
-
-    /// Until when there is nothing to do of which neither the poll nor the doorbell tells.
-    pub fn until(&self) -> u64 {
-        self.timers.earliest().min(self.retry)
-    }
-
-    /// What is to come of a client that had a turn and has not ended.
-    pub fn settle(&mut self, number: usize, turned: Turned, now: u64) {
-        let Some(client) = self.all.get_mut(number) else {
-            return;
-        };
-        if turned.heard {
-            client.patience.heard(now);
-        }
-        let at = client.wait(turned.next, now);
-        self.timers.set_earlier(number, at);
-        match turned.next {
-            Next::Go => self.wake(number),
-            Next::Close if turned.heard => self.wake(number),
-            Next::Room(mark) => self.await_over(number, mark),
-            Next::Memory => self.run_short(number, now),
-            Next::Read | Next::Write | Next::Close | Next::Over(_) => {}
-        }
-        self.go_on(number);
-    }
-
-    // Has a client wait for a mark over this one, behind those that wait already. One that waits keeps its place.
-    fn await_over(&mut self, number: usize, mark: u64) {
-        let Some(client) = self.all.get_mut(number) else {
-            return;
-        };
-        if !mem::replace(&mut client.is_waiting, true) {
-            let waiting = Waiting {
-                client: number,
-                mark,
-            };
-            let _ = self.waiting.push_back(waiting);
-        }
-    }
-
-    // Has a client try again in a while.
-    fn run_short(&mut self, number: usize, now: u64) {
-        if let Some(client) = self.all.get_mut(number) {
-            client.is_short = true;
-            self.retry = self.retry.min(now.saturating_add(SHORTAGE));
-        }
-    }
-
-    /// What is due of a client whose moment has come, whose session is open or is not, and where it is. Its next moment is set,
-    /// unless it is to be given up.
-    pub fn come_due(&mut self, number: usize, phase: Phase, now: u64) -> Due {
-        let Some(client) = self.all.get_mut(number) else {
-            return Due::In(NEVER);
-        };
-        let due = client.patience.due(phase, now);
-        if let Due::Ping = due {
-            client.patience.pinged();
-        }
-        let after = match client.patience.due(phase, now) {
-            Due::In(millis) => now.saturating_add(millis),
-            Due::Ping => now,
-            Due::GivenUp => NEVER,
-        };
-        self.timers.set(number, after);
-        due
-    }
+/// The lines in which a worker's clients stand, by their numbers.
+#[derive(Drop)]
+pub struct Lines {
+    // Those that have a turn next.
+    pub(crate) ready: Line,
+    // Those that found the window full, in the order in which they were refused.
+    pub(crate) room: Waiting,
+    // Those whose next output waits for the mark.
+    pub(crate) outputs: Waiting,
+    // Who was let in to room, while its turn lasts.
+    pub(crate) let_in: Option<usize>,
 }
 
-impl Client {
-    // Begins to wait, and answers the moment at which that is to be looked at: any later one has been set before.
-    fn wait(&mut self, next: Next, now: u64) -> u64 {
-        if !matches!(next, Next::Write) {
-            self.patience.took_all();
+impl Lines {
+    ghost use Rattle.std.specs.Prelude.{◌||◌};
+    ghost use Rattle.clients_core.specs.Turns.{IsNobody};
+
+    /// Nobody stands in any.
+    pub(crate) fn new(alloc: Global) -> Result<Lines, AllocError>
+        ensures { IfOk result IsNobody }
+    {
+        Ok(Lines {
+            ready: Line::new(alloc)?,
+            room: Waiting::new(alloc)?,
+            outputs: Waiting::new(alloc)?,
+            let_in: None,
+        })
+    }
+
+    /// How many stand in line for a turn.
+    pub(crate) fn count_ready(&self) -> usize
+        ensures { result ≡ length self.now.ready }
+    {
+        self.ready.len()
+    }
+
+    /// How many wait for the mark.
+    pub(crate) fn count_waiting(&self) -> usize
+        ensures { result ≡ length self.now.room.line + length self.now.outputs.line }
+    {
+        self.room.len() + self.outputs.len()
+    }
+
+    /// Whether somebody is let in where the mark is this.
+    pub(crate) fn is_over(&self, mark: u64) -> bool
+        ensures { result ≡ (is_over mark self.now.room || is_over mark self.now.outputs) }
+    {
+        self.room.is_over(mark) || self.outputs.is_over(mark)
+    }
+
+    /// That client stands in line for a turn.
+    pub(crate) fn wake(&mut self, client: usize)
+        ensures { self.new ≡ woken client self.old }
+    {
+        self.ready.join(client);
+    }
+
+    /// The first that stands in line for a turn. It stands there no more.
+    pub(crate) fn next(&mut self) -> Option<usize>
+        ensures first { MatchOption result ((self.old.ready ≡ []) × (self.new.ready ≡ [])) (λ client. self.old.ready ≡ client ∷ self.new.ready) }
+        ensures rest { self.new ≡ record self.old { ready = self.new.ready; let_in = None } }
+    {
+        self.let_in = None;
+        self.ready.next()
+    }
+
+    /// Who is let in where the mark is this: the first that waits for room, or else the first whose output waits. It waits no more.
+    pub(crate) fn let_in(&mut self, mark: u64) -> Option<usize>
+        ensures who { result ≡ let_in mark self.old }
+        ensures after { self.new ≡ after_let_in mark self.old }
+    {
+        self.let_in = self.room.next(mark);
+        if self.let_in.is_some() {
+            self.let_in
+        } else {
+            self.outputs.next(mark)
         }
-        match next {
-            Next::Write => self.patience.held_up(now),
-            Next::Close => self.patience.parting(now),
-            _ => return NEVER,
-        }
-        match self.patience.due(Phase::Open, now) {
-            Due::In(millis) => now.saturating_add(millis),
-            Due::Ping | Due::GivenUp => now,
+    }
+
+    /// What comes of a client's turn.
+    pub(crate) fn settle(&mut self, client: usize, turned: Turned)
+        ensures { self.new ≡ settled client turned self.old }
+    {
+        let was_let_in = self.let_in.take() == Some(client);
+        match turned.next {
+            Next::Go => self.ready.join(client),
+            Next::Close if turned.heard => self.ready.join(client),
+            Next::Room(mark) if was_let_in && !turned.appended => {
+                self.room.join_first(client, mark);
+            }
+            Next::Room(mark) => self.room.join(client, mark),
+            Next::Output(mark) => self.outputs.join(client, mark),
+            Next::Read | Next::Write | Next::Close | Next::Memory | Next::Over(_) => {}
         }
     }
 }

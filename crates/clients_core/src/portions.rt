@@ -1,8 +1,12 @@
 //! The socket of a client, which is read in portions.
 
-ghost use Rattle.std.specs.Prelude.{◌≡◌};
+ghost use Rattle.std.specs.Prelude.{◌≡◌, ◌≤◌, ◌+◌, IfErr, IfOk, OnErr, OnOk};
+ghost use Rattle.std.specs.Io.{ReadsAtMost};
+ghost use Rattle.std.specs.Io.KnownBytes.{ReadConsumes};
+ghost use Rattle.std.specs.IoError.{error_kind};
+ghost use Rattle.std.specs.declared.io.ErrorKind.{ErrorKind};
+ghost use Rattle.clients_core.specs.declared.portions.TheConstants.{READS};
 
-use mio::net::TcpStream;
 use std::alloc::{AllocError, Global};
 use std::io;
 use std::io::{ErrorKind, Read, Write};
@@ -26,16 +30,22 @@ impl Rest {
 /// A socket that says that it has nothing to give after so many reads that gave bytes, though it may have. So whoever reads until
 /// there is nothing comes to an end, whatever a client sends: of a WebSocket's message a client may send fragments without end
 /// (RFC 6455, section 5.4). That there may be more is told by `Rest`, since the poll does not tell it again.
+///
+/// Contracts see the socket, and how many reads that give bytes are left of the portion, which are eight at most: each takes one away, and
+/// one that gives none begins another portion. Where none are left the socket is not asked.
 #[derive(Drop)]
-pub struct Portions {
-    socket: TcpStream,
+pub struct Portions<S> {
+    socket: S,
     left: u32,
     rest: Arc<AtomicBool>,
+    ghost most: { left ≤ READS },
 }
 
-impl Portions {
+impl<S: Drop> Portions<S> {
     /// That socket, and what tells of the end of a portion.
-    pub fn new(alloc: Global, socket: TcpStream) -> Result<(Portions, Rest), AllocError> {
+    pub fn new(alloc: Global, socket: S) -> Result<(Portions<S>, Rest), AllocError>
+        ensures { IfOk result (λ ends. (ends.0.socket ≡ socket) × (ends.0.left ≡ READS)) }
+    {
         let rest = Arc::new(alloc, AtomicBool::new(false))?;
         let told = rest.clone()?;
         let portions = Portions {
@@ -47,8 +57,16 @@ impl Portions {
     }
 }
 
-impl Read for Portions {
-    fn read(&mut self, buf: &mut [u8]) -> io::Result<usize> {
+impl<S: Read> Read for Portions<S> {
+    ghost remaining = { λ p. S.remaining p.socket };
+
+    fn read(&mut self, buf: &mut [u8]) -> io::Result<usize>
+        ensures bound { ReadsAtMost result buf.new }
+        ensures bytes { ReadConsumes (S.remaining self.old.socket) (S.remaining self.new.socket) result buf.new }
+        ensures takes { OnOk result (self.new.left + 1 ≡ self.old.left) }
+        ensures again { OnErr result (self.new.left ≡ READS) }
+        ensures over { self.old.left ≡ 0 → IfErr result (λ error. error_kind error ≡ ErrorKind.WouldBlock) × (self.new.socket ≡ self.old.socket) }
+    {
         if self.left == 0 {
             self.left = READS;
             self.rest.store(true, Ordering::SeqCst);
@@ -64,7 +82,9 @@ impl Read for Portions {
     }
 }
 
-impl Write for Portions {
+impl<S: Write> Write for Portions<S> {
+    ghost contents = { λ p. S.contents p.socket };
+
     fn write(&mut self, buf: &[u8]) -> io::Result<usize> {
         self.socket.write(buf)
     }

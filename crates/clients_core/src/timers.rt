@@ -1,9 +1,9 @@
 //! When a worker's clients are to be looked at.
 
-ghost use Rattle.std.specs.Prelude.{◌≡◌, ◌≤◌, ◌<◌, ℕ, List, All, IfOk, IfSome, IsNone, length, min};
-ghost use Rattle.std.specs.List.{slice_index_or, slice_set};
+ghost use Rattle.std.specs.Prelude.{◌≡◌, IfOk, IfSome, IsNone, replicate};
+ghost use Rattle.std.specs.List.{slice_set};
 ghost use Rattle.clients_core.specs.declared.timers.TheConstants.{NEVER};
-ghost use Rattle.clients_core.specs.Timers.{IsDue, IsNotDue, Earliest};
+ghost use Rattle.clients_core.specs.Timers.{IsDue, IsNotDue, Earliest, first_of, looked_through, with_earlier, with_moment};
 
 use std::alloc::{AllocError, Global};
 use std::marker::Model;
@@ -11,8 +11,8 @@ use std::marker::Model;
 /// A moment that does not come.
 pub const NEVER: u64 = u64::MAX;
 
-/// The moments at which clients are to be looked at, in milliseconds, one for each client, by their numbers. Contracts see
-/// them as a list.
+/// The moments at which clients are to be looked at, in milliseconds, one for each client, by their numbers, and a moment before which
+/// none of them is.
 ///
 /// A worker has some hundreds of clients at most, and none of them is to be looked at more often than once in ten seconds or so:
 /// what comes from a client does not touch its moment, which is set anew once it comes too early. So they need no order.
@@ -24,12 +24,11 @@ pub struct Timers {
 }
 
 impl Model for Timers {
-    ghost use Rattle.std.specs.Prelude.{ℕ, List};
-    ghost use Rattle.clients_core.specs.Timers.{Earliest};
+    ghost use Rattle.clients_core.specs.Timers.{Earliest, TimersValue};
 
-    ghost Value = { List ℕ };
+    ghost Value = { TimersValue };
 
-    ghost view = { λ a. a.all.items };
+    ghost view = { λ a. record { all = a.all.items; earliest = a.earliest } };
 
     ghost invariant = { λ a. Earliest a.earliest a.all.items };
 }
@@ -37,16 +36,18 @@ impl Model for Timers {
 impl Timers {
     /// Those of so many clients, none of which is to be looked at.
     pub fn new(alloc: Global, clients: usize) -> Result<Timers, AllocError>
-        ensures count { IfOk result (λ timers. length timers ≡ clients) }
+        ensures { IfOk result (λ timers. timers ≡ record { all = replicate clients NEVER; earliest = NEVER }) }
     {
         let all = Vec::from_elem(alloc, NEVER, clients)?;
-        let earliest = first_of(&all);
-        Ok(Timers { all, earliest })
+        Ok(Timers {
+            all,
+            earliest: NEVER,
+        })
     }
 
     /// Sets a client's moment.
     pub fn set(&mut self, client: usize, at: u64)
-        ensures { self.new ≡ slice_set self.old client at }
+        ensures { self.new ≡ with_moment client at self.old }
     {
         if client < self.all.len() {
             self.all[client] = at;
@@ -56,7 +57,7 @@ impl Timers {
 
     /// Sets a client's moment, unless it comes before that.
     pub fn set_earlier(&mut self, client: usize, at: u64)
-        ensures { self.new ≡ slice_set self.old client (min at (slice_index_or self.old client NEVER)) }
+        ensures { self.new ≡ with_earlier client at self.old }
     {
         if client < self.all.len() {
             let sooner = at.min(self.all[client]);
@@ -66,15 +67,16 @@ impl Timers {
 
     /// A moment that none of them is before.
     pub fn earliest(&self) -> u64
-        ensures { Earliest result self.now }
+        ensures moment { result ≡ self.now.earliest }
+        ensures first { Earliest result self.now.all }
     {
         self.earliest
     }
 
     /// A client whose moment has come. It has none then.
     pub fn take_due(&mut self, now: u64) -> Option<usize>
-        ensures due { IfSome result (λ client. IsDue now client self.old × (self.new ≡ slice_set self.old client NEVER)) }
-        ensures none { IsNone result → IsNotDue now self.old × (self.new ≡ self.old) }
+        ensures due { IfSome result (λ client. IsDue now client self.old.all × (self.new ≡ record self.old { all = slice_set self.old.all client NEVER })) }
+        ensures none { IsNone result → IsNotDue now self.old.all × (self.new ≡ looked_through now self.old) }
     {
         if now < self.earliest {
             return None;
@@ -103,7 +105,8 @@ fn first_due(all: &[u64], now: u64) -> Option<usize>
 
 // The first of moments.
 fn first_of(all: &[u64]) -> u64
-    ensures { Earliest result all.now }
+    ensures first { result ≡ first_of all.now }
+    ensures earliest { Earliest result all.now }
 {
     let mut first = NEVER;
     for at in all {

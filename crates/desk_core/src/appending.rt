@@ -16,8 +16,9 @@ use session_core::Notice;
 use std::alloc::Global;
 use ws_core::{Link, LinkFault};
 
-// How many acts of a connection are done in a turn at most.
-const ACTS: u32 = 64;
+// How many acts of a connection are done in a turn at most: half of what its seat may have under way, so that one that has much
+// to say leaves room for the next in turn, where the whole window is free.
+const ACTS: u32 = 8;
 
 /// What one act, or the entry that is kept, came to.
 #[derive(Clone, Copy)]

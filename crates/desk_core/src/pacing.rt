@@ -10,8 +10,8 @@ pub trait Pacing {
     /// The worker has put commands into the ring.
     fn appended(&self, _worker: u32) {}
 
-    /// The worker's window is full at this mark. It tries again once this returns, so it may be kept here until the mark is
-    /// over it.
+    /// The worker's window is full at this mark, or this is the number of its next output. It tries again once this returns, so
+    /// it may be kept here until the mark is over it.
     fn wait_for_room(&self, _worker: u32, _mark: u64) {}
 
     /// Memory was refused to the worker. It tries again once this returns, so it may be kept here for a while.

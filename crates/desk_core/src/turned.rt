@@ -23,6 +23,8 @@ pub enum Next {
     Write,
     /// A mark over this one: as many commands of its seat as may are not under it.
     Room(u64),
+    /// A mark over this one, which is the number of its next output.
+    Output(u64),
     /// Memory, which was refused.
     Memory,
     /// Its peer's close. Where something was heard, there may be more to hear at once.

@@ -174,7 +174,7 @@ impl<B: Bell> Slot<B> {
     // What one that runs and has nothing to do waits for.
     fn rest(&self) -> Next {
         match self.kept.awaits() {
-            Some(number) => Next::Room(number),
+            Some(number) => Next::Output(number),
             None => Next::Read,
         }
     }

@@ -76,13 +76,13 @@ impl<B: Bell> Slot<B> {
     }
 }
 
-// Tells the pace of a turn, and leaves it to the pace when the next comes, where the window was found full or memory was refused.
+// Tells the pace of a turn, and leaves it to the pace when the next comes, where a mark is waited for or memory was refused.
 fn wait<P: Pacing>(pace: &P, worker: u32, turned: Turned) {
     if turned.appended {
         pace.appended(worker);
     }
     match turned.next {
-        Next::Room(mark) => pace.wait_for_room(worker, mark),
+        Next::Room(mark) | Next::Output(mark) => pace.wait_for_room(worker, mark),
         Next::Memory => pace.wait_for_memory(worker),
         _ => {}
     }

@@ -1,14 +1,9 @@
 -- What contracts see of doorbells, and of what rings them.
-use Rattle.std.specs.Prelude.{ℕ, length}
+use Rattle.std.specs.Prelude.{ℕ}
 use Rattle.std.specs.Arc.{arc_value}
-use Rattle.server_core.specs.declared.doorbell.Doorbell.{Doorbell}
 use Rattle.server_core.specs.declared.post.Post.{Post}
 use Rattle.server_core.specs.declared.post.BellRope.{BellRope}
 use Rattle.server_core.specs.declared.post.Ropes.{Ropes}
-
--- how many clients of its worker a doorbell may be rung for
-abbrev pub reach_of : Doorbell → ℕ
-reach_of bell = length bell.calls.items
 
 -- whom a rope calls: a worker, for that client
 abbrev pub called_by : BellRope → Post × ℕ

@@ -1,20 +1,15 @@
 //! What wakes a worker that waits for its sockets.
 
-ghost use Rattle.std.specs.Prelude.{◌≡◌, ◌+◌, IfOk, OnOk, length};
-ghost use Rattle.server_core.specs.Bells.{reach_of};
-ghost use Rattle.clients_core.specs.declared.clients.TheConstants.{CLIENTS};
-
-use clients_core::CLIENTS;
+use crate::calls::{Called, Calls};
 use mio::{Registry, Token, Waker};
-use std::alloc::{AllocError, Global};
 use std::io;
 use std::sync::atomic::{AtomicBool, Ordering};
 
 /// Ends the wait of one worker, and says for which of its clients.
 ///
-/// No ring is lost. A call raises its client's flag, then says that there was a ring, then looks whether the worker sleeps;
+/// No ring is lost. A call sets its client's bit, then says that there was a ring, then looks whether the worker sleeps;
 /// the worker says that it sleeps, then looks whether there was a ring, and once it is awake takes the ring back before it
-/// looks at the flags. All of these steps stand in one order. So a call whose flag the worker has not seen comes to its
+/// takes the bits. All of these steps stand in one order. So a call whose bit the worker has not taken comes to its
 /// second step after the worker took the ring back: the worker finds that ring before it sleeps the next time, or else has
 /// said by then that it sleeps, and is woken. Only a ring of a sleeping worker costs a call of the system.
 ///
@@ -25,22 +20,18 @@ pub struct Doorbell {
     waker: Waker,
     asleep: AtomicBool,
     rung: AtomicBool,
-    // Whether a client was called for since the worker looked, by the clients' numbers.
-    calls: Vec<AtomicBool>,
+    // Who was called for since the worker looked.
+    calls: Calls,
 }
 
 impl Doorbell {
     /// The doorbell of the one who waits for what is registered there.
-    pub(crate) fn new(alloc: Global, registry: &Registry, token: Token) -> io::Result<Doorbell>
-        ensures { IfOk result (λ bell. reach_of bell ≡ CLIENTS) }
-    {
-        let mut calls = Vec::new(alloc);
-        hang(&mut calls)?;
+    pub(crate) fn new(registry: &Registry, token: Token) -> io::Result<Doorbell> {
         Ok(Doorbell {
             waker: Waker::new(registry, token)?,
             asleep: AtomicBool::new(false),
             rung: AtomicBool::new(false),
-            calls,
+            calls: Calls::new(),
         })
     }
 
@@ -54,18 +45,13 @@ impl Doorbell {
 
     /// Rings for that client.
     pub(crate) fn call(&self, client: usize) {
-        if client < self.calls.len() {
-            self.calls[client].store(true, Ordering::SeqCst);
-        }
+        self.calls.call(client);
         self.ring();
     }
 
-    /// Whether that client was called for since this was asked last.
-    pub(crate) fn takes_call(&self, client: usize) -> bool {
-        if client >= self.calls.len() || !self.calls[client].load(Ordering::SeqCst) {
-            return false;
-        }
-        self.calls[client].swap(false, Ordering::SeqCst)
+    /// Takes the calls of one word of clients, of whom there are `WORDS`.
+    pub(crate) fn take_calls(&self, word: usize) -> Called {
+        self.calls.take(word)
     }
 
     /// Says that the worker is about to wait, and answers whether it may: it may not where the bell was rung since it last
@@ -80,14 +66,4 @@ impl Doorbell {
         self.asleep.store(false, Ordering::SeqCst);
         self.rung.swap(false, Ordering::SeqCst)
     }
-}
-
-// Adds a flag for each client.
-fn hang(calls: &mut Vec<AtomicBool>) -> Result<(), AllocError>
-    ensures { OnOk result (length calls.new.items ≡ length calls.old.items + CLIENTS) }
-{
-    for _client in 0..CLIENTS {
-        calls.push(AtomicBool::new(false))?;
-    }
-    Ok(())
 }

@@ -2,6 +2,7 @@
 
 #![tactic(auto)]
 
+mod calls;
 mod door;
 mod doorbell;
 mod pace;

@@ -43,7 +43,7 @@ impl Post {
     /// The post of the worker that waits for what is registered there.
     pub(crate) fn new(alloc: Global, registry: &Registry) -> io::Result<Post> {
         Ok(Post {
-            bell: Doorbell::new(alloc, registry, BELL)?,
+            bell: Doorbell::new(registry, BELL)?,
             arrivals: ArrayQueue::new(alloc, ARRIVALS)?,
             clients: AtomicU64::new(0),
             awaits_mark: AtomicBool::new(false),

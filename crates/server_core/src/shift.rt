@@ -2,6 +2,7 @@
 
 ghost use Rattle.std.specs.Prelude.{◌≡◌};
 
+use crate::calls::{BITS, Called, WORDS};
 use crate::post::{Arrival, BellRope, Post, Ropes};
 use crate::shared::{ServerSeat, Shared};
 use crate::station::{Room, Station};
@@ -29,7 +30,7 @@ pub(crate) struct Shift<'a, R: Drop> {
     post: Arc<Post>,
     poll: Poll,
     events: Events<Global>,
-    desk: Desk<BellRope, WsLink<Portions>>,
+    desk: Desk<BellRope, WsLink<Portions<TcpStream>>>,
     clients: Clients,
     // The moment of this round, in milliseconds of the clock.
     now: u64,
@@ -74,7 +75,7 @@ impl<'a, R: Wait + Clock + Drop> Shift<'a, R> {
 
     // Waits for its sockets and its bell, unless a client is ready.
     fn wait(&mut self) {
-        let awaits_mark = self.clients.await_mark();
+        let awaits_mark = self.clients.count_waiting() > 0;
         if awaits_mark {
             self.shared.pace.begin_to_wait(&self.post);
         }
@@ -107,19 +108,27 @@ impl<'a, R: Wait + Clock + Drop> Shift<'a, R> {
         if self.post.bell().wakes_up() {
             self.hear_calls();
         }
-        self.clients.let_in(self.shared.pace.mark());
         self.clients.retry(self.now);
         self.look_at_timers();
     }
 
     // Finds out for whom the bell was rung: new clients, or those that it has.
     fn hear_calls(&mut self) {
-        for number in 0..self.clients.reach() {
-            if self.post.bell().takes_call(number) {
-                self.clients.wake(number);
-            }
+        for word in 0..WORDS {
+            let called = self.post.bell().take_calls(word);
+            self.wake_called(called);
         }
         self.take_in();
+    }
+
+    // Has those stand in line who were called for.
+    fn wake_called(&mut self, mut called: Called) {
+        for _call in 0..BITS {
+            match called.next() {
+                Some(number) => self.clients.wake(number),
+                None => return,
+            }
+        }
     }
 
     // Takes in the clients that were handed to it. Where there are more, it does not sleep before it has taken in those too.
@@ -195,18 +204,46 @@ impl<'a, R: Wait + Clock + Drop> Shift<'a, R> {
         }
     }
 
-    // Gives each client that stands in line now one turn.
+    // Gives each client that stands in line now one turn. Before each of these turns go those that are let in, so that one that
+    // never waits does not fill the window before them.
     fn serve(&mut self) {
+        self.let_in();
         for _client in 0..self.clients.count_ready() {
-            match self.clients.next() {
-                Some((number, Standing::Seated(place))) => self.turn(number, place),
-                Some((number, Standing::Greeting(greeting))) => self.greet(number, greeting),
-                Some((_, Standing::Away)) => {}
-                None => break,
+            if let Some((number, standing)) = self.clients.next() {
+                self.give_turn(number, standing);
             }
+            self.let_in();
         }
         if mem::take(&mut self.appended) {
             self.shared.pace.appended(0);
+        }
+    }
+
+    // Gives those a turn that the mark lets in, each once at most. It is the ring's own: that rises before the pace tells of it, and by
+    // the same mark others find room.
+    fn let_in(&mut self) {
+        for _client in 0..self.clients.count_waiting() {
+            let mark = self.mark();
+            match self.clients.let_in(mark) {
+                Some((number, standing)) => self.give_turn(number, standing),
+                None => return,
+            }
+        }
+    }
+
+    // The ring's own mark, or a number over every mark once none will be published.
+    fn mark(&mut self) -> u64 {
+        self.desk
+            .look(&self.shared.ring)
+            .max(self.shared.pace.mark())
+    }
+
+    // Gives a client a turn, where it is there.
+    fn give_turn(&mut self, number: usize, standing: Standing) {
+        match standing {
+            Standing::Seated(place) => self.turn(number, place),
+            Standing::Greeting(greeting) => self.greet(number, greeting),
+            Standing::Away => {}
         }
     }
 
@@ -230,7 +267,7 @@ impl<'a, R: Wait + Clock + Drop> Shift<'a, R> {
     }
 
     // Goes on with a client's handshake. Once it has its WebSocket, it sits at the desk.
-    fn greet(&mut self, number: usize, greeting: Greeting<Portions>) {
+    fn greet(&mut self, number: usize, greeting: Greeting<Portions<TcpStream>>) {
         match greeting.greet(self.alloc) {
             Greeted::Waits(greeting) => self.clients.stand(number, Standing::Greeting(greeting)),
             Greeted::Accepted(link) => match self.desk.admit(self.alloc, link) {
