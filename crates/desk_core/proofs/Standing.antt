@@ -8,7 +8,7 @@ use Rattle.std.proofs.lemmas.List.{length-append, length-set, length-map, map-se
 use Rattle.std.proofs.lemmas.List.Sums.{sum_by-append, sum_by-set, sum_by_push, get_or-le-sum_by}
 use Rattle.std.proofs.lemmas.Option.{slice_get-get_or, slice_get-map, slice_get_within, get_or_from_slice_get}
 use Rattle.claim_core.specs.Counts.{Pair}
-use Rattle.claim_core.specs.Seats.{SessionSeatValue}
+use Rattle.claim_core.specs.Seats.{SessionSeatValue, with_seen}
 use Rattle.connection_core.specs.Conversations.{number_in}
 use Rattle.connection_core.specs.declared.progress.Progress.{Progress}
 use Rattle.connection_core.specs.declared.progress.Progress.TheVariants.{New, Open, Ended, Gone}
@@ -34,6 +34,16 @@ fresh before seat places same none = record {
   speaks = subst (λ l. Speaks before.own seat.own (stand_of l)) (sym none)
       (record { more = []; whole = ap (λ (s : SessionSeatValue). s.own) (sym same) ∙ sym (append-nil before.own); parts = nobody });
 }
+
+-- ── the mark is read ──
+
+pub looked : {B L : Type 0} (before seat after : SessionSeatValue) (mark : ℕ) (places : List (Option (Seated B L))) → after ≡ with_seen seat mark → IsDesk before seat places → IsDesk before after places
+looked before seat after mark places is d = subst (λ s. IsDesk before s places) (sym is) (record { ring = d.ring; number = d.number; speaks = d.speaks })
+
+pub looks : {B L : Type 0} (old : DeskValue B L) (before seat after : SessionSeatValue) (mark : ℕ) (places : List (Option (Seated B L)))
+    → desk before seat places ≡ old → after ≡ with_seen seat mark → desk before after places ≡ desk old.before (with_seen old.seat mark) old.places
+looks {B} {L} old before seat after mark places same is =
+    ap (λ s. desk before s places) is ∙ ap (λ (d : DeskValue B L). desk d.before (with_seen d.seat mark) d.places) same
 
 -- ── at one place ──
 

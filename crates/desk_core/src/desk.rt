@@ -41,6 +41,8 @@ impl<B: Bell, L> Model for Desk<B, L> {
 
 impl<B: Bell, L: Link + Drop> Desk<B, L> {
     ghost use Rattle.std.specs.Prelude.{[], None, OnErr, IsSome, Some, slice_get};
+    ghost use Rattle.std.specs.Prelude.{◌≤◌};
+    ghost use Rattle.claim_core.specs.Seats.{with_seen};
     ghost use Rattle.desk_core.specs.Conversations.{Converse};
     ghost use Rattle.desk_core.specs.Desks.{Admits, AreApart, Leaves, Others, Turns, Touches, desk, seated_at};
 
@@ -123,6 +125,18 @@ impl<B: Bell, L: Link + Drop> Desk<B, L> {
             return None;
         }
         turn_at(alloc, ring, &mut self.seat, &mut self.places[at], ringers)
+    }
+
+    /// Reads the ring's mark, and answers it: every number under it is published. The seat has seen it then, and nothing else has
+    /// changed. It never falls.
+    pub fn look(&mut self, ring: &BrokerRing<OutSender<B>>) -> u64
+        requires { self.old.seat.ring ≡ ring.now }
+        ensures looks { self.new ≡ desk self.old.before (with_seen self.old.seat result) self.old.places }
+        ensures no_less { self.old.seat.seen ≤ result }
+        ensures converse { Converse self.new.before.own self.new.seat.own }
+        ensures apart { AreApart self.new.places }
+    {
+        ring.look(&mut self.seat)
     }
 
     /// The connection at that place is over: its link has failed, or took too long. Its next turns end it.
