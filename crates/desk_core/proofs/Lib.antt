@@ -1,3 +1,5 @@
+pub mod Doing
+pub mod Going
 pub mod Lists
 pub mod Living
 pub mod Messages

@@ -1,7 +1,9 @@
 pub mod Boxes
 pub mod Continues
 pub mod Conversations
+pub mod Deeds
 pub mod Desks
+pub mod Goings
 pub mod Holding
 pub mod Lives
 pub mod Places

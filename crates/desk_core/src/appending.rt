@@ -1,6 +1,6 @@
 //! How what a connection wants is done.
 
-ghost use Rattle.std.specs.Prelude.{◌≡◌, None};
+ghost use Rattle.std.specs.Prelude.{◌≡◌, ◌≢◌, None, true, false};
 ghost use Rattle.session_core.specs.Sessions.{HasForm};
 ghost use Rattle.session_core.specs.declared.act.Act.TheVariants as acts;
 
@@ -10,7 +10,7 @@ use crate::slot::Slot;
 use crate::speaking::speak;
 use claim_core::{BrokerRing, BrokerSeat, Refused};
 use command_core::Command;
-use connection_core::Wanted;
+use connection_core::{Stage, Wanted};
 use outbox_core::{Bell, OutSender};
 use session_core::Notice;
 use std::alloc::Global;
@@ -48,11 +48,12 @@ impl<B: Bell> Slot<B> {
     ghost use Rattle.outbox_core.specs.Boxes.{TakerValue};
     ghost use Rattle.desk_core.specs.declared.appending.Step.TheVariants.{Appended};
     ghost use Rattle.connection_core.specs.Stages.{Executes};
-    ghost use Rattle.connection_core.specs.declared.said.Wanted.TheVariants.{Append, Tell};
+    ghost use Rattle.connection_core.specs.declared.said.Wanted.TheVariants.{Append};
     ghost use Rattle.desk_core.specs.Continues.{Continues};
     ghost use Rattle.desk_core.specs.Holding.{Holds};
-    ghost use Rattle.desk_core.specs.Lives.{DoesWanted, GoesOn, LivesOn};
-    ghost use Rattle.desk_core.specs.Slots.{Served, Stays};
+    ghost use Rattle.desk_core.specs.Goings.{GoesOn, TellsIt};
+    ghost use Rattle.desk_core.specs.Lives.{DoesWanted, LivesOn};
+    ghost use Rattle.desk_core.specs.Slots.{Stays};
 
     // Does what the connection wants, in order, until something has to wait or so much was done.
     pub(crate) fn execute<M: Ringers<B>, L: Link>(
@@ -64,9 +65,7 @@ impl<B: Bell> Slot<B> {
         ringers: &M,
     ) -> Executed
         requires { seat.old.ring ≡ ring.now }
-        ensures continues { Continues self.old.connection.progress seat.old self.new.connection.progress seat.new }
-        ensures served { Served L.sent self.old link.old self.new link.new }
-        ensures lives { GoesOn L.received self.old seat.old link.old self.new seat.new link.new }
+        ensures { GoesOn L.sent L.received self.old seat.old link.old self.new seat.new link.new }
     {
         let mut executed = Executed {
             appended: false,
@@ -93,9 +92,7 @@ impl<B: Bell> Slot<B> {
         ringers: &M,
     ) -> Step
         requires { seat.old.ring ≡ ring.now }
-        ensures continues { Continues self.old.connection.progress seat.old self.new.connection.progress seat.new }
-        ensures served { Served L.sent self.old link.old self.new link.new }
-        ensures lives { GoesOn L.received self.old seat.old link.old self.new seat.new link.new }
+        ensures { GoesOn L.sent L.received self.old seat.old link.old self.new seat.new link.new }
     {
         if !self.connection.stage().executes() {
             return Step::Rest;
@@ -188,15 +185,18 @@ impl<B: Bell> Slot<B> {
         }
     }
 
-    // Tells the client an ERROR that doesn't wait for the broker, which is the last frame.
+    // Tells the client an ERROR that doesn't wait for the broker, which is the last frame. Where its link is over nobody is told.
     fn tell<L: Link>(&mut self, alloc: Global, link: &mut L, notice: Notice) -> Step
         requires first { self.old.connection.acts.again ≡ None }
         requires nothing { self.old.pending ≡ None }
         ensures same { self.new.connection.progress ≡ self.old.connection.progress }
-        ensures served { Served L.sent self.old link.old self.new link.new }
         ensures unread { L.received link.new ≡ L.received link.old }
-        ensures lives { Executes self.old.connection.stage → LivesOn (Tell notice) self.old.connection self.new.connection self.new.pending [] }
+        ensures tells { TellsIt L.sent notice self.old link.old self.new link.new }
     {
+        if is_cut_off(self.connection.stage()) {
+            drop(notice);
+            return Step::Done;
+        }
         match link.send_direct(alloc, notice.frame()) {
             Ok(()) => {
                 drop(notice);
@@ -213,4 +213,12 @@ impl<B: Bell> Slot<B> {
         }
         Step::Done
     }
+}
+
+// Whether nobody hears any more what is told.
+fn is_cut_off(stage: Stage) -> bool
+    ensures yes { result ≡ true → stage ≡ Stage.Leaving }
+    ensures no { result ≡ false → stage ≢ Stage.Leaving }
+{
+    matches!(stage, Stage::Leaving)
 }

@@ -28,15 +28,15 @@ impl<B: Bell> Slot<B> {
     ghost use Rattle.std.specs.Prelude.{◌≢◌, [], None};
     ghost use Rattle.connection_core.specs.Connections.{Listens};
     ghost use Rattle.connection_core.specs.declared.stage.Stage.TheVariants.{Running};
-    ghost use Rattle.desk_core.specs.Continues.{Continues};
-    ghost use Rattle.desk_core.specs.Lives.{GoesOn, Heeds};
-    ghost use Rattle.desk_core.specs.Slots.{Served, Unserved};
+    ghost use Rattle.desk_core.specs.Goings.{GoesOn};
+    ghost use Rattle.desk_core.specs.Lives.{Heeds};
+    ghost use Rattle.desk_core.specs.Slots.{Unserved};
 
     /// Lets the connection go on: what waits in its link is written, its client is heard where nothing else is to be done first, what
     /// that asks for is appended, and what may leave is sent, all of it bounded. No call waits unless the link's do.
     ///
     /// What is appended goes on with the connection's conversation, whatever others speak through the seat, and the client is
-    /// sent nothing but what is its own.
+    /// sent nothing but what is its own: outputs of its session, and before it has one the ERROR that its own bytes ask for, once.
     pub fn turn<M: Ringers<B>, L: Link>(
         &mut self,
         alloc: Global,
@@ -46,9 +46,7 @@ impl<B: Bell> Slot<B> {
         ringers: &M,
     ) -> Turned
         requires { seat.old.ring ≡ ring.now }
-        ensures continues { Continues self.old.connection.progress seat.old self.new.connection.progress seat.new }
-        ensures served { Served L.sent self.old link.old self.new link.new }
-        ensures lives { GoesOn L.received self.old seat.old link.old self.new seat.new link.new }
+        ensures { GoesOn L.sent L.received self.old seat.old link.old self.new seat.new link.new }
     {
         let heard = self.read(alloc, link);
         let executed = self.execute(alloc, ring, seat, link, ringers);

@@ -1,4 +1,4 @@
-use Rattle.std.proofs.Common.{◌≡◌, Option, arith, ap, sym, subst}
+use Rattle.std.proofs.Common.{arith, ap, subst}
 use Rattle.std.specs.Prelude.{IsSome}
 use Rattle.desk_core.specs.Conversations.{Converse}
 use Rattle.desk_core.specs.Desks.{AreApart, DeskValue}

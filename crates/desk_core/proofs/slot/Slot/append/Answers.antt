@@ -1,6 +1,6 @@
 use Rattle.std.proofs.Common.{ap}
 use Rattle.command_core.specs.Entries.{EntryValue}
-use Rattle.desk_core.proofs.Living.{refused_so, said_some}
+use Rattle.desk_core.proofs.Going.{dropped_so, refused_so, said_some}
 use Rattle.desk_core.proofs.slot.Slot.append.Goals as goal
 
 pub returns-in-Some-clause-lives : goal.returns-in-Some-clause-lives
@@ -12,6 +12,11 @@ pub returns-in_default-clause-lives : goal.returns-in_default-clause-lives
 returns-in_default-clause-lives g c = λ executes.
     said_some _ c.args.self.now.connection c.speak.new.connection c.args.self.now.pending c.args.seat.now c.speak.new.seat c.args.pending.entry.command c.in-Ok-Some.field-0 c.in-Ok-Some.field-0-0
     c.in-Ok-Some.field-0-is executes c.in-Ok-Some.ensures.spoken c.requires.nothing
+
+pub returns-in-Ok-None-clause-lives : goal.returns-in-Ok-None-clause-lives
+returns-in-Ok-None-clause-lives g c = λ executes.
+    dropped_so c.args.self.now.connection c.speak.new.connection c.args.self.now.pending c.args.seat.now c.speak.new.seat c.args.pending.entry.command c.in-Ok-None.field-0
+    c.in-Ok-None.field-0-is executes c.in-Ok-None.ensures.dropped
 
 pub returns-in-Err-clause-lives : goal.returns-in-Err-clause-lives
 returns-in-Err-clause-lives g c = λ executes.

@@ -1,6 +1,7 @@
 use Rattle.std.proofs.Common.{refl}
 use Rattle.ws_core.specs.Receiving.{given}
-use Rattle.desk_core.proofs.Living.{heeds_unheard, loses, loses_run, same_stage}
+use Rattle.desk_core.proofs.Going.{heeds_unheard}
+use Rattle.desk_core.proofs.Living.{loses, loses_run, same_stage}
 use Rattle.desk_core.proofs.slot.Slot.await_close.Goals as goal
 
 pub returns-then-matches-clause-lives : goal.returns-then-matches-clause-lives

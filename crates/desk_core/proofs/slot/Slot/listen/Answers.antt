@@ -1,7 +1,8 @@
-use Rattle.std.proofs.Common.{◌≡◌, ◌∙◌, ap, refl, sym, subst, List, ℕ}
+use Rattle.std.proofs.Common.{refl, subst, List, ℕ}
 use Rattle.std.specs.Prelude.{OnOk}
 use Rattle.connection_core.specs.Connections.{HearsBytes}
-use Rattle.desk_core.proofs.Living.{heeds_bytes, heeds_silence, loses, same_stage}
+use Rattle.desk_core.proofs.Going.{heeds_bytes, heeds_silence}
+use Rattle.desk_core.proofs.Living.{loses, same_stage}
 use Rattle.desk_core.proofs.slot.Slot.listen.Goals as goal
 
 pub returns-in-Bytes-clause-lives : goal.returns-in-Bytes-clause-lives

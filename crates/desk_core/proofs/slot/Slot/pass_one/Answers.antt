@@ -1,9 +1,13 @@
-use Rattle.std.proofs.Common.{◌≡◌, ◌∙◌, Some, refl, sym, ap}
+use Rattle.std.proofs.Common.{◌≡◌, ◌∙◌, refl, sym, ap}
 use Rattle.connection_core.specs.Connections.{ConnectionValue}
 use Rattle.connection_core.specs.Conversations.{number_in}
-use Rattle.desk_core.proofs.Living.{heeds_quietly, loses, same_stage}
+use Rattle.desk_core.proofs.Going.{heeds_quietly}
+use Rattle.desk_core.proofs.Living.{loses, same_stage}
 use Rattle.desk_core.proofs.Messages.{quiet, refused_on, relayed_on, same_number, slot_relayed, still}
 use Rattle.desk_core.proofs.slot.Slot.pass_one.Goals as goal
+
+pub returns-then-not-runs-clause-served : goal.returns-then-not-runs-clause-served
+returns-then-not-runs-clause-served g c = quiet g.L.Outgoing.sent _ _ _ _ (still _ _ refl refl refl) refl
 
 pub returns-in_default-clause-served : goal.returns-in_default-clause-served
 returns-in_default-clause-served g c = quiet g.L.Outgoing.sent _ _ _ _ (still _ _ refl refl refl) refl
@@ -29,6 +33,9 @@ returns-in-Err-Gone-clause-served g c =
     slot_relayed g.L.Outgoing.sent c.args.self.now _ c.args.link.now c.relay.new.link c.in-Some-outbox.taker c.relay.new.taker c.relay.new.kept
     c.in-Some-outbox.is refl refl (ap (λ (x : ConnectionValue). number_in x.progress) c.lose.ensures)
     (refused_on c.in-Some.session _ _ _ c.relay.new.seat.seen c.in-Err-Gone.ensures.refused)
+
+pub returns-then-not-runs-clause-lives : goal.returns-then-not-runs-clause-lives
+returns-then-not-runs-clause-lives g c = heeds_quietly g.L.Outgoing.received _ _ _ _ refl (same_stage _ _ refl) refl
 
 pub returns-in_default-clause-lives : goal.returns-in_default-clause-lives
 returns-in_default-clause-lives g c = heeds_quietly g.L.Outgoing.received _ _ _ _ refl (same_stage _ _ refl) refl
