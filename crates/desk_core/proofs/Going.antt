@@ -92,7 +92,7 @@ goes_quietly sent received was is s l m u h = record {
 }
 
 pub goes_none : {B L : Type 0} (sent : L → Option (List (List ℕ))) (received : L → Option (List ℕ)) (slot : Slot B) (s : SessionSeatValue) (l : L) → GoesOn sent received slot s l slot s l
-goes_none sent received slot s l = goes_quietly sent received slot slot s l l (record { progress = refl; outbox = refl; kept = refl; sent = refl }) (heeds_none received slot l)
+goes_none sent received slot s l = goes_quietly sent received slot slot s l l (record { progress = refl; pending = refl; outbox = refl; kept = refl; sent = refl }) (heeds_none received slot l)
 
 -- where the mark is read, and outputs are sent
 pub goes_reading : {B L : Type 0} (sent : L → Option (List (List ℕ))) (received : L → Option (List ℕ)) (was is : Slot B) (s t : SessionSeatValue) (l m : L) (mark : ℕ)

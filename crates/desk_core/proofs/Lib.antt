@@ -1,3 +1,4 @@
+pub mod Answering
 pub mod Doing
 pub mod Going
 pub mod Lists

@@ -1,6 +1,6 @@
 -- What stands at a desk.
 use Rattle.std.proofs.Common.{◌≡◌, ℕ, zero, suc, ◌+◌, ◌-◌, ◌<◌, ◌≤◌, List, [], ◌∷◌, ◌++◌, Option, Some, None, length, take, drop, get_or, refl, sym, ap, ◌∙◌, subst, inl, inr, append-nil, arith}
-use Rattle.std.specs.Prelude.{slice_get, set}
+use Rattle.std.specs.Prelude.{IfSome, slice_get, set}
 use Rattle.std.specs.List.{AllByRecursion, sum_by}
 use Rattle.std.specs.Option.{option_map}
 use Rattle.std.proofs.lemmas.Bool.{cases_eq}
@@ -13,6 +13,8 @@ use Rattle.connection_core.specs.Conversations.{number_in}
 use Rattle.connection_core.specs.declared.progress.Progress.{Progress}
 use Rattle.connection_core.specs.declared.progress.Progress.TheVariants.{New, Open, Ended, Gone}
 use Rattle.desk_core.specs.declared.place.Seated.{Seated}
+use Rattle.desk_core.specs.declared.turned.Turned.{Turned}
+use Rattle.desk_core.specs.Answers.{Answers}
 use Rattle.desk_core.specs.Continues.{Continues}
 use Rattle.desk_core.specs.Conversations.{Converse, IsConversation, IsPart, Speaks, holds, number_of, opens, part_of}
 use Rattle.desk_core.specs.Desks.{Admits, AreApart, DeskValue, IsDesk, Leaves, Others, Touches, Turns, desk, seated_at, stand_of}
@@ -262,7 +264,7 @@ touches_none {B} {L} sent old new at same = record {
   before = ap (λ (d : DeskValue B L). d.before) same;
   seat = ap (λ (d : DeskValue B L). d.seat) same;
   others = nothing_else old.places new.places at (ap (λ (d : DeskValue B L). d.places) same);
-  unserved = λ w sat. (w, ap (λ (d : DeskValue B L). slice_get d.places at) same ∙ sat, record { progress = refl; outbox = refl; kept = refl; sent = refl });
+  unserved = λ w sat. (w, ap (λ (d : DeskValue B L). slice_get d.places at) same ∙ sat, record { progress = refl; pending = refl; outbox = refl; kept = refl; sent = refl });
 }
 
 pub unserved_some : {B L : Type 0} (sent : L → Option (List (List ℕ))) (o : Option (Seated B L)) (was is : Seated B L) → o ≡ Some was → Unserved sent was.slot was.link is.slot is.link → UnservedAt sent o (Some is)
@@ -270,10 +272,10 @@ unserved_some sent o was is e u = subst (λ x. UnservedAt sent x (Some is)) (sym
 
 -- ── a turn ──
 
-pub turns : {B L : Type 0} (sent : L → Option (List (List ℕ))) (received : L → Option (List ℕ)) (old : DeskValue B L) (before seat after : SessionSeatValue) (places : List (Option (Seated B L))) (at : ℕ) (was is : Option (Seated B L))
-    → desk before seat places ≡ old → at < length places → was ≡ get_or places at was → Continues (progress_at was) seat (progress_at is) after → ServedAt sent received was seat is after
-    → Turns sent received old (desk before after (set places at is)) at
-turns {B} {L} sent received old before seat after places at was is same within there c s = record {
+pub turns : {B L : Type 0} (sent : L → Option (List (List ℕ))) (received : L → Option (List ℕ)) (old : DeskValue B L) (before seat after : SessionSeatValue) (places : List (Option (Seated B L))) (at : ℕ) (was is : Option (Seated B L)) (turned : Turned)
+    → desk before seat places ≡ old → at < length places → was ≡ get_or places at was → Continues (progress_at was) seat (progress_at is) after → ServedAt sent received was seat is after turned
+    → Turns sent received old (desk before after (set places at is)) at turned
+turns {B} {L} sent received old before seat after places at was is turned same within there c s = record {
   was = s.was;
   is = s.is;
   sat = ap (λ (d : DeskValue B L). slice_get d.places at) (sym same) ∙ sitting places at was within there ∙ ap (λ x. Some x) s.sat;
@@ -284,7 +286,12 @@ turns {B} {L} sent received old before seat after places at was is same within t
       (subst (λ l. AllByRecursion (λ (x : Pair). number_in (progress_at is) ≡ Some (number_of x)) l) (cancel seat.own c.said (commands_of s.goes.deeds) (sym c.added ∙ s.goes.added)) c.of_it);
   served = s.goes.served;
   heeds = s.goes.heeds;
+  answers = subst (λ (x : SessionSeatValue). Answers received turned x s.was.link s.is.slot after s.is.link) (ap (λ (d : DeskValue B L). d.seat) same) s.answers;
 }
+
+pub if_some : {X : Type 0} (o : Option X) (P Q : X → Type 0) → ((x : X) → P x → Q x) → IfSome o P → IfSome o Q
+if_some None P Q so p = p
+if_some (Some x) P Q so p = so x p
 
 -- ── one more client ──
 

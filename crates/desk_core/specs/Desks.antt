@@ -3,6 +3,8 @@ use Rattle.std.specs.Prelude.{◌≡◌, ◌≢◌, ◌⊎◌, ℕ, List, ◌++�
 use Rattle.claim_core.specs.Seats.{SessionSeatValue}
 use Rattle.connection_core.specs.declared.progress.Progress.{Progress}
 use Rattle.desk_core.specs.declared.place.Seated.{Seated}
+use Rattle.desk_core.specs.declared.turned.Turned.{Turned}
+use Rattle.desk_core.specs.Answers.{Answers}
 use Rattle.desk_core.specs.Continues.{AreSaid}
 use Rattle.desk_core.specs.Deeds.{Deed, commands_of, told_of}
 use Rattle.desk_core.specs.Conversations.{Speaks}
@@ -43,8 +45,8 @@ abbrev pub seated_at : {B L : Type 0} → List (Option (Seated B L)) → ℕ →
 seated_at places at = get_or places at None
 
 -- These deeds were done at that place. The seat got the commands among them, which are of its own session; its client was sent the
--- frames among them, beside outputs of that session; and they are what it has next of what its bytes ask for.
-pub record Turns {B L : Type 0} (sent : L → Option (List (List ℕ))) (received : L → Option (List ℕ)) (old new : DeskValue B L) (at : ℕ) : Type 0 where
+-- frames among them, beside outputs of that session; and they are what it has next of what its bytes ask for. The turn answers so.
+pub record Turns {B L : Type 0} (sent : L → Option (List (List ℕ))) (received : L → Option (List ℕ)) (old new : DeskValue B L) (at : ℕ) (turned : Turned) : Type 0 where
   pub was : Seated B L
   pub is : Seated B L
   pub sat : SitsAt old.places at was
@@ -54,6 +56,7 @@ pub record Turns {B L : Type 0} (sent : L → Option (List (List ℕ))) (receive
   pub of_it : AreSaid is.slot.connection.progress (commands_of deeds)
   pub served : Served sent (told_of deeds) was.slot was.link is.slot is.link
   pub heeds : Heeds received was.slot was.link is.slot is.link deeds
+  pub answers : Answers received turned old.seat was.link is.slot new.seat is.link
 
 -- no two places have one session
 abbrev pub AreApart : {B L : Type 0} → List (Option (Seated B L)) → Type 0

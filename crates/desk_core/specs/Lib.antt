@@ -1,3 +1,4 @@
+pub mod Answers
 pub mod Boxes
 pub mod Continues
 pub mod Conversations

@@ -97,9 +97,10 @@ pub record Stays {B : Type 0} (was is : Slot B) : Type 0 where
   pub taken : taken_of is.outbox ≡ taken_of was.outbox
   pub kept : is.kept ≡ was.kept
 
--- The same, with its link: nothing was sent, and the conversation stands where it stood.
+-- The same, with its link: nothing was sent, and the conversation stands where it stood, with the entry that waits.
 pub record Unserved {B L : Type 0} (told : L → Option (List (List ℕ))) (was : Slot B) (before : L) (is : Slot B) (after : L) : Type 0 where
   pub progress : is.connection.progress ≡ was.connection.progress
+  pub pending : is.pending ≡ was.pending
   pub outbox : is.outbox ≡ was.outbox
   pub kept : is.kept ≡ was.kept
   pub sent : told after ≡ told before

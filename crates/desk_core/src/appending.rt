@@ -43,10 +43,32 @@ pub struct Executed {
     pub last: Step,
 }
 
+impl Executed {
+    ghost use Rattle.claim_core.specs.Seats.{SessionSeatValue};
+    ghost use Rattle.desk_core.specs.Answers.{Appended, Grows};
+
+    // One act more.
+    fn with(self, step: Step) -> Executed
+        ensures last { result.last ≡ step }
+        ensures grows { (s t u : SessionSeatValue) → Appended self.appended s t → Grows step t u → Appended result.appended s u }
+    {
+        match step {
+            Step::Appended => Executed {
+                appended: true,
+                last: step,
+            },
+            _ => Executed {
+                appended: self.appended,
+                last: step,
+            },
+        }
+    }
+}
+
 impl<B: Bell> Slot<B> {
     ghost use Rattle.std.specs.Prelude.{[], Some};
     ghost use Rattle.outbox_core.specs.Boxes.{TakerValue};
-    ghost use Rattle.desk_core.specs.declared.appending.Step.TheVariants.{Appended};
+    ghost use Rattle.desk_core.specs.Answers.{Appended, Grows, IsQuiet, Leaves};
     ghost use Rattle.connection_core.specs.Stages.{Executes};
     ghost use Rattle.connection_core.specs.declared.said.Wanted.TheVariants.{Append};
     ghost use Rattle.desk_core.specs.Continues.{Continues};
@@ -65,18 +87,20 @@ impl<B: Bell> Slot<B> {
         ringers: &M,
     ) -> Executed
         requires { seat.old.ring ≡ ring.now }
-        ensures { GoesOn L.sent L.received self.old seat.old link.old self.new seat.new link.new }
+        ensures goes { GoesOn L.sent L.received self.old seat.old link.old self.new seat.new link.new }
+        ensures grows { Appended result.appended seat.old seat.new }
+        ensures leaves { Leaves result.last self.new.pending seat.new }
+        ensures unread { L.received link.new ≡ L.received link.old }
     {
         let mut executed = Executed {
             appended: false,
             last: Step::Done,
         };
         for _ in 0..ACTS {
-            executed.last = self.step(alloc, ring, seat, link, ringers);
-            match executed.last {
-                Step::Appended => executed.appended = true,
-                Step::Done => {}
-                Step::Full(_) | Step::Short | Step::Rest => return executed,
+            let step = self.step(alloc, ring, seat, link, ringers);
+            executed = executed.with(step);
+            if matches!(step, Step::Full(_) | Step::Short | Step::Rest) {
+                return executed;
             }
         }
         executed
@@ -92,7 +116,10 @@ impl<B: Bell> Slot<B> {
         ringers: &M,
     ) -> Step
         requires { seat.old.ring ≡ ring.now }
-        ensures { GoesOn L.sent L.received self.old seat.old link.old self.new seat.new link.new }
+        ensures goes { GoesOn L.sent L.received self.old seat.old link.old self.new seat.new link.new }
+        ensures grows { Grows result seat.old seat.new }
+        ensures leaves { Leaves result self.new.pending seat.new }
+        ensures unread { L.received link.new ≡ L.received link.old }
     {
         if !self.connection.stage().executes() {
             return Step::Rest;
@@ -124,6 +151,8 @@ impl<B: Bell> Slot<B> {
         ensures continues { Continues self.old.connection.progress seat.old self.new.connection.progress seat.new }
         ensures stays { Stays self.old self.new }
         ensures lives { Executes self.old.connection.stage → DoesWanted (Append command) self.old.connection seat.old self.new.connection self.new.pending seat.new }
+        ensures grows { Grows result seat.old seat.new }
+        ensures leaves { Leaves result self.new.pending seat.new }
     {
         match Pending::new(alloc, ringers, command) {
             Ok(pending) => self.append(ring, seat, pending),
@@ -145,8 +174,10 @@ impl<B: Bell> Slot<B> {
         requires nothing { self.old.pending ≡ None }
         ensures continues { Continues self.old.connection.progress seat.old self.new.connection.progress seat.new }
         ensures stays { Stays self.old self.new }
-        ensures taker { (taker : TakerValue) → pending.taker ≡ Some taker → result ≡ Appended → self.new.outbox ≡ Some taker }
+        ensures taker { (taker : TakerValue) → pending.taker ≡ Some taker → result ≡ Step.Appended → self.new.outbox ≡ Some taker }
         ensures lives { Executes self.old.connection.stage → DoesWanted (Append pending.entry.command) self.old.connection seat.old self.new.connection self.new.pending seat.new }
+        ensures grows { Grows result seat.old seat.new }
+        ensures leaves { Leaves result self.new.pending seat.new }
     {
         let Pending { entry, taker } = pending;
         match speak(ring, seat, &mut self.connection, entry) {
@@ -192,6 +223,7 @@ impl<B: Bell> Slot<B> {
         ensures same { self.new.connection.progress ≡ self.old.connection.progress }
         ensures unread { L.received link.new ≡ L.received link.old }
         ensures tells { TellsIt L.sent notice self.old link.old self.new link.new }
+        ensures quiet { IsQuiet result }
     {
         if is_cut_off(self.connection.stage()) {
             drop(notice);

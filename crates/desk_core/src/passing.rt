@@ -45,7 +45,10 @@ impl<B: Bell> Slot<B> {
         link: &mut L,
     ) -> PassedOn
         requires { seat.old.ring ≡ ring.now }
-        ensures { GoesOn L.sent L.received self.old seat.old link.old self.new seat.new link.new }
+        ensures goes { GoesOn L.sent L.received self.old seat.old link.old self.new seat.new link.new }
+        ensures pending { self.new.pending ≡ self.old.pending }
+        ensures own { seat.new.own ≡ seat.old.own }
+        ensures unread { L.received link.new ≡ L.received link.old }
     {
         let mut bytes = 0usize;
         for _ in 0..RELAYS {
@@ -75,6 +78,8 @@ impl<B: Bell> Slot<B> {
         ensures seen { seat.new ≡ with_seen seat.old seat.new.seen }
         ensures served { Served L.sent [] self.old link.old self.new link.new }
         ensures lives { Heeds L.received self.old link.old self.new link.new [] }
+        ensures pending { self.new.pending ≡ self.old.pending }
+        ensures unread { L.received link.new ≡ L.received link.old }
     {
         if !runs(self.connection.stage()) {
             return Ok(None);
