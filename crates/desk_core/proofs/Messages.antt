@@ -12,7 +12,9 @@ use Rattle.connection_core.specs.Connections.{ConnectionValue, Wants}
 use Rattle.connection_core.specs.declared.said.Wanted.{Wanted}
 use Rattle.connection_core.specs.Conversations.{number_in}
 use Rattle.connection_core.specs.declared.progress.Progress.{Progress}
+use Rattle.connection_core.specs.declared.stage.Stage.TheVariants.{Running}
 use Rattle.desk_core.specs.Conversations.{StaysOrEnds}
+use Rattle.desk_core.specs.Keeping.{KeepsOwn}
 use Rattle.desk_core.specs.declared.kept.Kept.{Kept}
 use Rattle.desk_core.specs.declared.kept.Kept.TheVariants as kept
 use Rattle.desk_core.specs.declared.kept.Relayed.{Relayed}
@@ -192,6 +194,20 @@ relayed_on session number p q seen relayed.Cut is f = found_none number p q f
 
 pub refused_on : (session : ℕ) (number : Option ℕ) (p q : Passage) (seen : ℕ) → IsRefused session p q seen → Relayed_on number p q
 refused_on session number p q seen s = keeps_it number p q s.out s.handled s.untold (ap kept_of s.is_kept)
+
+unsent_nothing : (k : Kept) (out : OutValue) → k ≡ kept.Nothing → k ≡ kept.Unsent out → ⊥
+unsent_nothing k out is e = let both : kept.Nothing ≡ kept.Unsent out = sym is ∙ e in cc
+
+unsent_waits : (k : Kept) (one out : OutValue) → k ≡ kept.Waits one → k ≡ kept.Unsent out → ⊥
+unsent_waits k one out is e = let both : kept.Waits one ≡ kept.Unsent out = sym is ∙ e in cc
+
+-- one that runs on keeps no output of another session that may leave
+pub keeps_own : (session : ℕ) (c : ConnectionValue) (p q : Passage) (seen : ℕ) (r : Relayed) → Relays session p q seen r → (r ≡ relayed.Foreign → c.stage ≡ Running → ⊥) → KeepsOwn c q.kept
+keeps_own session c p q seen (relayed.Sent n verb bytes) s over = λ out e runs. absurd (unsent_nothing q.kept out s.nothing_kept e)
+keeps_own session c p q seen relayed.Waits s over = λ out e runs. absurd (unsent_waits q.kept s.out out s.is_kept e)
+keeps_own session c p q seen relayed.Foreign s over = λ out e runs. absurd (over refl runs)
+keeps_own session c p q seen relayed.Empty f over = λ out e runs. absurd (unsent_nothing q.kept out (f.same.0 ∙ f.nothing_kept) e)
+keeps_own session c p q seen relayed.Cut f over = λ out e runs. absurd (unsent_nothing q.kept out (f.same.0 ∙ f.nothing_kept) e)
 
 -- the same of a slot with that outbox
 pub slot_relayed : {B L : Type 0} (sent : L → Option (List (List ℕ))) (was is : Slot B) (l m : L) (t u : TakerValue) (k : Kept)

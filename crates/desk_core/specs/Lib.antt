@@ -6,6 +6,7 @@ pub mod Deeds
 pub mod Desks
 pub mod Goings
 pub mod Holding
+pub mod Keeping
 pub mod Lives
 pub mod Places
 pub mod Relays
