@@ -1,3 +1,6 @@
+pub mod Answering
+pub mod Doing
+pub mod Going
 pub mod Lists
 pub mod Living
 pub mod Messages

@@ -3,8 +3,6 @@ use Rattle.std.proofs.Common.{◌≡◌, ℕ, suc, ◌<◌, List, [], ◌∷◌,
 use Rattle.std.specs.Prelude.{◌==◌, filter}
 use Rattle.std.specs.List.{AllByRecursion}
 use Rattle.std.proofs.lemmas.Bool.{ne_eqb}
-use mathlib.Core.Option.{some}
-use lib.ListN.{get_elem?}
 use Rattle.claim_core.specs.Counts.{Pair}
 use Rattle.claim_core.specs.Steps.{IsLast}
 

@@ -1,11 +1,11 @@
 -- What stands at a desk.
-use Rattle.std.proofs.Common.{◌≡◌, ℕ, zero, suc, ◌+◌, ◌-◌, ◌<◌, ◌≤◌, List, [], ◌∷◌, ◌++◌, Option, Some, None, length, take, drop, get_or, refl, sym, ap, ◌∙◌, subst, inl, inr, append-nil, append_assoc, arith}
-use Rattle.std.specs.Prelude.{slice_get, set}
+use Rattle.std.proofs.Common.{◌≡◌, ℕ, zero, suc, ◌+◌, ◌-◌, ◌<◌, ◌≤◌, List, [], ◌∷◌, ◌++◌, Option, Some, None, length, take, drop, get_or, refl, sym, ap, ◌∙◌, subst, inl, inr, append-nil, arith}
+use Rattle.std.specs.Prelude.{IfSome, slice_get, set}
 use Rattle.std.specs.List.{AllByRecursion, sum_by}
 use Rattle.std.specs.Option.{option_map}
 use Rattle.std.proofs.lemmas.Bool.{cases_eq}
 use Rattle.std.proofs.lemmas.List.{length-append, length-set, length-map, map-set, map-append, set_split, set-get_or, get_or-set_same, get_or-set_other}
-use Rattle.std.proofs.lemmas.List.Sums.{sum_by-append, sum_by-set, sum_by_push, get_or-le-sum_by}
+use Rattle.std.proofs.lemmas.List.Sums.{sum_by-set, sum_by_push, get_or-le-sum_by}
 use Rattle.std.proofs.lemmas.Option.{slice_get-get_or, slice_get-map, slice_get_within, get_or_from_slice_get}
 use Rattle.claim_core.specs.Counts.{Pair}
 use Rattle.claim_core.specs.Seats.{SessionSeatValue, with_seen}
@@ -13,13 +13,19 @@ use Rattle.connection_core.specs.Conversations.{number_in}
 use Rattle.connection_core.specs.declared.progress.Progress.{Progress}
 use Rattle.connection_core.specs.declared.progress.Progress.TheVariants.{New, Open, Ended, Gone}
 use Rattle.desk_core.specs.declared.place.Seated.{Seated}
+use Rattle.desk_core.specs.declared.turned.Turned.{Turned}
+use Rattle.desk_core.specs.Answers.{Answers}
 use Rattle.desk_core.specs.Continues.{Continues}
 use Rattle.desk_core.specs.Conversations.{Converse, IsConversation, IsPart, Speaks, holds, number_of, opens, part_of}
-use Rattle.desk_core.specs.Desks.{Admits, AreApart, DeskValue, IsDesk, Leaves, Others, SitsAt, Touches, Turns, desk, seated_at, stand_of}
-use Rattle.desk_core.specs.Lives.{GoesOn}
+use Rattle.desk_core.specs.Desks.{Admits, AreApart, DeskValue, IsDesk, Leaves, Others, Touches, Turns, desk, seated_at, stand_of}
+use Rattle.desk_core.specs.Deeds.{commands_of}
+use Rattle.desk_core.specs.Goings.{GoesOn, Serves}
 use Rattle.desk_core.specs.Places.{ServedAt, UnservedAt, progress_at}
-use Rattle.desk_core.specs.Slots.{IsNew, Served, Unserved, number_at}
+use Rattle.desk_core.specs.Slots.{IsNew, IsOwn, Message, Unserved, number_at}
+use Rattle.desk_core.specs.declared.slot.Slot.{Slot}
+use Rattle.connection_core.specs.Connections.{ConnectionValue}
 use Rattle.desk_core.proofs.Lists.{all_weaker, cond_same}
+use Rattle.desk_core.proofs.Going.{did}
 use Rattle.desk_core.proofs.Talking.{beside}
 
 -- ── a desk begins ──
@@ -177,27 +183,48 @@ one_number : (o : Option ℕ) (m k : ℕ) → o ≡ Some m → o ≡ Some k → 
 one_number None m k a b = absurd (cc)
 one_number (Some n) m k a b = cc
 
-of_one : (is : Progress) (said : List Pair) → AllByRecursion (λ (p : Pair). number_in is ≡ Some (number_of p)) said → ((n : ℕ) → IsConversation n (part_of n said)) → (n : ℕ) × IsConversation n said
-of_one is [] all each = (0, inl refl)
-of_one is (p ∷ ps) all each = (
-  number_of p,
-  subst (λ l. IsConversation (number_of p) l)
-      (all_part (number_of p) (p ∷ ps) (all_weaker (λ (q : Pair). number_in is ≡ Some (number_of q)) (λ (q : Pair). number_of q ≡ number_of p) (λ q own. one_number (number_in is) (number_of p) (number_of q) all.0 own) (p ∷ ps) all))
-      (each (number_of p)),
-)
+-- a session's number, or 0 where it has none
+abbrev number_or : Option ℕ → ℕ
+number_or None = 0
+number_or (Some n) = n
+
+conversation_of : (o : Option ℕ) (said : List Pair) → AllByRecursion (λ (p : Pair). o ≡ Some (number_of p)) said → ((n : ℕ) → IsConversation n (part_of n said)) → IsConversation (number_or o) said
+conversation_of None [] all each = inl refl
+conversation_of None (p ∷ ps) all each = absurd (let e : None ≡ Some (number_of p) = all.0 in cc)
+conversation_of (Some n) said all each =
+    subst (λ l. IsConversation n l)
+    (all_part n said (all_weaker (λ (q : Pair). Some n ≡ Some (number_of q)) (λ (q : Pair). number_of q ≡ n) (λ q own. one_number (Some n) n (number_of q) refl own) said all))
+    (each n)
+
+own_at : (o : Option ℕ) (m : Message) → IsOwn o m → IsOwn (Some (number_or o)) m
+own_at None (inl frame) own = own
+own_at None (inr out) own = absurd (let e : None ≡ Some out.session = own in cc)
+own_at (Some n) m own = own
 
 -- what one connection alone says is one conversation
-pub alone : (is : Progress) (old new : SessionSeatValue) → Continues New old is new → (more : List Pair) × (new.own ≡ old.own ++ more) × (n : ℕ) × IsConversation n more
-alone is old new c =
+alone : (is : Progress) (old new : SessionSeatValue) → Continues New old is new → (more : List Pair) → new.own ≡ old.own ++ more → IsConversation (number_or (number_in is)) more
+alone is old new c more added =
     let anew : Speaks old.own old.own ([] ++ New ∷ []) = record { more = []; whole = sym (append-nil old.own); parts = nobody } in
     let now : Speaks old.own new.own ([] ++ is ∷ []) = c.speaks old.own [] [] anew in
-    let same : now.more ≡ c.said = cancel old.own now.more c.said (sym now.whole ∙ c.added) in
-    let each : (n : ℕ) → IsConversation n (part_of n c.said) = λ n. subst (λ l. IsConversation n (part_of n l)) same (now.parts n).conversation in
-    let found : (n : ℕ) × IsConversation n c.said = of_one is c.said c.of_it each in
-    (c.said, c.added, found.0, found.1)
+    let same : now.more ≡ more = cancel old.own now.more more (sym now.whole ∙ added) in
+    conversation_of (number_in is) more
+    (subst (λ l. AllByRecursion (λ (p : Pair). number_in is ≡ Some (number_of p)) l) (cancel old.own c.said more (sym c.added ∙ added)) c.of_it)
+    (λ n. subst (λ l. IsConversation n (part_of n l)) same (now.parts n).conversation)
 
-pub alone_from : (p is : Progress) (old new : SessionSeatValue) → p ≡ New → Continues p old is new → (more : List Pair) × (new.own ≡ old.own ++ more) × (n : ℕ) × IsConversation n more
-alone_from p is old new e c = alone is old new (subst (λ x. Continues x old is new) e c)
+pub serves : {B L : Type 0} (sent : L → Option (List (List ℕ))) (received : L → Option (List ℕ)) (was is : Slot B) (s t : SessionSeatValue) (l m : L) → IsNew was → GoesOn sent received was s l is t m → Serves sent received s l t m
+serves sent received was is s t l m anew g = record {
+  deeds = g.deeds;
+  added = g.added;
+  number = number_or (number_at is);
+  conversation = alone is.connection.progress s t (subst (λ p. Continues p s is.connection.progress t) (ap (λ (c : ConnectionValue). c.progress) anew.connection) g.continues) (commands_of g.deeds) g.added;
+  messages = g.served.passes.messages;
+  told = g.served.passes.told;
+  own = all_weaker (IsOwn (number_at is)) (IsOwn (Some (number_or (number_at is)))) (own_at (number_at is)) g.served.passes.messages g.served.passes.own;
+  frames_are = g.served.passes.frames_are;
+  got = g.heeds.got;
+  read = g.heeds.read;
+  did = did was is g.heeds.got g.deeds anew g.heeds.lives;
+}
 
 -- ── nothing is said at a place ──
 
@@ -237,7 +264,7 @@ touches_none {B} {L} sent old new at same = record {
   before = ap (λ (d : DeskValue B L). d.before) same;
   seat = ap (λ (d : DeskValue B L). d.seat) same;
   others = nothing_else old.places new.places at (ap (λ (d : DeskValue B L). d.places) same);
-  unserved = λ w sat. (w, ap (λ (d : DeskValue B L). slice_get d.places at) same ∙ sat, record { progress = refl; outbox = refl; kept = refl; sent = refl });
+  unserved = λ w sat. (w, ap (λ (d : DeskValue B L). slice_get d.places at) same ∙ sat, record { progress = refl; pending = refl; outbox = refl; kept = refl; sent = refl });
 }
 
 pub unserved_some : {B L : Type 0} (sent : L → Option (List (List ℕ))) (o : Option (Seated B L)) (was is : Seated B L) → o ≡ Some was → Unserved sent was.slot was.link is.slot is.link → UnservedAt sent o (Some is)
@@ -245,20 +272,26 @@ unserved_some sent o was is e u = subst (λ x. UnservedAt sent x (Some is)) (sym
 
 -- ── a turn ──
 
-pub turns : {B L : Type 0} (sent : L → Option (List (List ℕ))) (received : L → Option (List ℕ)) (old : DeskValue B L) (before seat after : SessionSeatValue) (places : List (Option (Seated B L))) (at : ℕ) (was is : Option (Seated B L))
-    → desk before seat places ≡ old → at < length places → was ≡ get_or places at was → Continues (progress_at was) seat (progress_at is) after → ServedAt sent received was seat is after
-    → Turns sent received old (desk before after (set places at is)) at
-turns {B} {L} sent received old before seat after places at was is same within there c s = record {
+pub turns : {B L : Type 0} (sent : L → Option (List (List ℕ))) (received : L → Option (List ℕ)) (old : DeskValue B L) (before seat after : SessionSeatValue) (places : List (Option (Seated B L))) (at : ℕ) (was is : Option (Seated B L)) (turned : Turned)
+    → desk before seat places ≡ old → at < length places → was ≡ get_or places at was → Continues (progress_at was) seat (progress_at is) after → ServedAt sent received was seat is after turned
+    → Turns sent received old (desk before after (set places at is)) at turned
+turns {B} {L} sent received old before seat after places at was is turned same within there c s = record {
   was = s.was;
   is = s.is;
   sat = ap (λ (d : DeskValue B L). slice_get d.places at) (sym same) ∙ sitting places at was within there ∙ ap (λ x. Some x) s.sat;
   sits = get_same places at is within ∙ ap (λ x. Some x) s.sits;
-  served = s.served;
-  said = c.said;
-  added = c.added ∙ ap (λ (d : DeskValue B L). d.seat.own ++ c.said) same;
-  of_it = subst (λ p. AllByRecursion (λ (x : Pair). number_in p ≡ Some (number_of x)) c.said) (ap progress_at s.sits) c.of_it;
-  goes = subst (λ (x : SessionSeatValue). GoesOn received s.was.slot x s.was.link s.is.slot after s.is.link) (ap (λ (d : DeskValue B L). d.seat) same) s.goes;
+  deeds = s.goes.deeds;
+  added = s.goes.added ∙ ap (λ (d : DeskValue B L). d.seat.own ++ commands_of s.goes.deeds) same;
+  of_it = subst (λ p. AllByRecursion (λ (x : Pair). number_in p ≡ Some (number_of x)) (commands_of s.goes.deeds)) (ap progress_at s.sits)
+      (subst (λ l. AllByRecursion (λ (x : Pair). number_in (progress_at is) ≡ Some (number_of x)) l) (cancel seat.own c.said (commands_of s.goes.deeds) (sym c.added ∙ s.goes.added)) c.of_it);
+  served = s.goes.served;
+  heeds = s.goes.heeds;
+  answers = subst (λ (x : SessionSeatValue). Answers received turned x s.was.link s.is.slot after s.is.link) (ap (λ (d : DeskValue B L). d.seat) same) s.answers;
 }
+
+pub if_some : {X : Type 0} (o : Option X) (P Q : X → Type 0) → ((x : X) → P x → Q x) → IfSome o P → IfSome o Q
+if_some None P Q so p = p
+if_some (Some x) P Q so p = so x p
 
 -- ── one more client ──
 

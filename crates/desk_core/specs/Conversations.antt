@@ -1,9 +1,9 @@
 -- What the connections of one seat ask of the broker.
-use Rattle.std.specs.Prelude.{◌≡◌, ◌⊎◌, ◌≤◌, ◌==◌, ℕ, List, [], ◌∷◌, ◌++◌, Some, cond, filter}
+use Rattle.std.specs.Prelude.{◌≡◌, ◌⊎◌, ◌≤◌, ◌==◌, ℕ, List, [], ◌∷◌, ◌++◌, cond, filter}
 use Rattle.std.specs.List.{AllByRecursion, sum_by}
 use Rattle.claim_core.specs.Counts.{Pair}
 use Rattle.command_core.specs.Commands.{CommandValue}
-use Rattle.connection_core.specs.Conversations.{number_in, over, role_of}
+use Rattle.connection_core.specs.Conversations.{over, role_of}
 use Rattle.connection_core.specs.declared.progress.Progress.{Progress}
 use Rattle.connection_core.specs.declared.progress.Progress.TheVariants.{New, Open, Ended, Gone}
 use Rattle.connection_core.specs.declared.progress.Role.{Role}

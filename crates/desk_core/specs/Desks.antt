@@ -1,13 +1,15 @@
 -- What contracts see of a desk.
-use Rattle.std.specs.Prelude.{◌≡◌, ◌≢◌, ◌⊎◌, ◌+◌, ℕ, List, [], ◌∷◌, ◌++◌, Option, Some, None, map, length, get_or, slice_get}
-use Rattle.claim_core.specs.Counts.{Pair}
+use Rattle.std.specs.Prelude.{◌≡◌, ◌≢◌, ◌⊎◌, ℕ, List, ◌++◌, Option, Some, None, map, length, get_or, slice_get}
 use Rattle.claim_core.specs.Seats.{SessionSeatValue}
 use Rattle.connection_core.specs.declared.progress.Progress.{Progress}
 use Rattle.desk_core.specs.declared.place.Seated.{Seated}
+use Rattle.desk_core.specs.declared.turned.Turned.{Turned}
+use Rattle.desk_core.specs.Answers.{Answers}
 use Rattle.desk_core.specs.Continues.{AreSaid}
+use Rattle.desk_core.specs.Deeds.{Deed, commands_of, told_of}
 use Rattle.desk_core.specs.Conversations.{Speaks}
-use Rattle.desk_core.specs.Lives.{GoesOn}
-use Rattle.desk_core.specs.Places.{ServedAt, progress_at}
+use Rattle.desk_core.specs.Lives.{Heeds}
+use Rattle.desk_core.specs.Places.{progress_at}
 use Rattle.desk_core.specs.Slots.{IsNew, Served, Unserved, number_at}
 
 -- The seat as it was when the desk was made, as it is, and what sits at the places.
@@ -42,18 +44,19 @@ SitsAt places at seated = slice_get places at ≡ Some (Some seated)
 abbrev pub seated_at : {B L : Type 0} → List (Option (Seated B L)) → ℕ → Option (Seated B L)
 seated_at places at = get_or places at None
 
--- The client at that place is served, what the seat got are commands of its own session, and they are what it has next of what
--- its bytes ask for.
-pub record Turns {B L : Type 0} (sent : L → Option (List (List ℕ))) (received : L → Option (List ℕ)) (old new : DeskValue B L) (at : ℕ) : Type 0 where
+-- These deeds were done at that place. The seat got the commands among them, which are of its own session; its client was sent the
+-- frames among them, beside outputs of that session; and they are what it has next of what its bytes ask for. The turn answers so.
+pub record Turns {B L : Type 0} (sent : L → Option (List (List ℕ))) (received : L → Option (List ℕ)) (old new : DeskValue B L) (at : ℕ) (turned : Turned) : Type 0 where
   pub was : Seated B L
   pub is : Seated B L
   pub sat : SitsAt old.places at was
   pub sits : SitsAt new.places at is
-  pub served : Served sent was.slot was.link is.slot is.link
-  pub said : List Pair
-  pub added : new.seat.own ≡ old.seat.own ++ said
-  pub of_it : AreSaid is.slot.connection.progress said
-  pub goes : GoesOn received was.slot old.seat was.link is.slot new.seat is.link
+  pub deeds : List Deed
+  pub added : new.seat.own ≡ old.seat.own ++ commands_of deeds
+  pub of_it : AreSaid is.slot.connection.progress (commands_of deeds)
+  pub served : Served sent (told_of deeds) was.slot was.link is.slot is.link
+  pub heeds : Heeds received was.slot was.link is.slot is.link deeds
+  pub answers : Answers received turned old.seat was.link is.slot new.seat is.link
 
 -- no two places have one session
 abbrev pub AreApart : {B L : Type 0} → List (Option (Seated B L)) → Type 0

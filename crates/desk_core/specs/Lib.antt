@@ -1,8 +1,12 @@
+pub mod Answers
 pub mod Boxes
 pub mod Continues
 pub mod Conversations
+pub mod Deeds
 pub mod Desks
+pub mod Goings
 pub mod Holding
+pub mod Keeping
 pub mod Lives
 pub mod Places
 pub mod Relays

@@ -4,22 +4,25 @@ use Rattle.connection_core.specs.declared.progress.Progress.{Progress}
 use Rattle.connection_core.specs.declared.progress.Progress.TheVariants.{Gone}
 use Rattle.desk_core.specs.declared.place.Seated.{Seated}
 use Rattle.claim_core.specs.Seats.{SessionSeatValue}
-use Rattle.desk_core.specs.Lives.{GoesOn}
-use Rattle.desk_core.specs.Slots.{Served, Unserved}
+use Rattle.desk_core.specs.declared.turned.Turned.{Turned}
+use Rattle.desk_core.specs.Answers.{Answers}
+use Rattle.desk_core.specs.Goings.{GoesOn}
+use Rattle.desk_core.specs.Slots.{Unserved}
 
 -- how far the conversation has come of what sits at a place
 abbrev pub progress_at : {B L : Type 0} → Option (Seated B L) → Progress
 progress_at None = Gone
 progress_at (Some seated) = seated.slot.connection.progress
 
--- The client there is served, and what its seat got is what the connection has next of what its client's bytes ask for.
-pub record ServedAt {B L : Type 0} (sent : L → Option (List (List ℕ))) (received : L → Option (List ℕ)) (old : Option (Seated B L)) (before : SessionSeatValue) (new : Option (Seated B L)) (after : SessionSeatValue) : Type 0 where
+-- The connection there goes on: its client is served, and what its seat got is what it has next of what its client's bytes ask for. The
+-- turn answers so.
+pub record ServedAt {B L : Type 0} (sent : L → Option (List (List ℕ))) (received : L → Option (List ℕ)) (old : Option (Seated B L)) (before : SessionSeatValue) (new : Option (Seated B L)) (after : SessionSeatValue) (turned : Turned) : Type 0 where
   pub was : Seated B L
   pub is : Seated B L
   pub sat : old ≡ Some was
   pub sits : new ≡ Some is
-  pub served : Served sent was.slot was.link is.slot is.link
-  pub goes : GoesOn received was.slot before was.link is.slot after is.link
+  pub goes : GoesOn sent received was.slot before was.link is.slot after is.link
+  pub answers : Answers received turned before was.link is.slot after is.link
 
 -- nothing was sent there, and nobody came or went
 abbrev pub UnservedAt : {B L : Type 0} → (L → Option (List (List ℕ))) → Option (Seated B L) → Option (Seated B L) → Type 0

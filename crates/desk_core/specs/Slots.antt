@@ -57,18 +57,24 @@ outs_of [] = []
 outs_of (inl frame ∷ messages) = outs_of messages
 outs_of (inr out ∷ messages) = out ∷ outs_of messages
 
+abbrev pub frames_of : List Message → List Frame
+frames_of [] = []
+frames_of (inl frame ∷ messages) = frame ∷ frames_of messages
+frames_of (inr out ∷ messages) = frames_of messages
+
 -- it is for the client of the session of that number
 abbrev pub IsOwn : Option ℕ → Message → Type 0
 IsOwn number (inl frame) = frame.verb ≡ verbs.Error
 IsOwn number (inr out) = number ≡ Some out.session
 
--- The link was sent these messages, each for its own client. The outputs among them are, in their order, the one that was kept and
--- those that its own outbox gave; what was not sent of these is kept.
-pub record Passes (number : Option ℕ) (old new : Passed) : Type 0 where
+-- The link was sent these messages, each for its own client. The frames that don't wait for the broker are these, in their order; the
+-- outputs are, in theirs, the one that was kept and those that its own outbox gave; what was not sent of these is kept.
+pub record Passes (number : Option ℕ) (frames : List Frame) (old new : Passed) : Type 0 where
   pub messages : List Message
   pub got : List OutValue
   pub told : new.sent ≡ option_map (λ sent. sent ++ map bytes_of messages) old.sent
   pub own : AllByRecursion (IsOwn number) messages
+  pub frames_are : frames_of messages ≡ frames
   pub taken : new.taken ≡ old.taken ++ got
   pub whole : old.kept ++ got ≡ outs_of messages ++ new.kept
 
@@ -77,11 +83,12 @@ abbrev pub IsTakerOf : TakerValue → Option TakerValue → Type 0
 IsTakerOf t None = ⊥
 IsTakerOf t (Some taker) = taker.box ≡ t.box
 
--- The client was sent messages of its own alone. A session's number stays, and so does its outbox, once there is one.
-pub record Served {B L : Type 0} (sent : L → Option (List (List ℕ))) (was : Slot B) (before : L) (is : Slot B) (after : L) : Type 0 where
+-- The client was sent messages of its own alone, and of frames that don't wait for the broker these. A session's number stays, and
+-- so does its outbox, once there is one.
+pub record Served {B L : Type 0} (sent : L → Option (List (List ℕ))) (frames : List Frame) (was : Slot B) (before : L) (is : Slot B) (after : L) : Type 0 where
   pub stays : (n : ℕ) → number_at was ≡ Some n → number_at is ≡ Some n
   pub one_box : (t : TakerValue) → was.outbox ≡ Some t → IsTakerOf t is.outbox
-  pub passes : Passes (number_at is) (passed sent was before) (passed sent is after)
+  pub passes : Passes (number_at is) frames (passed sent was before) (passed sent is after)
 
 -- Nothing was sent to the client: a session's number and its outbox stay, and so does what is kept.
 pub record Stays {B : Type 0} (was is : Slot B) : Type 0 where
@@ -90,9 +97,10 @@ pub record Stays {B : Type 0} (was is : Slot B) : Type 0 where
   pub taken : taken_of is.outbox ≡ taken_of was.outbox
   pub kept : is.kept ≡ was.kept
 
--- The same, with its link: nothing was sent, and the conversation stands where it stood.
+-- The same, with its link: nothing was sent, and the conversation stands where it stood, with the entry that waits.
 pub record Unserved {B L : Type 0} (told : L → Option (List (List ℕ))) (was : Slot B) (before : L) (is : Slot B) (after : L) : Type 0 where
   pub progress : is.connection.progress ≡ was.connection.progress
+  pub pending : is.pending ≡ was.pending
   pub outbox : is.outbox ≡ was.outbox
   pub kept : is.kept ≡ was.kept
   pub sent : told after ≡ told before

@@ -1,6 +1,6 @@
 //! How what a connection wants is done.
 
-ghost use Rattle.std.specs.Prelude.{◌≡◌, None};
+ghost use Rattle.std.specs.Prelude.{◌≡◌, ◌≢◌, None, true, false};
 ghost use Rattle.session_core.specs.Sessions.{HasForm};
 ghost use Rattle.session_core.specs.declared.act.Act.TheVariants as acts;
 
@@ -10,7 +10,7 @@ use crate::slot::Slot;
 use crate::speaking::speak;
 use claim_core::{BrokerRing, BrokerSeat, Refused};
 use command_core::Command;
-use connection_core::Wanted;
+use connection_core::{Stage, Wanted};
 use outbox_core::{Bell, OutSender};
 use session_core::Notice;
 use std::alloc::Global;
@@ -44,16 +44,39 @@ pub struct Executed {
     pub last: Step,
 }
 
+impl Executed {
+    ghost use Rattle.claim_core.specs.Seats.{SessionSeatValue};
+    ghost use Rattle.desk_core.specs.Answers.{Appended, Grows};
+
+    // One act more.
+    fn with(self, step: Step) -> Executed
+        ensures last { result.last ≡ step }
+        ensures grows { (s t u : SessionSeatValue) → Appended self.appended s t → Grows step t u → Appended result.appended s u }
+    {
+        match step {
+            Step::Appended => Executed {
+                appended: true,
+                last: step,
+            },
+            _ => Executed {
+                appended: self.appended,
+                last: step,
+            },
+        }
+    }
+}
+
 impl<B: Bell> Slot<B> {
     ghost use Rattle.std.specs.Prelude.{[], Some};
     ghost use Rattle.outbox_core.specs.Boxes.{TakerValue};
-    ghost use Rattle.desk_core.specs.declared.appending.Step.TheVariants.{Appended};
+    ghost use Rattle.desk_core.specs.Answers.{Appended, Grows, IsQuiet, Leaves};
     ghost use Rattle.connection_core.specs.Stages.{Executes};
-    ghost use Rattle.connection_core.specs.declared.said.Wanted.TheVariants.{Append, Tell};
+    ghost use Rattle.connection_core.specs.declared.said.Wanted.TheVariants.{Append};
     ghost use Rattle.desk_core.specs.Continues.{Continues};
     ghost use Rattle.desk_core.specs.Holding.{Holds};
-    ghost use Rattle.desk_core.specs.Lives.{DoesWanted, GoesOn, LivesOn};
-    ghost use Rattle.desk_core.specs.Slots.{Served, Stays};
+    ghost use Rattle.desk_core.specs.Goings.{GoesOn, TellsIt};
+    ghost use Rattle.desk_core.specs.Lives.{DoesWanted, LivesOn};
+    ghost use Rattle.desk_core.specs.Slots.{Stays};
 
     // Does what the connection wants, in order, until something has to wait or so much was done.
     pub(crate) fn execute<M: Ringers<B>, L: Link>(
@@ -65,20 +88,20 @@ impl<B: Bell> Slot<B> {
         ringers: &M,
     ) -> Executed
         requires { seat.old.ring ≡ ring.now }
-        ensures continues { Continues self.old.connection.progress seat.old self.new.connection.progress seat.new }
-        ensures served { Served L.sent self.old link.old self.new link.new }
-        ensures lives { GoesOn L.received self.old seat.old link.old self.new seat.new link.new }
+        ensures goes { GoesOn L.sent L.received self.old seat.old link.old self.new seat.new link.new }
+        ensures grows { Appended result.appended seat.old seat.new }
+        ensures leaves { Leaves result.last self.new.pending seat.new }
+        ensures unread { L.received link.new ≡ L.received link.old }
     {
         let mut executed = Executed {
             appended: false,
             last: Step::Done,
         };
         for _ in 0..ACTS {
-            executed.last = self.step(alloc, ring, seat, link, ringers);
-            match executed.last {
-                Step::Appended => executed.appended = true,
-                Step::Done => {}
-                Step::Full(_) | Step::Short | Step::Rest => return executed,
+            let step = self.step(alloc, ring, seat, link, ringers);
+            executed = executed.with(step);
+            if matches!(step, Step::Full(_) | Step::Short | Step::Rest) {
+                return executed;
             }
         }
         executed
@@ -94,9 +117,10 @@ impl<B: Bell> Slot<B> {
         ringers: &M,
     ) -> Step
         requires { seat.old.ring ≡ ring.now }
-        ensures continues { Continues self.old.connection.progress seat.old self.new.connection.progress seat.new }
-        ensures served { Served L.sent self.old link.old self.new link.new }
-        ensures lives { GoesOn L.received self.old seat.old link.old self.new seat.new link.new }
+        ensures goes { GoesOn L.sent L.received self.old seat.old link.old self.new seat.new link.new }
+        ensures grows { Grows result seat.old seat.new }
+        ensures leaves { Leaves result self.new.pending seat.new }
+        ensures unread { L.received link.new ≡ L.received link.old }
     {
         if !self.connection.stage().executes() {
             return Step::Rest;
@@ -128,6 +152,8 @@ impl<B: Bell> Slot<B> {
         ensures continues { Continues self.old.connection.progress seat.old self.new.connection.progress seat.new }
         ensures stays { Stays self.old self.new }
         ensures lives { Executes self.old.connection.stage → DoesWanted (Append command) self.old.connection seat.old self.new.connection self.new.pending seat.new }
+        ensures grows { Grows result seat.old seat.new }
+        ensures leaves { Leaves result self.new.pending seat.new }
     {
         match Pending::new(alloc, ringers, command) {
             Ok(pending) => self.append(ring, seat, pending),
@@ -149,8 +175,10 @@ impl<B: Bell> Slot<B> {
         requires nothing { self.old.pending ≡ None }
         ensures continues { Continues self.old.connection.progress seat.old self.new.connection.progress seat.new }
         ensures stays { Stays self.old self.new }
-        ensures taker { (taker : TakerValue) → pending.taker ≡ Some taker → result ≡ Appended → self.new.outbox ≡ Some taker }
+        ensures taker { (taker : TakerValue) → pending.taker ≡ Some taker → result ≡ Step.Appended → self.new.outbox ≡ Some taker }
         ensures lives { Executes self.old.connection.stage → DoesWanted (Append pending.entry.command) self.old.connection seat.old self.new.connection self.new.pending seat.new }
+        ensures grows { Grows result seat.old seat.new }
+        ensures leaves { Leaves result self.new.pending seat.new }
     {
         let Pending { entry, taker } = pending;
         match speak(ring, seat, &mut self.connection, entry) {
@@ -189,15 +217,19 @@ impl<B: Bell> Slot<B> {
         }
     }
 
-    // Tells the client an ERROR that doesn't wait for the broker, which is the last frame.
+    // Tells the client an ERROR that doesn't wait for the broker, which is the last frame. Where its link is over nobody is told.
     fn tell<L: Link>(&mut self, alloc: Global, link: &mut L, notice: Notice) -> Step
         requires first { self.old.connection.acts.again ≡ None }
         requires nothing { self.old.pending ≡ None }
         ensures same { self.new.connection.progress ≡ self.old.connection.progress }
-        ensures served { Served L.sent self.old link.old self.new link.new }
         ensures unread { L.received link.new ≡ L.received link.old }
-        ensures lives { Executes self.old.connection.stage → LivesOn (Tell notice) self.old.connection self.new.connection self.new.pending [] }
+        ensures tells { TellsIt L.sent notice self.old link.old self.new link.new }
+        ensures quiet { IsQuiet result }
     {
+        if is_cut_off(self.connection.stage()) {
+            drop(notice);
+            return Step::Done;
+        }
         match link.send_direct(alloc, notice.frame()) {
             Ok(()) => {
                 drop(notice);
@@ -214,4 +246,12 @@ impl<B: Bell> Slot<B> {
         }
         Step::Done
     }
+}
+
+// Whether nobody hears any more what is told.
+fn is_cut_off(stage: Stage) -> bool
+    ensures yes { result ≡ true → stage ≡ Stage.Leaving }
+    ensures no { result ≡ false → stage ≢ Stage.Leaving }
+{
+    matches!(stage, Stage::Leaving)
 }

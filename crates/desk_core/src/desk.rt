@@ -115,7 +115,7 @@ impl<B: Bell, L: Link + Drop> Desk<B, L> {
         ensures before { self.new.before ≡ self.old.before }
         ensures ring { self.new.seat.ring ≡ self.old.seat.ring }
         ensures others { Others self.old.places self.new.places at }
-        ensures turns { IsSome result → Turns L.sent L.received self.old self.new at }
+        ensures turns { IfSome result (λ turned. Turns L.sent L.received self.old self.new at turned) }
         ensures none { IsNone result → self.new ≡ self.old }
         ensures some { IsSome (seated_at self.old.places at) → IsSome result }
         ensures converse { Converse self.new.before.own self.new.seat.own }

@@ -16,13 +16,18 @@ pub enum Kept {
 }
 
 impl Kept {
+    ghost use Rattle.std.specs.Prelude.{IfSome};
+    ghost use Rattle.desk_core.specs.Answers.{WaitsFor};
+
     // Whether it may leave, and the link refused it.
     pub(crate) fn is_unsent(&self) -> bool {
         matches!(self, Kept::Unsent(_))
     }
 
     // The number that has to come under the mark first.
-    pub(crate) fn awaits(&self) -> Option<u64> {
+    pub(crate) fn awaits(&self) -> Option<u64>
+        ensures { IfSome result (λ number. WaitsFor number self.now) }
+    {
         match self {
             Kept::Waits(out) => Some(out.number()),
             Kept::Nothing | Kept::Unsent(_) => None,

@@ -1,13 +1,15 @@
 //! How a connection's outputs are sent.
 
-ghost use Rattle.std.specs.Prelude.{◌≡◌};
+ghost use Rattle.std.specs.Prelude.{◌≡◌, ◌≢◌, true};
+ghost use Rattle.desk_core.specs.Conversations.{StaysOrEnds};
+ghost use Rattle.desk_core.specs.Lives.{Restaged};
 ghost use Rattle.claim_core.specs.Seats.{with_seen};
 
 use crate::kept::Relayed;
 use crate::relaying::relay;
 use crate::slot::Slot;
 use claim_core::{BrokerRing, BrokerSeat};
-use connection_core::Stage;
+use connection_core::{Connection, Stage};
 use outbox_core::{Bell, OutSender};
 use std::alloc::Global;
 use ws_core::{Link, LinkFault};
@@ -31,9 +33,8 @@ pub enum PassedOn {
 
 impl<B: Bell> Slot<B> {
     ghost use Rattle.std.specs.Prelude.{[]};
-    ghost use Rattle.desk_core.specs.Continues.{Continues};
-    ghost use Rattle.desk_core.specs.Conversations.{StaysOrEnds};
-    ghost use Rattle.desk_core.specs.Lives.{GoesOn, Heeds, Restaged};
+    ghost use Rattle.desk_core.specs.Goings.{GoesOn};
+    ghost use Rattle.desk_core.specs.Lives.{Heeds};
     ghost use Rattle.desk_core.specs.Slots.{Served};
 
     // Sends what may leave, until nothing more may or so much was sent. A link that has not taken all before gets nothing more.
@@ -45,13 +46,14 @@ impl<B: Bell> Slot<B> {
         link: &mut L,
     ) -> PassedOn
         requires { seat.old.ring ≡ ring.now }
-        ensures continues { Continues self.old.connection.progress seat.old self.new.connection.progress seat.new }
-        ensures served { Served L.sent self.old link.old self.new link.new }
-        ensures lives { GoesOn L.received self.old seat.old link.old self.new seat.new link.new }
+        ensures goes { GoesOn L.sent L.received self.old seat.old link.old self.new seat.new link.new }
+        ensures pending { self.new.pending ≡ self.old.pending }
+        ensures own { seat.new.own ≡ seat.old.own }
+        ensures unread { L.received link.new ≡ L.received link.old }
     {
         let mut bytes = 0usize;
         for _ in 0..RELAYS {
-            if bytes >= RELAYED_BYTES || link.waits() || self.connection.stage() != Stage::Running {
+            if bytes >= RELAYED_BYTES || link.waits() {
                 return PassedOn::More;
             }
             match self.pass_one(alloc, ring, seat, link) {
@@ -63,7 +65,8 @@ impl<B: Bell> Slot<B> {
         PassedOn::More
     }
 
-    // Sends one output, and answers how many bytes its body has; nothing where none may leave.
+    // Sends one output, and answers how many bytes its body has; nothing where none may leave. Once the connection runs no more, none
+    // may.
     fn pass_one<L: Link>(
         &mut self,
         alloc: Global,
@@ -74,9 +77,14 @@ impl<B: Bell> Slot<B> {
         requires { seat.old.ring ≡ ring.now }
         ensures ends { StaysOrEnds self.old.connection.progress self.new.connection.progress }
         ensures seen { seat.new ≡ with_seen seat.old seat.new.seen }
-        ensures served { Served L.sent self.old link.old self.new link.new }
+        ensures served { Served L.sent [] self.old link.old self.new link.new }
         ensures lives { Heeds L.received self.old link.old self.new link.new [] }
+        ensures pending { self.new.pending ≡ self.old.pending }
+        ensures unread { L.received link.new ≡ L.received link.old }
     {
+        if !runs(self.connection.stage()) {
+            return Ok(None);
+        }
         let Some(session) = self.connection.number() else {
             return Ok(None);
         };
@@ -84,7 +92,7 @@ impl<B: Bell> Slot<B> {
             return Ok(None);
         };
         match relay(alloc, ring, seat, session, taker, &mut self.kept, link) {
-            Ok(relayed) => Ok(self.note(relayed)),
+            Ok(relayed) => Ok(note(&mut self.connection, relayed)),
             Err(LinkFault::Memory) => Err(LinkFault::Memory),
             Err(LinkFault::Gone) => {
                 self.connection.lose();
@@ -92,27 +100,35 @@ impl<B: Bell> Slot<B> {
             }
         }
     }
+}
 
-    // What comes of an output that was handled. One whose outbox is cut is given up, and one whose outbox has another's output.
-    fn note(&mut self, relayed: Relayed) -> Option<usize>
-        ensures ends { StaysOrEnds self.old.connection.progress self.new.connection.progress }
-        ensures same { (self.new.outbox ≡ self.old.outbox) × (self.new.kept ≡ self.old.kept) }
-        ensures rest { Restaged self.old.connection self.new.connection × (self.new.pending ≡ self.old.pending) }
-    {
-        match relayed {
-            Relayed::Sent {
-                number,
-                verb,
-                bytes,
-            } => {
-                self.connection.sent(number, verb);
-                Some(bytes)
-            }
-            Relayed::Cut | Relayed::Foreign => {
-                self.connection.give_up();
-                None
-            }
-            Relayed::Waits | Relayed::Empty => None,
+// What comes of an output that was handled. One whose outbox is cut is given up, and one whose outbox has another's output.
+fn note(connection: &mut Connection, relayed: Relayed) -> Option<usize>
+    requires { connection.old.stage ≡ Stage.Running }
+    ensures ends { StaysOrEnds connection.old.progress connection.new.progress }
+    ensures rest { Restaged connection.old connection.new }
+    ensures gives_up { relayed ≡ Relayed.Foreign → connection.new.stage ≢ Stage.Running }
+{
+    match relayed {
+        Relayed::Sent {
+            number,
+            verb,
+            bytes,
+        } => {
+            connection.sent(number, verb);
+            Some(bytes)
         }
+        Relayed::Cut | Relayed::Foreign => {
+            connection.give_up();
+            None
+        }
+        Relayed::Waits | Relayed::Empty => None,
     }
+}
+
+// Whether the connection runs.
+fn runs(stage: Stage) -> bool
+    ensures { result ≡ true → stage ≡ Stage.Running }
+{
+    matches!(stage, Stage::Running)
 }

@@ -1,6 +1,6 @@
 //! What is done at a place of a desk.
 
-ghost use Rattle.std.specs.Prelude.{◌≡◌, Some, None, IsNone, IsSome, true, slice_get};
+ghost use Rattle.std.specs.Prelude.{◌≡◌, Some, None, IfSome, IsNone, IsSome, true, slice_get};
 ghost use Rattle.desk_core.specs.Continues.{Continues};
 ghost use Rattle.desk_core.specs.Places.{ServedAt, UnservedAt, progress_at};
 
@@ -23,7 +23,7 @@ pub fn turn_at<B: Bell, M: Ringers<B>, L: Link>(
 ) -> Option<Turned>
     requires { seat.old.ring ≡ ring.now }
     ensures continues { Continues (progress_at place.old) seat.old (progress_at place.new) seat.new }
-    ensures served { IsSome result → ServedAt L.sent L.received place.old seat.old place.new seat.new }
+    ensures served { IfSome result (λ turned. ServedAt L.sent L.received place.old seat.old place.new seat.new turned) }
     ensures none { IsNone result → (place.new ≡ place.old) × (seat.new ≡ seat.old) }
     ensures some { IsSome place.old → IsSome result }
 {

@@ -2,6 +2,7 @@
 
 ghost use Rattle.std.specs.Prelude.{◌≡◌, None};
 ghost use Rattle.connection_core.specs.Conversations.{number_in};
+ghost use Rattle.desk_core.specs.Keeping.{KeepsOwn};
 
 use crate::kept::Kept;
 use crate::pending::Pending;
@@ -19,6 +20,7 @@ pub struct Slot<B: Bell> {
     pub(crate) outbox: Option<OutTaker>,
     pub(crate) kept: Kept,
     ghost opened: { number_in connection.progress ≡ None → outbox ≡ None },
+    ghost own: { KeepsOwn connection kept },
 }
 
 impl<B: Bell> Slot<B> {

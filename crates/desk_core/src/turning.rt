@@ -1,6 +1,7 @@
 //! The turns of a connection.
 
-ghost use Rattle.std.specs.Prelude.{◌≡◌};
+ghost use Rattle.std.specs.Prelude.{◌≡◌, ◌≢◌, false};
+ghost use Rattle.desk_core.specs.Answers.{IsPressing};
 
 use crate::appending::Step;
 use crate::passing::PassedOn;
@@ -26,17 +27,20 @@ enum Hearing {
 
 impl<B: Bell> Slot<B> {
     ghost use Rattle.std.specs.Prelude.{◌≢◌, [], None};
+    ghost use Rattle.desk_core.specs.Answers.{Answers, AwaitsBy, IsRest};
+    ghost use Rattle.desk_core.specs.declared.appending.Step.{Step};
+    ghost use Rattle.desk_core.specs.declared.turning.Hearing.TheVariants.{Something};
     ghost use Rattle.connection_core.specs.Connections.{Listens};
     ghost use Rattle.connection_core.specs.declared.stage.Stage.TheVariants.{Running};
-    ghost use Rattle.desk_core.specs.Continues.{Continues};
-    ghost use Rattle.desk_core.specs.Lives.{GoesOn, Heeds};
-    ghost use Rattle.desk_core.specs.Slots.{Served, Unserved};
+    ghost use Rattle.desk_core.specs.Goings.{GoesOn};
+    ghost use Rattle.desk_core.specs.Lives.{Heeds};
+    ghost use Rattle.desk_core.specs.Slots.{Unserved};
 
     /// Lets the connection go on: what waits in its link is written, its client is heard where nothing else is to be done first, what
     /// that asks for is appended, and what may leave is sent, all of it bounded. No call waits unless the link's do.
     ///
     /// What is appended goes on with the connection's conversation, whatever others speak through the seat, and the client is
-    /// sent nothing but what is its own.
+    /// sent nothing but what is its own: outputs of its session, and before it has one the ERROR that its own bytes ask for, once.
     pub fn turn<M: Ringers<B>, L: Link>(
         &mut self,
         alloc: Global,
@@ -46,18 +50,20 @@ impl<B: Bell> Slot<B> {
         ringers: &M,
     ) -> Turned
         requires { seat.old.ring ≡ ring.now }
-        ensures continues { Continues self.old.connection.progress seat.old self.new.connection.progress seat.new }
-        ensures served { Served L.sent self.old link.old self.new link.new }
-        ensures lives { GoesOn L.received self.old seat.old link.old self.new seat.new link.new }
+        ensures goes { GoesOn L.sent L.received self.old seat.old link.old self.new seat.new link.new }
+        ensures answers { Answers L.received result seat.old link.old self.new seat.new link.new }
     {
         let heard = self.read(alloc, link);
         let executed = self.execute(alloc, ring, seat, link, ringers);
         let passed_on = self.pass_on(alloc, ring, seat, link);
         let is_short = self.finish(link);
+        let lacks = is_short || passed_on == PassedOn::Short;
+        // A client that was not read may have sent something that nothing will tell of again.
+        let more = !matches!(heard, Hearing::Nothing) || passed_on == PassedOn::More;
         Turned {
             appended: executed.appended,
-            heard: matches!(heard, Hearing::Something),
-            next: self.next(is_short, heard, executed.last, passed_on, link.waits()),
+            heard: is_something(heard),
+            next: self.next(lacks, more, executed.last, link.waits()),
         }
     }
 
@@ -65,6 +71,7 @@ impl<B: Bell> Slot<B> {
     fn read<L: Link>(&mut self, alloc: Global, link: &mut L) -> Hearing
         ensures unserved { Unserved L.sent self.old link.old self.new link.new }
         ensures lives { Heeds L.received self.old link.old self.new link.new [] }
+        ensures heard { result ≢ Something → L.received link.new ≡ L.received link.old }
     {
         if matches!(self.connection.stage(), Stage::Parting(_)) {
             return self.await_close(alloc, link);
@@ -84,6 +91,7 @@ impl<B: Bell> Slot<B> {
         requires nothing { self.old.pending ≡ None }
         ensures unserved { Unserved L.sent self.old link.old self.new link.new }
         ensures lives { Heeds L.received self.old link.old self.new link.new [] }
+        ensures heard { result ≢ Something → L.received link.new ≡ L.received link.old }
     {
         match link.receive(alloc) {
             Received::Bytes(bytes) => {
@@ -104,22 +112,27 @@ impl<B: Bell> Slot<B> {
         requires { self.old.connection.stage ≢ Running }
         ensures unserved { Unserved L.sent self.old link.old self.new link.new }
         ensures lives { Heeds L.received self.old link.old self.new link.new [] }
+        ensures heard { result ≢ Something → L.received link.new ≡ L.received link.old }
     {
-        let received = link.receive(alloc);
-        if matches!(received, Received::Closed) {
-            self.connection.lose();
-            return Hearing::Nothing;
+        match link.receive(alloc) {
+            Received::Closed => {
+                self.connection.lose();
+                Hearing::Nothing
+            }
+            Received::Nothing => Hearing::Nothing,
+            Received::Skipped => Hearing::Something,
+            Received::Bytes(bytes) => {
+                drop(bytes);
+                Hearing::Something
+            }
         }
-        if matches!(received, Received::Nothing) {
-            return Hearing::Nothing;
-        }
-        Hearing::Something
     }
 
     // Has all leave that was sent, and closes the link where that is to be done. Answers whether memory was refused for that.
     fn finish<L: Link>(&mut self, link: &mut L) -> bool
         ensures unserved { Unserved L.sent self.old link.old self.new link.new }
         ensures lives { Heeds L.received self.old link.old self.new link.new [] }
+        ensures unread { L.received link.new ≡ L.received link.old }
     {
         match self.connection.stage() {
             Stage::Leaving | Stage::Over(_) => return false,
@@ -136,6 +149,7 @@ impl<B: Bell> Slot<B> {
     fn part<L: Link>(&mut self, link: &mut L, ended: Ended) -> bool
         ensures unserved { Unserved L.sent self.old link.old self.new link.new }
         ensures lives { Heeds L.received self.old link.old self.new link.new [] }
+        ensures unread { L.received link.new ≡ L.received link.old }
     {
         match link.end(reason_of(ended)) {
             Ok(()) => self.connection.parted(),
@@ -145,39 +159,74 @@ impl<B: Bell> Slot<B> {
         false
     }
 
-    // What it waits for: where memory was refused for its close, by what was heard of its client, by what the last act and its outputs
-    // came to, and by whether its link has not taken all.
-    fn next(
-        &self,
-        is_short: bool,
-        heard: Hearing,
-        last: Step,
-        passed_on: PassedOn,
-        waits: bool,
-    ) -> Next {
-        // A client that was not read may have sent something that nothing will tell of again.
-        let more = !matches!(heard, Hearing::Nothing) || passed_on == PassedOn::More;
-        match (self.connection.stage(), last) {
-            (Stage::Over(ended), _) => Next::Over(ended),
-            (_, Step::Short) => Next::Memory,
-            _ if is_short || passed_on == PassedOn::Short => Next::Memory,
-            (Stage::Running | Stage::GivingUp | Stage::Leaving, Step::Full(mark)) => Next::Room(
-                mark,
-            ),
-            (Stage::Parting(_), _) => Next::Close,
-            (Stage::Running, _) if waits => Next::Write,
-            (Stage::Running, Step::Rest) if !more => self.rest(),
-            _ => Next::Go,
+    // What it waits for: by whether memory was refused for its close or an output, by whether there may be more to hear or to send,
+    // by what the last act came to, and by whether its link has not taken all.
+    fn next(&self, lacks: bool, more: bool, last: Step, waits: bool) -> Next
+        ensures { AwaitsBy result last self.now }
+    {
+        match self.connection.stage() {
+            Stage::Over(ended) => Next::Over(ended),
+            Stage::Parting(_) => Next::Close,
+            Stage::Closing(_) => {
+                if lacks {
+                    return Next::Memory;
+                }
+                Next::Go
+            }
+            Stage::GivingUp | Stage::Leaving => pressing(lacks, last),
+            Stage::Running => self.next_of_running(lacks, more, last, waits),
         }
     }
 
+    // What one that runs waits for.
+    fn next_of_running(&self, lacks: bool, more: bool, last: Step, waits: bool) -> Next
+        requires { self.now.connection.stage ≡ Running }
+        ensures { AwaitsBy result last self.now }
+    {
+        let next = pressing(lacks, last);
+        if !matches!(next, Next::Go) {
+            return next;
+        }
+        if waits {
+            return Next::Write;
+        }
+        if more || !matches!(last, Step::Rest) {
+            return Next::Go;
+        }
+        self.rest()
+    }
+
     // What one that runs and has nothing to do waits for.
-    fn rest(&self) -> Next {
+    fn rest(&self) -> Next
+        requires { self.now.connection.stage ≡ Running }
+        ensures { IsRest result self.now }
+    {
         match self.kept.awaits() {
             Some(number) => Next::Output(number),
             None => Next::Read,
         }
     }
+}
+
+// What is to come first: memory, where it was refused, or room for an entry that waits.
+fn pressing(lacks: bool, last: Step) -> Next
+    ensures { IsPressing result last }
+{
+    if lacks {
+        return Next::Memory;
+    }
+    match last {
+        Step::Short => Next::Memory,
+        Step::Full(mark) => Next::Room(mark),
+        Step::Appended | Step::Done | Step::Rest => Next::Go,
+    }
+}
+
+// Whether something came.
+fn is_something(heard: Hearing) -> bool
+    ensures { result ≡ false → heard ≢ Hearing.Something }
+{
+    matches!(heard, Hearing::Something)
 }
 
 // Why the connection is closed that ends so (RFC 6455, section 7.4.1).

@@ -1,9 +1,7 @@
 //! One connection alone at a seat.
 
-ghost use Rattle.std.specs.Prelude.{◌≡◌, ◌++◌, List, ℕ, option_map};
-ghost use Rattle.claim_core.specs.Counts.{Pair};
-ghost use Rattle.desk_core.specs.Conversations.{IsConversation};
-ghost use Rattle.desk_core.specs.Lives.{Did};
+ghost use Rattle.std.specs.Prelude.{◌≡◌};
+ghost use Rattle.desk_core.specs.Goings.{Serves};
 
 use crate::pacing::Pacing;
 use crate::ringers::Ringers;
@@ -20,7 +18,8 @@ use ws_core::Link;
 ///
 /// What it appends is one conversation: an Open, then commands of the session whose number is the Open's ticket, and
 /// last, where it comes to that, the session's End. It is what the bytes ask for that the link gave, however they were cut: no
-/// command is left out, and none is put before another.
+/// command is left out, and none is put before another. The client is sent outputs of that session alone, and before it has one
+/// the ERROR that its bytes ask for, once.
 pub fn worker<B: Bell, M: Ringers<B>, L: Link, P: Pacing>(
     alloc: Global,
     ring: &BrokerRing<OutSender<B>>,
@@ -32,9 +31,7 @@ pub fn worker<B: Bell, M: Ringers<B>, L: Link, P: Pacing>(
 ) -> Ended
     requires { seat.old.ring ≡ ring.now }
     ensures seat { (seat.new.ring ≡ seat.old.ring) × (seat.new.number ≡ seat.old.number) }
-    ensures asked { (more : List Pair) × (seat.new.own ≡ seat.old.own ++ more) × (n : ℕ) × IsConversation n more }
-    ensures did { (more : List Pair) × (seat.new.own ≡ seat.old.own ++ more) × (got : List ℕ)
-        × (L.received link.new ≡ option_map (λ bytes. bytes ++ got) (L.received link.old)) × Did got more }
+    ensures serves { Serves L.sent L.received seat.old link.old seat.new link.new }
 {
     let mut slot = Slot::new(alloc);
     let ended = slot.run(alloc, ring, seat, link, ringers, pace, turns);
@@ -43,8 +40,7 @@ pub fn worker<B: Bell, M: Ringers<B>, L: Link, P: Pacing>(
 }
 
 impl<B: Bell> Slot<B> {
-    ghost use Rattle.desk_core.specs.Continues.{Continues};
-    ghost use Rattle.desk_core.specs.Lives.{GoesOn};
+    ghost use Rattle.desk_core.specs.Goings.{GoesOn};
 
     // So many turns, or until it has ended.
     fn run<M: Ringers<B>, L: Link, P: Pacing>(
@@ -58,8 +54,7 @@ impl<B: Bell> Slot<B> {
         turns: u64,
     ) -> Ended
         requires { seat.old.ring ≡ ring.now }
-        ensures continues { Continues self.old.connection.progress seat.old self.new.connection.progress seat.new }
-        ensures lives { GoesOn L.received self.old seat.old link.old self.new seat.new link.new }
+        ensures { GoesOn L.sent L.received self.old seat.old link.old self.new seat.new link.new }
     {
         let number = seat.number();
         for turn in 0..turns {

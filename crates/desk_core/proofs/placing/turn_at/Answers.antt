@@ -2,4 +2,4 @@ use Rattle.std.proofs.Common.{refl}
 use Rattle.desk_core.proofs.placing.turn_at.Goals as goal
 
 pub returns-in-Some-clause-served : goal.returns-in-Some-clause-served
-returns-in-Some-clause-served g c = λ some. record { was = c.in-Some.seated; is = _; sat = c.in-Some.is; sits = refl; served = c.turn.ensures.served; goes = c.turn.ensures.lives }
+returns-in-Some-clause-served g c = record { was = c.in-Some.seated; is = _; sat = c.in-Some.is; sits = refl; goes = c.turn.ensures.goes; answers = c.turn.ensures.answers }

@@ -1,8 +1,8 @@
-use Rattle.std.proofs.Common.{◌≡◌, Option, arith, ap, sym, subst}
+use Rattle.std.proofs.Common.{arith, ap, subst}
 use Rattle.std.specs.Prelude.{IsSome}
 use Rattle.desk_core.specs.Conversations.{Converse}
 use Rattle.desk_core.specs.Desks.{AreApart, DeskValue}
-use Rattle.desk_core.proofs.Standing.{apart, converses, others, same_desk, sits_there, stepped, turns}
+use Rattle.desk_core.proofs.Standing.{apart, converses, if_some, others, same_desk, sits_there, stepped, turns}
 use Rattle.desk_core.proofs.desk.Desk.turn.Goals as goal
 
 pub returns-then-at-len-clause-converse : goal.returns-then-at-len-clause-converse
@@ -20,9 +20,11 @@ pub returns-clause-others : goal.returns-clause-others
 returns-clause-others g c = others c.args.self.now.places c.self.inside.places.items c.args.at c.turn_at.new.place (ap (λ (d : DeskValue _ _). d.places) c.self.view_is)
 
 pub returns-clause-turns : goal.returns-clause-turns
-returns-clause-turns g c = λ some.
-    turns g.L.Outgoing.sent g.L.Outgoing.received c.args.self.now c.self.inside.before.value c.self.inside.seat c.turn_at.new.seat c.self.inside.places.items c.args.at c.index_mut.result.now c.turn_at.new.place
-    c.self.view_is (omega (arith, c.if-at-len.false, c.len.ensures)) c.index_mut.ensures.value c.turn_at.ensures.continues (c.turn_at.ensures.served some)
+returns-clause-turns g c =
+    if_some c.turn_at.result _ _
+    (λ turned served. turns g.L.Outgoing.sent g.L.Outgoing.received c.args.self.now c.self.inside.before.value c.self.inside.seat c.turn_at.new.seat c.self.inside.places.items c.args.at c.index_mut.result.now c.turn_at.new.place turned
+    c.self.view_is (omega (arith, c.if-at-len.false, c.len.ensures)) c.index_mut.ensures.value c.turn_at.ensures.continues served)
+    c.turn_at.ensures.served
 
 pub returns-clause-none : goal.returns-clause-none
 returns-clause-none g c = λ none.

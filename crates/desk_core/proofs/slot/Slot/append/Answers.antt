@@ -1,6 +1,7 @@
 use Rattle.std.proofs.Common.{ap}
 use Rattle.command_core.specs.Entries.{EntryValue}
-use Rattle.desk_core.proofs.Living.{refused_so, said_some}
+use Rattle.desk_core.proofs.Answering.{held_grows, held_leaves}
+use Rattle.desk_core.proofs.Going.{dropped_so, refused_so, said_some}
 use Rattle.desk_core.proofs.slot.Slot.append.Goals as goal
 
 pub returns-in-Some-clause-lives : goal.returns-in-Some-clause-lives
@@ -13,8 +14,19 @@ returns-in_default-clause-lives g c = λ executes.
     said_some _ c.args.self.now.connection c.speak.new.connection c.args.self.now.pending c.args.seat.now c.speak.new.seat c.args.pending.entry.command c.in-Ok-Some.field-0 c.in-Ok-Some.field-0-0
     c.in-Ok-Some.field-0-is executes c.in-Ok-Some.ensures.spoken c.requires.nothing
 
+pub returns-in-Ok-None-clause-lives : goal.returns-in-Ok-None-clause-lives
+returns-in-Ok-None-clause-lives g c = λ executes.
+    dropped_so c.args.self.now.connection c.speak.new.connection c.args.self.now.pending c.args.seat.now c.speak.new.seat c.args.pending.entry.command c.in-Ok-None.field-0
+    c.in-Ok-None.field-0-is executes c.in-Ok-None.ensures.dropped
+
 pub returns-in-Err-clause-lives : goal.returns-in-Err-clause-lives
 returns-in-Err-clause-lives g c = λ executes.
     let back = c.in-Err.ensures.back in
     refused_so _ c.in-Err.refused c.args.self.now.connection c.speak.new.connection c.hold.new.self.connection c.hold.new.self.pending c.args.seat.now c.speak.new.seat c.args.pending.entry.command c.in-Err.entry.command
     back.1 back.2 (ap (λ (e : EntryValue _). e.command) back.0) (c.hold.ensures.lives c.requires.nothing)
+
+pub returns-in-Err-clause-grows : goal.returns-in-Err-clause-grows
+returns-in-Err-clause-grows g c = held_grows c.in-Err.refused _ c.hold.new.self.pending c.hold.result c.args.seat.now c.speak.new.seat c.in-Err.ensures.back.1 c.hold.ensures.holds
+
+pub returns-in-Err-clause-leaves : goal.returns-in-Err-clause-leaves
+returns-in-Err-clause-leaves g c = held_leaves c.in-Err.refused _ c.hold.new.self.pending c.hold.result c.args.seat.now c.speak.new.seat c.in-Err.ensures.back.1 c.hold.ensures.holds

@@ -1,19 +1,23 @@
 use Rattle.std.proofs.Common.{refl}
-use Rattle.ws_core.specs.Receiving.{given}
-use Rattle.desk_core.proofs.Living.{heeds_unheard, loses, loses_run, same_stage}
+use Rattle.desk_core.proofs.Answering.{no_more}
+use Rattle.desk_core.proofs.Going.{heeds_silence, heeds_unheard}
+use Rattle.desk_core.proofs.Living.{loses, same_stage}
 use Rattle.desk_core.proofs.slot.Slot.await_close.Goals as goal
 
-pub returns-then-matches-clause-lives : goal.returns-then-matches-clause-lives
-returns-then-matches-clause-lives g c =
-    heeds_unheard g.L.Outgoing.received c.args.self.now _ c.args.link.now c.receive-received.new.self (given c.receive-received.result) c.receive-received.ensures.read
-    (loses_run _ _ c.lose.ensures) (loses _ _ c.lose.ensures) refl
+pub returns-in-Closed-clause-lives : goal.returns-in-Closed-clause-lives
+returns-in-Closed-clause-lives g c = heeds_silence g.L.Outgoing.received _ _ _ _ c.in-Closed.ensures.read (loses _ _ c.lose.ensures) refl
 
-pub returns-clause-lives : goal.returns-clause-lives
-returns-clause-lives g c =
-    heeds_unheard g.L.Outgoing.received c.args.self.now _ c.args.link.now c.receive-received.new.self (given c.receive-received.result) c.receive-received.ensures.read
-    c.requires (same_stage _ _ refl) refl
+pub returns-in-Nothing-clause-lives : goal.returns-in-Nothing-clause-lives
+returns-in-Nothing-clause-lives g c = heeds_silence g.L.Outgoing.received _ _ _ _ c.in-Nothing.ensures.read (same_stage _ _ refl) refl
 
-pub returns-then-matches-2-clause-lives : goal.returns-then-matches-2-clause-lives
-returns-then-matches-2-clause-lives g c =
-    heeds_unheard g.L.Outgoing.received c.args.self.now _ c.args.link.now c.receive-received.new.self (given c.receive-received.result) c.receive-received.ensures.read
-    c.requires (same_stage _ _ refl) refl
+pub returns-in-Skipped-clause-lives : goal.returns-in-Skipped-clause-lives
+returns-in-Skipped-clause-lives g c = heeds_silence g.L.Outgoing.received _ _ _ _ c.in-Skipped.ensures.read (same_stage _ _ refl) refl
+
+pub returns-in-Bytes-clause-lives : goal.returns-in-Bytes-clause-lives
+returns-in-Bytes-clause-lives g c = heeds_unheard g.L.Outgoing.received c.args.self.now _ _ _ c.in-Bytes.bytes.items c.in-Bytes.ensures.read c.requires (same_stage _ _ refl) refl
+
+pub returns-in-Closed-clause-heard : goal.returns-in-Closed-clause-heard
+returns-in-Closed-clause-heard g c = λ other. no_more _ _ c.in-Closed.ensures.read
+
+pub returns-in-Nothing-clause-heard : goal.returns-in-Nothing-clause-heard
+returns-in-Nothing-clause-heard g c = λ other. no_more _ _ c.in-Nothing.ensures.read

@@ -1,7 +1,12 @@
-use Rattle.desk_core.specs.Continues.{Continues}
-use Rattle.desk_core.specs.Lives.{GoesOn}
-use Rattle.desk_core.specs.Slots.{Served}
+use Rattle.std.proofs.Common.{◌≡◌}
+use Rattle.desk_core.specs.Answers.{Appended, Leaves}
+use Rattle.desk_core.specs.Goings.{GoesOn}
 use Rattle.desk_core.proofs.slot.Slot.execute.Given as goal
 
 abbrev pub invariant-loop : goal.invariant-loop
-invariant-loop g l = Continues l.fn.self.connection.progress l.fn.seat l.self.connection.progress l.seat × Served g.L.Outgoing.sent l.fn.self l.fn.link l.self l.link × GoesOn g.L.Outgoing.received l.fn.self l.fn.seat l.fn.link l.self l.seat l.link
+invariant-loop g l = record {
+  goes : GoesOn g.L.Outgoing.sent g.L.Outgoing.received l.fn.self l.fn.seat l.fn.link l.self l.seat l.link;
+  grows : Appended l.executed.appended l.fn.seat l.seat;
+  leaves : Leaves l.executed.last l.self.pending l.seat;
+  unread : g.L.Outgoing.received l.link ≡ g.L.Outgoing.received l.fn.link;
+}

@@ -1,5 +1,6 @@
 use Rattle.std.proofs.Common.{refl}
-use Rattle.desk_core.proofs.Living.{heeds_none, heeds_quietly, loses, same_stage}
+use Rattle.desk_core.proofs.Going.{heeds_none, heeds_quietly}
+use Rattle.desk_core.proofs.Living.{loses, same_stage}
 use Rattle.desk_core.proofs.slot.Slot.finish.Goals as goal
 
 pub returns-in-Leaving-clause-lives : goal.returns-in-Leaving-clause-lives

@@ -1,8 +1,8 @@
-use Rattle.std.proofs.Common.{◌⊎◌, inl, inr, ap, refl, sym, subst}
+use Rattle.std.proofs.Common.{inl, inr, ap, refl, sym, subst}
 use Rattle.connection_core.specs.Connections.{ConnectionValue}
 use Rattle.desk_core.specs.declared.appending.Step.TheVariants.{Rest}
 use Rattle.desk_core.specs.Holding.{Holds}
-use Rattle.desk_core.proofs.Living.{stopped_so}
+use Rattle.desk_core.proofs.Going.{stopped_so}
 use Rattle.desk_core.proofs.slot.Slot.hold.Goals as goal
 
 pub returns-in-Stopped : goal.returns-in-Stopped

@@ -1,7 +1,9 @@
-use Rattle.std.proofs.Common.{◌≡◌, ◌∙◌, ap, refl, sym, subst, List, ℕ}
+use Rattle.std.proofs.Common.{refl, subst, List, ℕ}
 use Rattle.std.specs.Prelude.{OnOk}
 use Rattle.connection_core.specs.Connections.{HearsBytes}
-use Rattle.desk_core.proofs.Living.{heeds_bytes, heeds_silence, loses, same_stage}
+use Rattle.desk_core.proofs.Answering.{no_more}
+use Rattle.desk_core.proofs.Going.{heeds_bytes, heeds_silence}
+use Rattle.desk_core.proofs.Living.{loses, same_stage}
 use Rattle.desk_core.proofs.slot.Slot.listen.Goals as goal
 
 pub returns-in-Bytes-clause-lives : goal.returns-in-Bytes-clause-lives
@@ -17,3 +19,9 @@ returns-in-Nothing-clause-lives g c = heeds_silence g.L.Outgoing.received _ _ _ 
 
 pub returns-in-Closed-clause-lives : goal.returns-in-Closed-clause-lives
 returns-in-Closed-clause-lives g c = heeds_silence g.L.Outgoing.received _ _ _ _ c.in-Closed.ensures.read (loses _ _ c.lose.ensures) refl
+
+pub returns-in-Closed-clause-heard : goal.returns-in-Closed-clause-heard
+returns-in-Closed-clause-heard g c = λ other. no_more _ _ c.in-Closed.ensures.read
+
+pub returns-in-Nothing-clause-heard : goal.returns-in-Nothing-clause-heard
+returns-in-Nothing-clause-heard g c = λ other. no_more _ _ c.in-Nothing.ensures.read

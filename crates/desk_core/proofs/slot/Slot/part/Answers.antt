@@ -1,5 +1,6 @@
 use Rattle.std.proofs.Common.{refl}
-use Rattle.desk_core.proofs.Living.{heeds_quietly, loses, parts, same_stage}
+use Rattle.desk_core.proofs.Going.{heeds_quietly}
+use Rattle.desk_core.proofs.Living.{loses, parts, same_stage}
 use Rattle.desk_core.proofs.slot.Slot.part.Goals as goal
 
 pub returns-in-Err-Memory-clause-lives : goal.returns-in-Err-Memory-clause-lives

@@ -1,39 +1,32 @@
-use Rattle.std.proofs.Common.{ap}
+use Rattle.std.proofs.Common.{◌∙◌, ap, refl}
 use Rattle.claim_core.specs.Seats.{SessionSeatValue}
-use Rattle.desk_core.proofs.Living.{goes_none, goes_then, says_nothing}
-use Rattle.desk_core.proofs.Messages.{at_rest, served}
-use Rattle.desk_core.proofs.Talking.{reads_so, stays}
+use Rattle.desk_core.proofs.Going.{goes_none, goes_reading, goes_then}
 use Rattle.desk_core.proofs.slot.Slot.pass_on.Goals as goal
 
 pub loop-init : goal.loop-init
-loop-init g c = (stays _ _, at_rest g.L.Outgoing.sent _ _, goes_none g.L.Outgoing.received _ _ _)
+loop-init g c = record { goes = goes_none g.L.Outgoing.sent g.L.Outgoing.received _ _ _; pending = refl; own = refl; unread = refl }
 
-pub returns-in-Ok-None-clause-continues : goal.returns-in-Ok-None-clause-continues
-returns-in-Ok-None-clause-continues g c = reads_so _ c.loop.self.connection.progress _ _ c.loop.seat _ _ c.loop.invariant.0 c.pass_one.ensures.ends c.pass_one.ensures.seen
+pub returns-in-Ok-None-clause-goes : goal.returns-in-Ok-None-clause-goes
+returns-in-Ok-None-clause-goes g c =
+    goes_then g.L.Outgoing.sent g.L.Outgoing.received _ c.loop.self _ _ c.loop.seat _ _ c.loop.link _ c.loop.invariant.goes
+    (goes_reading g.L.Outgoing.sent g.L.Outgoing.received _ _ _ _ _ _ _ c.pass_one.ensures.ends c.pass_one.ensures.seen c.pass_one.ensures.served c.pass_one.ensures.lives)
 
-pub returns-in-Ok-None-clause-served : goal.returns-in-Ok-None-clause-served
-returns-in-Ok-None-clause-served g c = served g.L.Outgoing.sent _ c.loop.self _ _ c.loop.link _ c.loop.invariant.1 c.pass_one.ensures.served
+pub returns-in-Ok-None-clause-own : goal.returns-in-Ok-None-clause-own
+returns-in-Ok-None-clause-own g c = ap (λ (s : SessionSeatValue). s.own) c.pass_one.ensures.seen ∙ c.loop.invariant.own
 
-pub returns-in-Ok-None-clause-lives : goal.returns-in-Ok-None-clause-lives
-returns-in-Ok-None-clause-lives g c =
-    goes_then g.L.Outgoing.received _ c.loop.self _ _ c.loop.seat _ _ c.loop.link _ c.loop.invariant.2
-    (says_nothing g.L.Outgoing.received _ _ _ _ _ _ (ap (λ (s : SessionSeatValue). s.own) c.pass_one.ensures.seen) c.pass_one.ensures.lives)
+pub returns-in-Err-clause-goes : goal.returns-in-Err-clause-goes
+returns-in-Err-clause-goes g c =
+    goes_then g.L.Outgoing.sent g.L.Outgoing.received _ c.loop.self _ _ c.loop.seat _ _ c.loop.link _ c.loop.invariant.goes
+    (goes_reading g.L.Outgoing.sent g.L.Outgoing.received _ _ _ _ _ _ _ c.pass_one.ensures.ends c.pass_one.ensures.seen c.pass_one.ensures.served c.pass_one.ensures.lives)
 
-pub returns-in-Err-clause-continues : goal.returns-in-Err-clause-continues
-returns-in-Err-clause-continues g c = reads_so _ c.loop.self.connection.progress _ _ c.loop.seat _ _ c.loop.invariant.0 c.pass_one.ensures.ends c.pass_one.ensures.seen
-
-pub returns-in-Err-clause-served : goal.returns-in-Err-clause-served
-returns-in-Err-clause-served g c = served g.L.Outgoing.sent _ c.loop.self _ _ c.loop.link _ c.loop.invariant.1 c.pass_one.ensures.served
-
-pub returns-in-Err-clause-lives : goal.returns-in-Err-clause-lives
-returns-in-Err-clause-lives g c =
-    goes_then g.L.Outgoing.received _ c.loop.self _ _ c.loop.seat _ _ c.loop.link _ c.loop.invariant.2
-    (says_nothing g.L.Outgoing.received _ _ _ _ _ _ (ap (λ (s : SessionSeatValue). s.own) c.pass_one.ensures.seen) c.pass_one.ensures.lives)
+pub returns-in-Err-clause-own : goal.returns-in-Err-clause-own
+returns-in-Err-clause-own g c = ap (λ (s : SessionSeatValue). s.own) c.pass_one.ensures.seen ∙ c.loop.invariant.own
 
 pub loop-preserved : goal.loop-preserved
-loop-preserved g c = (
-  reads_so _ c.loop.self.connection.progress _ _ c.loop.seat _ _ c.loop.invariant.0 c.pass_one.ensures.ends c.pass_one.ensures.seen,
-  served g.L.Outgoing.sent _ c.loop.self _ _ c.loop.link _ c.loop.invariant.1 c.pass_one.ensures.served,
-  goes_then g.L.Outgoing.received _ c.loop.self _ _ c.loop.seat _ _ c.loop.link _ c.loop.invariant.2
-      (says_nothing g.L.Outgoing.received _ _ _ _ _ _ (ap (λ (s : SessionSeatValue). s.own) c.pass_one.ensures.seen) c.pass_one.ensures.lives),
-)
+loop-preserved g c = record {
+  goes = goes_then g.L.Outgoing.sent g.L.Outgoing.received _ c.loop.self _ _ c.loop.seat _ _ c.loop.link _ c.loop.invariant.goes
+      (goes_reading g.L.Outgoing.sent g.L.Outgoing.received _ _ _ _ _ _ _ c.pass_one.ensures.ends c.pass_one.ensures.seen c.pass_one.ensures.served c.pass_one.ensures.lives);
+  pending = c.pass_one.ensures.pending ∙ c.loop.invariant.pending;
+  own = ap (λ (s : SessionSeatValue). s.own) c.pass_one.ensures.seen ∙ c.loop.invariant.own;
+  unread = c.pass_one.ensures.unread ∙ c.loop.invariant.unread;
+}

@@ -1,9 +1,13 @@
-use Rattle.std.proofs.Common.{◌≡◌, ◌∙◌, Some, refl, sym, ap}
+use Rattle.std.proofs.Common.{◌≡◌, ◌∙◌, None, Some, refl, sym, ap}
 use Rattle.connection_core.specs.Connections.{ConnectionValue}
 use Rattle.connection_core.specs.Conversations.{number_in}
-use Rattle.desk_core.proofs.Living.{heeds_quietly, loses, same_stage}
-use Rattle.desk_core.proofs.Messages.{quiet, refused_on, relayed_on, same_number, slot_relayed, still}
+use Rattle.desk_core.proofs.Going.{heeds_quietly}
+use Rattle.desk_core.proofs.Living.{loses, same_stage}
+use Rattle.desk_core.proofs.Messages.{keeps_own, quiet, refused_on, relayed_on, same_number, slot_relayed, still}
 use Rattle.desk_core.proofs.slot.Slot.pass_one.Goals as goal
+
+pub returns-then-not-runs-clause-served : goal.returns-then-not-runs-clause-served
+returns-then-not-runs-clause-served g c = quiet g.L.Outgoing.sent _ _ _ _ (still _ _ refl refl refl) refl
 
 pub returns-in_default-clause-served : goal.returns-in_default-clause-served
 returns-in_default-clause-served g c = quiet g.L.Outgoing.sent _ _ _ _ (still _ _ refl refl refl) refl
@@ -13,9 +17,9 @@ returns-in_default-outbox-clause-served g c = quiet g.L.Outgoing.sent _ _ _ _ (s
 
 pub returns-in-Ok-clause-served : goal.returns-in-Ok-clause-served
 returns-in-Ok-clause-served g c =
-    let number : number_in c.note.new.self.connection.progress ≡ number_in c.args.self.now.connection.progress = same_number c.args.self.now.connection.progress c.note.new.self.connection.progress c.note.ensures.ends in
-    slot_relayed g.L.Outgoing.sent c.args.self.now c.note.new.self c.args.link.now c.relay.new.link c.in-Some-outbox.taker c.relay.new.taker c.relay.new.kept
-    c.in-Some-outbox.is c.note.ensures.same.0 c.note.ensures.same.1 number
+    let number : number_in c.note.new.connection.progress ≡ number_in c.args.self.now.connection.progress = same_number c.args.self.now.connection.progress c.note.new.connection.progress c.note.ensures.ends in
+    slot_relayed g.L.Outgoing.sent c.args.self.now _ c.args.link.now c.relay.new.link c.in-Some-outbox.taker c.relay.new.taker c.relay.new.kept
+    c.in-Some-outbox.is refl refl number
     (relayed_on c.in-Some.session _ _ _ c.relay.new.seat.seen c.in-Ok.relayed (number ∙ sym c.number.ensures ∙ c.in-Some.is) c.in-Ok.ensures.relays)
 
 pub returns-in-Err-Memory-clause-served : goal.returns-in-Err-Memory-clause-served
@@ -30,6 +34,9 @@ returns-in-Err-Gone-clause-served g c =
     c.in-Some-outbox.is refl refl (ap (λ (x : ConnectionValue). number_in x.progress) c.lose.ensures)
     (refused_on c.in-Some.session _ _ _ c.relay.new.seat.seen c.in-Err-Gone.ensures.refused)
 
+pub returns-then-not-runs-clause-lives : goal.returns-then-not-runs-clause-lives
+returns-then-not-runs-clause-lives g c = heeds_quietly g.L.Outgoing.received _ _ _ _ refl (same_stage _ _ refl) refl
+
 pub returns-in_default-clause-lives : goal.returns-in_default-clause-lives
 returns-in_default-clause-lives g c = heeds_quietly g.L.Outgoing.received _ _ _ _ refl (same_stage _ _ refl) refl
 
@@ -37,10 +44,18 @@ pub returns-in_default-outbox-clause-lives : goal.returns-in_default-outbox-clau
 returns-in_default-outbox-clause-lives g c = heeds_quietly g.L.Outgoing.received _ _ _ _ refl (same_stage _ _ refl) refl
 
 pub returns-in-Ok-clause-lives : goal.returns-in-Ok-clause-lives
-returns-in-Ok-clause-lives g c = heeds_quietly g.L.Outgoing.received _ _ _ _ c.relay.ensures.unread c.note.ensures.rest.0 c.note.ensures.rest.1
+returns-in-Ok-clause-lives g c = heeds_quietly g.L.Outgoing.received _ _ _ _ c.relay.ensures.unread c.note.ensures.rest refl
 
 pub returns-in-Err-Memory-clause-lives : goal.returns-in-Err-Memory-clause-lives
 returns-in-Err-Memory-clause-lives g c = heeds_quietly g.L.Outgoing.received _ _ _ _ c.relay.ensures.unread (same_stage _ _ refl) refl
 
 pub returns-in-Err-Gone-clause-lives : goal.returns-in-Err-Gone-clause-lives
 returns-in-Err-Gone-clause-lives g c = heeds_quietly g.L.Outgoing.received _ _ _ _ c.relay.ensures.unread (loses _ _ c.lose.ensures) refl
+
+pub invariant_of-self-in-Ok : goal.invariant_of-self-in-Ok
+invariant_of-self-in-Ok g c =
+    let number : number_in c.note.new.connection.progress ≡ Some c.in-Some.session =
+    same_number c.args.self.now.connection.progress c.note.new.connection.progress c.note.ensures.ends ∙ sym c.number.ensures ∙ c.in-Some.is in record {
+      opened = λ none. absurd (let both : None ≡ Some c.in-Some.session = sym none ∙ number in cc);
+      own = keeps_own c.in-Some.session c.note.new.connection _ _ c.relay.new.seat.seen c.in-Ok.relayed c.in-Ok.ensures.relays c.note.ensures.gives_up;
+    }

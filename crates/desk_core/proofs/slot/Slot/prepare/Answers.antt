@@ -2,7 +2,7 @@ use Rattle.std.proofs.Common.{◌∷◌, [], ap, refl, sym}
 use Rattle.command_core.specs.Commands.{CommandValue}
 use Rattle.session_core.specs.declared.act.Act.TheVariants.{Do}
 use Rattle.connection_core.specs.declared.said.Wanted.TheVariants.{Append}
-use Rattle.desk_core.proofs.Living.{again_so, nothing_wanted}
+use Rattle.desk_core.proofs.Going.{again_so, nothing_wanted}
 use Rattle.desk_core.proofs.slot.Slot.prepare.Goals as goal
 
 pub returns-in-Err-clause-lives : goal.returns-in-Err-clause-lives

@@ -1,4 +1,4 @@
-use Rattle.desk_core.proofs.Living.{heeds_none}
+use Rattle.desk_core.proofs.Going.{heeds_none}
 use Rattle.desk_core.proofs.slot.Slot.read.Goals as goal
 
 pub returns-then-not-listens-clause-lives : goal.returns-then-not-listens-clause-lives

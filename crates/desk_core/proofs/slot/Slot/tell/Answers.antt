@@ -1,4 +1,4 @@
-use Rattle.std.proofs.Common.{◌∙◌, refl, sym, ap}
+use Rattle.std.proofs.Common.{◌∙◌, refl, subst, sym, ap}
 use Rattle.frame_core.specs.declared.frame.Frame.{Frame}
 use Rattle.frame_core.specs.Written.{written}
 use Rattle.ws_core.specs.Sending.{with_message}
@@ -6,26 +6,32 @@ use Rattle.connection_core.specs.Connections.{ConnectionValue}
 use Rattle.connection_core.specs.declared.ended.Ended.TheVariants.{Bad}
 use Rattle.connection_core.specs.declared.said.Wanted.TheVariants.{Tell}
 use Rattle.session_core.specs.declared.act.Act.TheVariants.{Direct}
-use Rattle.desk_core.proofs.Living.{again_so, closes_so, loses, told_so}
+use Rattle.desk_core.specs.Lives.{HasTold}
+use Rattle.desk_core.proofs.Going.{again_so, tells_later, tells_nobody, tells_told}
+use Rattle.desk_core.proofs.Living.{closes_so, loses, none_told_leaving, none_told_lost, same_stage, told_where}
 use Rattle.desk_core.proofs.Messages.{quiet, still, told_one}
 use Rattle.desk_core.proofs.slot.Slot.tell.Goals as goal
 
-pub returns-in-Err-Memory-clause-served : goal.returns-in-Err-Memory-clause-served
-returns-in-Err-Memory-clause-served g c = quiet g.L.Outgoing.sent _ _ _ _ (still _ _ (ap (λ (x : ConnectionValue). x.progress) c.retry_telling.ensures) refl refl) c.in-Err-Memory.ensures.untold
+pub returns-then-is_cut_off-clause-tells : goal.returns-then-is_cut_off-clause-tells
+returns-then-is_cut_off-clause-tells g c =
+    tells_nobody g.L.Outgoing.sent c.args.notice _ _ _ _ c.requires.nothing refl (same_stage _ _ refl) (λ executes. none_told_leaving c.args.self.now.connection.stage (sym c.stage.ensures ∙ c.is_cut_off.ensures.yes c.if-is_cut_off.true))
+    (quiet g.L.Outgoing.sent _ _ _ _ (still _ _ refl refl refl) refl)
 
-pub returns-in-Ok-clause-served : goal.returns-in-Ok-clause-served
-returns-in-Ok-clause-served g c =
-    told_one g.L.Outgoing.sent _ _ _ _ c.args.notice c.frame.ensures.error (ap (λ (x : ConnectionValue). x.progress) c.told.ensures) refl refl
-    (c.in-Ok.ensures.told ∙ ap (λ (f : Frame). with_message (written f) (g.L.Outgoing.sent c.args.link.now)) c.frame.ensures.value)
+pub returns-in-Ok-clause-tells : goal.returns-in-Ok-clause-tells
+returns-in-Ok-clause-tells g c =
+    tells_told g.L.Outgoing.sent c.args.notice c.args.self.now _ _ _ c.requires.nothing refl
+    (λ executes. closes_so _ _ c.args.self.now.connection.progress Bad (λ bad. told_where c.args.self.now.connection.stage executes (λ leaving. c.is_cut_off.ensures.no c.if-is_cut_off.false (c.stage.ensures ∙ leaving))) c.told.ensures)
+    (told_one g.L.Outgoing.sent _ _ _ _ c.args.notice c.frame.ensures.error (ap (λ (x : ConnectionValue). x.progress) c.told.ensures) refl refl
+    (c.in-Ok.ensures.told ∙ ap (λ (f : Frame). with_message (written f) (g.L.Outgoing.sent c.args.link.now)) c.frame.ensures.value))
 
-pub returns-in-Err-Gone-clause-served : goal.returns-in-Err-Gone-clause-served
-returns-in-Err-Gone-clause-served g c = quiet g.L.Outgoing.sent _ _ _ _ (still _ _ (ap (λ (x : ConnectionValue). x.progress) c.lose.ensures) refl refl) c.in-Err-Gone.ensures.untold
+pub returns-in-Err-Gone-clause-tells : goal.returns-in-Err-Gone-clause-tells
+returns-in-Err-Gone-clause-tells g c =
+    tells_nobody g.L.Outgoing.sent c.args.notice c.args.self.now _ _ _ c.requires.nothing refl (loses _ _ c.lose.ensures)
+    (λ executes t. none_told_lost c.args.self.now.connection.stage executes (subst HasTold (ap (λ (x : ConnectionValue). x.stage) c.lose.ensures) t))
+    (quiet g.L.Outgoing.sent _ _ _ _ (still _ _ (ap (λ (x : ConnectionValue). x.progress) c.lose.ensures) refl refl) c.in-Err-Gone.ensures.untold)
 
-pub returns-in-Ok-clause-lives : goal.returns-in-Ok-clause-lives
-returns-in-Ok-clause-lives g c = λ executes. told_so c.args.self.now.connection c.told.new.self c.args.self.now.pending c.args.notice executes (closes_so _ _ c.args.self.now.connection.progress Bad c.told.ensures) c.requires.nothing
-
-pub returns-in-Err-Gone-clause-lives : goal.returns-in-Err-Gone-clause-lives
-returns-in-Err-Gone-clause-lives g c = λ executes. told_so c.args.self.now.connection c.lose.new.self c.args.self.now.pending c.args.notice executes (loses _ _ c.lose.ensures) c.requires.nothing
-
-pub returns-in-Err-Memory-clause-lives : goal.returns-in-Err-Memory-clause-lives
-returns-in-Err-Memory-clause-lives g c = λ executes. again_so c.args.self.now.connection c.retry_telling.new.self c.args.self.now.pending (Tell c.args.notice) (Direct c.args.notice) executes c.requires.first refl c.retry_telling.ensures c.requires.nothing
+pub returns-in-Err-Memory-clause-tells : goal.returns-in-Err-Memory-clause-tells
+returns-in-Err-Memory-clause-tells g c =
+    tells_later g.L.Outgoing.sent c.args.notice c.args.self.now _ _ _
+    (quiet g.L.Outgoing.sent _ _ _ _ (still _ _ (ap (λ (x : ConnectionValue). x.progress) c.retry_telling.ensures) refl refl) c.in-Err-Memory.ensures.untold)
+    (λ executes. again_so c.args.self.now.connection c.retry_telling.new.self c.args.self.now.pending (Tell c.args.notice) (Direct c.args.notice) executes c.requires.first refl c.retry_telling.ensures c.requires.nothing)

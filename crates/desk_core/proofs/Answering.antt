@@ -1,0 +1,139 @@
+-- What a turn answers.
+use Rattle.std.proofs.Common.{◌≡◌, ℕ, ◌<◌, ◌≤◌, List, [], ◌∷◌, ◌++◌, Bool, true, false, Option, Some, None, length, refl, sym, ap, ◌∙◌, subst, arith, append-nil}
+use Rattle.std.specs.Prelude.{IsSome, option_map}
+use Rattle.std.proofs.lemmas.List.{length-append}
+use Rattle.limits_core.specs.declared.TheConstants.{WINDOW}
+use Rattle.claim_core.specs.Appends.{Appends, Refuses}
+use Rattle.claim_core.specs.Counts.{Pair, above}
+use Rattle.claim_core.specs.Seats.{SessionSeatValue}
+use Rattle.claim_core.specs.declared.refusals.Refused.{Refused}
+use Rattle.claim_core.specs.declared.refusals.Refused.TheVariants as refusals
+use Rattle.command_core.specs.Commands.{CommandValue}
+use Rattle.connection_core.specs.declared.stage.Stage.{Stage}
+use Rattle.connection_core.specs.declared.stage.Stage.TheVariants.{Running}
+use Rattle.desk_core.specs.Answers.{Appended, Awaits, AwaitsBy, GoesOnYet, Grows, Heard, IsPressing, IsQuiet, IsRest, Leaves}
+use Rattle.desk_core.specs.Holding.{Holds}
+use Rattle.desk_core.specs.declared.appending.Step.{Step}
+use Rattle.desk_core.specs.declared.appending.Step.TheVariants as steps
+use Rattle.desk_core.specs.declared.pending.Pending.{Pending}
+use Rattle.desk_core.specs.declared.slot.Slot.{Slot}
+use Rattle.desk_core.specs.declared.turned.Next.{Next}
+use Rattle.desk_core.specs.declared.turned.Next.TheVariants as next
+
+-- ── commands that are appended ──
+
+pub grows_by : (window : ℕ) (s t : SessionSeatValue) (ticket : ℕ) (c : CommandValue) → Appends window s t ticket c → length s.own < length t.own
+grows_by window s t ticket c a =
+    let more : length t.own ≡ length (s.own ++ (ticket, c) ∷ []) = ap (λ (x : SessionSeatValue). length x.own) a.added in
+    omega (arith, more, length-append s.own ((ticket, c) ∷ []))
+
+none_appended : (s t : SessionSeatValue) → t.own ≡ s.own → (b : Bool) → b ≡ false → Appended b s t
+none_appended s t own true is = absurd (let e : true ≡ false = is in cc)
+none_appended s t own false is = own
+
+-- one act more
+pub appended_then : (b : Bool) (step : Step) (s t u : SessionSeatValue) → Appended b s t → Grows step t u → (step ≡ steps.Appended → ⊥) → Appended b s u
+appended_then b steps.Appended s t u a g other = absurd (other refl)
+appended_then true steps.Done s t u a g other = omega (arith, a, ap (λ (l : List Pair). length l) g)
+appended_then false steps.Done s t u a g other = g ∙ a
+appended_then true (steps.Full mark) s t u a g other = omega (arith, a, ap (λ (l : List Pair). length l) g)
+appended_then false (steps.Full mark) s t u a g other = g ∙ a
+appended_then true steps.Short s t u a g other = omega (arith, a, ap (λ (l : List Pair). length l) g)
+appended_then false steps.Short s t u a g other = g ∙ a
+appended_then true steps.Rest s t u a g other = omega (arith, a, ap (λ (l : List Pair). length l) g)
+appended_then false steps.Rest s t u a g other = g ∙ a
+
+pub appended_now : (b : Bool) (s t u : SessionSeatValue) → Appended b s t → length t.own < length u.own → length s.own < length u.own
+appended_now true s t u a g = omega (arith, a, g)
+appended_now false s t u a g = omega (arith, g, ap (λ (l : List Pair). length l) a)
+
+pub appended_still : (b : Bool) (s t u : SessionSeatValue) → Appended b s t → u.own ≡ t.own → Appended b s u
+appended_still true s t u a own = omega (arith, a, ap (λ (l : List Pair). length l) own)
+appended_still false s t u a own = own ∙ a
+
+-- ── an entry that the ring refuses ──
+
+full_of : {B : Type 0} (p : Option (Pending B)) (pending : Pending B) → p ≡ Some pending → IsSome p
+full_of p pending is = subst (λ x. IsSome x) (sym is) refl
+
+held_by : {B : Type 0} (refused : Refused) (pending : Pending B) (p : Option (Pending B)) (step : Step) (s t : SessionSeatValue) → Refuses WINDOW s t refused → Holds pending refused p step → Grows step s t × Leaves step p t
+held_by refusals.Stopped pending p step s t r h = subst (λ x. Grows x s t × Leaves x p t) (sym h) (ap (λ (x : SessionSeatValue). x.own) r, tt)
+held_by refusals.Exhausted pending p step s t r h = subst (λ x. Grows x s t × Leaves x p t) (sym h) (ap (λ (x : SessionSeatValue). x.own) r.2, tt)
+held_by (refusals.Busy mark) pending p step s t r h =
+    let own : t.own ≡ s.own = ap (λ (x : SessionSeatValue). x.own) r.3 in
+    subst (λ x. Grows x s t × Leaves x p t) (sym h.1) (own, (full_of p pending h.0, subst (λ l. WINDOW ≤ above mark l) (sym own) r.2))
+
+pub held_grows : {B : Type 0} (refused : Refused) (pending : Pending B) (p : Option (Pending B)) (step : Step) (s t : SessionSeatValue) → Refuses WINDOW s t refused → Holds pending refused p step → Grows step s t
+held_grows refused pending p step s t r h = (held_by refused pending p step s t r h).0
+
+pub held_leaves : {B : Type 0} (refused : Refused) (pending : Pending B) (p : Option (Pending B)) (step : Step) (s t : SessionSeatValue) → Refuses WINDOW s t refused → Holds pending refused p step → Leaves step p t
+held_leaves refused pending p step s t r h = (held_by refused pending p step s t r h).1
+
+pub quiet_grows : (step : Step) (s : SessionSeatValue) → IsQuiet step → Grows step s s
+quiet_grows steps.Done s q = refl
+quiet_grows steps.Short s q = refl
+quiet_grows steps.Appended s q = absurd q
+quiet_grows (steps.Full mark) s q = absurd q
+quiet_grows steps.Rest s q = absurd q
+
+pub quiet_leaves : {B : Type 0} (step : Step) (p : Option (Pending B)) (s : SessionSeatValue) → IsQuiet step → Leaves step p s
+quiet_leaves steps.Done p s q = tt
+quiet_leaves steps.Short p s q = tt
+quiet_leaves steps.Appended p s q = absurd q
+quiet_leaves (steps.Full mark) p s q = absurd q
+quiet_leaves steps.Rest p s q = absurd q
+
+pub still_leaves : {B : Type 0} (step : Step) (p q : Option (Pending B)) (s t : SessionSeatValue) → q ≡ p → t.own ≡ s.own → Leaves step p s → Leaves step q t
+still_leaves steps.Done p q s t pending own l = tt
+still_leaves steps.Short p q s t pending own l = tt
+still_leaves steps.Appended p q s t pending own l = tt
+still_leaves steps.Rest p q s t pending own l = tt
+still_leaves (steps.Full mark) p q s t pending own l = (subst (λ x. IsSome x) (sym pending) l.0, subst (λ x. WINDOW ≤ above mark x) (sym own) l.1)
+
+-- ── what it waits for ──
+
+pub awaits : {B : Type 0} (n : Next) (last : Step) (slot : Slot B) (seat : SessionSeatValue) → AwaitsBy n last slot → Leaves last slot.pending seat → Awaits n slot seat
+awaits next.Go last slot seat a l = a
+awaits next.Read last slot seat a l = a
+awaits next.Write last slot seat a l = a
+awaits (next.Room mark) last slot seat a l = (a.0, subst (λ x. Leaves x slot.pending seat) a.1 l)
+awaits (next.Output mark) last slot seat a l = a
+awaits next.Memory last slot seat a l = a
+awaits next.Close last slot seat a l = a
+awaits (next.Over ended) last slot seat a l = a
+
+runs_yet : (stage : Stage) → stage ≡ Running → GoesOnYet stage
+runs_yet stage runs = subst GoesOnYet (sym runs) tt
+
+pub pressing_so : {B : Type 0} (n : Next) (last : Step) (slot : Slot B) → GoesOnYet slot.connection.stage → IsPressing n last → AwaitsBy n last slot
+pressing_so next.Go last slot on p = on
+pressing_so next.Memory last slot on p = on
+pressing_so (next.Room mark) last slot on p = (on, p)
+pressing_so (next.Output mark) last slot on p = absurd p
+pressing_so next.Read last slot on p = absurd p
+pressing_so next.Write last slot on p = absurd p
+pressing_so next.Close last slot on p = absurd p
+pressing_so (next.Over ended) last slot on p = absurd p
+
+pub runs_pressing : {B : Type 0} (n : Next) (last : Step) (slot : Slot B) → slot.connection.stage ≡ Running → IsPressing n last → AwaitsBy n last slot
+runs_pressing n last slot runs p = pressing_so n last slot (runs_yet slot.connection.stage runs) p
+
+pub rests_so : {B : Type 0} (n : Next) (last : Step) (slot : Slot B) → slot.connection.stage ≡ Running → IsRest n slot → AwaitsBy n last slot
+rests_so next.Read last slot runs r = runs
+rests_so (next.Output mark) last slot runs r = (runs, r)
+rests_so (next.Room mark) last slot runs r = absurd r
+rests_so next.Go last slot runs r = absurd r
+rests_so next.Memory last slot runs r = absurd r
+rests_so next.Write last slot runs r = absurd r
+rests_so next.Close last slot runs r = absurd r
+rests_so (next.Over ended) last slot runs r = absurd r
+
+-- ── what was heard ──
+
+pub heard_by : {L : Type 0} (received : L → Option (List ℕ)) (b : Bool) (from to : L) → (b ≡ false → received to ≡ received from) → Heard received b from to
+heard_by received true from to none = tt
+heard_by received false from to none = none refl
+
+pub no_more : (old new : Option (List ℕ)) → new ≡ option_map (λ bytes. bytes ++ []) old → new ≡ old
+no_more None new is = is
+no_more (Some bytes) new is = is ∙ ap (λ b. Some b) (append-nil bytes)

@@ -1,0 +1,121 @@
+-- What a turn of a connection answers.
+use Rattle.std.specs.Prelude.{◌≡◌, ◌<◌, ◌≤◌, ℕ, List, Bool, true, false, Option, IsSome, length}
+use Rattle.command_core.specs.Outs.{OutValue}
+use Rattle.limits_core.specs.declared.TheConstants.{WINDOW}
+use Rattle.claim_core.specs.Counts.{above}
+use Rattle.claim_core.specs.Seats.{SessionSeatValue}
+use Rattle.connection_core.specs.declared.ended.Ended.{Ended}
+use Rattle.connection_core.specs.declared.stage.Stage.{Stage}
+use Rattle.connection_core.specs.declared.stage.Stage.TheVariants.{Running, GivingUp, Closing, Parting, Leaving, Over}
+use Rattle.desk_core.specs.declared.appending.Step.{Step}
+use Rattle.desk_core.specs.declared.appending.Step.TheVariants as steps
+use Rattle.desk_core.specs.declared.kept.Kept.{Kept}
+use Rattle.desk_core.specs.declared.kept.Kept.TheVariants as kept
+use Rattle.desk_core.specs.declared.pending.Pending.{Pending}
+use Rattle.desk_core.specs.declared.slot.Slot.{Slot}
+use Rattle.desk_core.specs.declared.turned.Next.{Next}
+use Rattle.desk_core.specs.declared.turned.Next.TheVariants as next
+use Rattle.desk_core.specs.declared.turned.Turned.{Turned}
+
+-- whether commands were appended
+abbrev pub Appended : Bool → SessionSeatValue → SessionSeatValue → Type 0
+Appended true old new = length old.own < length new.own
+Appended false old new = new.own ≡ old.own
+
+-- where nothing was heard of the client, no byte came
+abbrev pub Heard : {L : Type 0} → (L → Option (List ℕ)) → Bool → L → L → Type 0
+Heard received true old new = Unit {0}
+Heard received false old new = received new ≡ received old
+
+-- one that has not ended
+abbrev pub GoesOnYet : Stage → Type 0
+GoesOnYet Running = Unit {0}
+GoesOnYet GivingUp = Unit {0}
+GoesOnYet (Closing ended) = Unit {0}
+GoesOnYet (Parting ended) = Unit {0}
+GoesOnYet Leaving = Unit {0}
+GoesOnYet (Over ended) = ⊥
+
+-- an entry waits since the window is full: as many of the seat's own commands as may are not under that mark
+abbrev pub IsFull : {B : Type 0} → ℕ → Option (Pending B) → SessionSeatValue → Type 0
+IsFull mark pending seat = IsSome pending × (WINDOW ≤ above mark seat.own)
+
+-- the next output is that one's, and was not under the mark
+abbrev pub WaitsFor : ℕ → Kept → Type 0
+WaitsFor mark it = (out : OutValue) × (it ≡ kept.Waits out) × (mark ≡ out.number)
+
+-- What a connection waits for that is said to do so: it has ended just where that is said; it waits for room only where an
+-- entry does; for a mark over its next output only where that is kept; for that, for bytes of its client, or that its socket
+-- takes some, only where it runs; and for its peer's close only behind its own.
+abbrev pub Awaits : {B : Type 0} → Next → Slot B → SessionSeatValue → Type 0
+Awaits next.Go slot seat = GoesOnYet slot.connection.stage
+Awaits next.Read slot seat = slot.connection.stage ≡ Running
+Awaits next.Write slot seat = slot.connection.stage ≡ Running
+Awaits (next.Room mark) slot seat = GoesOnYet slot.connection.stage × IsFull mark slot.pending seat
+Awaits (next.Output mark) slot seat = (slot.connection.stage ≡ Running) × WaitsFor mark slot.kept
+Awaits next.Memory slot seat = GoesOnYet slot.connection.stage
+Awaits next.Close slot seat = (ended : Ended) × (slot.connection.stage ≡ Parting ended)
+Awaits (next.Over ended) slot seat = slot.connection.stage ≡ Over ended
+
+-- a turn's answer
+pub record Answers {B L : Type 0} (received : L → Option (List ℕ)) (turned : Turned) (old : SessionSeatValue) (from : L) (is : Slot B) (new : SessionSeatValue) (to : L) : Type 0 where
+  pub appended : Appended turned.appended old new
+  pub heard : Heard received turned.heard from to
+  pub next : Awaits turned.next is new
+
+-- one act appends a command just where it says so
+abbrev pub Grows : Step → SessionSeatValue → SessionSeatValue → Type 0
+Grows steps.Appended old new = length old.own < length new.own
+Grows steps.Done old new = new.own ≡ old.own
+Grows (steps.Full mark) old new = new.own ≡ old.own
+Grows steps.Short old new = new.own ≡ old.own
+Grows steps.Rest old new = new.own ≡ old.own
+
+-- no entry was handled
+abbrev pub IsQuiet : Step → Type 0
+IsQuiet steps.Done = Unit {0}
+IsQuiet steps.Short = Unit {0}
+IsQuiet steps.Appended = ⊥
+IsQuiet (steps.Full mark) = ⊥
+IsQuiet steps.Rest = ⊥
+
+-- what the last act of a turn came to: where it found the window full, an entry waits
+abbrev pub Leaves : {B : Type 0} → Step → Option (Pending B) → SessionSeatValue → Type 0
+Leaves (steps.Full mark) pending seat = IsFull mark pending seat
+Leaves steps.Appended pending seat = Unit {0}
+Leaves steps.Done pending seat = Unit {0}
+Leaves steps.Short pending seat = Unit {0}
+Leaves steps.Rest pending seat = Unit {0}
+
+-- what a connection waits for, by what the last act of its turn came to
+abbrev pub AwaitsBy : {B : Type 0} → Next → Step → Slot B → Type 0
+AwaitsBy next.Go last slot = GoesOnYet slot.connection.stage
+AwaitsBy next.Read last slot = slot.connection.stage ≡ Running
+AwaitsBy next.Write last slot = slot.connection.stage ≡ Running
+AwaitsBy (next.Room mark) last slot = GoesOnYet slot.connection.stage × (last ≡ steps.Full mark)
+AwaitsBy (next.Output mark) last slot = (slot.connection.stage ≡ Running) × WaitsFor mark slot.kept
+AwaitsBy next.Memory last slot = GoesOnYet slot.connection.stage
+AwaitsBy next.Close last slot = (ended : Ended) × (slot.connection.stage ≡ Parting ended)
+AwaitsBy (next.Over ended) last slot = slot.connection.stage ≡ Over ended
+
+-- what is to come first, by what the last act came to
+abbrev pub IsPressing : Next → Step → Type 0
+IsPressing next.Go last = Unit {0}
+IsPressing next.Memory last = Unit {0}
+IsPressing (next.Room mark) last = last ≡ steps.Full mark
+IsPressing (next.Output mark) last = ⊥
+IsPressing next.Read last = ⊥
+IsPressing next.Write last = ⊥
+IsPressing next.Close last = ⊥
+IsPressing (next.Over ended) last = ⊥
+
+-- what one waits for that has nothing to do
+abbrev pub IsRest : {B : Type 0} → Next → Slot B → Type 0
+IsRest next.Read slot = Unit {0}
+IsRest (next.Output mark) slot = WaitsFor mark slot.kept
+IsRest (next.Room mark) slot = ⊥
+IsRest next.Go slot = ⊥
+IsRest next.Memory slot = ⊥
+IsRest next.Write slot = ⊥
+IsRest next.Close slot = ⊥
+IsRest (next.Over ended) slot = ⊥

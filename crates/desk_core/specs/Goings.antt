@@ -1,0 +1,44 @@
+-- How a slot goes on at its seat.
+use Rattle.std.specs.Prelude.{◌≡◌, ◌++◌, ℕ, List, [], Option, Some, map, option_map}
+use Rattle.std.specs.List.{AllByRecursion}
+use Rattle.frame_core.specs.declared.frame.Frame.{Frame}
+use Rattle.claim_core.specs.Seats.{SessionSeatValue}
+use Rattle.connection_core.specs.Stages.{Executes}
+use Rattle.connection_core.specs.declared.said.Wanted.TheVariants.{Tell}
+use Rattle.desk_core.specs.Continues.{Continues}
+use Rattle.desk_core.specs.Conversations.{IsConversation}
+use Rattle.desk_core.specs.Deeds.{Deed, commands_of, told_of}
+use Rattle.desk_core.specs.Lives.{Did, Heeds, LivesOn}
+use Rattle.desk_core.specs.Slots.{IsOwn, Message, Served, bytes_of, frames_of}
+use Rattle.desk_core.specs.declared.slot.Slot.{Slot}
+
+-- These deeds were done at a slot, of what its client's bytes ask for next: its seat got the commands among them, and nothing
+-- else, which go on with its own conversation; and its link was sent the frames among them, beside its own session's outputs.
+pub record GoesOn {B L : Type 0} (sent : L → Option (List (List ℕ))) (received : L → Option (List ℕ)) (was : Slot B) (old : SessionSeatValue) (from : L) (is : Slot B) (new : SessionSeatValue) (to : L) : Type 0 where
+  pub deeds : List Deed
+  pub added : new.own ≡ old.own ++ commands_of deeds
+  pub continues : Continues was.connection.progress old is.connection.progress new
+  pub served : Served sent (told_of deeds) was from is to
+  pub heeds : Heeds received was from is to deeds
+
+-- what became of a frame that the connection wanted to be told
+pub record TellsIt {B L : Type 0} (sent : L → Option (List (List ℕ))) (frame : Frame) (was : Slot B) (from : L) (is : Slot B) (to : L) : Type 0 where
+  pub deeds : List Deed
+  pub none_said : commands_of deeds ≡ []
+  pub served : Served sent (told_of deeds) was from is to
+  pub lives : Executes was.connection.stage → LivesOn (Tell frame) was.connection is.connection is.pending deeds
+
+-- One client alone was served through a seat. The seat got one conversation, and the client was sent outputs of that session
+-- alone, and at once the frames that were told it. These commands and frames are what the bytes ask for that its link gave.
+pub record Serves {L : Type 0} (sent : L → Option (List (List ℕ))) (received : L → Option (List ℕ)) (old : SessionSeatValue) (from : L) (new : SessionSeatValue) (to : L) : Type 0 where
+  pub deeds : List Deed
+  pub added : new.own ≡ old.own ++ commands_of deeds
+  pub number : ℕ
+  pub conversation : IsConversation number (commands_of deeds)
+  pub messages : List Message
+  pub told : sent to ≡ option_map (λ s. s ++ map bytes_of messages) (sent from)
+  pub own : AllByRecursion (IsOwn (Some number)) messages
+  pub frames_are : frames_of messages ≡ told_of deeds
+  pub got : List ℕ
+  pub read : received to ≡ option_map (λ bytes. bytes ++ got) (received from)
+  pub did : Did got deeds

@@ -1,0 +1,311 @@
+ghost use Rattle.std.specs.Prelude.{◌≡◌, ◌+◌, ◌∷◌, [], ◌≤◌, ◌<◌, IfSome, All, length, vec_capacity, false};
+ghost use Rattle.flush_core.specs.Flushed.{Flushed};
+ghost use Rattle.hub_core.specs.Hubs.{IsWhole};
+ghost use Rattle.desk_tests.specs.Crowds.{AreFour, AreTwo};
+
+use crate::clients::Client;
+use crate::rooms::{Free, HubFlusher, HubRing, HubSeat, MemDesk, MemHub, new_hub};
+use crate::texts::{CONNECT, CONNECTED};
+use disk_core::MemDisk;
+use hub_core::{Closed, Desk, Next, Turned, flush_loop};
+use outbox_core::Silent;
+use std::alloc::Global;
+use std::test::Fail;
+use std::thread::{self, Threads, join_mut};
+use std::time::{Clock, Duration};
+
+// How many clients each of four desks has.
+const CLIENTS: u32 = 48;
+
+// A frame with a receipt of three digits, from `text` on: the number stands at that place.
+fn numbered(alloc: Global, front: &[u8], number: u32, rest: &[u8]) -> Option<Vec<u8>> {
+    let mut text = Vec::new(alloc);
+    text.extend_from_slice(front).ok()?;
+    text.extend_from_slice(&digits(number)).ok()?;
+    text.extend_from_slice(rest).ok()?;
+    Some(text)
+}
+
+fn digits(number: u32) -> [u8; 3] {
+    [digit(number / 100), digit(number / 10), digit(number)]
+}
+
+fn digit(number: u32) -> u8 {
+    b'0' + (number % 10) as u8
+}
+
+// A client that sends one message and goes, with receipts of its own number.
+fn client_of(alloc: Global, number: u32) -> Option<Client> {
+    let send = numbered(
+        alloc,
+        b"SEND\ndestination:/topic/a\nreceipt:s",
+        number,
+        b"\n\n\0",
+    )?;
+    let last = numbered(alloc, b"DISCONNECT\nreceipt:d", number, b"\n\n\0")?;
+    Client::new(alloc, &[CONNECT, send.as_slice(), last.as_slice()], 0)
+}
+
+// Whether it heard its own receipts, each once, and nothing else.
+fn has_heard(alloc: Global, client: &Client, number: u32) -> Option<bool> {
+    let sent = numbered(alloc, b"RECEIPT\nreceipt-id:s", number, b"\n\n\0")?;
+    let last = numbered(alloc, b"RECEIPT\nreceipt-id:d", number, b"\n\n\0")?;
+    Some(client.heard(&[CONNECTED, sent.as_slice(), last.as_slice()]))
+}
+
+fn admit_all(alloc: Global, desk: &mut MemDesk, first: u32)
+    requires { first < 1000 }
+    ensures { desk.new.seat.ring ≡ desk.old.seat.ring }
+{
+    for i in 0..CLIENTS {
+        if let Some(client) = client_of(alloc, first + i) {
+            let _ = desk.admit(alloc, client);
+        }
+    }
+}
+
+// A turn of each; how many have ended.
+fn turn_each(alloc: Global, ring: &HubRing, desk: &mut MemDesk) -> u32
+    requires { desk.old.seat.ring ≡ ring.now }
+    ensures { desk.new.seat.ring ≡ desk.old.seat.ring }
+{
+    let mut ended = 0u32;
+    for at in 0..desk.len() {
+        if has_ended(desk.turn(alloc, ring, at, &Silent)) {
+            ended = ended.saturating_add(1);
+        }
+    }
+    ended
+}
+
+fn has_ended(turned: Option<Turned>) -> bool {
+    match turned {
+        Some(turned) => matches!(turned.next, Next::Over(_)),
+        None => false,
+    }
+}
+
+// Turns until all have ended.
+fn serve<R: Clock>(rt: &R, alloc: Global, ring: &HubRing, desk: &mut MemDesk)
+    requires { desk.old.seat.ring ≡ ring.now }
+    ensures { desk.new.seat.ring ≡ desk.old.seat.ring }
+{
+    for _ in 0..20_000u32 {
+        if turn_each(alloc, ring, desk) == CLIENTS {
+            return;
+        }
+        thread::sleep(rt, Duration::from_millis(1));
+    }
+}
+
+// Serves so many clients, and answers how many heard what they should.
+fn work<R: Clock>(rt: &R, alloc: Global, ring: &HubRing, desk: &mut MemDesk, first: u32) -> u32
+    requires ring { desk.old.seat.ring ≡ ring.now }
+    requires first { first < 1000 }
+    ensures { desk.new.seat.ring ≡ desk.old.seat.ring }
+{
+    admit_all(alloc, desk, first);
+    serve(rt, alloc, ring, desk);
+    count_right(alloc, desk, first)
+}
+
+fn count_right(alloc: Global, desk: &mut MemDesk, first: u32) -> u32
+    requires { first < 1000 }
+    ensures { desk.new.seat.ring ≡ desk.old.seat.ring }
+{
+    let mut right = 0u32;
+    for i in 0..CLIENTS {
+        if let Some(client) = desk.dismiss(i as usize) {
+            if has_heard(alloc, &client, first + i) == Some(true) {
+                right = right.saturating_add(1);
+            }
+            drop(client);
+        }
+    }
+    right
+}
+
+// A hub, four desks at its seats, and its flusher. Tests own these here alone, and lend them.
+#[derive(Drop)]
+struct Crowd {
+    hub: MemHub,
+    first: MemDesk,
+    second: MemDesk,
+    third: MemDesk,
+    fourth: MemDesk,
+    flusher: HubFlusher,
+}
+
+// The next seat's desk.
+fn take_desk(alloc: Global, hub: &mut MemHub) -> MemDesk
+    requires { 0 < length hub.old.seats }
+    ensures seat { result.seat.ring ≡ hub.new.ring }
+    ensures count { length hub.new.seats + 1 ≡ length hub.old.seats }
+    ensures same { (hub.new.ring ≡ hub.old.ring) × (hub.new.flusher ≡ hub.old.flusher) }
+{
+    Desk::new(alloc, hub.seat().unwrap())
+}
+
+fn crowd_of(alloc: Global, hub: MemHub) -> Crowd
+    requires { (f : Flushed _) × IsWhole hub f }
+    ensures four { AreFour result.hub result.first.seat result.second.seat result.third.seat result.fourth.seat result.flusher }
+    ensures executed { result.flusher.executed ≡ result.flusher.stored }
+{
+    let mut hub = hub;
+    let first = take_desk(alloc, &mut hub);
+    let second = take_desk(alloc, &mut hub);
+    let third = take_desk(alloc, &mut hub);
+    let fourth = take_desk(alloc, &mut hub);
+    let flusher = hub.flusher().unwrap();
+    Crowd {
+        hub,
+        first,
+        second,
+        third,
+        fourth,
+        flusher,
+    }
+}
+
+// Turns until so many commands are published.
+fn flush_to<R: Clock>(rt: &R, alloc: Global, ring: &HubRing, flusher: &mut HubFlusher, wanted: u64)
+    requires ring { flusher.old.seat.ring ≡ ring.now }
+    requires executed { flusher.old.broken ≡ false → flusher.old.executed ≡ flusher.old.stored }
+    ensures ring { flusher.new.seat.ring ≡ flusher.old.seat.ring }
+    ensures seats { flusher.new.seat.seats ≡ flusher.old.seat.seats }
+{
+    for _ in 0..20_000u32 {
+        match flush_loop(alloc, ring, flusher, &Free, 1) {
+            Ok(mark) if mark < wanted => thread::sleep(rt, Duration::from_millis(1)),
+            _ => return,
+        }
+    }
+}
+
+// Two of the threads, whose clients have the numbers from there on.
+fn work_two<R: Threads + Clock + Sync>(
+    rt: &R,
+    alloc: Global,
+    ring: &HubRing,
+    one: &mut MemDesk,
+    other: &mut MemDesk,
+    first: u32,
+) -> (u32, u32)
+    requires ring { AreTwo ring.now one.old.seat other.old.seat }
+    requires first { first < 500 }
+    ensures { AreTwo ring.now one.new.seat other.new.seat }
+{
+    join_mut(
+        rt,
+        &mut || work(rt, alloc, ring, one, first),
+        &mut || work(rt, alloc, ring, other, first + CLIENTS),
+    )
+}
+
+// All four threads, and the flusher.
+fn work_and_flush<R: Threads + Clock + Sync>(
+    rt: &R,
+    alloc: Global,
+    crowd: &mut Crowd,
+) -> ((u32, u32), (u32, u32))
+    requires four { AreFour crowd.old.hub crowd.old.first.seat crowd.old.second.seat crowd.old.third.seat crowd.old.fourth.seat crowd.old.flusher }
+    requires executed { crowd.old.flusher.executed ≡ crowd.old.flusher.stored }
+    ensures { AreFour crowd.new.hub crowd.new.first.seat crowd.new.second.seat crowd.new.third.seat crowd.new.fourth.seat crowd.new.flusher }
+{
+    let ring = crowd.hub.ring();
+    let first = &mut crowd.first;
+    let second = &mut crowd.second;
+    let third = &mut crowd.third;
+    let fourth = &mut crowd.fourth;
+    let flusher = &mut crowd.flusher;
+    let (right, ()) = join_mut(
+        rt,
+        &mut || -> ((u32, u32), (u32, u32))
+            requires { AreTwo ring.now first.now.seat second.now.seat × AreTwo ring.now third.now.seat fourth.now.seat }
+        { work_four(rt, alloc, ring, first, second, third, fourth) },
+        &mut || flush_to(rt, alloc, ring, flusher, 576),
+    );
+    right
+}
+
+fn work_four<R: Threads + Clock + Sync>(
+    rt: &R,
+    alloc: Global,
+    ring: &HubRing,
+    first: &mut MemDesk,
+    second: &mut MemDesk,
+    third: &mut MemDesk,
+    fourth: &mut MemDesk,
+) -> ((u32, u32), (u32, u32))
+    requires { AreTwo ring.now first.old.seat second.old.seat × AreTwo ring.now third.old.seat fourth.old.seat }
+    ensures { AreTwo ring.now first.new.seat second.new.seat × AreTwo ring.now third.new.seat fourth.new.seat }
+{
+    join_mut(
+        rt,
+        &mut || -> (u32, u32)
+            requires { AreTwo ring.now first.now.seat second.now.seat }
+        { work_two(rt, alloc, ring, first, second, 0) },
+        &mut || -> (u32, u32)
+            requires { AreTwo ring.now third.now.seat fourth.now.seat }
+        { work_two(rt, alloc, ring, third, fourth, 96) },
+    )
+}
+
+// Ends the hub, with the seats of all desks.
+fn close(alloc: Global, crowd: Crowd) -> Option<Closed<MemDisk>>
+    requires { AreFour crowd.hub crowd.first.seat crowd.second.seat crowd.third.seat crowd.fourth.seat crowd.flusher }
+{
+    match Vec::with_capacity(alloc, 4) {
+        Ok(seats) => close_with(crowd, seats),
+        Err(_) => {
+            drop(crowd);
+            None
+        }
+    }
+}
+
+fn close_with(crowd: Crowd, seats: Vec<HubSeat>) -> Option<Closed<MemDisk>>
+    requires four { AreFour crowd.hub crowd.first.seat crowd.second.seat crowd.third.seat crowd.fourth.seat crowd.flusher }
+    requires room { (seats.items ≡ []) × (4 ≤ vec_capacity seats) }
+{
+    let mut seats = seats;
+    let Crowd {
+        hub,
+        first,
+        second,
+        third,
+        fourth,
+        flusher,
+    } = crowd;
+    seats.push_reserved(first.into_seat());
+    seats.push_reserved(second.into_seat());
+    seats.push_reserved(third.into_seat());
+    seats.push_reserved(fourth.into_seat());
+    match hub.close(seats, flusher) {
+        Ok(closed) => Some(closed),
+        Err(_) => None,
+    }
+}
+
+// How many clients of each desk heard what they should, and the numbers at the end: the first, the next, the one after those that
+// were taken, and the mark.
+fn run<R: Threads + Clock + Sync>(
+    rt: &R,
+    alloc: Global,
+) -> Option<(((u32, u32), (u32, u32)), [u64; 4])> {
+    let mut crowd = crowd_of(alloc, new_hub(alloc, 262_144)?);
+    let right = work_and_flush(rt, alloc, &mut crowd);
+    let closed = close(alloc, crowd)?;
+    let numbers = [closed.base, closed.claimed, closed.taken, closed.mark];
+    drop(closed);
+    Some((right, numbers))
+}
+
+#[test]
+fn clients_192_at_desks_in_four_threads_hear_their_own_receipts(
+    rt: HostRuntime,
+) -> Result<(), Fail> {
+    let all = ((CLIENTS, CLIENTS), (CLIENTS, CLIENTS));
+    assert_eq!(rt; run(&rt, rt.alloc()), Some((all, [0, 576, 576, 576])));
+    Ok(())
+}
