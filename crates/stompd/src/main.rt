@@ -5,9 +5,12 @@
 use engine_core::ScriptFault;
 use server_core::{ServeFault, Server};
 use std::alloc::{AllocError, Global};
+use std::fs::{File, Files};
 use std::io::{ErrorKind, Lock, Write};
+use std::net::{Net, TcpListener, TcpStream};
 use std::process::ExitCode;
 use std::sync::Wait;
+use std::thread::Threads;
 use std::time::Clock;
 use std::{env, io};
 use tool_core::{BAD_COMMAND_LINE, Failure, end_by, tool};
@@ -15,30 +18,65 @@ use words_core::{Subcommand, subcommand_of};
 
 /// Runs the program on its arguments, standard input, standard output and standard error.
 fn main(rt: HostRuntime) -> ExitCode {
-    let alloc = rt.alloc();
     let words = match words_of(&rt) {
         Ok(words) => words,
         Err(status) => return ExitCode::from(status),
     };
-    let Some((file, port, origins)) = served(alloc, words.as_slice()) else {
-        return ExitCode::from(run_tool(&rt, words.as_slice()));
+    let status = match served(rt.alloc(), words.as_slice()) {
+        Some(asked) => {
+            let errors = rt.stderr().lock();
+            let mut writer = rt.stdout().lock();
+            let fault = serve(&rt, rt.alloc(), asked, errors, &mut writer);
+            told(&rt, &Failure::Server(fault))
+        }
+        None => run_tool(&rt, words.as_slice()),
     };
-    let Ok(origins) = owned(alloc, &origins) else {
-        return failed(&rt, ServeFault::Memory);
-    };
-    let mut server = match Server::open(alloc, &rt, file, port, origins) {
-        Ok(server) => server,
-        Err(fault) => return failed(&rt, fault),
-    };
-    if let Err(fault) = server.start_workers(&rt, alloc) {
-        return failed(&rt, fault);
+    ExitCode::from(status)
+}
+
+/// What is asked of a server.
+#[derive(Drop)]
+struct Asked<'a> {
+    /// The file of its journal.
+    file: &'a str,
+    port: u16,
+    /// The origins whose pages are served; where there are none, all are.
+    origins: Vec<&'a [u8]>,
+}
+
+/// Serves what is asked for until the server ends, and answers why it did, or why it did not start. Compactions are told to
+/// the one writer, and that it listens to the other.
+fn serve<R, E, W: Write>(
+    rt: &R,
+    alloc: Global,
+    asked: Asked<'_>,
+    errors: E,
+    writer: &mut W,
+) -> ServeFault
+where
+    R: Files<File = File> + Net<Listener = TcpListener, Stream = TcpStream>,
+    R: Threads + Wait + Clock + Clone + Drop + Send + Sync + 'static,
+    E: Write + Drop + Send + 'static,
+{
+    match opened(rt, alloc, asked) {
+        Ok(server) => run_server(rt, alloc, server, errors, writer),
+        Err(fault) => {
+            drop(errors);
+            fault
+        }
     }
-    if let Err(fault) = server.start_teller(&rt, rt.stderr().lock()) {
-        return failed(&rt, fault);
+}
+
+/// Opens the server that is asked for.
+fn opened<R>(rt: &R, alloc: Global, asked: Asked<'_>) -> Result<Server<R>, ServeFault>
+where
+    R: Files<File = File> + Net<Listener = TcpListener, Stream = TcpStream>,
+    R: Wait + Clone + Drop,
+{
+    match owned(alloc, asked.origins.as_slice()) {
+        Ok(origins) => Server::open(alloc, rt, asked.file, asked.port, origins),
+        Err(_) => Err(ServeFault::Memory),
     }
-    let mut writer = rt.stdout().lock();
-    let fault = ended(alloc, server, &mut writer);
-    failed(&rt, fault)
 }
 
 /// The arguments, of which the first is the program's name. Where they are not UTF-8 they are a bad command line, of which
@@ -58,8 +96,8 @@ fn collected(rt: &HostRuntime) -> io::Result<Vec<String>> {
     Ok(env::args(rt)?.collect(rt.alloc())?)
 }
 
-/// The file, the port and the origins of the server that the words ask for, where that is what they ask for.
-fn served(alloc: Global, words: &[String]) -> Option<(&str, u16, Vec<&[u8]>)> {
+/// What the words ask of a server, where that is what they ask for.
+fn served(alloc: Global, words: &[String]) -> Option<Asked<'_>> {
     match subcommand_of(alloc, words) {
         Ok(
             Subcommand::Serve {
@@ -67,7 +105,11 @@ fn served(alloc: Global, words: &[String]) -> Option<(&str, u16, Vec<&[u8]>)> {
                 port,
                 origins,
             },
-        ) => Some((file, port, origins)),
+        ) => Some(Asked {
+            file,
+            port,
+            origins,
+        }),
         _ => None,
     }
 }
@@ -99,21 +141,45 @@ fn run_tool(rt: &HostRuntime, words: &[String]) -> u8 {
     .status
 }
 
-/// Runs a server to its end, and answers why that came.
-fn ended<R: Wait + Clock + Drop, W: Write>(
+/// Starts the threads of a server and runs it to its end; answers why that came.
+fn run_server<R, E, W: Write>(
+    rt: &R,
     alloc: Global,
     server: Server<R>,
+    errors: E,
     writer: &mut W,
-) -> ServeFault {
+) -> ServeFault
+where
+    R: Threads + Wait + Clock + Clone + Drop + Send + Sync + 'static,
+    E: Write + Drop + Send + 'static,
+{
     let mut server = server;
-    let fault = server.run(alloc, writer);
-    server.close();
-    fault
+    match start(rt, alloc, &mut server, errors) {
+        Ok(()) => {
+            let fault = server.run(alloc, writer);
+            server.close();
+            fault
+        }
+        Err(fault) => {
+            drop(server);
+            fault
+        }
+    }
 }
 
-/// Tells why a server is not there, and answers the status.
-fn failed(rt: &HostRuntime, fault: ServeFault) -> ExitCode {
-    ExitCode::from(told(rt, &Failure::Server(fault)))
+/// Starts the workers of a server, and the thread that tells of compactions there.
+fn start<R, E>(rt: &R, alloc: Global, server: &mut Server<R>, errors: E) -> Result<(), ServeFault>
+where
+    R: Threads + Wait + Clock + Clone + Drop + Send + Sync + 'static,
+    E: Write + Drop + Send + 'static,
+{
+    match server.start_workers(rt, alloc) {
+        Ok(()) => server.start_teller(rt, errors),
+        Err(fault) => {
+            drop(errors);
+            Err(fault)
+        }
+    }
 }
 
 /// Tells a failure, and answers its status.
