@@ -53,12 +53,18 @@ fn is_marked(due: &[Key], key: &Key) -> bool
     false
 }
 
-/// Those under a key are due. Where memory is refused, nothing changes.
+/// Among how many of the last keys it is looked whether one is there already. It is more than there may be durable names,
+/// so a message to a topic finds the keys of the one before.
+const NEAR: usize = 512;
+
+/// Those under a key are due, which stands there once unless many others came between. Where memory is refused, nothing
+/// changes.
 pub fn mark(due: &mut Vec<Key>, key: Key) -> Result<(), AllocError>
     ensures kept { OnOk result ((sub : Subscription) → is_due due.old.items sub ≡ true → is_due due.new.items sub ≡ true) }
     ensures marked { OnOk result ((sub : Subscription) → is_under key sub ≡ true → is_due due.new.items sub ≡ true) }
 {
-    if !is_marked(due.as_slice(), &key) {
+    let from = due.len().saturating_sub(NEAR);
+    if !is_marked(&due[from..], &key) {
         due.push(key)?;
     }
     Ok(())
