@@ -1,4 +1,4 @@
-use Rattle.std.proofs.Common.{◌≡◌, ◌==◌, ◌<◌, ◌≤◌, ◌+◌, ◌^◌, ◌&&◌, ◌||◌, ◌⊎◌, ◌++◌, List, [], ◌∷◌, ℕ, suc, zero, Bool, true, false, Option, Some, None, cond, get_or, inl, inr, is_some, length, map, nat_lt, not, refl, remove, slice_get, sym, ap, subst, take, ◌∙◌, arith, if◌then◌else◌}
+use Rattle.std.proofs.Common.{◌≡◌, ◌==◌, ◌<◌, ◌≤◌, ◌+◌, ◌^◌, ◌&&◌, ◌||◌, ◌⊎◌, ◌++◌, List, [], ◌∷◌, ℕ, suc, zero, Bool, true, false, Option, Some, None, cond, drop, get_or, inl, inr, is_some, length, map, nat_lt, not, refl, remove, slice_get, sym, ap, subst, take, ◌∙◌, arith, if◌then◌else◌}
 use Rattle.std.specs.BTreeMap.{is_at}
 use Rattle.std.specs.List.{AllByRecursion, list_any}
 use Rattle.std.specs.Map.{remove_entry}
@@ -468,3 +468,18 @@ kept_of s t held due same none sound messages weight =
       deliveries = sound.numbers.most;
       ready = none_due s s.subscriptions (none_ready s sound.limits.settled);
     })
+
+-- who is due by some of the keys is due
+pub due_behind : (n : ℕ) (keys : List Key) (sub : Subscription) → is_due (drop n keys) sub ≡ true → is_due keys sub ≡ true
+due_behind zero keys sub due = due
+due_behind (suc n) [] sub due = due
+due_behind (suc n) (key ∷ keys) sub due = or_right (is_under key sub) (is_due keys sub) (due_behind n keys sub due)
+
+pub due_front : (n : ℕ) (keys : List Key) (sub : Subscription) → is_due (take n keys) sub ≡ true → is_due keys sub ≡ true
+due_front zero keys sub due = absurd cc
+due_front (suc n) [] sub due = absurd cc
+due_front (suc n) (key ∷ keys) sub due = by (is_under key sub) due (λ rest. due_front n keys sub rest)
+  where
+    by : (b : Bool) → (b || is_due (take n keys) sub) ≡ true → (is_due (take n keys) sub ≡ true → is_due keys sub ≡ true) → (b || is_due keys sub) ≡ true
+    by true among rest = refl
+    by false among rest = rest among

@@ -4,7 +4,7 @@ ghost use Rattle.std.specs.Prelude.{◌≡◌, IfOk, IsErr, MatchOption};
 ghost use Rattle.broker_state.specs.Operations.{acknowledged, awaits};
 ghost use Rattle.broker_state.specs.Parts.{IsFirst, NonePass, leaving};
 
-use crate::due::Key;
+use crate::due::{Key, mark};
 use crate::subscribing::let_deliveries_go;
 use crate::tables::Tables;
 use command_core::Fault;
@@ -41,7 +41,7 @@ impl Tables {
         let Some(at) = find_awaiting(&self.order, session, delivery) else {
             return Ok((self, Err(Fault::UnknownAcknowledgement)));
         };
-        self.due.push(Key::Session(session))?;
+        mark(&mut self.due, Key::Session(session))?;
         let settled = self.order.settle(at, delivery)?;
         let_deliveries_go(&mut self.held, settled.as_slice());
         Ok((self, Ok(())))

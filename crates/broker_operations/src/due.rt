@@ -29,6 +29,47 @@ pub enum Key {
     Durable(DurableName),
 }
 
+/// Whether two keys are the same.
+fn are_same(a: &Key, b: &Key) -> bool
+    ensures { result ≡ true → (sub : Subscription) → is_under b.now sub ≡ true → is_under a.now sub ≡ true }
+{
+    match (a, b) {
+        (Key::Session(one), Key::Session(other)) => *one == *other,
+        (Key::Destination(one), Key::Destination(other)) => *one == *other,
+        (Key::Durable(one), Key::Durable(other)) => *one == *other,
+        _ => false,
+    }
+}
+
+/// Whether a key is among others.
+fn is_marked(due: &[Key], key: &Key) -> bool
+    ensures { result ≡ true → (sub : Subscription) → is_under key.now sub ≡ true → is_due due.now sub ≡ true }
+{
+    for other in due {
+        if are_same(other, key) {
+            return true;
+        }
+    }
+    false
+}
+
+/// Among how many of the last keys it is looked whether one is there already. It is more than there may be durable names,
+/// so a message to a topic finds the keys of the one before.
+const NEAR: usize = 512;
+
+/// Those under a key are due, which stands there once unless many others came between. Where memory is refused, nothing
+/// changes.
+pub fn mark(due: &mut Vec<Key>, key: Key) -> Result<(), AllocError>
+    ensures kept { OnOk result ((sub : Subscription) → is_due due.old.items sub ≡ true → is_due due.new.items sub ≡ true) }
+    ensures marked { OnOk result ((sub : Subscription) → is_under key sub ≡ true → is_due due.new.items sub ≡ true) }
+{
+    let from = due.len().saturating_sub(NEAR);
+    if !is_marked(&due[from..], &key) {
+        due.push(key)?;
+    }
+    Ok(())
+}
+
 /// The key of those that are served from the line of a subscription, or from lines of their own for the same topic.
 pub fn line_key(sub: &Subscription) -> Result<Key, AllocError>
     ensures { IfOk result (λ key. key ≡ line_key sub.now) }
@@ -46,7 +87,8 @@ pub fn mark_line(due: &mut Vec<Key>, sub: &Subscription) -> Result<(), AllocErro
         → line_for (returned shared sub.now) other ≡ line_for shared other) }
 {
     if !sub.has_own_line() {
-        due.push(line_key(sub)?)?;
+        let key = line_key(sub)?;
+        return mark(due, key);
     }
     Ok(())
 }
@@ -63,7 +105,8 @@ pub fn mark_names(
 {
     for (name, topic) in durables {
         if *topic == *to {
-            due.push(Key::Durable(name.clone()?))?;
+            let name = name.clone()?;
+            mark(due, Key::Durable(name))?;
         }
     }
     Ok(())

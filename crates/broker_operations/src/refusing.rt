@@ -13,7 +13,7 @@ ghost use Rattle.broker_state.specs.Waiting.{is_own, with_message};
 ghost use Rattle.broker_operations.specs.Refusals.{all_kept, all_kept_bytes, kept_bytes, kept_one};
 
 use crate::acknowledging::find_awaiting;
-use crate::due::Key;
+use crate::due::{Key, mark};
 use crate::shared_lines::SharedLines;
 use crate::subscribing::let_deliveries_go;
 use crate::tables::Tables;
@@ -220,8 +220,9 @@ impl Tables {
             command: self.count,
             place: 64 + 16 * member,
         };
-        self.due.push(Key::Session(session))?;
-        self.due.push(Key::Destination(dead_queue(alloc)?))?;
+        mark(&mut self.due, Key::Session(session))?;
+        let dead = dead_queue(alloc)?;
+        mark(&mut self.due, Key::Destination(dead))?;
         let settled = self.order.settle(at, delivery)?;
         let_deliveries_go(&mut self.held, settled.as_slice());
         keep(alloc, &mut self.shared, &mut self.held, own, first, settled)?;

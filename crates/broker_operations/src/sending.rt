@@ -8,7 +8,7 @@ ghost use Rattle.broker_state.specs.Parts.{copies_to, find_room, leaving};
 ghost use Rattle.broker_operations.specs.Sendings.{IsFannedOut};
 ghost use Rattle.broker_state.specs.Waiting.{is_own};
 
-use crate::due::{Key, mark_names};
+use crate::due::{Key, mark, mark_names};
 use crate::shared_lines::SharedLines;
 use crate::tables::Tables;
 use broker_state::{DurableName, Held, MOST_BYTES, MOST_MESSAGES};
@@ -155,7 +155,7 @@ impl Tables {
         };
         let to = message.sending.destination().clone()?;
         mark_names(&mut self.due, &self.durables, &to)?;
-        self.due.push(Key::Destination(to))?;
+        mark(&mut self.due, Key::Destination(to))?;
         fan_out(
             alloc,
             &self.durables,

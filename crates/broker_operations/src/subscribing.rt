@@ -13,7 +13,7 @@ ghost use Rattle.broker_state.specs.States.{bytes, one};
 ghost use Rattle.broker_operations.specs.Places.{place_for};
 ghost use Rattle.broker_state.specs.declared.subscription.Subscription.{Subscription};
 
-use crate::due::{Key, mark_line};
+use crate::due::{Key, mark, mark_line};
 use crate::tables::Tables;
 use broker_state::{DurableName, GivenName, Held, MOST_NAMES, MOST_SUBSCRIPTIONS, Subscription};
 use command_core::{AckMode, Dest, Fault, HeaderText};
@@ -229,7 +229,7 @@ impl Tables {
     {
         match self.bind(&sub) {
             Ok(Ok(())) => {
-                self.due.push(Key::Session(sub.session))?;
+                mark(&mut self.due, Key::Session(sub.session))?;
                 match self.order.add(alloc, sub) {
                     Ok(()) => Ok((self, Ok(()))),
                     Err(refused) => Err(refused),

@@ -1,4 +1,4 @@
-use Rattle.std.proofs.Common.{◌≡◌, ◌++◌, ◌∷◌, ◌∙◌, [], List, Some, ap, arith, refl, slice_get, subst, sym}
+use Rattle.std.proofs.Common.{◌≡◌, ◌∙◌, Some, ap, arith, refl, slice_get, subst, sym}
 use Rattle.std.specs.List.{AllByRecursion, sum_by}
 use Rattle.std.proofs.lemmas.Bool.{and_parts}
 use Rattle.line_core.specs.Flights.{IsOver, has_delivery}
@@ -7,11 +7,8 @@ use Rattle.broker_state.specs.Operations.{is_of, settled_by}
 use Rattle.broker_state.specs.States.{bytes, one, weight_of_subscription}
 use Rattle.broker_operations.proofs.Operating.{acknowledged_first, acknowledged_none, item_at}
 use Rattle.broker_state.proofs.Weights.{all_changed, over_settled_by, sum_by-changed, sum_by-part, weight-settled_by}
-use Rattle.broker_operations.specs.declared.due.Key.{Key}
-use Rattle.broker_operations.specs.declared.due.Key.TheVariants.{Session}
-use Rattle.broker_operations.specs.Dues.{AreDue}
 use Rattle.broker_operations.specs.Tables.{shown}
-use Rattle.broker_operations.proofs.Dues.{due_changed, grows, marked}
+use Rattle.broker_operations.proofs.Dues.{due_changed}
 use Rattle.broker_operations.proofs.tables.Tables.acknowledge.Goals as goal
 
 pub returns-in_default-clause-acknowledged : goal.returns-in_default-clause-acknowledged
@@ -53,9 +50,8 @@ invariant_of-self c =
       ready =
           let s = shown a.count a.next_delivery a.sessions.entries a.durables.entries a.shared a.order in
           let t = shown a.count a.next_delivery a.sessions.entries a.durables.entries a.shared c.settle.new.self in
-          let key = Session c.args.session in
           let mine = λ (x : Subscription) (is : slice_get a.order at ≡ Some x). (and_parts (is_of c.args.session x) (has_delivery c.args.delivery x.unacknowledged) (c.in-Some.ensures.passing x is)).0 in
-          subst (λ (keys : List Key). AreDue keys t) (sym c.in_ok-push.ensures.items) (due_changed a.due.items s tallied.ready t (a.due.items ++ key ∷ []) (grows a.due.items key) refl (λ x other. refl) at (settled_by c.args.delivery) left (λ x is. marked a.due.items key (settled_by c.args.delivery x) (mine x is)));
+          due_changed a.due.items s tallied.ready t c.mark.new.due.items c.in_ok-mark.ensures.kept refl (λ x other. refl) at (settled_by c.args.delivery) left (λ x is. c.in_ok-mark.ensures.marked (settled_by c.args.delivery x) (mine x is));
     }
 
 pub returns-clause-acknowledged : goal.returns-clause-acknowledged

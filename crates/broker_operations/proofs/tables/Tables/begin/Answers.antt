@@ -1,15 +1,12 @@
-use Rattle.std.proofs.Common.{◌++◌, ◌∷◌, [], List, ℕ, ap, arith, refl, subst, sym}
+use Rattle.std.proofs.Common.{ℕ, ap, arith, refl, subst, sym}
 use Rattle.std.specs.List.{AllByRecursion, sum_by}
 use Rattle.std.proofs.lemmas.List.Sums.{sum_by_push}
 use Rattle.line_core.specs.declared.message.Message.{Message}
 use Rattle.line_core.specs.Flights.{IsOver}
 use Rattle.broker_state.specs.declared.subscription.Subscription.{Subscription}
 use Rattle.broker_state.specs.States.{bytes, one, weight_of_subscription}
-use Rattle.broker_operations.specs.declared.due.Key.{Key}
-use Rattle.broker_operations.specs.declared.due.Key.TheVariants.{Session}
-use Rattle.broker_operations.specs.Dues.{AreDue}
 use Rattle.broker_operations.specs.Tables.{shown}
-use Rattle.broker_operations.proofs.Dues.{all_with, due_begun, grows, marked, of_itself}
+use Rattle.broker_operations.proofs.Dues.{all_with, due_begun, of_itself}
 use Rattle.broker_operations.proofs.tables.Tables.begin.Goals as goal
 
 pub invariant_of-self : goal.invariant_of-self
@@ -20,7 +17,6 @@ invariant_of-self c =
     let s = shown a.count a.next_delivery a.sessions.entries a.durables.entries a.shared a.order in
     let t = shown a.count a.next_delivery a.sessions.entries a.durables.entries a.shared c.add.new.self in
     let more = c.in-Ok.ensures.ok in
-    let key = Session sub.session in
     let IsUnder = λ (x : Subscription). IsOver a.next_delivery x.unacknowledged in
     record {
       messages = omega (arith, tallied.messages, ap (sum_by (weight_of_subscription one)) more, sum_by_push (weight_of_subscription one) a.order sub, ap (sum_by one) c.requires.fresh.0, ap (sum_by (λ (d : ℕ × Message). one d.1)) c.requires.fresh.1);
@@ -29,5 +25,5 @@ invariant_of-self c =
       small = tallied.small;
       next = subst (AllByRecursion IsUnder) (sym more) (all_with IsUnder a.order sub tallied.next (subst (IsOver a.next_delivery) (sym c.requires.fresh.1) tt));
       deliveries = tallied.deliveries;
-      ready = subst (λ (keys : List Key). AreDue keys t) (sym c.in_ok-push-in-Ok-Ok.ensures.items) (due_begun a.due.items s tallied.ready t (a.due.items ++ key ∷ []) (grows a.due.items key) refl (λ x other. refl) sub more (marked a.due.items key sub (of_itself sub)));
+      ready = due_begun a.due.items s tallied.ready t c.mark.new.due.items c.in_ok-mark-in-Ok-Ok.ensures.kept refl (λ x other. refl) sub more (c.in_ok-mark-in-Ok-Ok.ensures.marked sub (of_itself sub));
     }

@@ -1,4 +1,4 @@
-use Rattle.std.proofs.Common.{◌≡◌, ◌≤◌, ◌++◌, ◌∷◌, ◌∙◌, ◌+◌, ◌-◌, [], List, ℕ, Some, true, false, Ok, ap, arith, nat_le, refl, rules, slice_get, subst, sym}
+use Rattle.std.proofs.Common.{◌≡◌, ◌≤◌, ◌∙◌, ◌+◌, ◌-◌, List, ℕ, Some, true, false, Ok, ap, arith, nat_le, refl, rules, slice_get, subst, sym}
 use Rattle.std.proofs.lemmas.Option.{same_Some}
 use Rattle.std.specs.List.{AllByRecursion, sum_by}
 use Rattle.std.proofs.lemmas.Bool.{and_parts}
@@ -13,11 +13,9 @@ use Rattle.broker_state.proofs.Weights.{all_changed, ones, over_settled_by, sum_
 use Rattle.broker_operations.specs.Refusals.{all_kept_bytes}
 use Rattle.broker_operations.specs.Tables.{shown}
 use Rattle.broker_operations.proofs.Operating.{gone_of, nack_by, nack_counts, nack_fewer, nack_lines, nack_none, nack_small, nack_state, part_of}
-use Rattle.broker_operations.specs.declared.due.Key.{Key}
-use Rattle.broker_operations.specs.declared.due.Key.TheVariants.{Destination, Session}
-use Rattle.broker_operations.specs.Dues.{AreDue, is_due}
+use Rattle.broker_operations.specs.Dues.{is_due}
 use Rattle.waiting_core.specs.Directories.{is_plain_at}
-use Rattle.broker_operations.proofs.Dues.{due_changed, grows, marked, refused_elsewhere, unless}
+use Rattle.broker_operations.proofs.Dues.{due_changed, refused_elsewhere, unless}
 use Rattle.broker_operations.proofs.tables.Tables.refuse.Goals as goal
 
 pub returns-in_default-clause-nacked : goal.returns-in_default-clause-nacked
@@ -114,13 +112,10 @@ invariant_of-self c =
       ready =
           let t = shown a.count a.next_delivery a.sessions.entries a.durables.entries c.keep.new.shared c.settle.new.self in
           let mine = λ (x : Subscription) (is : slice_get a.order at ≡ Some x). (and_parts (is_of c.args.session x) (has_delivery c.args.delivery x.unacknowledged) (c.in-Some.ensures.passing x is)).0 in
-          let here = Session c.args.session in
-          let dead = Destination dead_queue in
-          let mid = a.due.items ++ here ∷ [] in
-          let keys = mid ++ dead ∷ [] in
-          let pushed = c.in_ok-push-2.ensures.items ∙ ap (λ (q : List ℕ). c.push.new.self.items ++ Destination q ∷ []) c.in_ok-dead_queue.ensures ∙ ap (λ (l : List Key). l ++ dead ∷ []) c.in_ok-push.ensures.items in
-          let same = λ (x : Subscription) (other : is_due keys x ≡ false). ap (λ (h : Shared). line_for h x) lines ∙ refused_elsewhere (kept_from s c.args.session c.args.member c.args.delivery sub) a.shared x (unless (is_plain_at dead_queue x) (is_due keys x) (marked mid dead x) other) in
-          subst (λ (l : List Key). AreDue l t) (sym pushed) (due_changed a.due.items s tallied.ready t keys (λ x is. grows mid dead x (grows a.due.items here x is)) refl same at (settled_by c.args.delivery) left (λ x is. grows mid dead (settled_by c.args.delivery x) (marked a.due.items here (settled_by c.args.delivery x) (mine x is))));
+          let keys = c.mark-2.new.due.items in
+          let dead = λ (x : Subscription) (plain : is_plain_at dead_queue x ≡ true). c.in_ok-mark-2.ensures.marked x (ap (λ (q : List ℕ). is_plain_at q x) c.in_ok-dead.ensures ∙ plain) in
+          let same = λ (x : Subscription) (other : is_due keys x ≡ false). ap (λ (h : Shared). line_for h x) lines ∙ refused_elsewhere (kept_from s c.args.session c.args.member c.args.delivery sub) a.shared x (unless (is_plain_at dead_queue x) (is_due keys x) (dead x) other) in
+          due_changed a.due.items s tallied.ready t keys (λ x is. c.in_ok-mark-2.ensures.kept x (c.in_ok-mark.ensures.kept x is)) refl same at (settled_by c.args.delivery) left (λ x is. c.in_ok-mark-2.ensures.kept (settled_by c.args.delivery x) (c.in_ok-mark.ensures.marked (settled_by c.args.delivery x) (mine x is)));
     }
 
 pub returns-clause-nacked : goal.returns-clause-nacked

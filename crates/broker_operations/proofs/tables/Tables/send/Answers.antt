@@ -1,4 +1,4 @@
-use Rattle.std.proofs.Common.{◌≡◌, ◌&&◌, ◌++◌, ◌∷◌, ◌∙◌, ◌+◌, ◌*◌, [], List, ℕ, true, false, Ok, ap, arith, nat_le, rules, subst, sym}
+use Rattle.std.proofs.Common.{◌≡◌, ◌&&◌, ◌∙◌, ◌+◌, ◌*◌, List, ℕ, true, false, Ok, ap, arith, nat_le, rules, subst, sym}
 use Rattle.std.proofs.lemmas.Bool.{and_parts}
 use Rattle.std.proofs.lemmas.Bool.Decides.{nat_tests}
 use Rattle.line_core.specs.Messages.{size_of}
@@ -11,10 +11,9 @@ use Rattle.std.specs.List.{list_any}
 use Rattle.std.specs.Str.{bytes_eq}
 use Rattle.broker_state.specs.declared.subscription.Subscription.{Subscription}
 use Rattle.broker_state.specs.Names.{Name}
-use Rattle.broker_operations.specs.declared.due.Key.{Key}
-use Rattle.broker_operations.specs.declared.due.Key.TheVariants.{Destination}
-use Rattle.broker_operations.specs.Dues.{AreDue}
-use Rattle.broker_operations.proofs.Dues.{due_sent, grows, marked}
+use Rattle.broker_operations.specs.Dues.{AreDue, is_due}
+use Rattle.waiting_core.specs.Directories.{is_plain_at}
+use Rattle.broker_operations.proofs.Dues.{due_sent}
 use Rattle.broker_operations.proofs.tables.Tables.send.Goals as goal
 
 pub returns-then-not-find_room-clause-sent : goal.returns-then-not-find_room-clause-sent
@@ -48,14 +47,13 @@ invariant_of-self c =
       next = subst IsNext is (next-fanned_out s m tallied.next);
       deliveries = tallied.deliveries;
       ready =
-          let t = shown a.count a.next_delivery a.sessions.entries a.durables.entries c.fan_out.new.shared c.fan_out.new.order in
           let to = c.args.sending.destination in
-          let mid = c.mark_names.new.due.items in
-          let key = Destination to in
+          let keys = c.mark.new.due.items in
           let same_to : c.in_ok-to.to ≡ to = search rules in
-          let pushed = c.in_ok-push.ensures.items ∙ ap (λ (q : List ℕ). mid ++ Destination q ∷ []) same_to in
-          let named = λ (x : Subscription) (bound : list_any (λ (durable : Name × List ℕ). bytes_eq durable.1 to && uses durable.0 x) a.durables.entries ≡ true). grows mid key x (c.in_ok-mark_names.ensures.marked x (subst (λ (q : List ℕ). list_any (λ (durable : Name × List ℕ). bytes_eq durable.1 q && uses durable.0 x) a.durables.entries ≡ true) (sym same_to) bound)) in
-          subst (λ (keys : List Key). AreDue keys t) (sym pushed) (subst (AreDue (mid ++ key ∷ [])) is (due_sent m a.due.items s tallied.ready (mid ++ key ∷ []) (λ x old. grows mid key x (c.in_ok-mark_names.ensures.kept x old)) (marked mid key) named));
+          let old = λ (x : Subscription) (was : is_due a.due.items x ≡ true). c.in_ok-mark.ensures.kept x (c.in_ok-mark_names.ensures.kept x was) in
+          let plain = λ (x : Subscription) (listens : is_plain_at to x ≡ true). c.in_ok-mark.ensures.marked x (ap (λ (q : List ℕ). is_plain_at q x) same_to ∙ listens) in
+          let named = λ (x : Subscription) (bound : list_any (λ (durable : Name × List ℕ). bytes_eq durable.1 to && uses durable.0 x) a.durables.entries ≡ true). c.in_ok-mark.ensures.kept x (c.in_ok-mark_names.ensures.marked x (subst (λ (q : List ℕ). list_any (λ (durable : Name × List ℕ). bytes_eq durable.1 q && uses durable.0 x) a.durables.entries ≡ true) (sym same_to) bound)) in
+          subst (AreDue keys) is (due_sent m a.due.items s tallied.ready keys old plain named);
     }
 
 pub returns-clause-sent : goal.returns-clause-sent
