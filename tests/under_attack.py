@@ -4,7 +4,7 @@ memory stays within what docs/RUNNING.md says, and the place of each attacker is
 
     python3 tests/under_attack.py [PROGRAM]
 
-PROGRAM is the built program; without it, bin/stompd. It takes some two and a half minutes, and needs Python 3 alone; half-open clients need `ip`
+PROGRAM is the built program; without it, bin/stompd. It takes some four minutes, and needs Python 3 alone; half-open clients need `ip`
 and root, since they take a network of the script's own, and are left out where these are missing, which is said.
 
 - 64 attackers of a kind come behind 8 clients that behave. There are 64 workers, so each worker has an attacker then, and each of the 8 has one
@@ -16,7 +16,7 @@ and root, since they take a network of the script's own, and are left out where 
 - Those that stall are all there at once, over one broker; meanwhile those that flood come one kind after another, each over a broker of its own.
 - At the end one that sends SENDs with receipts shares its worker with an attacker, one of each kind in its turn. 99 of 100 of its receipts take no more
   than twice what they take while that attacker is at another worker. This may run beside other work, which comes and goes: so they are measured in
-  turns, with the attacker elsewhere and beside, three times, and the best of the three tells. What the neighbour costs is there each time, what else
+  turns, with the attacker elsewhere and beside, three times, and the best of each three tells. What the neighbour costs is there each time, what else
   runs is not. Where all other workers have a client that never waits it may be three times: the ring is full of what these have sent, so that one waits
   once round for room in its window, and once round for its own.
 """
@@ -49,8 +49,8 @@ MOST, LONGEST = 10, 5
 # What they may take in an attack, by what they take without: so many times that, and so many seconds more.
 TIMES, MORE = 20, 0.2
 # And where one shares its worker with an attacker, by what they take while that is at another worker: so many times that, or so many where all other
-# workers have one that never waits; in the best of so many rounds, of so many seconds each.
-SHARED, AMONG, ROUNDS, ROUND = 2, 3, 3, 1.5
+# workers have one that never waits; the best of so many rounds each, of so many seconds.
+SHARED, AMONG, ROUNDS, ROUND = 2, 3, 3, 1
 
 # For a busy machine: how much later than it is said a place may be free, and how much earlier, since the server counts from what it saw first.
 SPARE, EARLY = 8, 2
@@ -182,9 +182,9 @@ def unread_bodies(broker, checks):
     judge_places(checks, UNREAD, seconds)
 
 
-def least_apart(rounds):
-    """Of measurements without something and with it, in turns, those that differ least."""
-    return min(rounds, key=lambda pair: pair[1].within(99) / pair[0].within(99))
+def best(rounds):
+    """Of measurements without something and with it, in turns, the best of each."""
+    return [min(side, key=lambda receipts: receipts.within(99)) for side in zip(*rounds)]
 
 
 def in_attack(broker, kind, one, places):
@@ -209,18 +209,18 @@ def share_a_worker(broker, checks):
     """One whose worker has nobody else, while each other worker has a client that never waits; and now and then there is one at its own worker too."""
     one = Others(broker, 1)
     busy = Attack([BUSY] * (WORKERS - 1), broker.port).begun()
-    pair = least_apart([(one.measure(ROUND), in_attack(broker, BUSY, one, WORKERS)) for _ in range(ROUNDS)])
+    pair = best([(one.measure(ROUND), in_attack(broker, BUSY, one, WORKERS)) for _ in range(ROUNDS)])
     judge_neighbour(checks, BUSY, "while all other workers have one", AMONG, pair)
     busy.end()
 
 
 def have_a_neighbour(broker, checks):
-    """One whose worker has nobody else, and one of each kind in turn, at another worker and at its own; the other workers have a client each that says
-    nothing."""
+    """One whose worker has nobody else, and one of each kind that floods in turn, and of some that stall, at another worker and at its own; the other
+    workers have a client each that says nothing."""
     one = Others(broker, 1)
     quiet = [attackers.in_session(broker.port) for _ in range(WORKERS - 2)]
-    for kind in [BUSY, BODIES, *FLOODS, *STALLED]:
-        judge_neighbour(checks, kind, "while it is at another", SHARED, least_apart([elsewhere_and_beside(broker, kind, one) for _ in range(ROUNDS)]))
+    for kind in [BUSY, BODIES, *FLOODS, *STALLED[::3]]:
+        judge_neighbour(checks, kind, "while it is at another", SHARED, best([elsewhere_and_beside(broker, kind, one) for _ in range(ROUNDS)]))
     for client in quiet:
         client.close()
 

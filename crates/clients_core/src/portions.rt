@@ -13,8 +13,9 @@ use std::io::{ErrorKind, Read, Write};
 use std::sync::Arc;
 use std::sync::atomic::{AtomicBool, Ordering};
 
-/// How many reads that gave bytes make a portion.
-const READS: u32 = 8;
+/// How many reads that gave bytes make a portion. A link reads 16,384 bytes at a time: so many of the smallest fragments take some 0.2
+/// milliseconds, for which the other clients of the worker wait.
+const READS: u32 = 1;
 
 /// Whether a client's last portion has ended, and more of its bytes may be there.
 #[derive(Drop)]
@@ -31,7 +32,7 @@ impl Rest {
 /// there is nothing comes to an end, whatever a client sends: of a WebSocket's message a client may send fragments without end
 /// (RFC 6455, section 5.4). That there may be more is told by `Rest`, since the poll does not tell it again.
 ///
-/// Contracts see the socket, and how many reads that give bytes are left of the portion, which are eight at most: each takes one away, and
+/// Contracts see the socket, and how many reads that give bytes are left of the portion, one at most: each takes one away, and
 /// one that gives none begins another portion. Where none are left the socket is not asked.
 #[derive(Drop)]
 pub struct Portions<S> {

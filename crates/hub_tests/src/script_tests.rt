@@ -83,8 +83,8 @@ const ROWS: [Row; 11] = [
         ..SILENT
     },
     // The outbox is cut: what is in it is sent, that the connection is lost is appended, and the link is closed. An Open and
-    // fifteen subscriptions are a window, and sixteen transactions are another, whose outputs are 15,360 messages; the last
-    // transaction waits for room.
+    // fifteen subscriptions are a window, which takes three turns, since one does eight acts; and sixteen transactions are
+    // another window, whose outputs are 15,360 messages; the last transaction waits for room.
     Row {
         texts: &[CONNECT, FIFTEEN_SUBSCRIBERS],
         round: TRANSACTION,
@@ -95,7 +95,7 @@ const ROWS: [Row; 11] = [
         appended: Some(34),
         heard: [true, true, false],
         awaits: Some(Awaited {
-            turn: 2,
+            turn: 3,
             mark: 16,
             holds: true,
         }),
