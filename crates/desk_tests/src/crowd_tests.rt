@@ -1,7 +1,7 @@
 ghost use Rattle.std.specs.Prelude.{◌≡◌, ◌+◌, ◌∷◌, [], ◌≤◌, ◌<◌, IfSome, All, length, vec_capacity, false};
 ghost use Rattle.flush_core.specs.Flushed.{Flushed};
 ghost use Rattle.hub_core.specs.Hubs.{IsWhole};
-ghost use Rattle.desk_tests.specs.Crowds.{AreFour, AreTwo};
+ghost use Rattle.desk_tests.specs.Crowds.{AreFour, IsAt};
 
 use crate::clients::Client;
 use crate::rooms::{Free, HubFlusher, HubRing, HubSeat, MemDesk, MemHub, new_hub};
@@ -98,8 +98,30 @@ fn serve<R: Clock>(rt: &R, alloc: Global, ring: &HubRing, desk: &mut MemDesk)
     }
 }
 
-// Serves so many clients, and answers how many heard what they should.
-fn work<R: Clock>(rt: &R, alloc: Global, ring: &HubRing, desk: &mut MemDesk, first: u32) -> u32
+// Serves so many clients at a desk, and answers how many heard what they should.
+fn work<R: Clock>(
+    rt: &R,
+    alloc: Global,
+    ring: &HubRing,
+    seat: &mut Option<HubSeat>,
+    first: u32,
+) -> u32
+    requires ring { IsAt ring.now seat.old }
+    requires first { first < 1000 }
+    ensures { IsAt ring.now seat.new }
+{
+    match seat.take() {
+        Some(own) => {
+            let mut desk = Desk::new(alloc, own);
+            let right = serve_all(rt, alloc, ring, &mut desk, first);
+            *seat = Some(desk.into_seat());
+            right
+        }
+        None => 0,
+    }
+}
+
+fn serve_all<R: Clock>(rt: &R, alloc: Global, ring: &HubRing, desk: &mut MemDesk, first: u32) -> u32
     requires ring { desk.old.seat.ring ≡ ring.now }
     requires first { first < 1000 }
     ensures { desk.new.seat.ring ≡ desk.old.seat.ring }
@@ -125,37 +147,38 @@ fn count_right(alloc: Global, desk: &mut MemDesk, first: u32) -> u32
     right
 }
 
-// A hub, four desks at its seats, and its flusher. Tests own these here alone, and lend them.
+// A hub, four of its seats, and its flusher. Tests own these here alone, and lend them.
 #[derive(Drop)]
 struct Crowd {
     hub: MemHub,
-    first: MemDesk,
-    second: MemDesk,
-    third: MemDesk,
-    fourth: MemDesk,
+    first: Option<HubSeat>,
+    second: Option<HubSeat>,
+    third: Option<HubSeat>,
+    fourth: Option<HubSeat>,
     flusher: HubFlusher,
 }
 
-// The next seat's desk.
-fn take_desk(alloc: Global, hub: &mut MemHub) -> MemDesk
+// The next seat.
+fn take_seat(hub: &mut MemHub) -> Option<HubSeat>
     requires { 0 < length hub.old.seats }
-    ensures seat { result.seat.ring ≡ hub.new.ring }
+    ensures seat { IsAt hub.new.ring result }
     ensures count { length hub.new.seats + 1 ≡ length hub.old.seats }
     ensures same { (hub.new.ring ≡ hub.old.ring) × (hub.new.flusher ≡ hub.old.flusher) }
 {
-    Desk::new(alloc, hub.seat().unwrap())
+    let seat = hub.seat().unwrap();
+    Some(seat)
 }
 
-fn crowd_of(alloc: Global, hub: MemHub) -> Crowd
+fn crowd_of(hub: MemHub) -> Crowd
     requires { (f : Flushed _) × IsWhole hub f }
-    ensures four { AreFour result.hub result.first.seat result.second.seat result.third.seat result.fourth.seat result.flusher }
+    ensures four { AreFour result.hub result.first result.second result.third result.fourth result.flusher }
     ensures executed { result.flusher.executed ≡ result.flusher.stored }
 {
     let mut hub = hub;
-    let first = take_desk(alloc, &mut hub);
-    let second = take_desk(alloc, &mut hub);
-    let third = take_desk(alloc, &mut hub);
-    let fourth = take_desk(alloc, &mut hub);
+    let first = take_seat(&mut hub);
+    let second = take_seat(&mut hub);
+    let third = take_seat(&mut hub);
+    let fourth = take_seat(&mut hub);
     let flusher = hub.flusher().unwrap();
     Crowd {
         hub,
@@ -187,13 +210,13 @@ fn work_two<R: Threads + Clock + Sync>(
     rt: &R,
     alloc: Global,
     ring: &HubRing,
-    one: &mut MemDesk,
-    other: &mut MemDesk,
+    one: &mut Option<HubSeat>,
+    other: &mut Option<HubSeat>,
     first: u32,
 ) -> (u32, u32)
-    requires ring { AreTwo ring.now one.old.seat other.old.seat }
+    requires ring { IsAt ring.now one.old × IsAt ring.now other.old }
     requires first { first < 500 }
-    ensures { AreTwo ring.now one.new.seat other.new.seat }
+    ensures { IsAt ring.now one.new × IsAt ring.now other.new }
 {
     join_mut(
         rt,
@@ -208,9 +231,9 @@ fn work_and_flush<R: Threads + Clock + Sync>(
     alloc: Global,
     crowd: &mut Crowd,
 ) -> ((u32, u32), (u32, u32))
-    requires four { AreFour crowd.old.hub crowd.old.first.seat crowd.old.second.seat crowd.old.third.seat crowd.old.fourth.seat crowd.old.flusher }
+    requires four { AreFour crowd.old.hub crowd.old.first crowd.old.second crowd.old.third crowd.old.fourth crowd.old.flusher }
     requires executed { crowd.old.flusher.executed ≡ crowd.old.flusher.stored }
-    ensures { AreFour crowd.new.hub crowd.new.first.seat crowd.new.second.seat crowd.new.third.seat crowd.new.fourth.seat crowd.new.flusher }
+    ensures { AreFour crowd.new.hub crowd.new.first crowd.new.second crowd.new.third crowd.new.fourth crowd.new.flusher }
 {
     let ring = crowd.hub.ring();
     let first = &mut crowd.first;
@@ -221,7 +244,7 @@ fn work_and_flush<R: Threads + Clock + Sync>(
     let (right, ()) = join_mut(
         rt,
         &mut || -> ((u32, u32), (u32, u32))
-            requires { AreTwo ring.now first.now.seat second.now.seat × AreTwo ring.now third.now.seat fourth.now.seat }
+            requires { IsAt ring.now first.now × IsAt ring.now second.now × IsAt ring.now third.now × IsAt ring.now fourth.now }
         { work_four(rt, alloc, ring, first, second, third, fourth) },
         &mut || flush_to(rt, alloc, ring, flusher, 576),
     );
@@ -232,28 +255,28 @@ fn work_four<R: Threads + Clock + Sync>(
     rt: &R,
     alloc: Global,
     ring: &HubRing,
-    first: &mut MemDesk,
-    second: &mut MemDesk,
-    third: &mut MemDesk,
-    fourth: &mut MemDesk,
+    first: &mut Option<HubSeat>,
+    second: &mut Option<HubSeat>,
+    third: &mut Option<HubSeat>,
+    fourth: &mut Option<HubSeat>,
 ) -> ((u32, u32), (u32, u32))
-    requires { AreTwo ring.now first.old.seat second.old.seat × AreTwo ring.now third.old.seat fourth.old.seat }
-    ensures { AreTwo ring.now first.new.seat second.new.seat × AreTwo ring.now third.new.seat fourth.new.seat }
+    requires { IsAt ring.now first.old × IsAt ring.now second.old × IsAt ring.now third.old × IsAt ring.now fourth.old }
+    ensures { IsAt ring.now first.new × IsAt ring.now second.new × IsAt ring.now third.new × IsAt ring.now fourth.new }
 {
     join_mut(
         rt,
         &mut || -> (u32, u32)
-            requires { AreTwo ring.now first.now.seat second.now.seat }
+            requires { IsAt ring.now first.now × IsAt ring.now second.now }
         { work_two(rt, alloc, ring, first, second, 0) },
         &mut || -> (u32, u32)
-            requires { AreTwo ring.now third.now.seat fourth.now.seat }
+            requires { IsAt ring.now third.now × IsAt ring.now fourth.now }
         { work_two(rt, alloc, ring, third, fourth, 96) },
     )
 }
 
-// Ends the hub, with the seats of all desks.
+// Ends the hub, with all four seats.
 fn close(alloc: Global, crowd: Crowd) -> Option<Closed<MemDisk>>
-    requires { AreFour crowd.hub crowd.first.seat crowd.second.seat crowd.third.seat crowd.fourth.seat crowd.flusher }
+    requires { AreFour crowd.hub crowd.first crowd.second crowd.third crowd.fourth crowd.flusher }
 {
     match Vec::with_capacity(alloc, 4) {
         Ok(seats) => close_with(crowd, seats),
@@ -265,7 +288,7 @@ fn close(alloc: Global, crowd: Crowd) -> Option<Closed<MemDisk>>
 }
 
 fn close_with(crowd: Crowd, seats: Vec<HubSeat>) -> Option<Closed<MemDisk>>
-    requires four { AreFour crowd.hub crowd.first.seat crowd.second.seat crowd.third.seat crowd.fourth.seat crowd.flusher }
+    requires four { AreFour crowd.hub crowd.first crowd.second crowd.third crowd.fourth crowd.flusher }
     requires room { (seats.items ≡ []) × (4 ≤ vec_capacity seats) }
 {
     let mut seats = seats;
@@ -277,10 +300,10 @@ fn close_with(crowd: Crowd, seats: Vec<HubSeat>) -> Option<Closed<MemDisk>>
         fourth,
         flusher,
     } = crowd;
-    seats.push_reserved(first.into_seat());
-    seats.push_reserved(second.into_seat());
-    seats.push_reserved(third.into_seat());
-    seats.push_reserved(fourth.into_seat());
+    seats.push_reserved(first.unwrap());
+    seats.push_reserved(second.unwrap());
+    seats.push_reserved(third.unwrap());
+    seats.push_reserved(fourth.unwrap());
     match hub.close(seats, flusher) {
         Ok(closed) => Some(closed),
         Err(_) => None,
@@ -293,7 +316,7 @@ fn run<R: Threads + Clock + Sync>(
     rt: &R,
     alloc: Global,
 ) -> Option<(((u32, u32), (u32, u32)), [u64; 4])> {
-    let mut crowd = crowd_of(alloc, new_hub(alloc, 262_144)?);
+    let mut crowd = crowd_of(new_hub(alloc, 262_144)?);
     let right = work_and_flush(rt, alloc, &mut crowd);
     let closed = close(alloc, crowd)?;
     let numbers = [closed.base, closed.claimed, closed.taken, closed.mark];
