@@ -33,42 +33,19 @@ pub fn worker<B: Bell, M: Ringers<B>, L: Link, P: Pacing>(
     ensures seat { (seat.new.ring ≡ seat.old.ring) × (seat.new.number ≡ seat.old.number) }
     ensures serves { Serves L.sent L.received seat.old link.old seat.new link.new }
 {
+    let number = seat.number();
     let mut slot = Slot::new(alloc);
-    let ended = slot.run(alloc, ring, seat, link, ringers, pace, turns);
-    drop(slot);
-    ended
-}
-
-impl<B: Bell> Slot<B> {
-    ghost use Rattle.desk_core.specs.Goings.{GoesOn};
-
-    // So many turns, or until it has ended.
-    fn run<M: Ringers<B>, L: Link, P: Pacing>(
-        &mut self,
-        alloc: Global,
-        ring: &BrokerRing<OutSender<B>>,
-        seat: &mut BrokerSeat<OutSender<B>>,
-        link: &mut L,
-        ringers: &M,
-        pace: &P,
-        turns: u64,
-    ) -> Ended
-        requires { seat.old.ring ≡ ring.now }
-        ensures { GoesOn L.sent L.received self.old seat.old link.old self.new seat.new link.new }
-    {
-        let number = seat.number();
-        for turn in 0..turns {
-            if !pace.pass(number, turn) {
-                continue;
-            }
-            let turned = self.turn(alloc, ring, seat, link, ringers);
-            if let Next::Over(ended) = turned.next {
-                return ended;
-            }
-            wait(pace, number, turned);
+    for turn in 0..turns {
+        if !pace.pass(number, turn) {
+            continue;
         }
-        Ended::Turns
+        let turned = slot.turn(alloc, ring, seat, link, ringers);
+        if let Next::Over(ended) = turned.next {
+            return ended;
+        }
+        wait(pace, number, turned);
     }
+    Ended::Turns
 }
 
 // Tells the pace of a turn, and leaves it to the pace when the next comes, where a mark is waited for or memory was refused.

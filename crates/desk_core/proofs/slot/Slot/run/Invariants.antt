@@ -1,5 +1,0 @@
-use Rattle.desk_core.specs.Goings.{GoesOn}
-use Rattle.desk_core.proofs.slot.Slot.run.Given as goal
-
-abbrev pub invariant-loop-turn : goal.invariant-loop-turn
-invariant-loop-turn g l = GoesOn g.L.Outgoing.sent g.L.Outgoing.received l.fn.self l.fn.seat l.fn.link l.self l.seat l.link
