@@ -17,12 +17,14 @@ and root, since they take a network of the script's own, and are left out where 
 - At the end one that sends SENDs with receipts shares its worker with an attacker, one of each kind in its turn. 99 of 100 of its receipts take no more
   than twice what they take while that attacker is at another worker. This may run beside other work, which comes and goes: so they are measured in
   turns, with the attacker elsewhere and beside, three times, and the best of each three tells. What the neighbour costs is there each time, what else
-  runs is not. Where all other workers have a client that never waits it may be three times: the ring is full of what these have sent, so that one waits
+  runs is not. Where other work takes half of the processors when it begins, 50 ms more are let pass, which is told: the system holds a worker up then
+  that has much to do. Where all other workers have a client that never waits it may be three times: the ring is full of what these have sent, so that one waits
   once round for room in its window, and once round for its own.
 """
 
 import ctypes
 import dataclasses
+import os
 import shutil
 import subprocess
 import sys
@@ -51,6 +53,8 @@ TIMES, MORE = 20, 0.2
 # And where one shares its worker with an attacker, by what they take while that is at another worker: so many times that, or so many where all other
 # workers have one that never waits; the best of so many rounds each, of so many seconds.
 SHARED, AMONG, ROUNDS, ROUND = 2, 3, 3, 1
+# So many seconds more where other work takes the processors: a worker that has much to do is held up by the system then, and one that sleeps is not.
+HELD_UP = 0.05
 
 # For a busy machine: how much later than it is said a place may be free, and how much earlier, since the server counts from what it saw first.
 SPARE, EARLY = 8, 2
@@ -198,29 +202,42 @@ def in_attack(broker, kind, one, places):
     return receipts
 
 
-def judge_neighbour(checks, kind, without, times, pair):
+def is_busy():
+    """Whether other work takes half of the processors or more."""
+    running = []
+    for _ in range(20):
+        with open("/proc/loadavg") as load:
+            running.append(int(load.read().split()[3].split("/")[0]) - 1)
+        time.sleep(0.05)
+    return sum(running) / len(running) >= os.cpu_count() / 2
+
+
+def judge_neighbour(checks, kind, without, times, more, pair):
     elsewhere, shared = pair
     name = f"beside one at its worker that is to {kind.name}, 99 of 100 receipts take at most {times} times what they take {without}"
-    checks.check(name, shared.within(99) <= times * elsewhere.within(99), str(shared))
+    checks.check(name, shared.within(99) <= times * elsewhere.within(99) + more, str(shared))
     checks.tell(f"half and 99 of 100 within {shared}; {without} {elsewhere}; {shared.within(99) / elsewhere.within(99):.1f} times")
 
 
 def share_a_worker(broker, checks):
     """One whose worker has nobody else, while each other worker has a client that never waits; and now and then there is one at its own worker too."""
-    one = Others(broker, 1)
+    one, more = Others(broker, 1), HELD_UP if is_busy() else 0
     busy = Attack([BUSY] * (WORKERS - 1), broker.port).begun()
     pair = best([(one.measure(ROUND), in_attack(broker, BUSY, one, WORKERS)) for _ in range(ROUNDS)])
-    judge_neighbour(checks, BUSY, "while all other workers have one", AMONG, pair)
+    judge_neighbour(checks, BUSY, "while all other workers have one", AMONG, more, pair)
     busy.end()
 
 
 def have_a_neighbour(broker, checks):
     """One whose worker has nobody else, and one of each kind that floods in turn, and of some that stall, at another worker and at its own; the other
     workers have a client each that says nothing."""
-    one = Others(broker, 1)
+    one, more = Others(broker, 1), HELD_UP if is_busy() else 0
+    if more:
+        checks.tell(f"other work takes the processors: {more * 1000:.0f} ms more are let pass")
     quiet = [attackers.in_session(broker.port) for _ in range(WORKERS - 2)]
     for kind in [BUSY, BODIES, *FLOODS, *STALLED[::3]]:
-        judge_neighbour(checks, kind, "while it is at another", SHARED, best([elsewhere_and_beside(broker, kind, one) for _ in range(ROUNDS)]))
+        pair = best([elsewhere_and_beside(broker, kind, one) for _ in range(ROUNDS)])
+        judge_neighbour(checks, kind, "while it is at another", SHARED, more, pair)
     for client in quiet:
         client.close()
 
