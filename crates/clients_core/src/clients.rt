@@ -1,6 +1,6 @@
 //! The clients of a worker.
 
-ghost use Rattle.std.specs.Prelude.{◌≡◌, ◌<◌, ◌+◌, ◌≤◌, ◌||◌, ◌∷◌, [], None, false, IfOk, IfSome, IsNone, OnOk, OnErr, length, option_map, slice_set};
+ghost use Rattle.std.specs.Prelude.{◌≡◌, ◌<◌, ◌+◌, ◌≤◌, ◌||◌, ◌∷◌, [], None, false, IfOk, IfSome, IsNone, MatchOption, Some, OnOk, OnErr, length, option_map, slice_set};
 ghost use Rattle.std.specs.Option.{option_copied};
 ghost use Rattle.clients_core.specs.declared.limits.TheConstants.{CLIENTS};
 ghost use Rattle.clients_core.specs.declared.timers.TheConstants.{NEVER};
@@ -211,6 +211,7 @@ impl Clients {
 
     /// A client is where it is said to be now. It stands in line again where more of its bytes may be there.
     pub fn stand(&mut self, number: usize, standing: Standing)
+        ensures there { MatchOption (client_at number self.old) (self.new.all ≡ self.old.all) (λ _. option_map (λ client. client.standing) (client_at number self.new) ≡ Some standing) }
         ensures lines { MayWake number self.old.lines self.new.lines }
         ensures rest { self.new ≡ record self.old { all = self.new.all; lines = self.new.lines } }
     {
