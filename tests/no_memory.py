@@ -109,9 +109,16 @@ def refuse_each(refusing, test):
     return seen, wrong
 
 
+def as_built():
+    """The environment of an rt that goes on with what bin/build has kept here: statements, unless proofs are kept."""
+    has_proofs = any(TOP.glob("crates/*/out/rlib"))
+    return dict(os.environ) if has_proofs else {**os.environ, "QUICK_RT_STATEMENTS": "1"}
+
+
 def built_tests(crate):
     """The program with the tests of a crate, which `rt test` proves and builds."""
-    ran = subprocess.run([sys.executable, QUICK_RT, "test"], cwd=TOP / "crates" / crate, capture_output=True, text=True, errors="replace")
+    words = [sys.executable, QUICK_RT, "test"]
+    ran = subprocess.run(words, cwd=TOP / "crates" / crate, env=as_built(), capture_output=True, text=True, errors="replace")
     if ran.returncode:
         sys.exit(f"no_memory: the tests of {crate} don't pass\n{ran.stdout[-2000:]}{ran.stderr[-2000:]}")
     return TOP / "crates" / crate / "out" / f"{crate}_tests"
