@@ -1,7 +1,7 @@
 //! One connection alone at a seat.
 
 ghost use Rattle.std.specs.Prelude.{◌≡◌};
-ghost use Rattle.desk_core.specs.Goings.{Serves};
+ghost use Rattle.desk_core.specs.Goings.{GoesOn, Serves};
 
 use crate::pacing::Pacing;
 use crate::ringers::Ringers;
@@ -33,17 +33,47 @@ pub fn worker<B: Bell, M: Ringers<B>, L: Link, P: Pacing>(
     ensures seat { (seat.new.ring ≡ seat.old.ring) × (seat.new.number ≡ seat.old.number) }
     ensures serves { Serves L.sent L.received seat.old link.old seat.new link.new }
 {
-    let number = seat.number();
+    let rounds = Rounds {
+        pace,
+        worker: seat.number(),
+        turns,
+    };
     let mut slot = Slot::new(alloc);
-    for turn in 0..turns {
-        if !pace.pass(number, turn) {
+    let ended = serve(alloc, ring, seat, link, ringers, &mut slot, &rounds);
+    drop(slot);
+    ended
+}
+
+// By whose pace turns are made, and how many at most.
+#[derive(Drop)]
+struct Rounds<'a, P> {
+    pace: &'a P,
+    worker: u32,
+    turns: u64,
+}
+
+// Gives a connection its turns, until it ends or there are no more.
+fn serve<B: Bell, M: Ringers<B>, L: Link, P: Pacing>(
+    alloc: Global,
+    ring: &BrokerRing<OutSender<B>>,
+    seat: &mut BrokerSeat<OutSender<B>>,
+    link: &mut L,
+    ringers: &M,
+    slot: &mut Slot<B>,
+    rounds: &Rounds<'_, P>,
+) -> Ended
+    requires { seat.old.ring ≡ ring.now }
+    ensures { GoesOn L.sent L.received slot.old seat.old link.old slot.new seat.new link.new }
+{
+    for turn in 0..rounds.turns {
+        if !rounds.pace.pass(rounds.worker, turn) {
             continue;
         }
         let turned = slot.turn(alloc, ring, seat, link, ringers);
         if let Next::Over(ended) = turned.next {
             return ended;
         }
-        wait(pace, number, turned);
+        wait(rounds.pace, rounds.worker, turned);
     }
     Ended::Turns
 }
