@@ -1,6 +1,6 @@
 //! Subscriptions and sessions begin and end.
 
-ghost use Rattle.std.specs.Prelude.{◌≡◌, ◌+◌, ◌-◌, ◌<◌, ◌≤◌, ◌^◌, ◌&&◌, [], ℕ, IfOk, IfSome, IsErr, MatchOption, OnOk, Some, count_by, drop, length, nat_le, not, remove, slice_get, take};
+ghost use Rattle.std.specs.Prelude.{◌≡◌, ◌+◌, ◌-◌, ◌<◌, ◌≤◌, ◌^◌, ◌&&◌, ◌++◌, ◌∷◌, [], ℕ, IfOk, IfSome, IsErr, MatchOption, OnOk, Some, count_by, drop, length, nat_le, not, remove, slice_get, take, true};
 ghost use Rattle.std.specs.BTreeMap.{insert_entry};
 ghost use Rattle.std.specs.List.{list_any, sum_by};
 ghost use Rattle.std.specs.Str.{bytes_eq};
@@ -10,6 +10,7 @@ ghost use Rattle.broker_state.specs.Names.{name_cmp};
 ghost use Rattle.broker_state.specs.Operations.{begun, client_in, ended, forgotten, given_up, given_up_for, is_named, is_of, name_for, restarted, subscribed, unsubscribed_by, uses, with_subscription, without};
 ghost use Rattle.broker_state.specs.Parts.{IsFirst, IsGivenAt, NonePass, but_at, leaving, without_at};
 ghost use Rattle.broker_state.specs.States.{bytes, one};
+ghost use Rattle.broker_operations.specs.Dues.{is_due};
 ghost use Rattle.broker_operations.specs.Places.{place_for};
 ghost use Rattle.broker_state.specs.declared.subscription.Subscription.{Subscription};
 
@@ -148,6 +149,23 @@ pub fn let_deliveries_go(held: &mut Held, deliveries: &[(u64, Message)])
     held.bytes -= bytes_of_deliveries(deliveries);
 }
 
+/// A subscription that begins waits last, and those of its session are due. Where memory is refused, they may be.
+fn enter(
+    alloc: Global,
+    due: &mut Vec<Key>,
+    order: &mut Order,
+    sub: Subscription,
+) -> Result<(), AllocError>
+    ensures kept { OnOk result ((other : Subscription) → is_due due.old.items other ≡ true → is_due due.new.items other ≡ true) }
+    ensures marked { OnOk result ((other : Subscription) → is_of sub.session other ≡ true → is_due due.new.items other ≡ true) }
+    ensures waits { OnOk result (order.new ≡ order.old ++ sub ∷ []) }
+{
+    match mark(due, Key::Session(sub.session)) {
+        Ok(()) => order.add(alloc, sub),
+        Err(refused) => Err(refused),
+    }
+}
+
 impl Tables {
     /// The name of a session's client, where it has one.
     fn client_of(&self, session: u64) -> Result<Option<GivenName>, AllocError>
@@ -228,14 +246,14 @@ impl Tables {
         ensures same { IfOk result (λ r. IsErr r.1 → r.0 ≡ self) }
     {
         match self.bind(&sub) {
-            Ok(Ok(())) => {
-                mark(&mut self.due, Key::Session(sub.session))?;
-                match self.order.add(alloc, sub) {
-                    Ok(()) => Ok((self, Ok(()))),
-                    Err(refused) => Err(refused),
-                }
+            Ok(Ok(())) => match enter(alloc, &mut self.due, &mut self.order, sub) {
+                Ok(()) => Ok((self, Ok(()))),
+                Err(refused) => Err(refused),
+            },
+            Ok(Err(fault)) => {
+                drop(sub);
+                Ok((self, Err(fault)))
             }
-            Ok(Err(fault)) => Ok((self, Err(fault))),
             Err(refused) => Err(refused),
         }
     }
