@@ -207,16 +207,26 @@ impl Tables {
     {
         let mut sub = self.order.remove(at);
         let delivery = self.next_delivery;
-        let out = hand_to(
+        let handed = hand_to(
             alloc,
             self.count,
             &mut sub,
             delivery,
             &mut self.shared,
             &mut self.held,
-        )?;
-        self.next_delivery += 1;
-        let out = wait_last(alloc, &mut self.order, sub, out)?;
-        Ok((self, out))
+        );
+        match handed {
+            Ok(out) => {
+                self.next_delivery += 1;
+                match wait_last(alloc, &mut self.order, sub, out) {
+                    Ok(out) => Ok((self, out)),
+                    Err(refused) => Err(refused),
+                }
+            }
+            Err(refused) => {
+                drop(sub);
+                Err(refused)
+            }
+        }
     }
 }

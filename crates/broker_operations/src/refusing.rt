@@ -1,15 +1,20 @@
 //! Deliveries are refused.
 
-ghost use Rattle.std.specs.Prelude.{◌≡◌, ◌+◌, ◌-◌, ◌<◌, ◌≤◌, ◌^◌, IfOk, IsErr, OnOk, if◌then◌else◌, length, nat_le};
+ghost use Rattle.std.specs.Prelude.{◌≡◌, ◌+◌, ◌-◌, ◌<◌, ◌≤◌, ◌^◌, IfOk, IsErr, OnOk, Some, if◌then◌else◌, length, nat_le, slice_get, true};
 ghost use Rattle.std.specs.List.{sum_by};
-ghost use Rattle.line_core.specs.Flights.{settled};
+ghost use Rattle.line_core.specs.Flights.{has_delivery, settled};
 ghost use Rattle.line_core.specs.Messages.{size_of};
 ghost use Rattle.broker_state.specs.declared.nack_rule.NackRule.TheVariants.{Keeps};
 ghost use Rattle.broker_state.specs.Dead.{dead_queue, is_dropped, nacked, refused, refused_from, with_refused};
 ghost use Rattle.broker_state.specs.Parts.{leaving};
-ghost use Rattle.broker_state.specs.States.{bytes};
+ghost use Rattle.broker_state.specs.declared.subscription.Subscription.{Subscription};
+ghost use Rattle.broker_state.specs.Lists.{changed};
+ghost use Rattle.broker_state.specs.Operations.{is_of, settled_by};
+ghost use Rattle.broker_state.specs.States.{bytes, one};
 ghost use Rattle.broker_state.specs.Names.{text_cmp};
 ghost use Rattle.broker_state.specs.Waiting.{is_own, with_message};
+ghost use Rattle.broker_operations.specs.Dues.{is_due};
+ghost use Rattle.waiting_core.specs.Directories.{is_plain_at};
 ghost use Rattle.broker_operations.specs.Refusals.{all_kept, all_kept_bytes, kept_bytes, kept_one};
 
 use crate::acknowledging::find_awaiting;
@@ -21,6 +26,7 @@ use broker_state::{Held, MOST_BYTES, NackRule, Subscription};
 use command_core::{AckMode, Dest, DestFault, Fault, Sending};
 use line_core::{Message, MessageNumber, settles, size};
 use std::alloc::{AllocError, Global};
+use waiting_core::Order;
 
 /// The queue of the messages that were refused.
 const DEAD_QUEUE: &str = "/queue/dead";
@@ -173,6 +179,58 @@ fn keep(
     Ok(())
 }
 
+/// What the refusal of a delivery settles leaves the subscription in that place; those of the session are due, and those of
+/// the queue of refused messages. Where memory is refused, some of them may be.
+fn take_refused(
+    alloc: Global,
+    due: &mut Vec<Key>,
+    order: &mut Order,
+    at: usize,
+    session: u64,
+    delivery: u64,
+) -> Result<Vec<(u64, Message)>, AllocError>
+    requires place { at < length order.old }
+    requires known { (sub : Subscription) → slice_get order.old at ≡ Some sub → has_delivery delivery sub.unacknowledged ≡ true }
+    ensures kept { OnOk result ((sub : Subscription) → is_due due.old.items sub ≡ true → is_due due.new.items sub ≡ true) }
+    ensures session { OnOk result ((sub : Subscription) → is_of session sub ≡ true → is_due due.new.items sub ≡ true) }
+    ensures dead { OnOk result ((sub : Subscription) → is_plain_at dead_queue sub ≡ true → is_due due.new.items sub ≡ true) }
+    ensures settled { IfOk result (λ out. (sub : Subscription) → slice_get order.old at ≡ Some sub
+        → out.items ≡ settled sub.mode delivery sub.unacknowledged) }
+    ensures unsettled { OnOk result (order.new ≡ changed at (settled_by delivery) order.old) }
+{
+    mark(due, Key::Session(session))?;
+    let dead = dead_queue(alloc)?;
+    mark(due, Key::Destination(dead))?;
+    order.settle(at, delivery)
+}
+
+/// Settled messages are held no more where they were, and those that are kept go to the queue of refused ones, from that
+/// number on. Where memory is refused, part of it may be done.
+fn move_refused(
+    alloc: Global,
+    shared: &mut SharedLines,
+    held: &mut Held,
+    own: bool,
+    first: MessageNumber,
+    settled: Vec<(u64, Message)>,
+) -> Result<(), AllocError>
+    requires within { (held.old.messages ≤ 4096) × (held.old.bytes ≤ 16777216) }
+    requires places { first.place + length settled.items < 2 ^ 32 }
+    requires messages { sum_by (λ delivery. one delivery.1) settled.items ≤ held.old.messages }
+    requires bytes { sum_by (λ delivery. bytes delivery.1) settled.items ≤ held.old.bytes }
+    requires small { held.old.bytes - sum_by (λ delivery. bytes delivery.1) settled.items + all_kept_bytes own settled.items ≤ 16777216 }
+    ensures lines { OnOk result (shared.new ≡ record shared.old {
+      queues = with_refused (refused_from (is_dropped own) first.command first.place settled.items) shared.old.queues;
+    }) }
+    ensures messages { OnOk result (held.new.messages + sum_by (λ delivery. one delivery.1) settled.items
+        ≡ held.old.messages + all_kept own settled.items) }
+    ensures bytes { OnOk result (held.new.bytes + sum_by (λ delivery. bytes delivery.1) settled.items
+        ≡ held.old.bytes + all_kept_bytes own settled.items) }
+{
+    let_deliveries_go(held, settled.as_slice());
+    keep(alloc, shared, held, own, first, settled)
+}
+
 impl Tables {
     /// A delivery of a session is refused, with those that the mode of its subscription settles besides, by that place among
     /// the members of the command that is being carried out, which is 0 for a plain NACK. By the rule that keeps, those go
@@ -220,12 +278,15 @@ impl Tables {
             command: self.count,
             place: 64 + 16 * member,
         };
-        mark(&mut self.due, Key::Session(session))?;
-        let dead = dead_queue(alloc)?;
-        mark(&mut self.due, Key::Destination(dead))?;
-        let settled = self.order.settle(at, delivery)?;
-        let_deliveries_go(&mut self.held, settled.as_slice());
-        keep(alloc, &mut self.shared, &mut self.held, own, first, settled)?;
-        Ok((self, Ok(())))
+        let taken = take_refused(alloc, &mut self.due, &mut self.order, at, session, delivery);
+        match taken {
+            Ok(settled) => {
+                match move_refused(alloc, &mut self.shared, &mut self.held, own, first, settled) {
+                    Ok(()) => Ok((self, Ok(()))),
+                    Err(refused) => Err(refused),
+                }
+            }
+            Err(refused) => Err(refused),
+        }
     }
 }

@@ -1,12 +1,16 @@
 //! Messages are sent.
 
-ghost use Rattle.std.specs.Prelude.{◌≡◌, ◌+◌, ◌<◌, ◌≤◌, ◌&&◌, ◌^◌, ℕ, IfOk, IsErr, OnOk, count_by, false, map};
+ghost use Rattle.std.specs.Prelude.{◌≡◌, ◌+◌, ◌<◌, ◌≤◌, ◌&&◌, ◌^◌, ℕ, IfOk, IsErr, OnOk, count_by, false, map, true};
+ghost use Rattle.std.specs.List.{list_any};
 ghost use Rattle.std.specs.Str.{bytes_eq};
 ghost use Rattle.record_core.specs.Destinations.{is_queue};
-ghost use Rattle.broker_state.specs.Operations.{copied, copied_to_names, sent};
+ghost use Rattle.broker_state.specs.declared.subscription.Subscription.{Subscription};
+ghost use Rattle.broker_state.specs.Operations.{copied, copied_to_names, sent, uses};
 ghost use Rattle.broker_state.specs.Parts.{copies_to, find_room, leaving};
 ghost use Rattle.broker_operations.specs.Sendings.{IsFannedOut};
 ghost use Rattle.broker_state.specs.Waiting.{is_own};
+ghost use Rattle.waiting_core.specs.Directories.{is_plain_at};
+ghost use Rattle.broker_operations.specs.Dues.{is_due};
 
 use crate::due::{Key, mark, mark_names};
 use crate::shared_lines::SharedLines;
@@ -128,6 +132,45 @@ fn fan_out(
     }
 }
 
+/// Those are due that may be served once a message has gone to that destination. Where memory is refused, some of them may
+/// be.
+fn mark_destination(
+    due: &mut Vec<Key>,
+    durables: &BTreeMap<DurableName, Dest>,
+    to: &Dest,
+) -> Result<(), AllocError>
+    ensures kept { OnOk result ((sub : Subscription) → is_due due.old.items sub ≡ true → is_due due.new.items sub ≡ true) }
+    ensures plain { OnOk result ((sub : Subscription) → is_plain_at to.now sub ≡ true → is_due due.new.items sub ≡ true) }
+    ensures named { OnOk result ((sub : Subscription) → list_any (λ durable. bytes_eq durable.1 to.now && uses durable.0 sub) durables.now.entries ≡ true
+        → is_due due.new.items sub ≡ true) }
+{
+    let own = to.clone()?;
+    mark_names(due, durables, to)?;
+    mark(due, Key::Destination(own))
+}
+
+/// A message goes into its lines, and those are due that may be served from them. Where memory is refused, part of it may
+/// be done.
+fn take_in(
+    alloc: Global,
+    due: &mut Vec<Key>,
+    durables: &BTreeMap<DurableName, Dest>,
+    shared: &mut SharedLines,
+    order: &mut Order,
+    message: Message,
+) -> Result<(), AllocError>
+    ensures kept { OnOk result ((sub : Subscription) → is_due due.old.items sub ≡ true → is_due due.new.items sub ≡ true) }
+    ensures plain { OnOk result ((sub : Subscription) → is_plain_at message.sending.destination sub ≡ true → is_due due.new.items sub ≡ true) }
+    ensures named { OnOk result ((sub : Subscription) → list_any (λ durable. bytes_eq durable.1 message.sending.destination && uses durable.0 sub) durables.now.entries ≡ true
+        → is_due due.new.items sub ≡ true) }
+    ensures fanned { OnOk result (IsFannedOut message durables.now.entries shared.old order.old shared.new order.new) }
+{
+    match mark_destination(due, durables, message.sending.destination()) {
+        Ok(()) => fan_out(alloc, durables, shared, order, message),
+        Err(refused) => Err(refused),
+    }
+}
+
 impl Tables {
     /// A message is sent by the command that is being carried out, at that place among its members. Refused where its copies
     /// find no room, and then the tables are as they were. Where memory is refused, nothing is left of them.
@@ -144,6 +187,7 @@ impl Tables {
         let copies = copies_to(&self, sending.destination());
         let bytes = size(&sending) as u64;
         if !find_room(&self.held, copies, bytes) {
+            drop(sending);
             return Ok((self, Err(Fault::NoRoom)));
         }
         let message = Message {
@@ -153,18 +197,21 @@ impl Tables {
             },
             sending,
         };
-        let to = message.sending.destination().clone()?;
-        mark_names(&mut self.due, &self.durables, &to)?;
-        mark(&mut self.due, Key::Destination(to))?;
-        fan_out(
+        let taken = take_in(
             alloc,
+            &mut self.due,
             &self.durables,
             &mut self.shared,
             &mut self.order,
             message,
-        )?;
-        self.held.messages += copies;
-        self.held.bytes += copies * bytes;
-        Ok((self, Ok(())))
+        );
+        match taken {
+            Ok(()) => {
+                self.held.messages += copies;
+                self.held.bytes += copies * bytes;
+                Ok((self, Ok(())))
+            }
+            Err(refused) => Err(refused),
+        }
     }
 }

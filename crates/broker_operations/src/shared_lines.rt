@@ -168,19 +168,26 @@ impl SharedLines {
             ≡ weight_of_shared weight self.old + weight_of_subscription weight sub) }
     {
         let Subscription {
+            id,
             destination,
             durable,
             line,
             unacknowledged,
             ..
         } = sub;
-        let deliveries = self.return_deliveries(
+        drop(id);
+        let returned = self.return_deliveries(
             alloc,
             &durable,
             &destination,
             unacknowledged.into_vec(),
-        )?;
-        Ok(Gone { line, deliveries })
+        );
+        drop(durable);
+        drop(destination);
+        match returned {
+            Ok(deliveries) => Ok(Gone { line, deliveries }),
+            Err(refused) => Err(refused),
+        }
     }
 
     /// The messages of deliveries stand in the line of that durable name or else of that queue again; gives those of a

@@ -1,19 +1,23 @@
 //! Subscriptions and sessions begin and end.
 
-ghost use Rattle.std.specs.Prelude.{◌≡◌, ◌+◌, ◌-◌, ◌<◌, ◌≤◌, ◌^◌, ◌&&◌, [], ℕ, IfOk, IfSome, IsErr, MatchOption, OnOk, Some, count_by, drop, length, nat_le, not, remove, slice_get, take};
+ghost use Rattle.std.specs.Prelude.{◌≡◌, ◌+◌, ◌-◌, ◌<◌, ◌≤◌, ◌^◌, ◌&&◌, ◌++◌, ◌∷◌, [], ℕ, IfOk, IfSome, IsErr, MatchOption, OnOk, Some, count_by, drop, false, length, nat_le, not, remove, slice_get, take, true};
 ghost use Rattle.std.specs.BTreeMap.{insert_entry};
 ghost use Rattle.std.specs.List.{list_any, sum_by};
 ghost use Rattle.std.specs.Str.{bytes_eq};
 ghost use Rattle.line_core.specs.declared.message.Message.{Message};
 ghost use Rattle.record_core.specs.Texts.{IsGiven};
+ghost use Rattle.record_core.specs.declared.ack_mode.AckMode.{AckMode};
 ghost use Rattle.broker_state.specs.Names.{name_cmp};
-ghost use Rattle.broker_state.specs.Operations.{begun, client_in, ended, forgotten, given_up, given_up_for, is_named, is_of, name_for, restarted, subscribed, unsubscribed_by, uses, with_subscription, without};
+ghost use Rattle.broker_state.specs.Operations.{begun, begun_for, client_in, ended, forgotten, given_up, given_up_for, is_named, is_of, name_for, restarted, subscribed, unsubscribed_by, uses, with_subscription, without};
 ghost use Rattle.broker_state.specs.Parts.{IsFirst, IsGivenAt, NonePass, but_at, leaving, without_at};
-ghost use Rattle.broker_state.specs.States.{bytes, one};
+ghost use Rattle.broker_state.specs.States.{bytes, one, weight_of_subscription};
+ghost use Rattle.broker_state.specs.Waiting.{Shared, line_for, returned, weight_of_shared};
+ghost use Rattle.broker_operations.specs.Dues.{is_due};
 ghost use Rattle.broker_operations.specs.Places.{place_for};
 ghost use Rattle.broker_state.specs.declared.subscription.Subscription.{Subscription};
 
 use crate::due::{Key, mark, mark_line};
+use crate::shared_lines::SharedLines;
 use crate::tables::Tables;
 use broker_state::{DurableName, GivenName, Held, MOST_NAMES, MOST_SUBSCRIPTIONS, Subscription};
 use command_core::{AckMode, Dest, Fault, HeaderText};
@@ -148,6 +152,53 @@ pub fn let_deliveries_go(held: &mut Held, deliveries: &[(u64, Message)])
     held.bytes -= bytes_of_deliveries(deliveries);
 }
 
+/// A subscription that begins waits last, and those of its session are due. Where memory is refused, they may be.
+fn enter(
+    alloc: Global,
+    due: &mut Vec<Key>,
+    order: &mut Order,
+    sub: Subscription,
+) -> Result<(), AllocError>
+    ensures kept { OnOk result ((other : Subscription) → is_due due.old.items other ≡ true → is_due due.new.items other ≡ true) }
+    ensures marked { OnOk result ((other : Subscription) → is_of sub.session other ≡ true → is_due due.new.items other ≡ true) }
+    ensures waits { OnOk result (order.new ≡ order.old ++ sub ∷ []) }
+{
+    match mark(due, Key::Session(sub.session)) {
+        Ok(()) => order.add(alloc, sub),
+        Err(refused) => Err(refused),
+    }
+}
+
+/// What a subscription that has ended has not acknowledged stands in its line again, and those are due that are served from
+/// it, unless the line was its own; what vanishes with it is held no more. Where memory is refused, part of it may be done.
+fn let_go(
+    alloc: Global,
+    due: &mut Vec<Key>,
+    shared: &mut SharedLines,
+    held: &mut Held,
+    sub: Subscription,
+) -> Result<(), AllocError>
+    requires within { held.old.bytes ≤ 16777216 }
+    requires messages { weight_of_shared one shared.old + weight_of_subscription one sub ≤ held.old.messages }
+    requires bytes { weight_of_shared bytes shared.old + weight_of_subscription bytes sub ≤ held.old.bytes }
+    ensures kept { OnOk result ((other : Subscription) → is_due due.old.items other ≡ true → is_due due.new.items other ≡ true) }
+    ensures marked { OnOk result ((lines : Shared) (other : Subscription) → is_due due.new.items other ≡ false
+        → line_for (returned lines sub) other ≡ line_for lines other) }
+    ensures lines { OnOk result (shared.new ≡ returned shared.old sub) }
+    ensures messages { OnOk result (held.new.messages + weight_of_shared one shared.old + weight_of_subscription one sub
+        ≡ held.old.messages + weight_of_shared one shared.new) }
+    ensures bytes { OnOk result (held.new.bytes + weight_of_shared bytes shared.old + weight_of_subscription bytes sub
+        ≡ held.old.bytes + weight_of_shared bytes shared.new) }
+    ensures fewer { OnOk result (held.new.messages ≤ held.old.messages) }
+    ensures lighter { OnOk result (held.new.bytes ≤ held.old.bytes) }
+{
+    mark_line(due, &sub)?;
+    let gone = shared.take_back(alloc, sub)?;
+    let_line_go(held, gone.line);
+    let_deliveries_go(held, gone.deliveries.as_slice());
+    Ok(())
+}
+
 impl Tables {
     /// The name of a session's client, where it has one.
     fn client_of(&self, session: u64) -> Result<Option<GivenName>, AllocError>
@@ -179,6 +230,25 @@ impl Tables {
         }
     }
 
+    /// The durable name of a session's subscription of that id, which is to begin, where one is given. Refused where the
+    /// session has one of that id, or 16, and with a durable name where the session's client has no name.
+    fn find_name(
+        &self,
+        session: u64,
+        id: &HeaderText,
+        destination: &Dest,
+        durable: Option<HeaderText>,
+    ) -> Result<Result<Option<DurableName>, Fault>, AllocError>
+        requires form { IsGiven durable }
+        ensures { IfOk result (λ r. (mode : AckMode) → subscribed self.now session id.now destination.now mode durable
+            ≡ begun_for self.now session id.now destination.now mode r) }
+    {
+        match find_place(&self.order, session, id) {
+            Ok(()) => self.name_for(session, destination, durable),
+            Err(fault) => Ok(Err(fault)),
+        }
+    }
+
     /// A subscription begins and waits last, under a durable name where one is given. Refused where the session has one of
     /// that id, or 16; with a durable name, where the session's client has no name, where somebody uses the durable name or
     /// it is another topic's, and where it were the 257th. The tables are as they were then. Where memory is refused, nothing
@@ -196,11 +266,8 @@ impl Tables {
         ensures subscribed { IfOk result (λ r. subscribed self session id destination mode durable ≡ leaving r.1 r.0) }
         ensures same { IfOk result (λ r. IsErr r.1 → r.0 ≡ self) }
     {
-        if let Err(fault) = find_place(&self.order, session, &id) {
-            return Ok((self, Err(fault)));
-        }
-        match self.name_for(session, &destination, durable)? {
-            Ok(durable) => self.begin(
+        match self.find_name(session, &id, &destination, durable) {
+            Ok(Ok(durable)) => self.begin(
                 alloc,
                 Subscription {
                     session,
@@ -212,7 +279,12 @@ impl Tables {
                     unacknowledged: Flight::new(alloc),
                 },
             ),
-            Err(fault) => Ok((self, Err(fault))),
+            Ok(Err(fault)) => {
+                drop(id);
+                drop(destination);
+                Ok((self, Err(fault)))
+            }
+            Err(refused) => Err(refused),
         }
     }
 
@@ -228,15 +300,18 @@ impl Tables {
         ensures same { IfOk result (λ r. IsErr r.1 → r.0 ≡ self) }
     {
         match self.bind(&sub) {
-            Ok(Ok(())) => {
-                mark(&mut self.due, Key::Session(sub.session))?;
-                match self.order.add(alloc, sub) {
-                    Ok(()) => Ok((self, Ok(()))),
-                    Err(refused) => Err(refused),
-                }
+            Ok(Ok(())) => match enter(alloc, &mut self.due, &mut self.order, sub) {
+                Ok(()) => Ok((self, Ok(()))),
+                Err(refused) => Err(refused),
+            },
+            Ok(Err(fault)) => {
+                drop(sub);
+                Ok((self, Err(fault)))
             }
-            Ok(Err(fault)) => Ok((self, Err(fault))),
-            Err(refused) => Err(refused),
+            Err(refused) => {
+                drop(sub);
+                Err(refused)
+            }
         }
     }
 
@@ -309,12 +384,16 @@ impl Tables {
         ensures given_up { IfOk result (λ r. given_up_for (without_at self at) (client_in self.sessions session) name ≡ leaving r.1 r.0) }
         ensures same { IfOk result (λ r. IsErr r.1 → r.0 ≡ self) }
     {
-        match self.client_of(session)? {
-            Some(client) => {
+        match self.client_of(session) {
+            Ok(Some(client)) => {
                 let name = DurableName::new(client, name);
                 self.give_up_name(alloc, at, &name)
             }
-            None => Ok((self, Err(Fault::NoClientId))),
+            Ok(None) => {
+                drop(name);
+                Ok((self, Err(Fault::NoClientId)))
+            }
+            Err(refused) => Err(refused),
         }
     }
 
@@ -369,11 +448,10 @@ impl Tables {
             → tables ≡ without self sub (remove self.subscriptions at)) }
     {
         let sub = self.order.remove(at);
-        mark_line(&mut self.due, &sub)?;
-        let gone = self.shared.take_back(alloc, sub)?;
-        let_line_go(&mut self.held, gone.line);
-        let_deliveries_go(&mut self.held, gone.deliveries.as_slice());
-        Ok(self)
+        match let_go(alloc, &mut self.due, &mut self.shared, &mut self.held, sub) {
+            Ok(()) => Ok(self),
+            Err(refused) => Err(refused),
+        }
     }
 
     /// The session ends, with all its subscriptions. Where memory is refused, nothing is left of the tables.

@@ -9,7 +9,7 @@ by_name : (shared : Shared) (sub : Subscription) (durable : Option Name) → ret
 by_name shared sub None = refl
 by_name shared sub (Some name) = refl
 
-pub returns-clause-shared : goal.returns-clause-shared
-returns-clause-shared c =
+pub returns-in-Ok-clause-shared : goal.returns-in-Ok-clause-shared
+returns-in-Ok-clause-shared c =
     let sub = c.args.sub in
-    c.in_ok-deliveries.ensures.shared ∙ ap (returned_to c.args.self.now sub.durable sub.destination) c.into_vec.ensures.value ∙ by_name c.args.self.now sub sub.durable
+    c.in-Ok.ensures.shared ∙ ap (returned_to c.args.self.now sub.durable sub.destination) c.into_vec.ensures.value ∙ by_name c.args.self.now sub sub.durable

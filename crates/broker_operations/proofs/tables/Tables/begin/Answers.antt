@@ -15,8 +15,8 @@ invariant_of-self c =
     let sub = c.args.sub in
     let tallied = c.self.invariant in
     let s = shown a.count a.next_delivery a.sessions.entries a.durables.entries a.shared a.order in
-    let t = shown a.count a.next_delivery a.sessions.entries a.durables.entries a.shared c.add.new.self in
-    let more = c.in-Ok.ensures.ok in
+    let t = shown a.count a.next_delivery a.sessions.entries a.durables.entries a.shared c.enter.new.order in
+    let more = c.in-Ok.ensures.waits in
     let IsUnder = λ (x : Subscription). IsOver a.next_delivery x.unacknowledged in
     record {
       messages = omega (arith, tallied.messages, ap (sum_by (weight_of_subscription one)) more, sum_by_push (weight_of_subscription one) a.order sub, ap (sum_by one) c.requires.fresh.0, ap (sum_by (λ (d : ℕ × Message). one d.1)) c.requires.fresh.1);
@@ -25,5 +25,5 @@ invariant_of-self c =
       small = tallied.small;
       next = subst (AllByRecursion IsUnder) (sym more) (all_with IsUnder a.order sub tallied.next (subst (IsOver a.next_delivery) (sym c.requires.fresh.1) tt));
       deliveries = tallied.deliveries;
-      ready = due_begun a.due.items s tallied.ready t c.mark.new.due.items c.in_ok-mark-in-Ok-Ok.ensures.kept refl (λ x other. refl) sub more (c.in_ok-mark-in-Ok-Ok.ensures.marked sub (of_itself sub));
+      ready = due_begun a.due.items s tallied.ready t c.enter.new.due.items c.in-Ok.ensures.kept refl (λ x other. refl) sub more (c.in-Ok.ensures.marked sub (of_itself sub));
     }

@@ -1,18 +1,13 @@
-use Rattle.std.proofs.Common.{◌≡◌, ◌&&◌, ◌∙◌, ◌+◌, ◌*◌, List, ℕ, true, false, Ok, ap, arith, nat_le, rules, subst, sym}
+use Rattle.std.proofs.Common.{◌≡◌, ◌∙◌, ◌+◌, ◌*◌, true, false, Ok, ap, arith, nat_le, rules, subst, sym}
 use Rattle.std.proofs.lemmas.Bool.{and_parts}
 use Rattle.std.proofs.lemmas.Bool.Decides.{nat_tests}
 use Rattle.line_core.specs.Messages.{size_of}
-use Rattle.broker_state.specs.Operations.{message_of, uses}
+use Rattle.broker_state.specs.Operations.{message_of}
 use Rattle.broker_state.specs.Parts.{copies_to}
 use Rattle.broker_state.specs.States.{IsNext, State, bytes, held_bytes, held_messages, one}
 use Rattle.broker_operations.specs.Tables.{shown}
 use Rattle.broker_state.proofs.Sendings.{next-fanned_out, room_by, sent_by, weight-fanned_out}
-use Rattle.std.specs.List.{list_any}
-use Rattle.std.specs.Str.{bytes_eq}
-use Rattle.broker_state.specs.declared.subscription.Subscription.{Subscription}
-use Rattle.broker_state.specs.Names.{Name}
-use Rattle.broker_operations.specs.Dues.{AreDue, is_due}
-use Rattle.waiting_core.specs.Directories.{is_plain_at}
+use Rattle.broker_operations.specs.Dues.{AreDue}
 use Rattle.broker_operations.proofs.Dues.{due_sent}
 use Rattle.broker_operations.proofs.tables.Tables.send.Goals as goal
 
@@ -38,7 +33,7 @@ invariant_of-self c =
     let given = subst (λ (t : State). c.copies_to-copies.result ≡ copies_to c.destination.result.now t.durables t.subscriptions) (sym c.self.view_is) c.copies_to-copies.ensures in
     let copies : c.copies_to-copies.result ≡ copies_to c.args.sending.destination s.durables s.subscriptions = given ∙ ap (λ to. copies_to to s.durables s.subscriptions) c.destination.ensures.value in
     let total : c.copies_to-copies.result * c.size-bytes.result ≡ copies_to c.args.sending.destination s.durables s.subscriptions * size_of c.args.sending = ap (λ n. n * c.size-bytes.result) copies ∙ ap (λ n. copies_to c.args.sending.destination s.durables s.subscriptions * n) c.size-bytes.ensures.size in
-    let is = c.in_ok-fan_out.ensures s in
+    let is = c.in-Ok.ensures.fanned s in
     record {
       messages = omega (arith, tallied.messages, weight-fanned_out s m sorted.names sorted.queues one, ap held_messages is, copies);
       bytes = omega (arith, tallied.bytes, weight-fanned_out s m sorted.names sorted.queues bytes, ap held_bytes is, total);
@@ -47,17 +42,11 @@ invariant_of-self c =
       next = subst IsNext is (next-fanned_out s m tallied.next);
       deliveries = tallied.deliveries;
       ready =
-          let to = c.args.sending.destination in
-          let keys = c.mark.new.due.items in
-          let same_to : c.in_ok-to.to ≡ to = search rules in
-          let old = λ (x : Subscription) (was : is_due a.due.items x ≡ true). c.in_ok-mark.ensures.kept x (c.in_ok-mark_names.ensures.kept x was) in
-          let plain = λ (x : Subscription) (listens : is_plain_at to x ≡ true). c.in_ok-mark.ensures.marked x (ap (λ (q : List ℕ). is_plain_at q x) same_to ∙ listens) in
-          let named = λ (x : Subscription) (bound : list_any (λ (durable : Name × List ℕ). bytes_eq durable.1 to && uses durable.0 x) a.durables.entries ≡ true). c.in_ok-mark.ensures.kept x (c.in_ok-mark_names.ensures.marked x (subst (λ (q : List ℕ). list_any (λ (durable : Name × List ℕ). bytes_eq durable.1 q && uses durable.0 x) a.durables.entries ≡ true) (sym same_to) bound)) in
-          subst (AreDue keys) is (due_sent m a.due.items s tallied.ready keys old plain named);
+          subst (AreDue c.take_in-taken.new.due.items) is (due_sent m a.due.items s tallied.ready c.take_in-taken.new.due.items c.in-Ok.ensures.kept c.in-Ok.ensures.plain c.in-Ok.ensures.named);
     }
 
-pub returns-clause-sent : goal.returns-clause-sent
-returns-clause-sent c =
+pub returns-in-Ok-clause-sent : goal.returns-in-Ok-clause-sent
+returns-in-Ok-clause-sent c =
     let a = c.self.inside in
     let s = shown a.count a.next_delivery a.sessions.entries a.durables.entries a.shared a.order in
     let sorted = c.stand_in_order.ensures in
@@ -65,4 +54,4 @@ returns-clause-sent c =
     let given = subst (λ (t : State). c.copies_to-copies.result ≡ copies_to c.destination.result.now t.durables t.subscriptions) (sym c.self.view_is) c.copies_to-copies.ensures in
     let copies : c.copies_to-copies.result ≡ copies_to c.args.sending.destination s.durables s.subscriptions = given ∙ ap (λ to. copies_to to s.durables s.subscriptions) c.destination.ensures.value in
     rw (← c.self.view_is) (sent_by s c.args.place c.args.sending true (room_by s (message_of a.count c.args.place c.args.sending) sorted.names sorted.queues a.held.messages a.held.bytes c.copies_to-copies.result c.size-bytes.result c.self.invariant.messages c.self.invariant.bytes copies c.size-bytes.ensures.size ∙ sym c.find_room.ensures ∙ yes)
-    ∙ ap (λ t. Ok t) (c.in_ok-fan_out.ensures s))
+    ∙ ap (λ t. Ok t) (c.in-Ok.ensures.fanned s))

@@ -22,22 +22,22 @@ waits_for : (s : State) (sub : Subscription) → can_take s sub ≡ true → is_
 waits_for s sub ready =
     not_so (is_none (line_for s.shared sub)) (and_parts (nat_lt s.next_delivery (2 ^ 63) && has_room sub) (not (is_none (line_for s.shared sub))) ready).1
 
-pub hand_to-requires-clause-waits : goal.hand_to-requires-clause-waits
-hand_to-requires-clause-waits c =
+pub hand_to-handed-requires-clause-waits : goal.hand_to-handed-requires-clause-waits
+hand_to-handed-requires-clause-waits c =
     let a = c.self.inside in
     waits_for (shown a.count a.next_delivery a.sessions.entries a.durables.entries a.shared a.order) c.remove-sub.result ((rw (← c.self.view_is) at c.requires.ready) c.remove-sub.result c.remove-sub.ensures.taken)
 
-pub hand_to-requires-clause-over : goal.hand_to-requires-clause-over
-hand_to-requires-clause-over c =
+pub hand_to-handed-requires-clause-over : goal.hand_to-handed-requires-clause-over
+hand_to-handed-requires-clause-over c =
     one_of_all (λ x. IsOver c.self.inside.next_delivery x.unacknowledged) c.self.inside.order c.args.at c.remove-sub.result c.remove-sub.ensures.taken c.self.invariant.next
 
-pub hand_to-requires-clause-messages : goal.hand_to-requires-clause-messages
-hand_to-requires-clause-messages c =
+pub hand_to-handed-requires-clause-messages : goal.hand_to-handed-requires-clause-messages
+hand_to-handed-requires-clause-messages c =
     let place = rw (← c.self.view_is) at c.requires.place in
     omega (arith, sum_others c.self.inside.order c.args.at c.remove-sub.result place c.remove-sub.ensures.taken (weight_of_subscription one), c.self.invariant.messages)
 
-pub hand_to-requires-clause-bytes : goal.hand_to-requires-clause-bytes
-hand_to-requires-clause-bytes c =
+pub hand_to-handed-requires-clause-bytes : goal.hand_to-handed-requires-clause-bytes
+hand_to-handed-requires-clause-bytes c =
     let place = rw (← c.self.view_is) at c.requires.place in
     omega (arith, sum_others c.self.inside.order c.args.at c.remove-sub.result place c.remove-sub.ensures.taken (weight_of_subscription bytes), c.self.invariant.bytes)
 
@@ -45,13 +45,13 @@ pub invariant_of-self : goal.invariant_of-self
 invariant_of-self c =
     let a = c.self.inside in
     let t = c.self.invariant in
-    let h = c.in_ok-out.ensures.handed in
+    let h = c.in-Ok.ensures.handed in
     let line = first_and_rest _ _ h.taken in
     let place = rw (← c.self.view_is) at c.requires.place in
     let flight = ap (λ (x : Subscription). x.unacknowledged) h.line in
-    let after = λ (w : Message → ℕ). held_after a.order c.args.at c.remove-sub.result place c.remove-sub.ensures.taken a.shared c.hand_to.new.shared h.left h.message (drop 1 (line_for a.shared c.remove-sub.result)) (λ v. rw line at (h.weight v)) w a.next_delivery flight in
+    let after = λ (w : Message → ℕ). held_after a.order c.args.at c.remove-sub.result place c.remove-sub.ensures.taken a.shared c.hand_to-handed.new.shared h.left h.message (drop 1 (line_for a.shared c.remove-sub.result)) (λ v. rw line at (h.weight v)) w a.next_delivery flight in
     let ready = number_of_ready (shown a.count a.next_delivery a.sessions.entries a.durables.entries a.shared a.order) c.remove-sub.result ((rw (← c.self.view_is) at c.requires.ready) c.remove-sub.result c.remove-sub.ensures.taken) in
-    let subs = rw (c.remove-sub.ensures.others, h.handed) at c.in_ok-out-2.ensures.waits in
+    let subs = rw (c.remove-sub.ensures.others, h.handed) at c.in-Ok-wait_last.ensures.waits in
     record {
       messages = rw subs (counted_after (is_auto h.left.mode) _ _ _ _ _ t.messages h.messages (after one));
       bytes = rw subs (counted_after (is_auto h.left.mode) _ _ _ _ _ t.bytes h.lighter (after bytes));
@@ -61,34 +61,34 @@ invariant_of-self c =
       deliveries = omega (arith, ready);
       ready =
           let s = shown a.count a.next_delivery a.sessions.entries a.durables.entries a.shared a.order in
-          let after = shown a.count (a.next_delivery + 1) a.sessions.entries a.durables.entries c.hand_to.new.shared c.wait_last.new.order in
+          let after = shown a.count (a.next_delivery + 1) a.sessions.entries a.durables.entries c.hand_to-handed.new.shared c.wait_last.new.order in
           let sub = c.remove-sub.result in
           let can = (rw (← c.self.view_is) at c.requires.ready) sub c.remove-sub.ensures.taken in
-          let last : c.wait_last.new.order ≡ remove a.order c.args.at ++ c.hand_to.new.sub ∷ [] = c.in_ok-out-2.ensures.waits ∙ ap (λ (l : List Subscription). l ++ c.hand_to.new.sub ∷ []) c.remove-sub.ensures.others in
-          let keys = same_keys c.hand_to.new.sub sub (ap (λ (x : Subscription). x.session) h.handed ∙ ap (λ (x : Subscription). x.session) h.line) (ap (λ (x : Subscription). x.destination) h.handed ∙ ap (λ (x : Subscription). x.destination) h.line) (ap (λ (x : Subscription). x.durable) h.handed ∙ ap (λ (x : Subscription). x.durable) h.line) in
-          due_served a.due.items s t.ready after c.args.at sub c.hand_to.new.sub h.message (drop 1 (line_for a.shared sub)) c.remove-sub.ensures.taken can line h.rest refl last keys;
+          let last : c.wait_last.new.order ≡ remove a.order c.args.at ++ c.hand_to-handed.new.sub ∷ [] = c.in-Ok-wait_last.ensures.waits ∙ ap (λ (l : List Subscription). l ++ c.hand_to-handed.new.sub ∷ []) c.remove-sub.ensures.others in
+          let keys = same_keys c.hand_to-handed.new.sub sub (ap (λ (x : Subscription). x.session) h.handed ∙ ap (λ (x : Subscription). x.session) h.line) (ap (λ (x : Subscription). x.destination) h.handed ∙ ap (λ (x : Subscription). x.destination) h.line) (ap (λ (x : Subscription). x.durable) h.handed ∙ ap (λ (x : Subscription). x.durable) h.line) in
+          due_served a.due.items s t.ready after c.args.at sub c.hand_to-handed.new.sub h.message (drop 1 (line_for a.shared sub)) c.remove-sub.ensures.taken can line h.rest refl last keys;
     }
 
-pub returns-clause-handed : goal.returns-clause-handed
-returns-clause-handed c =
+pub returns-in-Ok-wait_last-clause-handed : goal.returns-in-Ok-wait_last-clause-handed
+returns-in-Ok-wait_last-clause-handed c =
     let a = c.self.inside in
     let s = shown a.count a.next_delivery a.sessions.entries a.durables.entries a.shared a.order in
-    let h = c.in_ok-out.ensures.handed in
-    let subs = rw (c.remove-sub.ensures.others, h.handed) at c.in_ok-out-2.ensures.waits in
+    let h = c.in-Ok.ensures.handed in
+    let subs = rw (c.remove-sub.ensures.others, h.handed) at c.in-Ok-wait_last.ensures.waits in
     rw (← c.self.view_is) (λ (sub : Subscription) there.
     let same = same_some _ _ (sym c.remove-sub.ensures.taken ∙ there) in
-    rw (← same) (handed_made s c.remove-sub.result h.left _ _ h.message _ _ c.in_ok-out-2.out h.taken h.rest h.line subs (c.in_ok-out-2.ensures.gives ∙ h.out)))
+    rw (← same) (handed_made s c.remove-sub.result h.left _ _ h.message _ _ c.in-Ok-wait_last.out h.taken h.rest h.line subs (c.in-Ok-wait_last.ensures.gives ∙ h.out)))
 
-pub returns-clause-waiting : goal.returns-clause-waiting
-returns-clause-waiting c =
+pub returns-in-Ok-wait_last-clause-waiting : goal.returns-in-Ok-wait_last-clause-waiting
+returns-in-Ok-wait_last-clause-waiting c =
     let a = c.self.inside in
-    let h = c.in_ok-out.ensures.handed in
+    let h = c.in-Ok.ensures.handed in
     let line = first_and_rest _ _ h.taken in
     let place = rw (← c.self.view_is) at c.requires.place in
-    rw (← c.self.view_is, c.in_ok-out-2.ensures.waits, c.remove-sub.ensures.others, h.handed)
-    (waits_less a.order c.args.at c.remove-sub.result place c.remove-sub.ensures.taken a.shared c.hand_to.new.shared h.left h.message (drop 1 (line_for a.shared c.remove-sub.result)) (λ w. rw line at (h.weight w)) a.next_delivery)
+    rw (← c.self.view_is, c.in-Ok-wait_last.ensures.waits, c.remove-sub.ensures.others, h.handed)
+    (waits_less a.order c.args.at c.remove-sub.result place c.remove-sub.ensures.taken a.shared c.hand_to-handed.new.shared h.left h.message (drop 1 (line_for a.shared c.remove-sub.result)) (λ w. rw line at (h.weight w)) a.next_delivery)
 
-pub returns-clause-count : goal.returns-clause-count
-returns-clause-count c =
+pub returns-in-Ok-wait_last-clause-count : goal.returns-in-Ok-wait_last-clause-count
+returns-in-Ok-wait_last-clause-count c =
     let place = rw (← c.self.view_is) at c.requires.place in
-    rw (← c.self.view_is, c.in_ok-out-2.ensures.waits, c.remove-sub.ensures.others) (count_others c.self.inside.order c.args.at c.remove-sub.result place c.remove-sub.ensures.taken c.hand_to.new.sub)
+    rw (← c.self.view_is, c.in-Ok-wait_last.ensures.waits, c.remove-sub.ensures.others) (count_others c.self.inside.order c.args.at c.remove-sub.result place c.remove-sub.ensures.taken c.hand_to-handed.new.sub)
