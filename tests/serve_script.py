@@ -22,6 +22,7 @@ import random
 import select
 import shutil
 import signal
+import socket
 import subprocess
 import sys
 import tempfile
@@ -37,7 +38,7 @@ from scenario import free_port  # noqa: E402
 from stomp_client import Client  # noqa: E402
 
 STATUSES = {signal.SIGTERM: 143, signal.SIGINT: 130, signal.SIGHUP: 129}
-LOCKED = "stompd: cannot open\n"
+LOCKED = "stompd: cannot open: FILE: another server has its lock\n"
 SMALL_JOURNAL = "131104"
 # Signals at random moments, and pairs of first starts.
 MOMENTS, PAIRS = 40, 20
@@ -145,10 +146,22 @@ def words_and_programs(checks):
     for program in (file.parent / "missing", file.parent):
         status, told = Start(program, file, free_port()).end()
         checks.same(f"{program} as the program", (status, told), (1, f"serve: there is no program {program}\n"))
-    for words in ([file, "eighty"], [file, "80", "x"], ["--port"], [file, "80", "--origin"], [file, "80", "--origin", "o", "p"]):
+    for words in ([file, "eighty"], [file, "0"], [file, "70000"], [file, "080800"], [file, "80", "x"], ["--port"], [file, "80", "--origin"], [file, "80", "--origin", "o", "p"]):
         status, told = Start(checks.program, *words).end()
         checks.check(f"{words} are refused", status == 2 and told.startswith("serve: "), (status, told))
+    status, told = Start(checks.program, file, free_port(), "--origin", "https://chat.example/").end()
+    checks.check("an origin that no browser sends is refused", status == 2 and "ORIGIN" in told, (status, told))
+    with socket.socket() as taken:
+        taken.bind(("127.0.0.1", 0))
+        taken.listen()
+        status, told = Start(checks.program, file, taken.getsockname()[1]).end()
+        checks.same("a port in use is told", (status, told), (1, "stompd: cannot open: PORT: another program listens there\n"))
     checks.same("and nothing is made", list(file.parent.iterdir()), [])
+    link = file.parent / "link"
+    link.symlink_to(file.parent / "nothing")
+    status, told = Start(checks.program, link, free_port()).end()
+    checks.check("a link to nothing is told", status == 1 and "is a link to" in told, (status, told))
+    link.unlink()
     nowhere = file.parent / "none" / "rooms.journal"
     status, told = Start(checks.program, nowhere, free_port()).end()
     checks.check("a folder that isn't there is told", status == 1 and str(nowhere) in told, (status, told))
@@ -159,7 +172,11 @@ def a_first_start(checks):
     first = Start(checks.program, file, port)
     checks.check("a first start serves", first.listens())
     publish(port, "before")
-    checks.same("and ends by SIGTERM", first.end(signal.SIGTERM), (143, f"serve: made the journal {file}\n"))
+    client = Client(port).connect()
+    status, told = first.end(signal.SIGTERM)
+    checks.check("and ends by SIGTERM", status == 143 and told.startswith(f"serve: made the journal {file}\n"), (status, told))
+    checks.same("its clients hear 1001", client.to_the_end()[1], 1001)
+    checks.same("only its owner may read the journal", file.stat().st_mode & 0o777, 0o600)
     checks.same("nothing is left beside the journal", beside(file), [])
     inode = file.stat().st_ino
     for sent in (signal.SIGINT, signal.SIGHUP, signal.SIGTERM):

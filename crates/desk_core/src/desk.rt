@@ -3,7 +3,7 @@
 ghost use Rattle.std.specs.Prelude.{◌≡◌, IfOk, IfSome, IsNone, length};
 
 use crate::place::{Place, Seated};
-use crate::placing::{is_free, lose_at, ping_at, take_place, turn_at, vacate};
+use crate::placing::{give_up_at, is_free, lose_at, ping_at, take_place, turn_at, vacate};
 use crate::ringers::Ringers;
 use crate::slot::Slot;
 use crate::turned::Turned;
@@ -145,6 +145,15 @@ impl<B: Bell, L: Link + Drop> Desk<B, L> {
     {
         if at < self.places.len() {
             lose_at(&mut self.places[at]);
+        }
+    }
+
+    /// The connection at that place is given up, since the server ends: its next turns close its link with 1001.
+    pub fn give_up(&mut self, at: usize)
+        ensures { Touches L.sent self.old self.new at }
+    {
+        if at < self.places.len() {
+            give_up_at(&mut self.places[at]);
         }
     }
 

@@ -24,6 +24,13 @@ impl<B: Bell, L: Link> Seated<B, L> {
         self.slot.connection.lose();
     }
 
+    // It is given up.
+    pub(crate) fn give_up(&mut self)
+        ensures { Unserved L.sent self.old.slot self.old.link self.new.slot self.new.link }
+    {
+        self.slot.connection.give_up();
+    }
+
     // Sends its client a ping.
     pub(crate) fn ping(&mut self)
         ensures { Unserved L.sent self.old.slot self.old.link self.new.slot self.new.link }

@@ -48,6 +48,15 @@ pub fn lose_at<B: Bell, L: Link>(place: &mut Place<B, L>)
     }
 }
 
+// The connection there is given up.
+pub fn give_up_at<B: Bell, L: Link>(place: &mut Place<B, L>)
+    ensures { UnservedAt L.sent place.old place.new }
+{
+    if let Some(seated) = place {
+        seated.give_up();
+    }
+}
+
 // Sends the client there a ping.
 pub fn ping_at<B: Bell, L: Link>(place: &mut Place<B, L>)
     ensures { UnservedAt L.sent place.old place.new }

@@ -6,3 +6,4 @@ pub mod Turns
 pub mod Room
 pub mod Compactions
 pub mod RoomWon
+pub mod Halting

@@ -10,6 +10,8 @@ mod gathering;
 mod marking;
 mod outlet;
 mod publishing;
+mod sizing;
+mod stopping;
 mod storing;
 mod turning;
 mod width;

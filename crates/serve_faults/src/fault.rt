@@ -35,7 +35,11 @@ impl fmt::Display for ServeFault {
 
     fn fmt<W: fmt::Write>(&self, f: &mut fmt::Formatter<W>) -> fmt::Result {
         match self {
-            ServeFault::File(error) => write!(f, "cannot open: FILE: {}", Unopened::of(error).text()),
+            ServeFault::File(error) => write!(
+                f,
+                "cannot open: FILE: {}",
+                Unopened::of(error).text()
+            ),
             ServeFault::Port(why) => write!(f, "cannot open: PORT: {}", why.text()),
             ServeFault::Opening(fault) => write!(f, "{fault}"),
             ServeFault::Memory => f.write_str("no memory"),

@@ -7,6 +7,7 @@ use crate::post::{Arrival, BellRope, Post, Ropes};
 use crate::shared::{ServerSeat, Shared};
 use crate::station::{Room, Station};
 use clients_core::{Clients, Due, Phase, Portions, Standing};
+use event_log::Kind;
 use hub_core::{Desk, Next, Pacing};
 use mio::net::TcpStream;
 use mio::{Events, Interest, Poll, Token};
@@ -14,10 +15,16 @@ use std::alloc::Global;
 use std::sync::{Arc, Wait};
 use std::time::{Clock, Duration};
 use std::{io, mem};
-use ws_core::{Greeted, Greeting, WsLink};
+use ws_core::{Greeted, Greeting, Refusal, WsLink};
 
 /// For how many milliseconds a worker waits at most before it looks again. Nothing waits for this to end.
 const LONGEST_SLEEP: u64 = 10_000;
+
+/// For how many milliseconds a worker waits at most, once the server ends, for clients to take what is theirs and to close.
+const LONGEST_FAREWELL: u64 = 3_000;
+
+/// For how many milliseconds it waits at most before it looks again whether that time is over.
+const LONGEST_LOOK: u64 = 250;
 
 /// How many new clients a worker takes in at most before it serves those that it has.
 const NEW_CLIENTS: u32 = 64;
@@ -36,6 +43,8 @@ pub(crate) struct Shift<'a, R: Drop> {
     now: u64,
     // Whether a command was put into the ring in this round.
     appended: bool,
+    // Since when it parts with its clients, once the server ends.
+    parting: Option<u64>,
     ghost at_ring: { desk.seat.ring ≡ shared.now.ring },
 }
 
@@ -63,6 +72,40 @@ impl<'a, R: Wait + Clock + Drop> Shift<'a, R> {
             clients,
             now,
             appended: false,
+            parting: None,
+        }
+    }
+
+    /// The seat, with all that was said at it. Clients that are left are let go.
+    pub(crate) fn into_seat(self) -> ServerSeat
+        ensures { result.ring ≡ self.entry.shared.now.ring }
+    {
+        let Shift {
+            alloc: _,
+            shared: _,
+            post,
+            poll,
+            events,
+            desk,
+            clients,
+            now: _,
+            appended: _,
+            parting: _,
+        } = self;
+        drop(clients);
+        drop(events);
+        drop(poll);
+        drop(post);
+        desk.into_seat()
+    }
+
+    /// Whether the server has ended for it: it parts with its clients, and has none any more, or has waited for them long enough.
+    pub(crate) fn is_over(&self) -> bool {
+        match self.parting {
+            Some(since) => {
+                self.post.clients() == 0 || self.now.saturating_sub(since) >= LONGEST_FAREWELL
+            }
+            None => false,
         }
     }
 
@@ -71,6 +114,18 @@ impl<'a, R: Wait + Clock + Drop> Shift<'a, R> {
         self.wait();
         self.look();
         self.serve();
+        if self.parting.is_none() && self.shared.pace.has_end_begun() {
+            self.part_with_all();
+        }
+    }
+
+    // Begins to part with all clients: each has a turn in which it hears what may leave yet.
+    fn part_with_all(&mut self) {
+        self.parting = Some(self.now);
+        for number in 0..self.clients.reach() {
+            self.clients.wake(number);
+        }
+        self.post.bell().ring();
     }
 
     // Waits for its sockets and its bell, unless a client is ready.
@@ -99,7 +154,12 @@ impl<'a, R: Wait + Clock + Drop> Shift<'a, R> {
             return 0;
         }
         let until = self.clients.until();
-        LONGEST_SLEEP.min(until.saturating_sub(self.now).saturating_add(1))
+        let longest = if self.parting.is_some() {
+            LONGEST_LOOK
+        } else {
+            LONGEST_SLEEP
+        };
+        longest.min(until.saturating_sub(self.now).saturating_add(1))
     }
 
     // Finds out which of its clients are ready.
@@ -144,6 +204,11 @@ impl<'a, R: Wait + Clock + Drop> Shift<'a, R> {
 
     // Takes a client in. Where there is no room for it, or the system refuses what it is waited for by, its socket is closed.
     fn admit(&mut self, arrival: Arrival) {
+        if self.parting.is_some() {
+            drop(arrival);
+            self.post.leaves();
+            return;
+        }
         if self.begin(arrival).is_err() {
             self.post.leaves();
         }
@@ -163,7 +228,7 @@ impl<'a, R: Wait + Clock + Drop> Shift<'a, R> {
             .registry()
             .register(&mut stream, Token(number), interests)?;
         let (stream, rest) = Portions::new(self.alloc, stream)?;
-        let origins = self.shared.door.origins.clone()?;
+        let origins = self.shared.origins.clone()?;
         let greeting = if is_full {
             Greeting::full(self.alloc, stream, origins)
         } else {
@@ -262,13 +327,33 @@ impl<'a, R: Wait + Clock + Drop> Shift<'a, R> {
                 drop(self.desk.dismiss(place));
                 self.leave(number);
             }
-            _ => self.clients.settle(number, turned, self.now),
+            _ => {
+                self.clients.settle(number, turned, self.now);
+                if self.parting.is_some() {
+                    self.part(number, place, turned.next);
+                }
+            }
+        }
+    }
+
+    // Parts with a client that has nothing more to do at once: it hears the close.
+    fn part(&mut self, number: usize, place: usize, next: Next) {
+        match next {
+            Next::Go | Next::Write | Next::Close | Next::Over(_) => {}
+            Next::Read | Next::Room(_) | Next::Output(_) | Next::Memory => {
+                self.desk.give_up(place);
+                self.clients.wake(number);
+            }
         }
     }
 
     // Goes on with a client's handshake. Once it has its WebSocket, it sits at the desk.
     fn greet(&mut self, number: usize, greeting: Greeting<Portions<TcpStream>>) {
         match greeting.greet(self.alloc) {
+            Greeted::Waits(greeting) if self.parting.is_some() => {
+                drop(greeting);
+                self.leave(number);
+            }
             Greeted::Waits(greeting) => self.clients.stand(number, Standing::Greeting(greeting)),
             Greeted::Accepted(link) => match self.desk.admit(self.alloc, link) {
                 Ok(place) => {
@@ -277,7 +362,11 @@ impl<'a, R: Wait + Clock + Drop> Shift<'a, R> {
                 }
                 Err(_) => self.leave(number),
             },
-            Greeted::Refused(_) | Greeted::Failed(_) => self.leave(number),
+            Greeted::Refused(refusal) => {
+                self.shared.pace.log().count(kind_of(refusal));
+                self.leave(number);
+            }
+            Greeted::Failed(_) => self.leave(number),
         }
     }
 
@@ -285,5 +374,18 @@ impl<'a, R: Wait + Clock + Drop> Shift<'a, R> {
     fn leave(&mut self, number: usize) {
         self.clients.remove(number);
         self.post.leaves();
+    }
+}
+
+// What is counted of a refusal.
+fn kind_of(refusal: Refusal) -> Kind {
+    match refusal {
+        Refusal::Malformed => Kind::Malformed,
+        Refusal::Foreign => Kind::Foreign,
+        Refusal::Method => Kind::Method,
+        Refusal::NoUpgrade => Kind::NoUpgrade,
+        Refusal::Version => Kind::Version,
+        Refusal::TooLarge => Kind::TooLarge,
+        Refusal::Full => Kind::Full,
     }
 }
