@@ -72,7 +72,7 @@ figures_text f = codes "doing: " ++ (decimal f.connections ++ (codes " connectio
 -- the words of an event
 abbrev pub event_text : Event → List ℕ
 event_text (events.Started start) = start_text start
-event_text (events.Small area needed) = codes "journal small: areas of " ++ (decimal area ++ (codes " bytes, and " ++ (decimal needed ++ codes " are needed for so many clients (J4 is possible)")))
+event_text (events.Small area needed) = codes "journal small: areas of " ++ (decimal area ++ (codes " bytes, " ++ (decimal needed ++ codes " are wanted (J4 is possible)")))
 event_text (events.Compacted won millis) = codes "compacted: " ++ (decimal won ++ (codes " bytes won in " ++ (decimal millis ++ codes " ms")))
 event_text (events.NearlyFull used area) = codes "journal nearly full: " ++ (decimal used ++ (codes " of " ++ (decimal area ++ codes " bytes are used after a compaction (J4 is near)")))
 event_text (events.Doing figures) = figures_text figures

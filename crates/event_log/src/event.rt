@@ -59,7 +59,7 @@ impl fmt::Display for Event {
             Event::Started(start) => write!(f, "{start}"),
             Event::Small { area, needed } => write!(
                 f,
-                "journal small: areas of {area} bytes, and {needed} are needed for so many clients (J4 is possible)"
+                "journal small: areas of {area} bytes, {needed} are wanted (J4 is possible)"
             ),
             Event::Compacted { won, millis } => {
                 write!(f, "compacted: {won} bytes won in {millis} ms")

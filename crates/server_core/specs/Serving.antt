@@ -19,7 +19,6 @@ use Rattle.server_core.specs.declared.serving.ServeEnd.{ServeEnd}
 use Rattle.server_core.specs.declared.serving.ServeEnd.TheVariants.{Asked, Fault}
 use Rattle.server_core.specs.declared.station.Station.{Station}
 use Rattle.server_core.specs.declared.worker.SeatBack.{SeatBack}
-use Rattle.server_core.specs.declared.worker.WorkerThread.{WorkerThread}
 
 -- The port; the ring at which all meet; the seats that no worker has yet; and the flusher.
 pub record ServerValue : Type 0 where
