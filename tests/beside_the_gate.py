@@ -5,7 +5,7 @@ memory, traces of its system calls, and the clients. Its last line counts what p
     python3 tests/beside_the_gate.py [PROGRAM] [--kills N] [--only WORD]
 
 PROGRAM is the built program; without it, bin/stompd builds it where that is needed. Needs Python 3; strace for the traces, `rt` and a C compiler for
-refused memory, Chromium and Debian's python3-stomp and python3-websocket for two of the clients. It takes some fifteen minutes, and ends with status 0 only where nothing failed.
+refused memory, Chromium and Debian's python3-stomp and python3-websocket for two of the clients. It takes some twenty minutes, and ends with status 0 only where nothing failed.
 """
 
 import argparse
@@ -27,6 +27,8 @@ SCRIPTS = [
     "tests/trace_serve.py",
     "tests/failing_disk.py",
     "tests/handshakes.py",
+    "tests/closes.py",
+    "tests/pauses.py",
     "tests/refusals.py",
     "tests/no_memory.py",
     "tests/under_attack.py",
@@ -35,6 +37,7 @@ SCRIPTS = [
     "clients/crowd.py",
     "clients/crowd_10000.py",
     "clients/slow_reader.py",
+    "clients/steady_readers.py",
     "clients/waiting_queue.py",
     "clients/unread.py",
     "clients/rubbish.py",
