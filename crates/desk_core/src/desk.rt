@@ -22,7 +22,7 @@ use ws_core::Link;
 #[derive(Drop)]
 pub struct Desk<B: Bell, L> {
     seat: BrokerSeat<OutSender<B>>,
-    places: Vec<Place<B, L>>,
+    pub(crate) places: Vec<Place<B, L>>,
     // Places from which a connection went, to be taken again.
     free: Vec<usize>,
     // The seat as it was when the desk was made.

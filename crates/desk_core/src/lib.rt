@@ -5,6 +5,7 @@
 mod appending;
 mod desk;
 mod kept;
+mod lending;
 mod pacing;
 mod passing;
 mod pending;

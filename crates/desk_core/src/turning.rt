@@ -100,6 +100,10 @@ impl<B: Bell> Slot<B> {
             }
             Received::Skipped => Hearing::Something,
             Received::Nothing => Hearing::Nothing,
+            Received::Failed => {
+                self.connection.give_up();
+                Hearing::Something
+            }
             Received::Closed => {
                 self.connection.lose();
                 Hearing::Nothing
@@ -121,6 +125,7 @@ impl<B: Bell> Slot<B> {
             }
             Received::Nothing => Hearing::Nothing,
             Received::Skipped => Hearing::Something,
+            Received::Failed => Hearing::Something,
             Received::Bytes(bytes) => {
                 drop(bytes);
                 Hearing::Something

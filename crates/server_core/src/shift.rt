@@ -6,7 +6,7 @@ use crate::calls::{BITS, Called, WORDS};
 use crate::post::{Arrival, BellRope, Post, Ropes};
 use crate::shared::{ServerSeat, Shared};
 use crate::station::{Room, Station};
-use clients_core::{Clients, Due, Phase, Portions, Standing};
+use clients_core::{Clients, Due, Flow, Phase, Portions, Standing, Watch};
 use event_log::Kind;
 use hub_core::{Desk, Next, Pacing};
 use mio::net::TcpStream;
@@ -39,7 +39,8 @@ pub(crate) struct Shift<'a, R: Drop> {
     events: Events<Global>,
     desk: Desk<BellRope, WsLink<Portions<TcpStream>>>,
     clients: Clients,
-    // The moment of this round, in milliseconds of the clock.
+    watch: Watch,
+    // The moment of this round, in milliseconds of the watch.
     now: u64,
     // Whether a command was put into the ring in this round.
     appended: bool,
@@ -70,6 +71,7 @@ impl<'a, R: Wait + Clock + Drop> Shift<'a, R> {
             events,
             desk: Desk::new(alloc, seat),
             clients,
+            watch: Watch::new(now),
             now,
             appended: false,
             parting: None,
@@ -88,6 +90,7 @@ impl<'a, R: Wait + Clock + Drop> Shift<'a, R> {
             events,
             desk,
             clients,
+            watch: _,
             now: _,
             appended: _,
             parting: _,
@@ -109,11 +112,13 @@ impl<'a, R: Wait + Clock + Drop> Shift<'a, R> {
         }
     }
 
-    /// Waits until there is something to do, and gives each client that is ready one turn.
+    /// Waits until there is something to do, gives each client that is ready one turn, and then looks who took too long: what has come
+    /// from a client is heard before that.
     pub(crate) fn round(&mut self) {
         self.wait();
         self.look();
         self.serve();
+        self.look_at_timers();
         if self.parting.is_none() && self.shared.pace.has_end_begun() {
             self.part_with_all();
         }
@@ -141,7 +146,8 @@ impl<'a, R: Wait + Clock + Drop> Shift<'a, R> {
         if awaits_mark {
             self.shared.pace.end_to_wait(&self.post);
         }
-        self.now = self.shared.moment();
+        self.watch.go_on(self.shared.moment(), longest);
+        self.now = self.watch.now();
     }
 
     // For how many milliseconds it may wait. Whoever has something for it from then on, wakes it.
@@ -169,7 +175,6 @@ impl<'a, R: Wait + Clock + Drop> Shift<'a, R> {
             self.hear_calls();
         }
         self.clients.retry(self.now);
-        self.look_at_timers();
     }
 
     // Finds out for whom the bell was rung: new clients, or those that it has.
@@ -227,14 +232,14 @@ impl<'a, R: Wait + Clock + Drop> Shift<'a, R> {
         self.poll
             .registry()
             .register(&mut stream, Token(number), interests)?;
-        let (stream, rest) = Portions::new(self.alloc, stream)?;
+        let stream = Portions::new(stream);
         let origins = self.shared.origins.clone()?;
         let greeting = if is_full {
             Greeting::full(self.alloc, stream, origins)
         } else {
             Greeting::new(self.alloc, stream, origins)
         };
-        self.clients.admit(greeting, rest, self.now)?;
+        self.clients.admit(greeting, self.now)?;
         Ok(())
     }
 
@@ -260,6 +265,8 @@ impl<'a, R: Wait + Clock + Drop> Shift<'a, R> {
         };
         match (self.clients.come_due(number, phase, self.now), place) {
             (Due::Ping, Some(place)) => self.desk.ping(place),
+            // Its turn writes what waits.
+            (Due::Write, Some(_)) => self.clients.wake(number),
             (Due::GivenUp, Some(place)) => {
                 self.desk.lose(place);
                 self.clients.wake(number);
@@ -328,7 +335,8 @@ impl<'a, R: Wait + Clock + Drop> Shift<'a, R> {
                 self.leave(number);
             }
             _ => {
-                self.clients.settle(number, turned, self.now);
+                let flow = self.flow(place);
+                self.clients.settle(number, turned, flow, self.now);
                 if self.parting.is_some() {
                     self.part(number, place, turned.next);
                 }
@@ -347,6 +355,17 @@ impl<'a, R: Wait + Clock + Drop> Shift<'a, R> {
         }
     }
 
+    // What the stream of a client at the desk tells.
+    fn flow(&self, place: usize) -> Flow {
+        match self.desk.link(place) {
+            Some(link) => link.stream().flow(),
+            None => Flow {
+                taken: 0,
+                has_rest: false,
+            },
+        }
+    }
+
     // Goes on with a client's handshake. Once it has its WebSocket, it sits at the desk.
     fn greet(&mut self, number: usize, greeting: Greeting<Portions<TcpStream>>) {
         match greeting.greet(self.alloc) {
@@ -354,11 +373,14 @@ impl<'a, R: Wait + Clock + Drop> Shift<'a, R> {
                 drop(greeting);
                 self.leave(number);
             }
-            Greeted::Waits(greeting) => self.clients.stand(number, Standing::Greeting(greeting)),
+            Greeted::Waits(greeting) => {
+                let has_rest = greeting.stream().flow().has_rest;
+                self.clients
+                    .stand(number, Standing::Greeting(greeting), has_rest);
+            }
             Greeted::Accepted(link) => match self.desk.admit(self.alloc, link) {
                 Ok(place) => {
-                    self.clients.stand(number, Standing::Seated(place));
-                    self.clients.wake(number);
+                    self.clients.stand(number, Standing::Seated(place), true);
                 }
                 Err(_) => self.leave(number),
             },
