@@ -1,5 +1,5 @@
 -- What contracts see of a desk.
-use Rattle.std.specs.Prelude.{◌≡◌, ◌≢◌, ◌⊎◌, ℕ, List, ◌++◌, Option, Some, None, map, length, get_or, slice_get}
+use Rattle.std.specs.Prelude.{◌≡◌, ◌≢◌, ◌⊎◌, ℕ, List, [], ◌++◌, Option, Some, None, map, length, get_or, slice_get}
 use Rattle.claim_core.specs.Seats.{SessionSeatValue}
 use Rattle.connection_core.specs.declared.progress.Progress.{Progress}
 use Rattle.desk_core.specs.declared.place.Seated.{Seated}
@@ -87,9 +87,10 @@ pub record Leaves {B L : Type 0} (old new : DeskValue B L) (at : ℕ) (link : L)
   pub free : slice_get new.places at ≡ Some None
   pub others : Others old.places new.places at
 
--- Nothing was said or sent at any place, and nothing has changed but what the connection at that place is told.
-pub record Touches {B L : Type 0} (sent : L → Option (List (List ℕ))) (old new : DeskValue B L) (at : ℕ) : Type 0 where
+-- Nothing was said or sent at any place, and nothing has changed but what the connection at that place is told, which goes on from
+-- there with no deed.
+pub record Touches {B L : Type 0} (sent : L → Option (List (List ℕ))) (received : L → Option (List ℕ)) (old new : DeskValue B L) (at : ℕ) : Type 0 where
   pub before : new.before ≡ old.before
   pub seat : new.seat ≡ old.seat
   pub others : Others old.places new.places at
-  pub unserved : (was : Seated B L) → SitsAt old.places at was → (is : Seated B L) × SitsAt new.places at is × Unserved sent was.slot was.link is.slot is.link
+  pub unserved : (was : Seated B L) → SitsAt old.places at was → (is : Seated B L) × SitsAt new.places at is × Unserved sent was.slot was.link is.slot is.link × Heeds received was.slot was.link is.slot is.link []

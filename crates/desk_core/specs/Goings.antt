@@ -26,7 +26,7 @@ pub record TellsIt {B L : Type 0} (sent : L → Option (List (List ℕ))) (frame
   pub deeds : List Deed
   pub none_said : commands_of deeds ≡ []
   pub served : Served sent (told_of deeds) was from is to
-  pub lives : Executes was.connection.stage → LivesOn (Tell frame) was.connection is.connection is.pending deeds
+  pub lives : Executes was.connection.stage → LivesOn (Tell frame) [] was.connection is.connection is.pending deeds
 
 -- One client alone was served through a seat. The seat got one conversation, and the client was sent outputs of that session
 -- alone, and at once the frames that were told it. These commands and frames are what the bytes ask for that its link gave.

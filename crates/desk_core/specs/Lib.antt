@@ -1,5 +1,6 @@
 pub mod Answers
 pub mod Boxes
+pub mod Chains
 pub mod Continues
 pub mod Conversations
 pub mod Deeds
@@ -11,3 +12,4 @@ pub mod Lives
 pub mod Places
 pub mod Relays
 pub mod Slots
+pub mod Spending

@@ -13,5 +13,5 @@ returns-in-Stopped g c = record {
     | inl is ↦ subst (λ r. Holds c.args.pending r c.args.self.now.pending Rest) (sym is) refl
     | inr is ↦ subst (λ r. Holds c.args.pending r c.args.self.now.pending Rest) (sym is) refl
   ];
-  lives = λ none. stopped_so c.args.self.now.connection c.stop.new.self c.args.self.now.pending _ c.stop.ensures none;
+  lives = λ none. stopped_so c.args.self.now.connection c.stop.new.self c.args.self.now.pending _ _ c.stop.ensures none;
 }

@@ -25,7 +25,7 @@ returns-in-Tell-clause-goes g c =
     let executes = subst Executes c.stage.ensures (c.executes.ensures.yes c.if-not-executes.false) in
     goes_telling g.L.Outgoing.sent g.L.Outgoing.received c.args.self.now _ c.tell.new.self c.args.seat.now c.args.link.now c.tell.new.link c.in-Tell.notice
     executes (still_executes c.args.self.now.connection c.next.new.self (Tell c.in-Tell.notice) executes c.in-Tell.ensures.wants tt)
-    (sym c.take.ensures.value ∙ not_some c.take.result c.in_default.not-Some) c.in-Tell.ensures.wants refl refl c.tell.ensures.unread c.tell.ensures.same c.tell.ensures.tells
+    (sym c.take.ensures.value ∙ not_some c.take.result c.in_default.not-Some) c.in-Tell.ensures.wants refl refl c.tell.ensures.unread c.tell.ensures.ends c.tell.ensures.tells
 
 pub returns-in-Done-clause-goes : goal.returns-in-Done-clause-goes
 returns-in-Done-clause-goes g c =
