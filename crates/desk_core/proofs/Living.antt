@@ -1,6 +1,6 @@
 -- How a connection at a seat does what its client's bytes ask for.
-use Rattle.std.proofs.Common.{◌≡◌, ◌++◌, ◌∷◌, [], ℕ, List, Bool, true, false, Option, Some, None, refl, sym, ap, ◌∙◌, subst, inl, inr, append_assoc, append-nil}
-use Rattle.std.specs.Prelude.{◌&&◌, ◌<◌, ◌⊎◌, ◌≤◌, cond, is_some, option_to_list}
+use Rattle.std.proofs.Common.{◌≡◌, ◌++◌, ◌∷◌, [], ℕ, List, Option, Some, None, refl, sym, ap, ◌∙◌, subst, inl, inr, append_assoc, append-nil}
+use Rattle.std.specs.Prelude.{◌&&◌, ◌<◌, ◌⊎◌, cond, is_some, option_to_list}
 use Rattle.std.proofs.lemmas.List.{map-append}
 use Rattle.std.specs.List.{AllByRecursion}
 use Rattle.command_core.specs.Commands.{CommandValue}
@@ -15,11 +15,11 @@ use Rattle.session_core.specs.declared.act.CloseCode.TheVariants.{NormalClosure,
 use Rattle.session_core.specs.Sessions.{Hearing, Hears, IsOver, fresh}
 use Rattle.connection_core.specs.Connections.{ConnectionValue, HearsBytes, IsLost, IsSent, Listens, Takes, Wants, WantsBy, closed_by, loss_of, unheard, with_appended}
 use Rattle.connection_core.specs.Conversations.{IsDone, IsFinished, IsNext, after, asked, is_farewell, over, role_of, said_of}
-use Rattle.connection_core.specs.Footprints.{IsWithin, charged, footprint, standing, total}
+use Rattle.connection_core.specs.Footprints.{footprint}
 use Rattle.connection_core.specs.declared.footprint.TheConstants.{SESSION_BYTES}
 use Rattle.connection_core.specs.Lives.{HasHeard}
 use Rattle.connection_core.specs.Stages.{Executes, IsEnding, IsOwnEnd, given_up, lost, parted, rested, stopped}
-use Rattle.connection_core.specs.Tasks.{Tasks, all_of, tasks}
+use Rattle.connection_core.specs.Tasks.{Tasks, all_of}
 use Rattle.connection_core.specs.declared.ended.Ended.{Ended}
 use Rattle.connection_core.specs.declared.ended.Ended.TheVariants.{Bye, Lost, Bad, Stopped, Turns}
 use Rattle.frame_core.specs.declared.frame.Verb.{Verb}
@@ -36,8 +36,9 @@ use Rattle.connection_core.proofs.Footprints.{nothing_by_end}
 use Rattle.connection_core.proofs.Living.{hears_on, lost_or_not, lost_runs, nothing_heard_yet, still_runs}
 use Rattle.desk_core.specs.Conversations.{StaysOrEnds}
 use Rattle.desk_core.specs.Deeds.{Deed, Does, Said, Tells, commands_of, untold_of}
-use Rattle.desk_core.specs.Lives.{HasTold, IsAsked, IsBad, IsLast, IsLoss, Lives, Restaged, act_of}
-use Rattle.desk_core.specs.Spending.{Cuts, IsCut, Spends, ops_of}
+use Rattle.desk_core.specs.Lives.{HasTold, IsAsked, IsBad, IsLast, IsLoss, Lives, Restaged, Steady, act_of}
+use Rattle.desk_core.specs.Halting.{HasHalted, IsStopped}
+use Rattle.desk_core.specs.Spending.{IsCut, ops_of}
 use Rattle.desk_core.proofs.Doing.{IsSilent, commands_append, does_say, does_silent, does_tell, none_more}
 use Rattle.desk_core.proofs.Lists.{all_append}
 
@@ -810,8 +811,73 @@ ending_loss (Closing ended) i = of_closing ended i
 ending_loss (Parting ended) i = i
 ending_loss (Over ended) i = i
 
-pub loses : (old new : ConnectionValue) → new ≡ record old { stage = lost old.stage } → Restaged old new
-loses old new is = as_restaged old new _ is (by_stage old (lost old.stage) (λ r. absurd ((lost_stage old.stage).0 r)) (untold_loss old.stage) (lost_stage old.stage).1 (ending_loss old.stage))
+halted_loss : (stage : Stage) → HasHalted (lost stage) → HasHalted stage
+halted_loss Running h = h
+halted_loss GivingUp h = h
+halted_loss Leaving h = h
+halted_loss (Closing ended) h = of_closing ended h
+  where
+    of_closing : (ended : Ended) → HasHalted (lost (Closing ended)) → IsStopped ended
+    of_closing Bye h = h
+    of_closing Bad h = h
+    of_closing Lost h = h
+    of_closing Stopped h = h
+    of_closing Turns h = h
+halted_loss (Parting ended) h = h
+halted_loss (Over ended) h = h
+
+pub halted_giving : (stage : Stage) → HasHalted (given_up stage) → HasHalted stage
+halted_giving Running h = h
+halted_giving GivingUp h = h
+halted_giving Leaving h = h
+halted_giving (Closing ended) h = h
+halted_giving (Parting ended) h = h
+halted_giving (Over ended) h = h
+
+halted_parting : (stage : Stage) → HasHalted (parted stage) → HasHalted stage
+halted_parting Running h = h
+halted_parting GivingUp h = h
+halted_parting Leaving h = h
+halted_parting (Closing ended) h = h
+halted_parting (Parting ended) h = h
+halted_parting (Over ended) h = h
+
+pub not_halted : (stage : Stage) → Executes stage → HasHalted stage → ⊥
+not_halted Running e h = h
+not_halted GivingUp e h = h
+not_halted Leaving e h = h
+not_halted (Closing ended) e h = e
+not_halted (Parting ended) e h = e
+not_halted (Over ended) e h = e
+
+-- what is wanted next stops nothing
+pub wants_halts : (old new : ConnectionValue) (act : Option Act) (wanted : Wanted) → Executes old.stage → WantsBy old new act wanted → HasHalted new.stage → ⊥
+wants_halts old new (Some (Do op receipt)) wanted executes by h = not_halted old.stage executes (subst HasHalted by.1 h)
+wants_halts old new (Some (Direct frame)) wanted executes by h = not_halted old.stage executes (subst HasHalted by.1 h)
+wants_halts old new (Some (Close code)) wanted executes by h = by_code code old.last old.progress old.stage executes (subst HasHalted by.1 h)
+  where
+    by_code : (code : CloseCode) (last : Option ℕ) (progress : Progress) (stage : Stage) → Executes stage → HasHalted (closed_by code last progress stage) → ⊥
+    by_code NormalClosure None New stage e h = h
+    by_code NormalClosure None (Open number) stage e h = not_halted stage e h
+    by_code NormalClosure None (Finished number) stage e h = h
+    by_code NormalClosure None Gone stage e h = h
+    by_code NormalClosure (Some number) progress stage e h = not_halted stage e h
+    by_code ProtocolError last progress stage e h = not_halted stage e h
+wants_halts old new None wanted executes by h = by_rest old.stage executes (subst HasHalted by.1 h)
+  where
+    by_rest : (stage : Stage) → Executes stage → HasHalted (rested stage) → ⊥
+    by_rest Running e h = h
+    by_rest GivingUp e h = h
+    by_rest (Closing ended) e h = e
+    by_rest (Parting ended) e h = e
+    by_rest Leaving e h = h
+    by_rest (Over ended) e h = e
+
+pub loses : (old new : ConnectionValue) → new ≡ record old { stage = lost old.stage } → Steady old new
+loses old new is = record {
+  restaged = as_restaged old new _ is (by_stage old (lost old.stage) (λ r. absurd ((lost_stage old.stage).0 r)) (untold_loss old.stage) (lost_stage old.stage).1 (ending_loss old.stage));
+  halts = λ h. halted_loss old.stage (subst HasHalted (ap (λ (c : ConnectionValue). c.stage) is) h);
+}
 
 pub loses_run : (old new : ConnectionValue) → new ≡ record old { stage = lost old.stage } → new.stage ≡ Running → ⊥
 loses_run old new is r = (lost_stage old.stage).0 (sym (ap (λ (c : ConnectionValue). c.stage) is) ∙ r)
@@ -840,8 +906,11 @@ ending_giving (Closing ended) i = i
 ending_giving (Parting ended) i = i
 ending_giving (Over ended) i = i
 
-pub gives_up : (old new : ConnectionValue) → new ≡ record old { stage = given_up old.stage } → Restaged old new
-gives_up old new is = as_restaged old new _ is (by_stage old (given_up old.stage) (given_up_stage old.stage).0 (untold_giving old.stage) (given_up_stage old.stage).1 (ending_giving old.stage))
+pub gives_up : (old new : ConnectionValue) → new ≡ record old { stage = given_up old.stage } → Steady old new
+gives_up old new is = record {
+  restaged = as_restaged old new _ is (by_stage old (given_up old.stage) (given_up_stage old.stage).0 (untold_giving old.stage) (given_up_stage old.stage).1 (ending_giving old.stage));
+  halts = λ h. halted_giving old.stage (subst HasHalted (ap (λ (c : ConnectionValue). c.stage) is) h);
+}
 
 parted_stage : (stage : Stage) → (parted stage ≡ Running → stage ≡ Running) × (Executes (parted stage) → Executes stage)
 parted_stage Running = (λ e. e, λ e. e)
@@ -867,8 +936,11 @@ ending_parting (Closing ended) i = i
 ending_parting (Parting ended) i = i
 ending_parting (Over ended) i = i
 
-pub parts : (old new : ConnectionValue) → new ≡ record old { stage = parted old.stage } → Restaged old new
-parts old new is = as_restaged old new _ is (by_stage old (parted old.stage) (parted_stage old.stage).0 (untold_parting old.stage) (parted_stage old.stage).1 (ending_parting old.stage))
+pub parts : (old new : ConnectionValue) → new ≡ record old { stage = parted old.stage } → Steady old new
+parts old new is = record {
+  restaged = as_restaged old new _ is (by_stage old (parted old.stage) (parted_stage old.stage).0 (untold_parting old.stage) (parted_stage old.stage).1 (ending_parting old.stage));
+  halts = λ h. halted_parting old.stage (subst HasHalted (ap (λ (c : ConnectionValue). c.stage) is) h);
+}
 
 pub none_told_lost : (stage : Stage) → Executes stage → HasTold (lost stage) → ⊥
 none_told_lost Running e t = t
@@ -890,55 +962,61 @@ told_where (Parting ended) e heard = absurd e
 told_where (Over ended) e heard = absurd e
 
 -- where it is closed by what was sent
-pub closes_so : (old new : ConnectionValue) (p : Progress) (ended : Ended) → (IsBad ended → HasTold old.stage) → StaysOrEnds old.progress p → (IsLast old → IsDone p) → new ≡ record old { progress = p; stage = Closing ended } → Restaged old new
-closes_so old new p ended told stood is_done is = as_restaged old new _ is (record {
-  acts = refl;
-  session = λ r. refl;
-  runs = λ r. cc;
-  told = told;
-  executes = λ e. absurd e;
-  progress = λ e. absurd e;
-  footprint = refl;
-  last = refl;
-  stood = stood;
-  ended = λ last before e. is_done last;
-})
+pub closes_so : (old new : ConnectionValue) (p : Progress) (ended : Ended) → (IsBad ended → HasTold old.stage) → StaysOrEnds old.progress p → (IsLast old → IsDone p) → (IsStopped ended → ⊥) → new ≡ record old { progress = p; stage = Closing ended } → Steady old new
+closes_so old new p ended told stood is_done goes is = record {
+  restaged = as_restaged old new _ is (record {
+    acts = refl;
+    session = λ r. refl;
+    runs = λ r. cc;
+    told = told;
+    executes = λ e. absurd e;
+    progress = λ e. absurd e;
+    footprint = refl;
+    last = refl;
+    stood = stood;
+    ended = λ last before e. is_done last;
+  });
+  halts = λ h. absurd (goes (subst HasHalted (ap (λ (c : ConnectionValue). c.stage) is) h));
+}
 
-pub closes_over : (old new : ConnectionValue) → HasTold old.stage → new ≡ record old { progress = over old.progress; stage = Closing Bad } → Restaged old new
-closes_over old new told is = closes_so old new (over old.progress) Bad (λ bad. told) (inr refl) (λ last. done_finished (over old.progress) (finished_over old.progress)) is
+pub closes_over : (old new : ConnectionValue) → HasTold old.stage → new ≡ record old { progress = over old.progress; stage = Closing Bad } → Steady old new
+closes_over old new told is = closes_so old new (over old.progress) Bad (λ bad. told) (inr refl) (λ last. done_finished (over old.progress) (finished_over old.progress)) (λ h. h) is
 
-pub same_stage : (old new : ConnectionValue) → new ≡ old → Restaged old new
-same_stage old new is = as_restaged old new old is (record {
-  acts = refl;
-  session = λ r. refl;
-  runs = λ r. r;
-  told = λ t. t;
-  executes = λ e. e;
-  progress = λ e. refl;
-  footprint = refl;
-  last = refl;
-  stood = inl refl;
-  ended = λ last ended. ended;
-})
+pub same_stage : (old new : ConnectionValue) → new ≡ old → Steady old new
+same_stage old new is = record {
+  restaged = as_restaged old new old is (record {
+    acts = refl;
+    session = λ r. refl;
+    runs = λ r. r;
+    told = λ t. t;
+    executes = λ e. e;
+    progress = λ e. refl;
+    footprint = refl;
+    last = refl;
+    stood = inl refl;
+    ended = λ last ended. ended;
+  });
+  halts = λ h. subst HasHalted (ap (λ (c : ConnectionValue). c.stage) is) h;
+}
 
-sends_receipt : (old new : ConnectionValue) (number : ℕ) → IsSent old number verbs.Receipt new → Restaged old new
+sends_receipt : (old new : ConnectionValue) (number : ℕ) → IsSent old number verbs.Receipt new → Steady old new
 sends_receipt old new number s = by_last old.last refl
   where
     is_done : old.last ≡ Some number → IsLast old → IsDone old.progress
     is_done e (inl none) = absurd (let never : Some number ≡ None = sym e ∙ none in cc)
     is_done e (inr f) = done_finished old.progress f
 
-    closing : old.last ≡ Some number → Restaged old new
-    closing e = closes_so old new old.progress Bye (λ bad. absurd bad) (inl refl) (is_done e) (s.0 e)
+    closing : old.last ≡ Some number → Steady old new
+    closing e = closes_so old new old.progress Bye (λ bad. absurd bad) (inl refl) (is_done e) (λ h. h) (s.0 e)
 
-    by_last : (last : Option ℕ) → old.last ≡ last → Restaged old new
+    by_last : (last : Option ℕ) → old.last ≡ last → Steady old new
     by_last None e = same_stage old new (s.1 (λ f. let none : None ≡ Some number = sym e ∙ f in cc))
     by_last (Some other) e = elim (cases_eq other number) [
       | inl same ↦ closing (e ∙ ap (λ n. Some n) same)
       | inr differs ↦ same_stage old new (s.1 (λ f. differs (let both : Some other ≡ Some number = sym e ∙ f in cc)))
     ]
 
-pub sends_so : (old new : ConnectionValue) (number : ℕ) (verb : Verb) → HasTold old.stage → IsSent old number verb new → Restaged old new
+pub sends_so : (old new : ConnectionValue) (number : ℕ) (verb : Verb) → HasTold old.stage → IsSent old number verb new → Steady old new
 sends_so old new number verbs.Error t s = closes_over old new t s
 sends_so old new number verbs.Receipt t s = sends_receipt old new number s
 sends_so old new number verbs.Connect t s = same_stage old new s

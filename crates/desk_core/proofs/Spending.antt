@@ -1,5 +1,5 @@
 -- How a connection at a seat keeps within its session's bytes, and how it is cut off.
-use Rattle.std.proofs.Common.{◌≡◌, ◌<◌, ◌≤◌, ◌++◌, ◌∷◌, [], ℕ, List, Option, Some, None, length, take, refl, sym, ap, ◌∙◌, subst, arith, inl, inr, append_assoc, append-nil}
+use Rattle.std.proofs.Common.{◌≡◌, ◌<◌, ◌≤◌, ◌++◌, ◌∷◌, [], ℕ, List, Option, None, length, refl, sym, ap, ◌∙◌, subst, arith, inr, append_assoc, append-nil}
 use Rattle.std.specs.List.{AllByRecursion}
 use Rattle.std.proofs.lemmas.List.{map-append, take_all}
 use Rattle.command_core.specs.Commands.{CommandValue}
@@ -21,7 +21,7 @@ use Rattle.connection_core.specs.declared.stage.Stage.{Stage}
 use Rattle.connection_core.specs.declared.stage.Stage.TheVariants.{Running, GivingUp, Closing, Parting, Leaving, Over}
 use Rattle.connection_core.proofs.Footprints.{charges, within_less, within_more, within_none}
 use Rattle.desk_core.specs.Deeds.{Deed, Said, commands_of}
-use Rattle.desk_core.specs.Lives.{HasTold, IsLoss, Lives, act_of}
+use Rattle.desk_core.specs.Lives.{IsLoss, Lives}
 use Rattle.desk_core.specs.Spending.{Spends, ops_of}
 use Rattle.desk_core.proofs.Doing.{commands_append}
 use Rattle.desk_core.proofs.Living.{untold_giving}

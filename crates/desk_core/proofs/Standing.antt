@@ -20,7 +20,8 @@ use Rattle.desk_core.specs.Conversations.{Converse, IsConversation, IsPart, Spea
 use Rattle.desk_core.specs.Desks.{Admits, AreApart, DeskValue, IsDesk, Leaves, Others, Touches, Turns, desk, seated_at, stand_of}
 use Rattle.desk_core.specs.Deeds.{commands_of}
 use Rattle.desk_core.specs.Goings.{GoesOn, Serves}
-use Rattle.desk_core.specs.Lives.{Heeds}
+use Rattle.desk_core.specs.Halting.{FindsEnd}
+use Rattle.desk_core.specs.Lives.{Idles}
 use Rattle.desk_core.specs.Places.{ServedAt, UnservedAt, progress_at}
 use Rattle.desk_core.specs.Slots.{IsNew, IsOwn, Message, Unserved, number_at}
 use Rattle.desk_core.specs.declared.slot.Slot.{Slot}
@@ -268,7 +269,7 @@ touches_none {B} {L} sent received old new at same = record {
   unserved = λ w sat. (w, ap (λ (d : DeskValue B L). slice_get d.places at) same ∙ sat, record { progress = refl; pending = refl; outbox = refl; kept = refl; sent = refl }, heeds_none received w.slot w.link);
 }
 
-pub unserved_some : {B L : Type 0} (sent : L → Option (List (List ℕ))) (received : L → Option (List ℕ)) (o : Option (Seated B L)) (was is : Seated B L) → o ≡ Some was → Unserved sent was.slot was.link is.slot is.link → Heeds received was.slot was.link is.slot is.link []
+pub unserved_some : {B L : Type 0} (sent : L → Option (List (List ℕ))) (received : L → Option (List ℕ)) (o : Option (Seated B L)) (was is : Seated B L) → o ≡ Some was → Unserved sent was.slot was.link is.slot is.link → Idles received was.slot was.link is.slot is.link
     → UnservedAt sent received o (Some is)
 unserved_some sent received o was is e u h = subst (λ x. UnservedAt sent received x (Some is)) (sym e) (is, refl, u, h)
 
@@ -288,6 +289,7 @@ turns {B} {L} sent received old before seat after places at was is turned same w
       (subst (λ l. AllByRecursion (λ (x : Pair). number_in (progress_at is) ≡ Some (number_of x)) l) (cancel seat.own c.said (commands_of s.goes.deeds) (sym c.added ∙ s.goes.added)) c.of_it);
   served = s.goes.served;
   heeds = s.goes.heeds;
+  halts = λ before h. s.goes.halts (λ m. subst (λ (d : DeskValue B L). FindsEnd d.seat) (sym same) (before m)) h;
   answers = subst (λ (x : SessionSeatValue). Answers received turned x s.was.link s.is.slot after s.is.link) (ap (λ (d : DeskValue B L). d.seat) same) s.answers;
 }
 

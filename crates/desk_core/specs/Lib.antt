@@ -6,6 +6,7 @@ pub mod Conversations
 pub mod Deeds
 pub mod Desks
 pub mod Goings
+pub mod Halting
 pub mod Holding
 pub mod Keeping
 pub mod Lives

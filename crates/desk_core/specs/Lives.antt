@@ -23,6 +23,7 @@ use Rattle.connection_core.specs.declared.stage.Stage.{Stage}
 use Rattle.connection_core.specs.declared.stage.Stage.TheVariants.{Running, GivingUp, Closing, Parting, Leaving, Over}
 use Rattle.desk_core.specs.Conversations.{StaysOrEnds}
 use Rattle.desk_core.specs.Deeds.{Deed, Does, commands_of, told_of, untold_of}
+use Rattle.desk_core.specs.Halting.{FindsEnd, HasHalted}
 use Rattle.desk_core.specs.Spending.{IsCut, Spends, ops_of, waiting_of}
 use Rattle.desk_core.specs.declared.pending.Pending.{Pending}
 use Rattle.desk_core.specs.declared.slot.Slot.{Slot}
@@ -123,11 +124,21 @@ pub record Restaged (old new : ConnectionValue) : Type 0 where
   pub stood : StaysOrEnds old.progress new.progress
   pub ended : IsLast old → (IsEnding old.stage → IsDone old.progress) → IsEnding new.stage → IsDone new.progress
 
+-- the same, and it is not stopped where it was not before
+pub record Steady (old new : ConnectionValue) : Type 0 where
+  pub restaged : Restaged old new
+  pub halts : HasHalted new.stage → HasHalted old.stage
+
 -- A slot goes on so, with the bytes that its link says it received, and these deeds.
 pub record Heeds {B L : Type 0} (received : L → Option (List ℕ)) (was : Slot B) (from : L) (is : Slot B) (to : L) (deeds : List Deed) : Type 0 where
   pub got : List ℕ
   pub read : received to ≡ option_map (λ bytes. bytes ++ got) (received from)
   pub lives : (bytes : List ℕ) (before : List Deed) → LivesAt bytes before was → LivesAt (bytes ++ got) (before ++ deeds) is
+
+-- it goes on so with no deed, and is not stopped where it was not before
+pub record Idles {B L : Type 0} (received : L → Option (List ℕ)) (was : Slot B) (from : L) (is : Slot B) (to : L) : Type 0 where
+  pub heeds : Heeds received was from is to []
+  pub halts : HasHalted is.connection.stage → HasHalted was.connection.stage
 
 -- This is what the first of all acts ask for that those bytes ask for: of the first bytes, where the others came once
 -- nothing more was heard; and behind them the session's end, where the connection was lost. Behind each command the session keeps
@@ -163,4 +174,5 @@ pub record DoesWanted {B : Type 0} (wanted : Wanted) (waiting : List Op) (old : 
   pub deeds : List Deed
   pub added : is.own ≡ was.own ++ commands_of deeds
   pub none_told : told_of deeds ≡ []
+  pub halts : HasHalted new.stage → HasHalted old.stage ⊎ FindsEnd is
   pub lives : LivesOn wanted waiting old new pending deeds

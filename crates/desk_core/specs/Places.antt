@@ -1,5 +1,5 @@
 -- What is done at a place of a desk.
-use Rattle.std.specs.Prelude.{◌≡◌, ℕ, List, [], Option, Some, None}
+use Rattle.std.specs.Prelude.{◌≡◌, ℕ, List, Option, Some, None}
 use Rattle.connection_core.specs.declared.progress.Progress.{Progress}
 use Rattle.connection_core.specs.declared.progress.Progress.TheVariants.{Gone}
 use Rattle.desk_core.specs.declared.place.Seated.{Seated}
@@ -7,7 +7,7 @@ use Rattle.claim_core.specs.Seats.{SessionSeatValue}
 use Rattle.desk_core.specs.declared.turned.Turned.{Turned}
 use Rattle.desk_core.specs.Answers.{Answers}
 use Rattle.desk_core.specs.Goings.{GoesOn}
-use Rattle.desk_core.specs.Lives.{Heeds}
+use Rattle.desk_core.specs.Lives.{Idles}
 use Rattle.desk_core.specs.Slots.{Unserved}
 
 -- how far the conversation has come of what sits at a place
@@ -29,4 +29,4 @@ pub record ServedAt {B L : Type 0} (sent : L → Option (List (List ℕ))) (rece
 abbrev pub UnservedAt : {B L : Type 0} → (L → Option (List (List ℕ))) → (L → Option (List ℕ)) → Option (Seated B L) → Option (Seated B L) → Type 0
 UnservedAt sent received None new = new ≡ None
 UnservedAt sent received (Some was) new =
-    (is : Seated _ _) × (new ≡ Some is) × Unserved sent was.slot was.link is.slot is.link × Heeds received was.slot was.link is.slot is.link []
+    (is : Seated _ _) × (new ≡ Some is) × Unserved sent was.slot was.link is.slot is.link × Idles received was.slot was.link is.slot is.link

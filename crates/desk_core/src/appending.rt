@@ -67,13 +67,14 @@ impl Executed {
 }
 
 impl<B: Bell> Slot<B> {
-    ghost use Rattle.std.specs.Prelude.{◌∷◌, [], Some};
+    ghost use Rattle.std.specs.Prelude.{◌∷◌, ◌⊎◌, [], Some};
     ghost use Rattle.outbox_core.specs.Boxes.{TakerValue};
     ghost use Rattle.desk_core.specs.Answers.{Appended, Grows, IsQuiet, Leaves};
     ghost use Rattle.connection_core.specs.Stages.{Executes};
     ghost use Rattle.connection_core.specs.declared.said.Wanted.TheVariants.{Append};
     ghost use Rattle.desk_core.specs.Continues.{Continues};
     ghost use Rattle.desk_core.specs.Conversations.{StaysOrEnds};
+    ghost use Rattle.desk_core.specs.Halting.{HasHalted, IsFinal};
     ghost use Rattle.desk_core.specs.Holding.{Holds};
     ghost use Rattle.desk_core.specs.Goings.{GoesOn, TellsIt};
     ghost use Rattle.desk_core.specs.Lives.{DoesWanted, LivesOn};
@@ -209,6 +210,7 @@ impl<B: Bell> Slot<B> {
         ensures same { self.new.connection.progress ≡ self.old.connection.progress }
         ensures stays { (self.new.outbox ≡ self.old.outbox) × (self.new.kept ≡ self.old.kept) }
         ensures holds { Holds pending refused self.new.pending result }
+        ensures halts { HasHalted self.new.connection.stage → HasHalted self.old.connection.stage ⊎ IsFinal refused }
         ensures lives { self.old.pending ≡ None → LivesOn (Append pending.entry.command) (pending.entry.command.op ∷ []) self.old.connection self.new.connection self.new.pending [] }
     {
         match refused {

@@ -15,14 +15,13 @@ pub struct Seated<B: Bell, L> {
 pub(crate) type Place<B, L> = Option<Seated<B, L>>;
 
 impl<B: Bell, L: Link> Seated<B, L> {
-    ghost use Rattle.std.specs.Prelude.{[]};
-    ghost use Rattle.desk_core.specs.Lives.{Heeds};
+    ghost use Rattle.desk_core.specs.Lives.{Idles};
     ghost use Rattle.desk_core.specs.Slots.{Unserved};
 
     // Its link is over.
     pub(crate) fn lose(&mut self)
         ensures unserved { Unserved L.sent self.old.slot self.old.link self.new.slot self.new.link }
-        ensures lives { Heeds L.received self.old.slot self.old.link self.new.slot self.new.link [] }
+        ensures lives { Idles L.received self.old.slot self.old.link self.new.slot self.new.link }
     {
         self.slot.connection.lose();
     }
@@ -30,7 +29,7 @@ impl<B: Bell, L: Link> Seated<B, L> {
     // Sends its client a ping.
     pub(crate) fn ping(&mut self)
         ensures unserved { Unserved L.sent self.old.slot self.old.link self.new.slot self.new.link }
-        ensures lives { Heeds L.received self.old.slot self.old.link self.new.slot self.new.link [] }
+        ensures lives { Idles L.received self.old.slot self.old.link self.new.slot self.new.link }
     {
         let _ = self.link.ping();
         let _ = self.link.flush();
