@@ -8,7 +8,8 @@ use Rattle.desk_core.specs.Answers.{Answers}
 use Rattle.desk_core.specs.Continues.{AreSaid}
 use Rattle.desk_core.specs.Deeds.{Deed, commands_of, told_of}
 use Rattle.desk_core.specs.Conversations.{Speaks}
-use Rattle.desk_core.specs.Lives.{Heeds}
+use Rattle.desk_core.specs.Halting.{FindsEnd, HasHalted}
+use Rattle.desk_core.specs.Lives.{Heeds, Idles}
 use Rattle.desk_core.specs.Places.{progress_at}
 use Rattle.desk_core.specs.Slots.{IsNew, Served, Unserved, number_at}
 
@@ -45,7 +46,8 @@ abbrev pub seated_at : {B L : Type 0} → List (Option (Seated B L)) → ℕ →
 seated_at places at = get_or places at None
 
 -- These deeds were done at that place. The seat got the commands among them, which are of its own session; its client was sent the
--- frames among them, beside outputs of that session; and they are what it has next of what its bytes ask for. The turn answers so.
+-- frames among them, beside outputs of that session; and they are what it has next of what its bytes ask for. It is stopped only
+-- where the seat has found that the ring takes nothing more. The turn answers so.
 pub record Turns {B L : Type 0} (sent : L → Option (List (List ℕ))) (received : L → Option (List ℕ)) (old new : DeskValue B L) (at : ℕ) (turned : Turned) : Type 0 where
   pub was : Seated B L
   pub is : Seated B L
@@ -56,6 +58,7 @@ pub record Turns {B L : Type 0} (sent : L → Option (List (List ℕ))) (receive
   pub of_it : AreSaid is.slot.connection.progress (commands_of deeds)
   pub served : Served sent (told_of deeds) was.slot was.link is.slot is.link
   pub heeds : Heeds received was.slot was.link is.slot is.link deeds
+  pub halts : (HasHalted was.slot.connection.stage → FindsEnd old.seat) → HasHalted is.slot.connection.stage → FindsEnd new.seat
   pub answers : Answers received turned old.seat was.link is.slot new.seat is.link
 
 -- no two places have one session
@@ -87,9 +90,10 @@ pub record Leaves {B L : Type 0} (old new : DeskValue B L) (at : ℕ) (link : L)
   pub free : slice_get new.places at ≡ Some None
   pub others : Others old.places new.places at
 
--- Nothing was said or sent at any place, and nothing has changed but what the connection at that place is told.
-pub record Touches {B L : Type 0} (sent : L → Option (List (List ℕ))) (old new : DeskValue B L) (at : ℕ) : Type 0 where
+-- Nothing was said or sent at any place, and nothing has changed but what the connection at that place is told, which goes on from
+-- there with no deed.
+pub record Touches {B L : Type 0} (sent : L → Option (List (List ℕ))) (received : L → Option (List ℕ)) (old new : DeskValue B L) (at : ℕ) : Type 0 where
   pub before : new.before ≡ old.before
   pub seat : new.seat ≡ old.seat
   pub others : Others old.places new.places at
-  pub unserved : (was : Seated B L) → SitsAt old.places at was → (is : Seated B L) × SitsAt new.places at is × Unserved sent was.slot was.link is.slot is.link
+  pub unserved : (was : Seated B L) → SitsAt old.places at was → (is : Seated B L) × SitsAt new.places at is × Unserved sent was.slot was.link is.slot is.link × Idles received was.slot was.link is.slot is.link

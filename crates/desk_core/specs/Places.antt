@@ -7,6 +7,7 @@ use Rattle.claim_core.specs.Seats.{SessionSeatValue}
 use Rattle.desk_core.specs.declared.turned.Turned.{Turned}
 use Rattle.desk_core.specs.Answers.{Answers}
 use Rattle.desk_core.specs.Goings.{GoesOn}
+use Rattle.desk_core.specs.Lives.{Idles}
 use Rattle.desk_core.specs.Slots.{Unserved}
 
 -- how far the conversation has come of what sits at a place
@@ -24,7 +25,8 @@ pub record ServedAt {B L : Type 0} (sent : L → Option (List (List ℕ))) (rece
   pub goes : GoesOn sent received was.slot before was.link is.slot after is.link
   pub answers : Answers received turned before was.link is.slot after is.link
 
--- nothing was sent there, and nobody came or went
-abbrev pub UnservedAt : {B L : Type 0} → (L → Option (List (List ℕ))) → Option (Seated B L) → Option (Seated B L) → Type 0
-UnservedAt sent None new = new ≡ None
-UnservedAt sent (Some was) new = (is : Seated _ _) × (new ≡ Some is) × Unserved sent was.slot was.link is.slot is.link
+-- nothing was sent there, nobody came or went, and who sits there goes on from there with no deed
+abbrev pub UnservedAt : {B L : Type 0} → (L → Option (List (List ℕ))) → (L → Option (List ℕ)) → Option (Seated B L) → Option (Seated B L) → Type 0
+UnservedAt sent received None new = new ≡ None
+UnservedAt sent received (Some was) new =
+    (is : Seated _ _) × (new ≡ Some is) × Unserved sent was.slot was.link is.slot is.link × Idles received was.slot was.link is.slot is.link

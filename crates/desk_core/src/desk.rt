@@ -141,7 +141,7 @@ impl<B: Bell, L: Link + Drop> Desk<B, L> {
 
     /// The connection at that place is over: its link has failed, or took too long. Its next turns end it.
     pub fn lose(&mut self, at: usize)
-        ensures { Touches L.sent self.old self.new at }
+        ensures { Touches L.sent L.received self.old self.new at }
     {
         if at < self.places.len() {
             lose_at(&mut self.places[at]);
@@ -150,7 +150,7 @@ impl<B: Bell, L: Link + Drop> Desk<B, L> {
 
     /// The connection at that place is given up, since the server ends: its next turns close its link with 1001.
     pub fn give_up(&mut self, at: usize)
-        ensures { Touches L.sent self.old self.new at }
+        ensures { Touches L.sent L.received self.old self.new at }
     {
         if at < self.places.len() {
             give_up_at(&mut self.places[at]);
@@ -160,7 +160,7 @@ impl<B: Bell, L: Link + Drop> Desk<B, L> {
     /// Sends a ping to the client at that place (RFC 6455, section 5.5.2), as far as its stream takes it. Nothing where there is none,
     /// or where memory is refused; a link that is over is found so by the connection's next turn.
     pub fn ping(&mut self, at: usize)
-        ensures { Touches L.sent self.old self.new at }
+        ensures { Touches L.sent L.received self.old self.new at }
     {
         if at < self.places.len() {
             ping_at(&mut self.places[at]);

@@ -41,7 +41,7 @@ pub fn turn_at<B: Bell, M: Ringers<B>, L: Link>(
 
 // The link there is over.
 pub fn lose_at<B: Bell, L: Link>(place: &mut Place<B, L>)
-    ensures { UnservedAt L.sent place.old place.new }
+    ensures { UnservedAt L.sent L.received place.old place.new }
 {
     if let Some(seated) = place {
         seated.lose();
@@ -50,7 +50,7 @@ pub fn lose_at<B: Bell, L: Link>(place: &mut Place<B, L>)
 
 // The connection there is given up.
 pub fn give_up_at<B: Bell, L: Link>(place: &mut Place<B, L>)
-    ensures { UnservedAt L.sent place.old place.new }
+    ensures { UnservedAt L.sent L.received place.old place.new }
 {
     if let Some(seated) = place {
         seated.give_up();
@@ -59,7 +59,7 @@ pub fn give_up_at<B: Bell, L: Link>(place: &mut Place<B, L>)
 
 // Sends the client there a ping.
 pub fn ping_at<B: Bell, L: Link>(place: &mut Place<B, L>)
-    ensures { UnservedAt L.sent place.old place.new }
+    ensures { UnservedAt L.sent L.received place.old place.new }
 {
     if let Some(seated) = place {
         seated.ping();

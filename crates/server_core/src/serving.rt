@@ -37,8 +37,8 @@ pub(crate) type ServerFlusher = HubFlusher<FileDisk, BellRope>;
 /// How many clients a server takes at a time.
 pub const MOST_CLIENTS: u64 = 16_384;
 
-/// How many bytes of an area all that may be held takes at most, with what the snapshot of a state has besides.
-const HELD_BYTES: u64 = 24_100_000;
+/// How many bytes of an area all that may be held takes at most, with a block of commands and what a snapshot has besides.
+const HELD_BYTES: u64 = 25_300_000;
 
 /// How many bytes of an area a client's session takes at most.
 const SESSION_BYTES: u64 = 8_192;
