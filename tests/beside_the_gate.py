@@ -25,6 +25,7 @@ DEBIAN_PYTHON = pathlib.Path("/usr/bin/python3")
 SCRIPTS = [
     "tests/statuses.py",
     "tests/closed_streams.py",
+    "tests/ending.py",
     "tests/serve_script.py",
     "tests/trace_format.sh",
     "tests/trace_serve.py",
@@ -65,6 +66,7 @@ MORE = {"tests/soak.py": ["--minutes", "1"], "tests/waits.py": ["--minutes", "10
 LIGHT = [
     "tests/statuses.py",
     "tests/closed_streams.py",
+    "tests/ending.py",
     "tests/serve_script.py",
     "tests/handshakes.py",
     "tests/refusals.py",

@@ -5,7 +5,7 @@ ghost use Rattle.event_log.specs.Events.{before_count, behind_count, place_of};
 ghost use Rattle.event_log.specs.declared.kind.TheConstants.{KINDS};
 
 /// How many kinds there are.
-pub const KINDS: usize = 15;
+pub const KINDS: usize = 14;
 
 /// What may come many times in a second: it is counted, and told with how often it came.
 #[derive(Clone, Copy)]
@@ -26,14 +26,12 @@ pub enum Kind {
     TooLarge,
     /// A client was answered 503, since the server has as many as it takes.
     Full,
-    /// A client was given up that answered no ping.
+    /// A client was given up that answered no ping, or no close.
     Silent,
     /// A client was given up that took nothing of what was written to it.
     TakesNothing,
     /// A client was given up that opened no session in time.
     Unopened,
-    /// A client was given up that did not close in time.
-    Lingers,
     /// A SEND was refused with E12.
     NoRoom,
     /// The system refused to accept a client: there are no descriptors or no memory for it.
@@ -68,10 +66,9 @@ impl Kind {
             8 => Some(Kind::Silent),
             9 => Some(Kind::TakesNothing),
             10 => Some(Kind::Unopened),
-            11 => Some(Kind::Lingers),
-            12 => Some(Kind::NoRoom),
-            13 => Some(Kind::NotAccepted),
-            14 => Some(Kind::LeftOut),
+            11 => Some(Kind::NoRoom),
+            12 => Some(Kind::NotAccepted),
+            13 => Some(Kind::LeftOut),
             _ => None,
         }
     }
@@ -81,7 +78,7 @@ impl Kind {
         ensures { result.now ≡ before_count self }
     {
         match self {
-            Kind::Silent | Kind::TakesNothing | Kind::Unopened | Kind::Lingers => "gave up ",
+            Kind::Silent | Kind::TakesNothing | Kind::Unopened => "gave up ",
             Kind::NotAccepted => "failed to accept ",
             Kind::LeftOut => "left out ",
             _ => "refused ",
@@ -100,10 +97,9 @@ impl Kind {
             Kind::Version => " requests for another version of WebSocket (426)",
             Kind::TooLarge => " requests with too large a head (431)",
             Kind::Full => " clients over the most that are taken (503)",
-            Kind::Silent => " clients that answered no ping",
+            Kind::Silent => " clients that answered no ping or close",
             Kind::TakesNothing => " clients that took nothing for 10 s",
             Kind::Unopened => " clients that opened no session in time",
-            Kind::Lingers => " clients that did not close in time",
             Kind::NoRoom => " SENDs for which there is no room (E12)",
             Kind::NotAccepted => " clients: out of descriptors or memory",
             Kind::LeftOut => " lines that nobody read in time",

@@ -16,6 +16,7 @@ use crate::shared::{ServerRing, ServerSeat, Shared};
 use crate::station::Station;
 use crate::teller::Teller;
 use crate::worker::WorkerThread;
+use connection_core::SESSION_BYTES;
 use disk_core::FileDisk;
 use event_log::{Event, Start};
 use flush_core::FlushFault;
@@ -39,9 +40,6 @@ pub const MOST_CLIENTS: u64 = 16_384;
 
 /// How many bytes of an area all that may be held takes at most, with a block of commands and what a snapshot has besides.
 const HELD_BYTES: u64 = 25_300_000;
-
-/// How many bytes of an area a client's session takes at most.
-const SESSION_BYTES: u64 = 8_192;
 
 /// Why a server serves no more.
 #[derive(Debug, Drop)]
@@ -370,6 +368,7 @@ fn flush<R: Wait + Clock + Drop>(
     for _round in shared.rt.forever() {
         match flush_loop(alloc, &shared.ring, flusher, &shared.pace, 1) {
             Ok(_) if shared.pace.is_done() => {
+                shared.pace.log().note(&shared.rt, Event::Ending);
                 flusher.stop(&shared.ring);
                 return Ok(());
             }

@@ -15,7 +15,7 @@ use std::alloc::Global;
 use std::sync::{Arc, Wait};
 use std::time::{Clock, Duration};
 use std::{io, mem};
-use ws_core::{Greeted, Greeting, Refusal, WsLink};
+use ws_core::{Greeted, Greeting, Outgoing, Refusal, WsLink};
 
 /// For how many milliseconds a worker waits at most before it looks again. Nothing waits for this to end.
 const LONGEST_SLEEP: u64 = 10_000;
@@ -268,11 +268,29 @@ impl<'a, R: Wait + Clock + Drop> Shift<'a, R> {
             // Its turn writes what waits.
             (Due::Write, Some(_)) => self.clients.wake(number),
             (Due::GivenUp, Some(place)) => {
+                let kind = self.why_given_up(phase, place);
+                self.shared.pace.log().count(kind);
                 self.desk.lose(place);
                 self.clients.wake(number);
             }
-            (Due::GivenUp, None) => self.leave(number),
+            (Due::GivenUp, None) => {
+                self.shared.pace.log().count(Kind::Unopened);
+                self.leave(number);
+            }
             _ => {}
+        }
+    }
+
+    // Why a client at the desk is given up that has come so far.
+    fn why_given_up(&self, phase: Phase, place: usize) -> Kind {
+        let takes_nothing = match self.desk.link(place) {
+            Some(link) => link.waits(),
+            None => false,
+        };
+        match phase {
+            Phase::Open if takes_nothing => Kind::TakesNothing,
+            Phase::Open => Kind::Silent,
+            Phase::Greeting | Phase::Unopened => Kind::Unopened,
         }
     }
 

@@ -50,7 +50,6 @@ impl Teller {
                 AtomicU64::new(0),
                 AtomicU64::new(0),
                 AtomicU64::new(0),
-                AtomicU64::new(0),
             ],
             commands: AtomicU64::new(0),
             held: AtomicU64::new(0),
