@@ -421,6 +421,7 @@ impl<'a, R: Wait + Clock + Drop> Shift<'a, R> {
 fn kind_of(refusal: Refusal) -> Kind {
     match refusal {
         Refusal::Malformed => Kind::Malformed,
+        Refusal::OtherProtocol => Kind::OtherProtocol,
         Refusal::Foreign => Kind::Foreign,
         Refusal::Method => Kind::Method,
         Refusal::NoUpgrade => Kind::NoUpgrade,
