@@ -4,5 +4,6 @@ pub mod Sessions
 pub mod Taken
 pub mod Turns
 pub mod Room
+pub mod Prefixes
 pub mod Compactions
 pub mod RoomWon
