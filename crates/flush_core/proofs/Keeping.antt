@@ -1,7 +1,8 @@
 -- What a flusher keeps, from call to call.
 use Rattle.std.proofs.Common.{◌≡◌, ◌<◌, ◌≤◌, ◌+◌, ◌-◌, ◌^◌, ◌++◌, ⊎_elim, ℕ, Bool, true, false, List, [], ◌∷◌, cond, drop, Option, length, length-append, take, refl, sym, ◌∙◌, ap, subst, arith}
 use Rattle.std.proofs.Math.Logic.{∥∥₁_map}
-use Rattle.std.proofs.lemmas.List.{length-drop, length-take-le}
+use Rattle.std.proofs.lemmas.List.{length-drop, length-take-le, take-append-drop, take-map}
+use Rattle.std.specs.List.{drop-map}
 use Rattle.frame_core.proofs.Lists.{all_append}
 use Rattle.command_core.specs.Commands.{CommandValue}
 use Rattle.area_core.specs.Areas.{commands, records}
@@ -13,38 +14,33 @@ use Rattle.broker_state.specs.States.{IsInOrder}
 use Rattle.broker_core.specs.Steps.{outs_of, state_after}
 use Rattle.claim_core.specs.Seats.{FlushSeatValue, next_ticket, when_stopped, with_mark}
 use Rattle.recover_core.specs.Standing.{StandFor, Stands, StandsForEither}
-use Rattle.flush_core.specs.Batches.{IsBatch, between, from_on, state_at, state_taken, with_more}
+use Rattle.flush_core.specs.Batches.{IsBatch, between, from_on, state_at, with_more}
 use Rattle.flush_core.specs.Flushed.{AfterSome, AreUnder, Flushed, HoldBetween, IsFlusher, IsHeld, unexecuted}
 use Rattle.flush_core.specs.Outcomes.{executing, stored_entries}
 use Rattle.flush_core.specs.Sessions.{boxes_after, ended_of}
 use Rattle.outbox_core.specs.Boxes.{SenderValue}
 use Rattle.outbox_core.specs.Giving.{Kept}
 use Rattle.std.specs.Prelude.{filter}
+use Rattle.flush_core.proofs.Prefixes.{records_cut}
 use Rattle.flush_core.proofs.Sessions.{commands_both, no_entries}
-use Rattle.std.proofs.lemmas.List.{append-nil}
 use Rattle.std.proofs.Math.Seq.{drop-append_seam, take-append_seam}
-use Rattle.flush_core.proofs.Taken.{all_at, at_between, at_more, at_start, between_all, between_from, between_more, between_none, count_after, from_end, length_between, length_commands, order_after, outs_under, under_more}
+use Rattle.flush_core.proofs.Taken.{at_between, at_more, at_start, between_from, between_more, between_none, count_after, from_end, from_front, length_between, length_commands, order_after, outs_under, under_more}
 
 -- each image stands for the state at one number
 pub hold_at : (images : List ℕ → Type 0) (opening : State) (seat : FlushSeatValue) (n : ℕ) → seat.published ≤ n → n ≤ next_ticket seat → StandFor images (state_at opening seat n) → HoldBetween images opening seat
 hold_at images opening seat n marked taken stand c image = ∣ record { number = n; marked = marked; taken = taken; stands = stand c image } ∣₁
 
--- each image stands for the state at one number, or after all that was taken
-pub hold_either : (images : List ℕ → Type 0) (opening : State) (seat : FlushSeatValue) (n : ℕ) → seat.published ≤ n → n ≤ next_ticket seat
-    → ((c : List ℕ) → images c → StandsForEither (state_at opening seat n) (state_taken opening seat) c) → HoldBetween images opening seat
-hold_either images opening seat n marked taken either c image =
+-- each image stands for the state at one number, or at another
+pub hold_either : (images : List ℕ → Type 0) (opening : State) (seat : FlushSeatValue) (n m : ℕ) → seat.published ≤ n → n ≤ m → m ≤ next_ticket seat
+    → ((c : List ℕ) → images c → StandsForEither (state_at opening seat n) (state_at opening seat m) c) → HoldBetween images opening seat
+hold_either images opening seat n m marked rises taken either c image =
     ∥∥₁_map (either c image) (⊎_elim before after)
   where
     before : Stands c (state_at opening seat n) → AfterSome opening seat c
-    before st = record { number = n; marked = marked; taken = taken; stands = st }
+    before st = record { number = n; marked = marked; taken = omega (arith, rises, taken); stands = st }
 
-    after : Stands c (state_taken opening seat) → AfterSome opening seat c
-    after st = record {
-      number = next_ticket seat;
-      marked = omega (arith, marked, taken);
-      taken = omega arith;
-      stands = subst (λ (s : State). Stands c s) (sym (all_at opening seat (next_ticket seat) refl)) st;
-    }
+    after : Stands c (state_at opening seat m) → AfterSome opening seat c
+    after st = record { number = m; marked = omega (arith, marked, rises); taken = taken; stands = st }
 
 -- the ring is stopped
 pub hold_stopped : (images : List ℕ → Type 0) (opening : State) (seat : FlushSeatValue) → HoldBetween images opening seat → HoldBetween images opening (when_stopped seat)
@@ -81,17 +77,28 @@ held_more seat next more stored executed journal batch done next_batch bytes now
   room_is = held.room_is;
 }
 
--- what waited to be stored waits to be executed
-pub held_stored : {B : Type 0} (seat : FlushSeatValue) (stored next executed : ℕ) (journal now : Bool) (batch done next_batch next_done : List (EntryValue B)) (bytes left waiting room : ℕ)
-    → next_batch ≡ done → next_done ≡ batch → next ≡ next_ticket seat → next ≤ 2 ^ 62 → now ≡ false → executed ≡ stored → seat.base ≤ stored
-    → IsHeld seat stored executed journal batch done bytes left waiting room → IsHeld seat next executed now next_batch next_done 0 left waiting room
-held_stored {B} seat stored next executed journal now batch done next_batch next_done bytes left waiting room batch_is done_is next_is most whole same begun held =
-    let empty : commands next_batch ≡ [] = ap (λ (l : List (EntryValue B)). commands l) batch_is ∙ (held.done_is ∙ (ap (λ (n : ℕ). between seat n stored) same ∙ between_none seat stored)) in
+-- the first of what waited to be stored waits to be executed
+pub held_stored : {B : Type 0} (seat : FlushSeatValue) (stored next executed k : ℕ) (journal now : Bool) (batch done next_batch next_done : List (EntryValue B)) (bytes fewer left waiting room : ℕ)
+    → next_batch ≡ drop k batch → next_done ≡ take k batch → next ≡ stored + k → next ≤ 2 ^ 62 → now ≡ false → executed ≡ stored → seat.base ≤ stored → fewer ≡ bytes - length (records (commands next_done))
+    → IsHeld seat stored executed journal batch done bytes left waiting room → IsHeld seat next executed now next_batch next_done fewer left waiting room
+held_stored {B} seat stored next executed k journal now batch done next_batch next_done bytes fewer left waiting room batch_is done_is next_is most whole same begun bytes_are held =
+    let first : commands next_done ≡ take k (commands batch) = ap (λ (l : List (EntryValue B)). commands l) done_is ∙ sym (take-map (λ (entry : EntryValue B). entry.command) k batch) in
+    let rest : commands next_batch ≡ drop k (commands batch) = ap (λ (l : List (EntryValue B)). commands l) batch_is ∙ sym (drop-map (λ (entry : EntryValue B). entry.command) k batch) in
+    let count : k ≡ next - executed = omega (arith, next_is, same) in
     record {
       whole = whole;
-      batch_is = empty ∙ sym (from_end seat next next_is);
-      bytes_is = ap (λ (l : List CommandValue). length (records l)) (sym empty);
-      done_is = ap (λ (l : List (EntryValue B)). commands l) done_is ∙ (held.batch_is ∙ (sym (between_all seat stored next next_is begun) ∙ ap (λ (n : ℕ). between seat n next) (sym same)));
+      batch_is = rest ∙ (ap (λ (l : List CommandValue). drop k l) held.batch_is ∙ (from_front seat stored k begun ∙ ap (λ (n : ℕ). from_on seat n) (sym next_is)));
+      bytes_is = omega (
+        arith,
+        bytes_are,
+        held.bytes_is,
+        records_cut k (commands batch),
+        ap (λ (l : List CommandValue). length (records l)) first,
+        ap (λ (l : List CommandValue). length (records l)) rest,
+      );
+      done_is = first
+          ∙ (ap (λ (l : List CommandValue). take k l) held.batch_is
+          ∙ (ap (λ (n : ℕ). take n (from_on seat stored)) count ∙ ap (λ (n : ℕ). take (next - executed) (from_on seat n)) (sym same)));
       few = most;
       room_is = held.room_is;
     }
@@ -120,18 +127,12 @@ pub all_brought : {B : Type 0} (seat : FlushSeatValue) (stored executed : ℕ) (
 all_brought seat stored executed journal batch done bytes left waiting room begun rises held =
     commands_both done batch ∙ ((λ i. held.done_is i ++ held.batch_is i) ∙ between_from seat executed stored begun rises)
 
--- where nothing is gathered all that was taken is stored
-pub all_stored : {B : Type 0} (seat : FlushSeatValue) (stored executed : ℕ) (journal : Bool) (batch done : List (EntryValue B)) (bytes left waiting room : ℕ) → length batch ≡ 0 → seat.base ≤ stored → stored ≤ next_ticket seat
-    → IsHeld seat stored executed journal batch done bytes left waiting room → stored ≡ next_ticket seat
-all_stored seat stored executed journal batch done bytes left waiting room none begun few held =
-    omega (arith, none, begun, few, length_commands batch, ap (λ (l : List CommandValue). length l) held.batch_is, length-drop (stored - seat.base) seat.taken)
-
 -- what was gathered and is stored stays brought
-pub stored_brought : {B : Type 0} (seat : FlushSeatValue) (stored executed : ℕ) (journal : Bool) (batch done next_batch next_done : List (EntryValue B)) (bytes left waiting room : ℕ) → next_batch ≡ done → next_done ≡ batch
+pub stored_brought : {B : Type 0} (seat : FlushSeatValue) (stored executed k : ℕ) (journal : Bool) (batch done next_batch next_done : List (EntryValue B)) (bytes left waiting room : ℕ) → next_batch ≡ drop k batch → next_done ≡ take k batch
     → executed ≡ stored → IsHeld seat stored executed journal batch done bytes left waiting room → next_done ++ next_batch ≡ done ++ batch
-stored_brought {B} seat stored executed journal batch done next_batch next_done bytes left waiting room batch_is done_is same held =
+stored_brought {B} seat stored executed k journal batch done next_batch next_done bytes left waiting room batch_is done_is same held =
     let none : done ≡ [] = no_entries done (held.done_is ∙ (ap (λ (n : ℕ). between seat n stored) same ∙ between_none seat stored)) in
-    (λ i. done_is i ++ (batch_is ∙ none) i) ∙ (append-nil batch ∙ ap (λ (l : List (EntryValue B)). l ++ batch) (sym none))
+    (λ i. done_is i ++ batch_is i) ∙ (take-append-drop k batch ∙ ap (λ (l : List (EntryValue B)). l ++ batch) (sym none))
 
 -- of what was brought the stored entries come first, and then the gathered ones
 pub executed_entries : {B : Type 0} (seat : FlushSeatValue) (stored executed : ℕ) (journal : Bool) (batch done : List (EntryValue B)) (bytes left waiting room : ℕ) → seat.base ≤ executed → executed ≤ stored → stored ≤ next_ticket seat
@@ -227,10 +228,10 @@ module _ {D : Type 0} (honest : D → Type 0) (images : D → List ℕ → Type 
       })
 
   -- the store fails
-  pub store_fails : (f : Flushed D) (seat : FlushSeatValue) (next : D) (size used : ℕ) → seat ≡ when_stopped f.seat
+  pub store_fails : (f : Flushed D) (seat : FlushSeatValue) (next : D) (size used : ℕ) (brought : List (EntryValue SenderValue)) → seat ≡ when_stopped f.seat
       → (honest next → HoldBetween (images next) f.opening f.seat) → IsFlusher honest images f
-      → IsFlusher honest images (record f { disk = next; size = size; used = used; seat = seat; broken = true })
-  store_fails f seat next size used is each kept = subst (λ (s : FlushSeatValue). IsFlusher honest images (record f { disk = next; size = size; used = used; seat = s; broken = true })) (sym is) (record {
+      → IsFlusher honest images (record f { disk = next; size = size; used = used; seat = seat; brought = brought; broken = true })
+  store_fails f seat next size used brought is each kept = subst (λ (s : FlushSeatValue). IsFlusher honest images (record f { disk = next; size = size; used = used; seat = s; brought = brought; broken = true })) (sym is) (record {
     begun = kept.begun;
     marked = kept.marked;
     executed = kept.executed;
@@ -277,21 +278,20 @@ module _ {D : Type 0} (honest : D → Type 0) (images : D → List ℕ → Type 
         running = λ whole. let run = kept.running whole in record { stands = run.stands; broker = run.broker; brought = run.brought; waiting = run.waiting };
       }
 
-  -- all that was taken is stored
-  pub stores : (f : Flushed D) (next : D) (size used stored : ℕ) (brought : List (EntryValue SenderValue)) → stored ≡ next_ticket f.seat → f.broken ≡ false
-      → (honest next → StandFor (images next) (state_taken f.opening f.seat)) → brought ≡ f.brought → IsFlusher honest images f
-      → IsFlusher honest images (record f { disk = next; size = size; used = used; stored = stored; brought = brought })
-  stores f next size used stored brought is whole after same kept =
-      let stand : honest next → StandFor (images next) (state_at f.opening f.seat stored) = λ h. subst (λ (s : State). StandFor (images next) s) (sym (all_at f.opening f.seat stored is)) (after h) in
+  -- what was taken is stored up to a number
+  pub stores : (f : Flushed D) (next : D) (size used n : ℕ) (brought : List (EntryValue SenderValue)) → f.stored ≤ n → n ≤ next_ticket f.seat → f.broken ≡ false
+      → (honest next → StandFor (images next) (state_at f.opening f.seat n)) → brought ≡ f.brought → IsFlusher honest images f
+      → IsFlusher honest images (record f { disk = next; size = size; used = used; stored = n; brought = brought })
+  stores f next size used n brought rises few whole stand same kept =
       let run = kept.running whole in
       record {
         begun = kept.begun;
         marked = kept.marked;
-        executed = omega (arith, is, kept.executed, kept.stored);
-        stored = omega (arith, is);
+        executed = omega (arith, rises, kept.executed);
+        stored = few;
         opened = kept.opened;
         sound = kept.sound;
-        each = λ h. hold_at (images next) f.opening f.seat stored (omega (arith, is, kept.marked, kept.executed, kept.stored)) (omega (arith, is)) (stand h);
+        each = λ h. hold_at (images next) f.opening f.seat n (omega (arith, rises, kept.marked, kept.executed)) few (stand h);
         under = kept.under;
         stopped = kept.stopped;
         running = λ _. record {

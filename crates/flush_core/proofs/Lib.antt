@@ -4,6 +4,7 @@ pub mod Sessions
 pub mod Taken
 pub mod Turns
 pub mod Room
+pub mod Prefixes
 pub mod Compactions
 pub mod RoomWon
 pub mod Halting

@@ -1,5 +1,5 @@
 -- Where a block does not fit.
-use Rattle.std.proofs.Common.{◌≡◌, ◌≢◌, ◌⊎◌, ◌<◌, ◌≤◌, ◌+◌, ◌-◌, ℕ, List, [], Option, Some, Err, length, ap, subst, sym, ◌∙◌, arith}
+use Rattle.std.proofs.Common.{◌≡◌, ◌≢◌, ◌⊎◌, ◌<◌, ◌≤◌, ◌+◌, ◌-◌, ℕ, List, [], Option, Err, length, take, ap, subst, sym, ◌∙◌, arith}
 use Rattle.std.proofs.Math.Logic.{∥∥₁_prop, ∥∥₁_elim}
 use Rattle.command_core.specs.Commands.{CommandValue}
 use Rattle.command_core.specs.Entries.{EntryValue}
@@ -18,7 +18,7 @@ use Rattle.flush_core.specs.Flushed.{Flushed, IsFlusher, gathered}
 use Rattle.claim_core.specs.Seats.{FlushSeatValue, next_ticket}
 use Rattle.flush_core.specs.Outcomes.{IsOutcome, publishing, executing, storing, taking}
 use Rattle.recover_core.specs.Compactions.{HasNoRoomFor}
-use Rattle.flush_core.specs.Room.{Fits, HasNoRoom, HasNoRoomForState, HasNoRoomLeft, IsTooLong, used_afresh}
+use Rattle.flush_core.specs.Room.{Fits, HasNoRoom, HasNoRoomForState, HasNoRoomLeft, IsTooLong, StoresAfresh, used_afresh}
 use Rattle.flush_core.proofs.Taken.{at_more}
 use Rattle.area_core.specs.Areas.{commands}
 
@@ -62,7 +62,7 @@ rest_stays {D} old new n Broken was = sym (ap (λ (f : Flushed D). from_on f.sea
 rest_stays old new n (Memory refused) fell = sym (ap (λ s. from_on s n) fell.seat)
 
 -- The disk is as it was where nothing was gathered: storing then changed nothing, and what comes behind it calls no disk.
-module _ {D : Type 0} (f g h : Flushed D) (entries : List (EntryValue SenderValue)) (next : D) (size used : ℕ) (won : Option ℕ) (took : g ≡ taking f entries) (did : h ≡ storing g next size used won) (nothing : gathered g ≡ [] → h ≡ g) where
+module _ {D : Type 0} (f g h : Flushed D) (entries : List (EntryValue SenderValue)) (n : ℕ) (next : D) (size used : ℕ) (won : Option ℕ) (took : g ≡ taking f entries) (did : h ≡ storing g n next size used won) (nothing : gathered g ≡ [] → h ≡ g) where
   gathered_before : (seat : FlushSeatValue) → from_on h.seat g.stored ≡ from_on seat g.stored → from_on seat f.stored ≡ [] → gathered g ≡ []
   gathered_before seat rest none =
       ap (λ (x : Flushed D). from_on x.seat g.stored) (sym did) ∙ (rest ∙ (ap (λ (x : Flushed D). from_on seat x.stored) took ∙ none))
@@ -80,24 +80,34 @@ module _ {D : Type 0} (f g h : Flushed D) (entries : List (EntryValue SenderValu
     ap (λ (x : Flushed D). x.won) published ∙ ap (λ (x : Flushed D). x.won) executed,
   )
 
+  -- nor does the number stored change
+  same_stored : (k l : Flushed D) → k ≡ executing h → l ≡ publishing k l.boxes → l.stored ≡ h.stored
+  same_stored k l executed published = ap (λ (x : Flushed D). x.stored) published ∙ ap (λ (x : Flushed D). x.stored) executed
+
+  same_end : (k l : Flushed D) → k ≡ executing h → l ≡ publishing k l.boxes → next_ticket g.seat ≡ next_ticket l.seat
+  same_end k l executed published =
+      sym (ap (λ (x : Flushed D). next_ticket x.seat) published ∙ (ap (λ (x : Flushed D). next_ticket x.seat) executed ∙ ap (λ (x : Flushed D). next_ticket x.seat) did))
+
   pub came_behind : (k l : Flushed D) → k ≡ executing h → l ≡ publishing k l.boxes
-      → (Fits g.size g.used (gathered g) → gathered g ≢ [] → (h.used ≡ g.used + 9 + length (records (gathered g))) × (h.won ≡ g.won))
-      → Fits f.size f.used (from_on l.seat f.stored) → from_on l.seat f.stored ≢ [] → (l.used ≡ f.used + 9 + length (records (from_on l.seat f.stored))) × (l.won ≡ f.won)
+      → (Fits g.size g.used (gathered g) → gathered g ≢ [] → (h.stored ≡ next_ticket g.seat) × (h.used ≡ g.used + 9 + length (records (gathered g))) × (h.won ≡ g.won))
+      → Fits f.size f.used (from_on l.seat f.stored) → from_on l.seat f.stored ≢ []
+      → (l.stored ≡ next_ticket l.seat) × (l.used ≡ f.used + 9 + length (records (from_on l.seat f.stored))) × (l.won ≡ f.won)
   came_behind k l executed published told fits some =
       let same = same_used k l executed published in
-      let both = subst (λ (z : Flushed D × List CommandValue). Fits z.0.size z.0.used z.1 → z.1 ≢ [] → (h.used ≡ z.0.used + 9 + length (records z.1)) × (h.won ≡ z.0.won)) (λ i. (took i, taken_stays k l executed published i)) told fits some in
-      (same.0 ∙ both.0, same.1 ∙ both.1)
+      let all = subst (λ (z : Flushed D × List CommandValue). Fits z.0.size z.0.used z.1 → z.1 ≢ [] → (h.stored ≡ next_ticket g.seat) × (h.used ≡ z.0.used + 9 + length (records z.1)) × (h.won ≡ z.0.won)) (λ i. (took i, taken_stays k l executed published i)) told fits some in
+      (same_stored k l executed published ∙ (all.0 ∙ same_end k l executed published), same.0 ∙ all.1, same.1 ∙ all.2)
 
   pub came_afresh : (k l : Flushed D) → k ≡ executing h → l ≡ publishing k l.boxes → f.stored ≤ next_ticket f.seat
       → (IsTooLong g.size g.used (gathered g) → gathered g ≢ []
-      → (h.used ≡ used_afresh (state_at g.opening g.seat g.stored) + 9 + length (records (gathered g))) × (h.won ≡ Some (g.used - used_afresh (state_at g.opening g.seat g.stored))))
+      → StoresAfresh g.size g.used (state_at g.opening g.seat g.stored) (gathered g) (h.stored - g.stored) h.used h.won)
       → IsTooLong f.size f.used (from_on l.seat f.stored) → from_on l.seat f.stored ≢ []
-      → (l.used ≡ used_afresh (state_at f.opening f.seat f.stored) + 9 + length (records (from_on l.seat f.stored))) × (l.won ≡ Some (f.used - used_afresh (state_at f.opening f.seat f.stored)))
+      → StoresAfresh f.size f.used (state_at f.opening f.seat f.stored) (from_on l.seat f.stored) (l.stored - f.stored) l.used l.won
   came_afresh k l executed published few told long some =
       let state : state_at g.opening g.seat g.stored ≡ state_at f.opening f.seat f.stored = ap (λ (x : Flushed D). state_at x.opening x.seat x.stored) took ∙ at_more f.opening f.seat (commands entries) f.stored few in
       let same = same_used k l executed published in
-      let both = subst (λ (z : Flushed D × State × List CommandValue). IsTooLong z.0.size z.0.used z.2 → z.2 ≢ [] → (h.used ≡ used_afresh z.1 + 9 + length (records z.2)) × (h.won ≡ Some (z.0.used - used_afresh z.1))) (λ i. (took i, state i, taken_stays k l executed published i)) told long some in
-      (same.0 ∙ both.0, same.1 ∙ both.1)
+      let all = subst (λ (z : Flushed D × State × List CommandValue). IsTooLong z.0.size z.0.used z.2 → z.2 ≢ [] → StoresAfresh z.0.size z.0.used z.1 z.2 (h.stored - z.0.stored) h.used h.won) (λ i. (took i, state i, taken_stays k l executed published i)) told long some in
+      subst (λ (z : ℕ × ℕ × Option ℕ). StoresAfresh f.size f.used (state_at f.opening f.seat f.stored) (from_on l.seat f.stored) (z.0 - f.stored) z.1 z.2)
+      (sym (λ i. (same_stored k l executed published i, same.0 i, same.1 i))) all
 
   -- nothing is won where nothing was gathered
   pub none_won : (k l : Flushed D) → k ≡ executing h → l ≡ publishing k l.boxes → from_on l.seat f.stored ≡ [] → l.won ≡ f.won
@@ -142,15 +152,15 @@ module _ {D : Type 0} (disk : Ghosts D) (f g h : Flushed D) (entries : List (Ent
 
   -- so where room was looked for and not found
   pub found_none : IsTooLong g.size g.used (gathered g)
-      × ((HasNoRoomFor g.size (state_at g.opening g.seat g.stored) × (h.disk ≡ g.disk)) ⊎ IsTooLong g.size (used_afresh (state_at g.opening g.seat g.stored)) (gathered g))
+      × ((HasNoRoomFor g.size (state_at g.opening g.seat g.stored) × (h.disk ≡ g.disk)) ⊎ IsTooLong g.size (used_afresh (state_at g.opening g.seat g.stored)) (take 1 (gathered g)))
       → IsTooLong f.size f.used (from_on h.seat f.stored)
-      × ((HasNoRoomFor f.size (state_at f.opening f.seat f.stored) × (h.disk ≡ f.disk)) ⊎ IsTooLong f.size (used_afresh (state_at f.opening f.seat f.stored)) (from_on h.seat f.stored))
+      × ((HasNoRoomFor f.size (state_at f.opening f.seat f.stored) × (h.disk ≡ f.disk)) ⊎ IsTooLong f.size (used_afresh (state_at f.opening f.seat f.stored)) (take 1 (from_on h.seat f.stored)))
   found_none told =
-      subst (λ (z : Flushed D × State × List CommandValue). IsTooLong z.0.size z.0.used z.2 × ((HasNoRoomFor z.0.size z.1 × (h.disk ≡ z.0.disk)) ⊎ IsTooLong z.0.size (used_afresh z.1) z.2))
+      subst (λ (z : Flushed D × State × List CommandValue). IsTooLong z.0.size z.0.used z.2 × ((HasNoRoomFor z.0.size z.1 × (h.disk ≡ z.0.disk)) ⊎ IsTooLong z.0.size (used_afresh z.1) (take 1 z.2)))
       (λ i. (took i, before_taking i, gathered_stays i)) told
 
-  pub has_none_left : HasNoRoomLeft (disk.content h.disk) (state_at g.opening g.seat g.stored) (gathered g) → HasNoRoomLeft (disk.content h.disk) (state_at f.opening f.seat f.stored) (from_on h.seat f.stored)
-  has_none_left told = subst (λ (z : State × List CommandValue). HasNoRoomLeft (disk.content h.disk) z.0 z.1) (λ i. (before_taking i, gathered_stays i)) told
+  pub has_none_left : HasNoRoomLeft (disk.content h.disk) (state_at g.opening g.seat g.stored) (take 1 (gathered g)) → HasNoRoomLeft (disk.content h.disk) (state_at f.opening f.seat f.stored) (take 1 (from_on h.seat f.stored))
+  has_none_left told = subst (λ (z : State × List CommandValue). HasNoRoomLeft (disk.content h.disk) z.0 (take 1 z.1)) (λ i. (before_taking i, gathered_stays i)) told
 
   pub of_a_batch : {most most_bytes : ℕ} → IsBatch most most_bytes (gathered g) → gathered g ≢ [] → IsBatch most most_bytes (from_on h.seat f.stored) × (from_on h.seat f.stored ≢ [])
   of_a_batch {most} {most_bytes} batch some = (subst (IsBatch most most_bytes) gathered_stays batch, λ none. some (gathered_stays ∙ none))

@@ -1,5 +1,5 @@
 -- A batch is stored once room was won for it.
-use Rattle.std.proofs.Common.{◌≡◌, ◌≢◌, ◌≤◌, ◌+◌, ◌-◌, ◌⊎◌, inl, inr, ⊎_elim, ℕ, List, [], Option, Some, Result, Ok, Err, OnOk, false, true, length, refl, sym, ◌∙◌, ap, subst, arith}
+use Rattle.std.proofs.Common.{◌≡◌, ◌≢◌, ◌<◌, ◌≤◌, ◌+◌, ◌-◌, ◌⊎◌, inl, inr, ⊎_elim, ℕ, List, [], Option, Result, Ok, Err, OnOk, false, true, length, take, refl, sym, ◌∙◌, ap, subst, arith}
 use Rattle.std.specs.Prelude.{IsErrOf, IsOk}
 use Rattle.std.proofs.lemmas.Bool.{false≢true}
 use Rattle.std.proofs.Math.Logic.{∥∥₁_map}
@@ -12,14 +12,17 @@ use Rattle.broker_core.specs.States.{State}
 use Rattle.command_core.specs.Commands.{CommandValue}
 use Rattle.recover_core.specs.Compactions.{HasNoRoomFor, HoldsItAlone}
 use Rattle.recover_core.specs.Opens.{HoldsOnlySnapshot}
-use Rattle.recover_core.specs.Standing.{Stands, StandsForEither}
+use Rattle.recover_core.specs.Standing.{StandFor, Stands, StandsForEither}
 use Rattle.flush_core.specs.declared.faults.FlushFault.{FlushFault}
 use Rattle.flush_core.specs.declared.faults.FlushFault.TheVariants.{Broken, Device, Full, Memory}
-use Rattle.flush_core.specs.Batches.{state_at, state_taken}
+use Rattle.flush_core.specs.Batches.{state_at}
 use Rattle.flush_core.specs.Faults.{IfMemory}
 use Rattle.flush_core.specs.Flushed.{Flushed, IsFlusher, gathered}
-use Rattle.flush_core.specs.Outcomes.{Falls, IsCompacted, IsLeft, IsOutcome, compacted, storing, using}
-use Rattle.flush_core.specs.Room.{Fits, HasNoRoomForState, HasNoRoomLeft, IsTooLong, LacksRoomForState, used_afresh}
+use Rattle.flush_core.specs.Outcomes.{Falls, IsNext, IsCompacted, IsLeft, IsOutcome, compacted, storing, using}
+use Rattle.flush_core.specs.Room.{Fits, HasNoRoomForState, HasNoRoomLeft, IsLongest, IsTooLong, LacksRoomForState, StoresAfresh, used_afresh}
+use Rattle.std.proofs.lemmas.List.{take_all}
+use Rattle.flush_core.proofs.Prefixes.{is_longest, records_cut}
+use Rattle.flush_core.proofs.Taken.{length_from}
 
 -- where nothing is done the disk stands for the state after what is stored
 pub stays_so : {D : Type 0} (disk : Ghosts D) (f : Flushed D) → IsFlusher disk.honest disk.images f → f.broken ≡ false
@@ -43,6 +46,15 @@ was_compacted disk old new (Err fault) whole some long is alone = tt
 pub none_left : (image : List ℕ) (s : State) (cs : List CommandValue) → HasNoRoomForState image s → HasNoRoomLeft image s cs
 none_left image s cs lacks = ∥∥₁_map lacks (λ (l : LacksRoomForState image s). inl l)
 
+-- the disk stands for the state after as much as is stored
+pub after_stands : {D : Type 0} (disk : Ghosts D) (old mid new : Flushed D) (count : ℕ) (result : Result (Unit {0}) FlushFault) → mid ≡ using old mid.disk mid.used mid.won
+    → OnOk result (old.stored + count ≡ new.stored) → OnOk result (StandFor (disk.images new.disk) (state_at mid.opening mid.seat (mid.stored + count)))
+    → OnOk result (StandFor (disk.images new.disk) (state_at old.opening old.seat new.stored))
+after_stands {D} disk old mid new count (Ok x) is number stand =
+    subst (λ (n : ℕ). StandFor (disk.images new.disk) (state_at old.opening old.seat n)) number
+    (subst (λ (f : Flushed D). StandFor (disk.images new.disk) (state_at f.opening f.seat (f.stored + count))) is stand)
+after_stands disk old mid new count (Err fault) is number stand = tt
+
 module _ {D : Type 0} (disk : Ghosts D) (old mid : Flushed D) (made : IsLeft old mid ⊎ IsCompacted disk old mid) where
   -- nothing but the disk, the bytes used and what was won has changed
   pub all_but_disk : mid ≡ using old mid.disk mid.used mid.won
@@ -53,93 +65,183 @@ module _ {D : Type 0} (disk : Ghosts D) (old mid : Flushed D) (made : IsLeft old
       made
 
   -- a stop within it, and within what is stored then
-  pub stored_moments : (new : D)
+  pub stored_moments : (n : ℕ) (new : D)
       → ((start now next : D) (P : List ℕ → Type 0) → LeavesOnly disk.moment disk.images_since start now P → LeavesOnly disk.moment disk.images_since now next P → LeavesOnly disk.moment disk.images_since start next P)
-      → LeavesOnly disk.moment disk.images_since old.disk mid.disk (StandsForEither (state_at old.opening old.seat old.stored) (state_taken old.opening old.seat))
-      → (disk.honest mid.disk → mid.broken ≡ false → LeavesOnly disk.moment disk.images_since mid.disk new (StandsForEither (state_at mid.opening mid.seat mid.stored) (state_taken mid.opening mid.seat)))
+      → LeavesOnly disk.moment disk.images_since old.disk mid.disk (StandsForEither (state_at old.opening old.seat old.stored) (state_at old.opening old.seat (old.stored + n)))
+      → (disk.honest mid.disk → mid.broken ≡ false → LeavesOnly disk.moment disk.images_since mid.disk new (StandsForEither (state_at mid.opening mid.seat mid.stored) (state_at mid.opening mid.seat (mid.stored + n))))
       → disk.honest mid.disk → old.broken ≡ false
-      → LeavesOnly disk.moment disk.images_since old.disk new (StandsForEither (state_at old.opening old.seat old.stored) (state_taken old.opening old.seat))
-  stored_moments new join first then honest whole =
-      join old.disk mid.disk new (StandsForEither (state_at old.opening old.seat old.stored) (state_taken old.opening old.seat)) first
-      (subst (λ (m : Flushed D). disk.honest m.disk → m.broken ≡ false → LeavesOnly disk.moment disk.images_since m.disk new (StandsForEither (state_at m.opening m.seat m.stored) (state_taken m.opening m.seat))) all_but_disk then honest whole)
+      → LeavesOnly disk.moment disk.images_since old.disk new (StandsForEither (state_at old.opening old.seat old.stored) (state_at old.opening old.seat (old.stored + n)))
+  stored_moments n new join first then honest whole =
+      join old.disk mid.disk new (StandsForEither (state_at old.opening old.seat old.stored) (state_at old.opening old.seat (old.stored + n))) first
+      (subst (λ (m : Flushed D). disk.honest m.disk → m.broken ≡ false → LeavesOnly disk.moment disk.images_since m.disk new (StandsForEither (state_at m.opening m.seat m.stored) (state_at m.opening m.seat (m.stored + n)))) all_but_disk then honest whole)
 
-  -- the block does not fit behind the snapshot either
-  pub no_room_left : (new : Flushed D) (result : Result (Unit {0}) FlushFault) → result ≡ Err Full → disk.honest old.disk → disk.images mid.disk (disk.content mid.disk)
-      → (IsErrOf result Full → IsTooLong mid.size mid.used (gathered mid) × (new.disk ≡ mid.disk))
-      → (mid.broken ≡ false → gathered mid ≡ [] → IsOk result × (new ≡ mid)) → IsOutcome mid new result
-      → HasNoRoomLeft (disk.content new.disk) (state_at old.opening old.seat old.stored) (gathered old)
-  no_room_left new result is honest reads full nothing outcome =
-      let told = full is in
-      let fell : Falls mid new = subst (λ (r : Result (Unit {0}) FlushFault). IsOutcome mid new r) is outcome in
-      let cs : gathered mid ≡ gathered old = ap (λ (f : Flushed D). gathered f) all_but_disk in
-      let s = state_at old.opening old.seat old.stored in
-      subst (λ (d : D). HasNoRoomLeft (disk.content d) s (gathered old)) (sym told.1)
-      (⊎_elim
-      (λ (l : IsLeft old mid).
-      let fits = l.fits (ap (λ (f : Flushed D). f.broken) (sym l.same) ∙ fell.was) (λ none. some_mid (cs ∙ none) fell) in
-      let long : IsTooLong old.size old.used (gathered old) = subst (λ (f : Flushed D). IsTooLong f.size f.used (gathered f)) l.same told.0 in
-      absurd (omega (arith, fits, long)))
-      (λ (w : IsCompacted disk old mid). ∥∥₁_map (w.alone honest (disk.content mid.disk) reads) (λ (h : HoldsOnlySnapshot mid.size mid.used s (disk.content mid.disk)).
-      inr (record { size = mid.size; used = mid.used; holds = h; short = subst (λ (l : List CommandValue). IsTooLong mid.size mid.used l) cs told.0 })))
-      made)
-    where
-      some_mid : gathered mid ≡ [] → Falls mid new → ⊥
-      some_mid none fell = false≢true (subst (λ (r : Result (Unit {0}) FlushFault). IsOk r) is (nothing fell.was none).0)
+  -- The first so many have a block that fits, or else are one.
+  module _ (kept : IsFlusher disk.honest disk.images old) (whole : old.broken ≡ false) (count : ℕ) (within : mid.broken ≡ false → count ≤ length (gathered mid)) (some : mid.broken ≡ false → gathered mid ≢ [] → 0 < count)
+      (one : mid.broken ≡ false → IsTooLong mid.size mid.used (take count (gathered mid)) → IsTooLong mid.size mid.used (take 1 (gathered mid)))
+      (more : mid.broken ≡ false → count < length (gathered mid) → IsTooLong mid.size mid.used (take (count + 1) (gathered mid))) where
+    sound : mid.broken ≡ false
+    sound = ap (λ (f : Flushed D). f.broken) all_but_disk ∙ whole
 
-  -- all that was taken is stored then
-  pub stored_so : (new : Flushed D) (result : Result (Unit {0}) FlushFault) → OnOk result (new ≡ storing mid new.disk new.size new.used mid.won) → OnOk result (new ≡ storing old new.disk new.size new.used new.won)
-  stored_so new (Ok x) is =
-      subst (λ (won : Option ℕ). new ≡ storing old new.disk new.size new.used won) (ap (λ (f : Flushed D). f.won) (sym is))
-      (is ∙ ap (λ (f : Flushed D). storing f new.disk new.size new.used f.won) all_but_disk)
-  stored_so new (Err fault) is = tt
+    same : gathered mid ≡ gathered old
+    same = ap (λ (f : Flushed D). gathered f) all_but_disk
 
-  -- nothing is done where nothing is gathered
-  pub nothing_so : (new : Flushed D) (result : Result (Unit {0}) FlushFault) → (mid.broken ≡ false → gathered mid ≡ [] → IsOk result × (new ≡ mid))
-      → old.broken ≡ false → gathered old ≡ [] → IsOk result × (new ≡ old)
-  nothing_so new result nothing whole none =
-      ⊎_elim
-      (λ (l : IsLeft old mid). let did = nothing (ap (λ (f : Flushed D). f.broken) l.same ∙ whole) (ap (λ (f : Flushed D). gathered f) l.same ∙ none) in (did.0, did.1 ∙ l.same))
-      (λ (w : IsCompacted disk old mid). absurd (w.some none))
-      made
+    pub count_within : count ≤ length (gathered old)
+    count_within = subst (λ (l : List CommandValue). count ≤ length l) same (within sound)
 
-  -- the block stands behind the snapshot
-  pub afresh_so : (new : Flushed D) (result : Result (Unit {0}) FlushFault) → IsOutcome mid new result
-      → OnOk result (new ≡ storing mid new.disk new.size new.used mid.won)
-      → (gathered mid ≢ [] → OnOk result (new.used ≡ mid.used + 9 + length (records (gathered mid))))
-      → IsTooLong old.size old.used (gathered old) → gathered old ≢ []
-      → OnOk result ((new.used ≡ used_afresh (state_at old.opening old.seat old.stored) + 9 + length (records (gathered old)))
-      × (new.won ≡ Some (old.used - used_afresh (state_at old.opening old.seat old.stored))))
-  afresh_so new (Ok x) outcome is used long some =
-      let cs : gathered mid ≡ gathered old = ap (λ (f : Flushed D). gathered f) all_but_disk in
-      let now = used (λ none. some (sym cs ∙ none)) in
-      let won : new.won ≡ mid.won = ap (λ (f : Flushed D). f.won) is in
-      ⊎_elim
-      (λ (l : IsLeft old mid). absurd (omega (arith, l.fits (ap (λ (f : Flushed D). f.broken) (sym l.same) ∙ outcome.0) some, long)))
-      (λ (w : IsCompacted disk old mid). (
-        now ∙ ((λ i. (w.is i).used + 9 + length (records (cs i)))),
-        won ∙ ap (λ (f : Flushed D). f.won) w.is,
-      ))
-      made
-  afresh_so new (Err fault) outcome is used long some = tt
+    to_end : old.stored + length (gathered old) ≡ next_ticket old.seat
+    to_end = length_from old.seat old.stored (omega (arith, kept.begun, kept.marked, kept.executed)) kept.stored
 
-  -- it was too long, and so it is behind the snapshot
-  pub full_so : (new : Flushed D) (result : Result (Unit {0}) FlushFault) → IsOutcome mid new result
-      → (IsErrOf result Full → IsTooLong mid.size mid.used (gathered mid) × (new.disk ≡ mid.disk))
-      → (mid.broken ≡ false → gathered mid ≡ [] → IsOk result × (new ≡ mid)) → IsErrOf result Full
-      → IsTooLong old.size old.used (gathered old)
-      × ((HasNoRoomFor old.size (state_at old.opening old.seat old.stored) × (new.disk ≡ old.disk)) ⊎ IsTooLong old.size (used_afresh (state_at old.opening old.seat old.stored)) (gathered old))
-  full_so new result outcome full nothing is =
-      let told = full is in
-      let fell : Falls mid new = subst (λ (r : Result (Unit {0}) FlushFault). IsOutcome mid new r) is outcome in
-      let cs : gathered mid ≡ gathered old = ap (λ (f : Flushed D). gathered f) all_but_disk in
-      ⊎_elim
-      (λ (l : IsLeft old mid).
-      let some : gathered old ≢ [] = λ none. false≢true (subst (λ (r : Result (Unit {0}) FlushFault). IsOk r) is (nothing fell.was (cs ∙ none)).0) in
-      let fits = l.fits (ap (λ (f : Flushed D). f.broken) (sym l.same) ∙ fell.was) some in
-      let long : IsTooLong old.size old.used (gathered old) = subst (λ (f : Flushed D). IsTooLong f.size f.used (gathered f)) l.same told.0 in
-      absurd (omega (arith, fits, long)))
-      (λ (w : IsCompacted disk old mid). (w.long, inr (subst (λ (f : Flushed D). IsTooLong f.size f.used (gathered f)) w.is told.0)))
-      made
+    count_some : gathered old ≢ [] → 0 < count
+    count_some there = some sound (λ none. there (sym same ∙ none))
+
+    pub count_longest : gathered old ≢ [] → IsLongest mid.size mid.used (gathered old) count
+    count_longest there = is_longest mid.size mid.used count (gathered old) (count_some there) count_within
+        (subst (λ (l : List CommandValue). count < length l → IsTooLong mid.size mid.used (take (count + 1) l)) same (more sound))
+
+    -- all of it, where its block fits
+    pub count_behind : Fits old.size old.used (gathered old) → gathered old ≢ [] → count ≡ length (gathered old)
+    count_behind fits there =
+        ⊎_elim
+        (λ (l : IsLeft old mid). (subst (λ (f : Flushed D). IsLongest f.size f.used (gathered old) count) l.same (count_longest there)).all fits)
+        (λ (w : IsCompacted disk old mid). absurd (omega (arith, fits, w.long)))
+        made
+
+    -- else the most that have room behind the snapshot
+    pub count_afresh : IsTooLong old.size old.used (gathered old) → gathered old ≢ [] → IsLongest old.size (used_afresh (state_at old.opening old.seat old.stored)) (gathered old) count
+    count_afresh long there =
+        ⊎_elim
+        (λ (l : IsLeft old mid). absurd (omega (arith, l.fits whole there, long)))
+        (λ (w : IsCompacted disk old mid). subst (λ (f : Flushed D). IsLongest f.size f.used (gathered old) count) w.is (count_longest there))
+        made
+
+    pub is_next : IsNext old old.seat (old.stored + count)
+    is_next =
+        let there : old.stored < old.stored + count → gathered old ≢ [] = λ less none. omega (arith, less, count_within, ap (λ (l : List CommandValue). length l) none) in
+        let same_count : (old.stored + count) - old.stored ≡ count = omega arith in
+        record {
+          from = omega arith;
+          to = omega (arith, count_within, to_end);
+          behind = λ less fits. omega (arith, count_behind fits (there less), to_end);
+          afresh = λ less long. subst (λ (k : ℕ). IsLongest old.size (used_afresh (state_at old.opening old.seat old.stored)) (gathered old) k) (sym same_count) (count_afresh long (there less));
+        }
+
+    -- the block of one command does not fit behind the snapshot either
+    pub full_so : (new : Flushed D) (result : Result (Unit {0}) FlushFault)
+        → (IsErrOf result Full → IsTooLong mid.size mid.used (take count (gathered mid)) × (new.disk ≡ mid.disk))
+        → (mid.broken ≡ false → count ≡ 0 → IsOk result × (new ≡ mid)) → IsErrOf result Full
+        → IsTooLong old.size old.used (gathered old)
+        × ((HasNoRoomFor old.size (state_at old.opening old.seat old.stored) × (new.disk ≡ old.disk)) ⊎ IsTooLong old.size (used_afresh (state_at old.opening old.seat old.stored)) (take 1 (gathered old)))
+    full_so new result full nothing is =
+        let told = full is in
+        let single : IsTooLong mid.size mid.used (take 1 (gathered old)) = subst (λ (l : List CommandValue). IsTooLong mid.size mid.used (take 1 l)) same (one sound told.0) in
+        ⊎_elim
+        (λ (l : IsLeft old mid).
+        let there = some_old new result nothing is in
+        let fits = l.fits whole there in
+        let long : IsTooLong old.size old.used (take 1 (gathered old)) = subst (λ (f : Flushed D). IsTooLong f.size f.used (take 1 (gathered old))) l.same single in
+        absurd (omega (arith, fits, long, records_cut 1 (gathered old))))
+        (λ (w : IsCompacted disk old mid). (w.long, inr (subst (λ (f : Flushed D). IsTooLong f.size f.used (take 1 (gathered old))) w.is single)))
+        made
+      where
+        some_old : (new : Flushed D) (result : Result (Unit {0}) FlushFault) → (mid.broken ≡ false → count ≡ 0 → IsOk result × (new ≡ mid)) → IsErrOf result Full → gathered old ≢ []
+        some_old new result nothing is none =
+            let zero : count ≡ 0 = omega (arith, count_within, ap (λ (l : List CommandValue). length l) none) in
+            false≢true (subst (λ (r : Result (Unit {0}) FlushFault). IsOk r) is (nothing sound zero).0)
+
+    -- nor does it fit by what the image then shows
+    pub no_room_left : (new : Flushed D) (result : Result (Unit {0}) FlushFault) → IsErrOf result Full → disk.honest old.disk → disk.images mid.disk (disk.content mid.disk)
+        → (IsErrOf result Full → IsTooLong mid.size mid.used (take count (gathered mid)) × (new.disk ≡ mid.disk))
+        → (mid.broken ≡ false → count ≡ 0 → IsOk result × (new ≡ mid))
+        → HasNoRoomLeft (disk.content new.disk) (state_at old.opening old.seat old.stored) (take 1 (gathered old))
+    no_room_left new result is honest reads full nothing =
+        let told = full is in
+        let s = state_at old.opening old.seat old.stored in
+        let single : IsTooLong mid.size mid.used (take 1 (gathered old)) = subst (λ (l : List CommandValue). IsTooLong mid.size mid.used (take 1 l)) same (one sound told.0) in
+        subst (λ (d : D). HasNoRoomLeft (disk.content d) s (take 1 (gathered old))) (sym told.1)
+        (⊎_elim
+        (λ (l : IsLeft old mid).
+        let there : gathered old ≢ [] = λ none. let zero : count ≡ 0 = omega (arith, count_within, ap (λ (l : List CommandValue). length l) none) in false≢true (subst (λ (r : Result (Unit {0}) FlushFault). IsOk r) is (nothing sound zero).0) in
+        let fits = l.fits whole there in
+        let long : IsTooLong old.size old.used (take 1 (gathered old)) = subst (λ (f : Flushed D). IsTooLong f.size f.used (take 1 (gathered old))) l.same single in
+        absurd (omega (arith, fits, long, records_cut 1 (gathered old))))
+        (λ (w : IsCompacted disk old mid). ∥∥₁_map (w.alone honest (disk.content mid.disk) reads) (λ (h : HoldsOnlySnapshot mid.size mid.used s (disk.content mid.disk)).
+        inr (record { size = mid.size; used = mid.used; holds = h; short = single })))
+        made)
+
+    -- the first so many are stored then
+    pub stored_so : (new : Flushed D) (result : Result (Unit {0}) FlushFault) → OnOk result (new ≡ storing mid (mid.stored + count) new.disk new.size new.used mid.won) → OnOk result (new ≡ storing old new.stored new.disk new.size new.used new.won)
+    stored_so new (Ok x) is =
+        let n : new.stored ≡ mid.stored + count = ap (λ (f : Flushed D). f.stored) is in
+        let won : new.won ≡ mid.won = ap (λ (f : Flushed D). f.won) is in
+        subst (λ (z : ℕ × Option ℕ). new ≡ storing old z.0 new.disk new.size new.used z.1) (sym (λ i. (n i, won i)))
+        (is ∙ ap (λ (f : Flushed D). storing f (mid.stored + count) new.disk new.size new.used mid.won) all_but_disk)
+    stored_so new (Err fault) is = tt
+
+    number_so : (new : Flushed D) → new ≡ storing mid (mid.stored + count) new.disk new.size new.used mid.won → new.stored ≡ old.stored + count
+    number_so new is = ap (λ (f : Flushed D). f.stored) is ∙ ap (λ (f : Flushed D). f.stored + count) all_but_disk
+
+    pub within_so : (new : Flushed D) (result : Result (Unit {0}) FlushFault) → OnOk result (new ≡ storing mid (mid.stored + count) new.disk new.size new.used mid.won)
+        → OnOk result ((old.stored ≤ new.stored) × (new.stored ≤ next_ticket old.seat))
+    within_so new (Ok x) is = (omega (arith, number_so new is), omega (arith, number_so new is, count_within, to_end))
+    within_so new (Err fault) is = tt
+
+    pub after_so : (new : Flushed D) (result : Result (Unit {0}) FlushFault) → OnOk result (new ≡ storing mid (mid.stored + count) new.disk new.size new.used mid.won)
+        → OnOk result (old.stored + count ≡ new.stored)
+    after_so new (Ok x) is = sym (number_so new is)
+    after_so new (Err fault) is = tt
+
+    -- nothing is done where nothing is gathered
+    pub nothing_so : (new : Flushed D) (result : Result (Unit {0}) FlushFault) → (mid.broken ≡ false → count ≡ 0 → IsOk result × (new ≡ mid)) → gathered old ≡ [] → IsOk result × (new ≡ old)
+    nothing_so new result nothing none =
+        let zero : count ≡ 0 = omega (arith, count_within, ap (λ (l : List CommandValue). length l) none) in
+        let did = nothing sound zero in
+        ⊎_elim
+        (λ (l : IsLeft old mid). (did.0, did.1 ∙ l.same))
+        (λ (w : IsCompacted disk old mid). absurd (w.some none))
+        made
+
+    -- the block stands behind what was used
+    pub behind_so : (new : Flushed D) (result : Result (Unit {0}) FlushFault) → OnOk result (new ≡ storing mid (mid.stored + count) new.disk new.size new.used mid.won)
+        → (0 < count → OnOk result (new.used ≡ mid.used + 9 + length (records (take count (gathered mid)))))
+        → Fits old.size old.used (gathered old) → gathered old ≢ []
+        → OnOk result ((new.stored ≡ next_ticket old.seat) × (new.used ≡ old.used + 9 + length (records (gathered old))) × (new.won ≡ old.won))
+    behind_so new (Ok x) is used fits there =
+        let all : count ≡ length (gathered old) = count_behind fits there in
+        let now = used (count_some there) in
+        let first : take count (gathered mid) ≡ gathered old = (λ i. take (all i) (same i)) ∙ take_all (length (gathered old)) (gathered old) (omega arith) in
+        ⊎_elim
+        (λ (l : IsLeft old mid). (
+          omega (arith, number_so new is, all, to_end),
+          now ∙ (λ i. (l.same i).used + 9 + length (records (first i))),
+          ap (λ (f : Flushed D). f.won) is ∙ ap (λ (f : Flushed D). f.won) l.same,
+        ))
+        (λ (w : IsCompacted disk old mid). absurd (omega (arith, fits, w.long)))
+        made
+    behind_so new (Err fault) is used fits there = tt
+
+    -- or behind the snapshot
+    pub afresh_so : (new : Flushed D) (result : Result (Unit {0}) FlushFault) → OnOk result (new ≡ storing mid (mid.stored + count) new.disk new.size new.used mid.won)
+        → (0 < count → OnOk result (new.used ≡ mid.used + 9 + length (records (take count (gathered mid)))))
+        → (0 < count → OnOk result (Fits mid.size mid.used (take count (gathered mid))))
+        → IsTooLong old.size old.used (gathered old) → gathered old ≢ []
+        → OnOk result (StoresAfresh old.size old.used (state_at old.opening old.seat old.stored) (gathered old) (new.stored - old.stored) new.used new.won)
+    afresh_so new (Ok x) is used fits long there =
+        let s = state_at old.opening old.seat old.stored in
+        let now = used (count_some there) in
+        let room = fits (count_some there) in
+        let k : new.stored - old.stored ≡ count = omega (arith, number_so new is) in
+        let won : new.won ≡ mid.won = ap (λ (f : Flushed D). f.won) is in
+        let Of : ℕ → Type 0 = λ k. StoresAfresh old.size old.used s (gathered old) k new.used new.won in
+        ⊎_elim
+        (λ (l : IsLeft old mid). absurd (omega (arith, l.fits whole there, long)))
+        (λ (w : IsCompacted disk old mid). subst Of (sym k) (record {
+          longest = count_afresh long there;
+          fits = subst (λ (z : Flushed D × List CommandValue). Fits z.0.size z.0.used (take count z.1)) (λ i. (w.is i, same i)) room;
+          used_is = now ∙ (λ i. (w.is i).used + 9 + length (records (take count (same i))));
+          won_is = won ∙ ap (λ (f : Flushed D). f.won) w.is;
+        }))
+        made
+    afresh_so new (Err fault) is used fits long there = tt
 
   -- the disk stays where memory is refused and the block fits
   pub memory_so : (new : D) (result : Result (Unit {0}) FlushFault) → IfMemory result (new ≡ mid.disk) → Fits old.size old.used (gathered old) → IfMemory result (new ≡ old.disk)

@@ -1,5 +1,5 @@
 -- The flusher's faults by the store's.
-use Rattle.std.proofs.Common.{◌≡◌, ℕ, Result, Ok, Err, refl, ap}
+use Rattle.std.proofs.Common.{◌≡◌, ℕ, Result, Ok, Err, refl, ap, subst}
 use Rattle.std.specs.Prelude.{IsErrOf}
 use Rattle.area_core.specs.Steps.{IfMemory as IfAreaMemory, IsCaused}
 use Rattle.area_core.specs.declared.faults.AreaFault.{AreaFault}
@@ -23,17 +23,17 @@ only_full area.Full is = refl
 only_full area.Broken is = absurd (cc is)
 only_full (area.Memory refused) is = absurd (cc is)
 
-pub caused_so : (fault : AreaFault) (before now : ℕ) → IsCaused {T = Unit {0}} before now (Err fault) → IsFlushCaused {T = Unit {0}} before now (Err (of_area fault))
-caused_so area.Device before now is = is
-caused_so area.Full before now is = is
-caused_so area.Broken before now is = is
-caused_so (area.Memory refused) before now is = is
+pub caused_so : (T : Type 0) (fault : AreaFault) (before now : ℕ) → IsCaused {T = T} before now (Err fault) → IsFlushCaused {T = Unit {0}} before now (Err (of_area fault))
+caused_so T area.Device before now is = is
+caused_so T area.Full before now is = is
+caused_so T area.Broken before now is = is
+caused_so T (area.Memory refused) before now is = is
 
-pub untouched_so : (fault : AreaFault) (P : Type 0) → IfAreaMemory {T = Unit {0}} (Err fault) P → IfMemory {T = Unit {0}} (Err (of_area fault)) P
-untouched_so area.Device P is = tt
-untouched_so area.Full P is = tt
-untouched_so area.Broken P is = tt
-untouched_so (area.Memory refused) P is = is
+pub untouched_so : (T : Type 0) (fault : AreaFault) (P : Type 0) → IfAreaMemory {T = T} (Err fault) P → IfMemory {T = Unit {0}} (Err (of_area fault)) P
+untouched_so T area.Device P is = tt
+untouched_so T area.Full P is = tt
+untouched_so T area.Broken P is = tt
+untouched_so T (area.Memory refused) P is = is
 
 pub fell_so : {D : Type 0} (fault : AreaFault) (old new : Flushed D) → (fault ≡ area.Broken → ⊥) → Falls old new → IsOutcome {X = Unit {0}} old new (Err (of_area fault))
 fell_so area.Device old new whole fell = fell
@@ -60,3 +60,9 @@ caused_none X Device before now none same = absurd none
 caused_none X Full before now none same = absurd none
 caused_none X Broken before now none same = same
 caused_none X (Memory refused) before now none same = same
+
+pub caused_from : {T : Type 0} (r : Result T AreaFault) (fault : AreaFault) (before now : ℕ) → r ≡ Err fault → IsCaused before now r → IsFlushCaused {T = Unit {0}} before now (Err (of_area fault))
+caused_from {T} r fault before now is cause = caused_so T fault before now (subst (λ (r : Result T AreaFault). IsCaused before now r) is cause)
+
+pub untouched_from : {T : Type 0} (r : Result T AreaFault) (fault : AreaFault) (P : Type 0) → r ≡ Err fault → IfAreaMemory r P → IfMemory {T = Unit {0}} (Err (of_area fault)) P
+untouched_from {T} r fault P is held = untouched_so T fault P (subst (λ (r : Result T AreaFault). IfAreaMemory r P) is held)

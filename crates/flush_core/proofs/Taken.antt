@@ -39,6 +39,12 @@ module _ (opening : State) (seat : FlushSeatValue) where
       sym (after-append (take (low - seat.base) seat.taken) opening (between seat low high))
       ∙ ap (λ (l : List CommandValue). state_after opening l) (take_further (low - seat.base) (high - low) seat.taken ∙ ap (λ (n : ℕ). take n seat.taken) sum)
 
+  -- and then so many more
+  pub at_front : (low k : ℕ) → seat.base ≤ low → state_after (state_at opening seat low) (take k (from_on seat low)) ≡ state_at opening seat (low + k)
+  at_front low k begun =
+      let same : (low + k) - low ≡ k = omega arith in
+      ap (λ (m : ℕ). state_after (state_at opening seat low) (take m (from_on seat low))) (sym same) ∙ at_between low (low + k) begun (omega arith)
+
   pub at_rest : (low : ℕ) → state_after (state_at opening seat low) (from_on seat low) ≡ state_taken opening seat
   at_rest low =
       sym (after-append (take (low - seat.base) seat.taken) opening (from_on seat low))
@@ -66,6 +72,21 @@ module _ (seat : FlushSeatValue) where
       let sum : high - seat.base ≡ (low - seat.base) + (high - low) = omega (arith, begun, rises) in
       ap (λ (l : List CommandValue). between seat low high ++ l) (ap (λ (n : ℕ). drop n seat.taken) sum ∙ sym (drop-drop (high - low) (low - seat.base) seat.taken))
       ∙ take-append-drop (high - low) (from_on seat low)
+
+  -- behind so many more
+  pub from_front : (low k : ℕ) → seat.base ≤ low → drop k (from_on seat low) ≡ from_on seat (low + k)
+  from_front low k begun =
+      let sum : (low - seat.base) + k ≡ (low + k) - seat.base = omega (arith, begun) in
+      drop-drop k (low - seat.base) seat.taken ∙ ap (λ (n : ℕ). drop n seat.taken) sum
+
+  -- up to so many more
+  pub between_front : (low k : ℕ) → between seat low (low + k) ≡ take k (from_on seat low)
+  between_front low k =
+      let same : (low + k) - low ≡ k = omega arith in
+      ap (λ (n : ℕ). take n (from_on seat low)) same
+
+  pub length_from : (low : ℕ) → seat.base ≤ low → low ≤ next_ticket seat → low + length (from_on seat low) ≡ next_ticket seat
+  length_from low begun few = omega (arith, begun, few, length-drop (low - seat.base) seat.taken)
 
   pub between_none : (n : ℕ) → between seat n n ≡ []
   between_none n =

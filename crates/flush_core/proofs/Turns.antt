@@ -1,5 +1,5 @@
 -- A turn: what a stop within it leaves.
-use Rattle.std.proofs.Common.{◌≤◌, ◌-◌, ◌++◌, length, length-append, refl, ◌≡◌, inl, false, ℕ, List, Option, Err, sym, ◌∙◌, ap, subst, arith}
+use Rattle.std.proofs.Common.{◌<◌, ◌≤◌, ◌-◌, ◌++◌, drop, length, take, refl, ◌≡◌, inl, false, ℕ, List, Option, Err, sym, ◌∙◌, ap, subst, arith}
 use Rattle.std.proofs.lemmas.Bool.{false≢true}
 use Rattle.disk_core.specs.declared.disk.Disk.{Ghosts}
 use Rattle.disk_core.specs.Moments.{LeavesOnly}
@@ -8,29 +8,29 @@ use Rattle.broker_core.specs.Steps.{outs_of, state_after}
 use Rattle.area_core.specs.Areas.{commands}
 use Rattle.command_core.specs.Entries.{EntryValue}
 use Rattle.outbox_core.specs.Boxes.{SenderValue}
-use Rattle.claim_core.specs.Seats.{FlushSeatValue, next_ticket, when_stopped, with_mark}
-use Rattle.recover_core.specs.Standing.{StandsForEither}
+use Rattle.claim_core.specs.Seats.{FlushSeatValue, flushing, next_ticket, when_stopped, with_mark}
+use Rattle.recover_core.specs.Standing.{StandFor, StandsForEither}
 use Rattle.flush_core.specs.declared.faults.FlushFault.{FlushFault}
 use Rattle.flush_core.specs.declared.faults.FlushFault.TheVariants.{Device, Full, Broken, Memory}
-use Rattle.flush_core.specs.Batches.{from_on, state_at, state_taken, with_more}
+use Rattle.flush_core.specs.Batches.{between, from_on, state_at, with_more}
 use Rattle.flush_core.specs.Flushed.{Flushed, IsFlusher, unexecuted}
-use Rattle.flush_core.specs.Outcomes.{Falls, IsOutcome, IsTurn, IsTurned, TurnFalls, publishing, executing, standing, stored_entries, storing, taking, turned_boxes, turned_outs}
+use Rattle.flush_core.specs.Outcomes.{Falls, IsNext, IsOutcome, IsTurn, IsTurned, TurnFalls, publishing, executing, standing, stored_entries, storing, taking, turned_boxes, turned_outs}
 use Rattle.flush_core.specs.Sessions.{boxes_after, ended_of}
 use Rattle.outbox_core.specs.Giving.{AreGiven, Kept, unboxed, without}
 use Rattle.command_core.specs.Commands.{CommandValue}
 use Rattle.command_core.specs.Outs.{OutValue}
-use Rattle.std.proofs.lemmas.List.{length-drop, take_all}
-use Rattle.flush_core.proofs.Taken.{all_at, at_more, between_all, length_commands}
+use Rattle.flush_core.specs.Room.{IsLongest, IsTooLong, used_afresh}
+use Rattle.flush_core.proofs.Taken.{at_more}
 
 -- a step that fails keeps what was taken
-fallen : {D : Type 0} (old new : Flushed D) → Falls old new → (new.opening ≡ old.opening) × (new.seat.taken ≡ old.seat.taken)
-fallen old new fell = (fell.opening, ap (λ (s : FlushSeatValue). s.taken) fell.seat)
+fallen : {D : Type 0} (old new : Flushed D) → Falls old new → (new.opening ≡ old.opening) × (new.seat.taken ≡ old.seat.taken) × (new.seat.base ≡ old.seat.base)
+fallen old new fell = (fell.opening, ap (λ (s : FlushSeatValue). s.taken) fell.seat, ap (λ (s : FlushSeatValue). s.base) fell.seat)
 
-pub failed_keeps : {D : Type 0} (old new : Flushed D) (fault : FlushFault) → IsOutcome {X = Unit {0}} old new (Err fault) → (new.opening ≡ old.opening) × (new.seat.taken ≡ old.seat.taken)
-failed_keeps old new Device fell = fallen old new fell
-failed_keeps old new Full fell = fallen old new fell
-failed_keeps {D} old new Broken was = (ap (λ (f : Flushed D). f.opening) was.1, ap (λ (f : Flushed D). f.seat.taken) was.1)
-failed_keeps old new (Memory refused) fell = fallen old new fell
+pub failed_keeps : {D : Type 0} (X : Type 0) (old new : Flushed D) (fault : FlushFault) → IsOutcome {X = X} old new (Err fault) → (new.opening ≡ old.opening) × (new.seat.taken ≡ old.seat.taken) × (new.seat.base ≡ old.seat.base)
+failed_keeps X old new Device fell = fallen old new fell
+failed_keeps X old new Full fell = fallen old new fell
+failed_keeps {D} X old new Broken was = (ap (λ (f : Flushed D). f.opening) was.1, ap (λ (f : Flushed D). f.seat.taken) was.1, ap (λ (f : Flushed D). f.seat.base) was.1)
+failed_keeps X old new (Memory refused) fell = fallen old new fell
 
 module _ {D : Type 0} (disk : Ghosts D) where
   -- nothing was stored: the disk is as it was
@@ -44,62 +44,98 @@ module _ {D : Type 0} (disk : Ghosts D) where
         before = λ t c le since. inl since;
       })
 
-  -- what was taken was stored, or its storing failed
-  pub stored : (f g : Flushed D) (entries : List (EntryValue SenderValue)) (next last : D) (opening : State) (seat : FlushSeatValue) → IsFlusher disk.honest disk.images f → f.broken ≡ false → g ≡ taking f entries
-      → (disk.honest g.disk → g.broken ≡ false → LeavesOnly disk.moment disk.images_since g.disk next (StandsForEither (state_at g.opening g.seat g.stored) (state_taken g.opening g.seat)))
-      → last ≡ next → opening ≡ g.opening → seat.taken ≡ g.seat.taken → disk.honest f.disk
-      → LeavesOnly disk.moment disk.images_since f.disk last (StandsForEither (state_at f.opening f.seat f.stored) (state_taken opening seat))
-  stored f g entries next last opening seat kept whole is leaves same opened taken honest =
+  -- what was taken was stored up to a number, or its storing failed
+  pub stored : (f g : Flushed D) (entries : List (EntryValue SenderValue)) (n : ℕ) (next last : D) (opening : State) (seat : FlushSeatValue) → IsFlusher disk.honest disk.images f → f.broken ≡ false → g ≡ taking f entries
+      → (disk.honest g.disk → g.broken ≡ false → LeavesOnly disk.moment disk.images_since g.disk next (StandsForEither (state_at g.opening g.seat g.stored) (state_at g.opening g.seat n)))
+      → last ≡ next → opening ≡ g.opening → seat.taken ≡ g.seat.taken → seat.base ≡ g.seat.base → disk.honest f.disk
+      → LeavesOnly disk.moment disk.images_since f.disk last (StandsForEither (state_at f.opening f.seat f.stored) (state_at opening seat n))
+  stored f g entries n next last opening seat kept whole is leaves same opened taken base honest =
       let more = commands entries in
-      let here : disk.honest f.disk → f.broken ≡ false → LeavesOnly disk.moment disk.images_since f.disk next (StandsForEither (state_at f.opening (with_more f.seat more) f.stored) (state_taken f.opening (with_more f.seat more))) =
-      subst (λ (g : Flushed D). disk.honest g.disk → g.broken ≡ false → LeavesOnly disk.moment disk.images_since g.disk next (StandsForEither (state_at g.opening g.seat g.stored) (state_taken g.opening g.seat))) is leaves in
-      let all : state_taken f.opening (with_more f.seat more) ≡ state_taken opening seat =
-      sym ((λ i. state_after (opened i) (taken i)) ∙ ap (λ (h : Flushed D). state_taken h.opening h.seat) is) in
-      subst (λ (d : D). LeavesOnly disk.moment disk.images_since f.disk d (StandsForEither (state_at f.opening f.seat f.stored) (state_taken opening seat))) (sym same)
+      let here : disk.honest f.disk → f.broken ≡ false → LeavesOnly disk.moment disk.images_since f.disk next (StandsForEither (state_at f.opening (with_more f.seat more) f.stored) (state_at f.opening (with_more f.seat more) n)) =
+      subst (λ (g : Flushed D). disk.honest g.disk → g.broken ≡ false → LeavesOnly disk.moment disk.images_since g.disk next (StandsForEither (state_at g.opening g.seat g.stored) (state_at g.opening g.seat n))) is leaves in
+      let all : state_at f.opening (with_more f.seat more) n ≡ state_at opening seat n =
+      sym ((λ i. state_after (opened i) (take (n - base i) (taken i))) ∙ ap (λ (h : Flushed D). state_at h.opening h.seat n) is) in
+      subst (λ (d : D). LeavesOnly disk.moment disk.images_since f.disk d (StandsForEither (state_at f.opening f.seat f.stored) (state_at opening seat n))) (sym same)
       (subst (λ (t : State). LeavesOnly disk.moment disk.images_since f.disk next (StandsForEither (state_at f.opening f.seat f.stored) t)) all
-      (subst (λ (s : State). LeavesOnly disk.moment disk.images_since f.disk next (StandsForEither s (state_taken f.opening (with_more f.seat more)))) (at_more f.opening f.seat more f.stored kept.stored)
+      (subst (λ (s : State). LeavesOnly disk.moment disk.images_since f.disk next (StandsForEither s (state_at f.opening (with_more f.seat more) n))) (at_more f.opening f.seat more f.stored kept.stored)
       (here honest whole)))
 
+  -- the same where all that was taken is
+  pub stored_all : (f g : Flushed D) (entries : List (EntryValue SenderValue)) (next last : D) (opening : State) (seat : FlushSeatValue) → IsFlusher disk.honest disk.images f → f.broken ≡ false → g ≡ taking f entries
+      → (disk.honest g.disk → g.broken ≡ false → LeavesOnly disk.moment disk.images_since g.disk next (StandsForEither (state_at g.opening g.seat g.stored) (state_at g.opening g.seat (next_ticket g.seat))))
+      → last ≡ next → opening ≡ g.opening → seat.taken ≡ g.seat.taken → seat.base ≡ g.seat.base → disk.honest f.disk
+      → LeavesOnly disk.moment disk.images_since f.disk last (StandsForEither (state_at f.opening f.seat f.stored) (state_at opening seat (next_ticket seat)))
+  stored_all f g entries next last opening seat kept whole is leaves same opened taken base honest =
+      let end : next_ticket g.seat ≡ next_ticket seat = omega (arith, base, ap (λ (l : List CommandValue). length l) taken) in
+      subst (λ (n : ℕ). LeavesOnly disk.moment disk.images_since f.disk last (StandsForEither (state_at f.opening f.seat f.stored) (state_at opening seat n))) end
+      (stored f g entries (next_ticket g.seat) next last opening seat kept whole is leaves same opened taken base honest)
+
+  -- the disk stands for the state after what is stored, once that is executed and published
+  pub stands_so : (g did left new : Flushed D) (n : ℕ) (next : D) (size used : ℕ) (won : Option ℕ) → did ≡ storing g n next size used won → left ≡ executing did → left.disk ≡ did.disk → new ≡ publishing left new.boxes
+      → StandFor (disk.images did.disk) (state_at g.opening g.seat n) → StandFor (disk.images new.disk) (state_at new.opening new.seat new.stored)
+  stands_so g did left new n next size used won did_is left_is same new_is stand =
+      let opened : new.opening ≡ g.opening = ap (λ (f : Flushed D). f.opening) new_is ∙ (ap (λ (f : Flushed D). f.opening) left_is ∙ ap (λ (f : Flushed D). f.opening) did_is) in
+      let taken : new.seat.taken ≡ g.seat.taken = ap (λ (f : Flushed D). f.seat.taken) new_is ∙ (ap (λ (f : Flushed D). f.seat.taken) left_is ∙ ap (λ (f : Flushed D). f.seat.taken) did_is) in
+      let base : new.seat.base ≡ g.seat.base = ap (λ (f : Flushed D). f.seat.base) new_is ∙ (ap (λ (f : Flushed D). f.seat.base) left_is ∙ ap (λ (f : Flushed D). f.seat.base) did_is) in
+      let number : new.stored ≡ n = ap (λ (f : Flushed D). f.stored) new_is ∙ (ap (λ (f : Flushed D). f.stored) left_is ∙ ap (λ (f : Flushed D). f.stored) did_is) in
+      subst (λ (d : D). StandFor (disk.images d) (state_at new.opening new.seat new.stored)) (sym (ap (λ (f : Flushed D). f.disk) new_is ∙ same))
+      (subst (λ (s : State). StandFor (disk.images did.disk) s) (sym (λ i. state_after (opened i) (take (number i - base i) (taken i)))) stand)
+
+  -- what is stored next of what was taken
+  pub next_taken : (f g : Flushed D) (entries : List (EntryValue SenderValue)) (n : ℕ) (seat : FlushSeatValue) → IsFlusher disk.honest disk.images f → g ≡ taking f entries → seat.taken ≡ g.seat.taken → seat.base ≡ g.seat.base
+      → IsNext g g.seat n → IsNext f seat n
+  next_taken f g entries n seat kept is taken base next =
+      let there : IsNext f (with_more f.seat (commands entries)) n =
+      let Of : Flushed D → Type 0 = λ g. IsNext g g.seat n in
+      let it = subst Of is next in
+      record {
+        from = it.from;
+        to = it.to;
+        behind = it.behind;
+        afresh = subst (λ (s : State). f.stored < n → IsTooLong f.size f.used (from_on (with_more f.seat (commands entries)) f.stored)
+            → IsLongest f.size (used_afresh s) (from_on (with_more f.seat (commands entries)) f.stored) (n - f.stored)) (at_more f.opening f.seat (commands entries) f.stored kept.stored) it.afresh;
+      } in
+      let same : seat.taken ≡ f.seat.taken ++ commands entries = taken ∙ ap (λ (h : Flushed D). h.seat.taken) is in
+      let begun : seat.base ≡ f.seat.base = base ∙ ap (λ (h : Flushed D). h.seat.base) is in
+      let at : (b : ℕ) → List CommandValue → FlushSeatValue = λ b l. flushing seat.ring b l seat.published seat.stopped seat.seats in
+      let here : IsNext f (at f.seat.base (f.seat.taken ++ commands entries)) n = record { from = there.from; to = there.to; behind = there.behind; afresh = there.afresh } in
+      subst (λ (z : ℕ × List CommandValue). IsNext f (at z.0 z.1) n) (sym (λ i. (begun i, same i))) here
+
+  -- nothing is stored
+  pub next_none : (f : Flushed D) (seat : FlushSeatValue) → f.stored ≤ next_ticket seat → IsNext f seat f.stored
+  next_none f seat few = record {
+    from = omega arith;
+    to = few;
+    behind = λ less. absurd (omega (arith, less));
+    afresh = λ less. absurd (omega (arith, less));
+  }
+
   -- a turn of the four steps
-  pub turned : (old took did left new : Flushed D) (entries : List (EntryValue SenderValue)) (next : D) (size used : ℕ) (won : Option ℕ) → IsFlusher disk.honest disk.images old → old.broken ≡ false → old.executed ≡ old.stored
-      → took ≡ taking old entries → did ≡ storing took next size used won → left ≡ executing did → new ≡ publishing left new.boxes → AreGiven left.waiting (standing left) new.boxes → IsTurned old new entries
-  turned old took did left new entries next size used won kept whole executed took_is did_is left_is new_is given =
-      let stored = storing (taking old entries) next size used won in
+  pub turned : (old took did left new : Flushed D) (entries : List (EntryValue SenderValue)) (n : ℕ) (next : D) (size used : ℕ) (won : Option ℕ) → old.executed ≡ old.stored → old.stored ≤ n → n ≤ next_ticket (with_more old.seat (commands entries))
+      → took ≡ taking old entries → did ≡ storing took n next size used won → left ≡ executing did → new ≡ publishing left new.boxes → AreGiven left.waiting (standing left) new.boxes → IsTurned old new entries
+  turned old took did left new entries n next size used won executed rises few took_is did_is left_is new_is given =
+      let stored = storing (taking old entries) n next size used won in
       let all = executing stored in
-      let is : left ≡ all = left_is ∙ ap (λ (f : Flushed D). executing f) (did_is ∙ ap (λ (f : Flushed D). storing f next size used won) took_is) in
+      let is : left ≡ all = left_is ∙ ap (λ (f : Flushed D). executing f) (did_is ∙ ap (λ (f : Flushed D). storing f n next size used won) took_is) in
       let end : new ≡ publishing all new.boxes = new_is ∙ ap (λ (f : Flushed D). publishing f new.boxes) is in
       let more = commands entries in
-      let seat : new.seat ≡ with_mark (with_more old.seat more) (next_ticket (with_more old.seat more)) = ap (λ (f : Flushed D). f.seat) end in
-      let begun : old.seat.base ≤ old.executed = omega (arith, kept.begun, kept.marked) in
-      let cs : unexecuted stored ≡ from_on new.seat old.stored =
-      between_all (with_more old.seat more) old.executed (next_ticket (with_more old.seat more)) refl begun
-      ∙ ((λ i. from_on (with_more old.seat more) (executed i)) ∙ ap (λ (s : FlushSeatValue). from_on s old.stored) (sym seat)) in
-      let few : length (old.brought ++ entries) ≤ next_ticket (with_more old.seat more) - old.executed =
-      omega (
-        arith,
-        length-append old.brought entries,
-        length_commands old.brought,
-        length_commands entries,
-        ap (λ (l : List CommandValue). length l) (kept.running whole).brought,
-        length-drop (old.executed - old.seat.base) old.seat.taken,
-        length-append old.seat.taken more,
-        begun,
-        kept.executed,
-        kept.stored,
-      ) in
-      let es : stored_entries stored ≡ old.brought ++ entries = take_all (next_ticket (with_more old.seat more) - old.executed) (old.brought ++ entries) few in
+      let number : new.stored ≡ n = ap (λ (f : Flushed D). f.stored) end in
+      let marked : new.seat ≡ with_mark (with_more old.seat more) n = ap (λ (f : Flushed D). f.seat) end in
+      let seat : new.seat ≡ with_mark (with_more old.seat more) new.stored = marked ∙ ap (λ (m : ℕ). with_mark (with_more old.seat more) m) (sym number) in
+      let cs : unexecuted stored ≡ between new.seat old.stored new.stored =
+      (λ i. between (with_more old.seat more) (executed i) n) ∙ (λ i. between (sym marked i) old.stored (sym number i)) in
+      let es : stored_entries stored ≡ take (new.stored - old.stored) (old.brought ++ entries) = λ i. take (sym number i - executed i) (old.brought ++ entries) in
       let outs : all.waiting ≡ turned_outs old new = ap (λ (l : List CommandValue). old.waiting ++ outs_of old.broker.state l) cs in
-      let stands : standing all ≡ turned_boxes old entries = ap (λ (l : List (EntryValue SenderValue)). without (boxes_after old.executed old.boxes l) old.past) es in
+      let stands : standing all ≡ turned_boxes old new entries = ap (λ (l : List (EntryValue SenderValue)). without (boxes_after old.executed old.boxes l) old.past) es in
       let opening : new.opening ≡ old.opening = ap (λ (f : Flushed D). f.opening) end in
       record {
         seat = seat;
-        stored = ap (λ (f : Flushed D). f.stored) end ∙ ap (λ (s : FlushSeatValue). next_ticket s) (sym seat);
-        executed = ap (λ (f : Flushed D). f.executed) end ∙ ap (λ (s : FlushSeatValue). next_ticket s) (sym seat);
+        within = (omega (arith, number, rises), omega (arith, number, few, ap (λ (s : FlushSeatValue). next_ticket s) marked));
+        executed = ap (λ (f : Flushed D). f.executed) end ∙ sym number;
+        brought = ap (λ (f : Flushed D). f.brought) end ∙ (λ i. drop (sym number i - executed i) (old.brought ++ entries));
         opening = opening;
-        broker = ap (λ (f : Flushed D). f.broker) end
-            ∙ ap (λ (s : State). record { state = s; broken = false })
-            (all_at old.opening (with_more old.seat more) (next_ticket (with_more old.seat more)) refl ∙ sym (λ i. state_after (opening i) (seat i).taken));
-        given = subst (λ (l : List OutValue). AreGiven l (turned_boxes old entries) new.boxes) outs
+        broker = ap (λ (f : Flushed D). f.broker) end ∙ ap (λ (s : State). record { state = s; broken = false }) (sym (λ i. state_at (opening i) (marked i) (number i)));
+        given = subst (λ (l : List OutValue). AreGiven l (turned_boxes old new entries) new.boxes) outs
             (subst (λ (b : Kept). AreGiven all.waiting b new.boxes) stands
             (subst (λ (f : Flushed D). AreGiven f.waiting (standing f) new.boxes) is given));
         past = ap (λ (f : Flushed D). f.past) end ∙ ap (λ (l : List CommandValue). old.ended ++ ended_of old.broker.state l) cs;
@@ -109,10 +145,10 @@ module _ {D : Type 0} (disk : Ghosts D) where
       }
 
 -- a turn whose commands are taken and stored fails where executing them does
-module _ {D : Type 0} (old took did new : Flushed D) (entries : List (EntryValue SenderValue)) (next : D) (size used : ℕ) (won : Option ℕ)
-    (whole : old.broken ≡ false) (took_is : took ≡ taking old entries) (did_is : did ≡ storing took next size used won) where
-  did_all : did ≡ storing (taking old entries) next size used won
-  did_all = did_is ∙ ap (λ (f : Flushed D). storing f next size used won) took_is
+module _ {D : Type 0} (old took did new : Flushed D) (entries : List (EntryValue SenderValue)) (n : ℕ) (next : D) (size used : ℕ) (won : Option ℕ)
+    (whole : old.broken ≡ false) (took_is : took ≡ taking old entries) (did_is : did ≡ storing took n next size used won) where
+  did_all : did ≡ storing (taking old entries) n next size used won
+  did_all = did_is ∙ ap (λ (f : Flushed D). storing f n next size used won) took_is
 
   turn_falls : Falls did new → TurnFalls old new
   turn_falls fell =

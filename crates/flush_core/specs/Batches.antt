@@ -1,5 +1,5 @@
 -- Commands taken from the ring, and batches of them.
-use Rattle.std.specs.Prelude.{◌≢◌, ◌≤◌, ◌<◌, ◌-◌, ◌++◌, ℕ, List, [], length, take, drop}
+use Rattle.std.specs.Prelude.{◌≢◌, ◌≤◌, ◌<◌, ◌-◌, ◌/◌, ◌++◌, ℕ, List, [], length, take, drop, max, min}
 use Rattle.command_core.specs.Commands.{CommandValue}
 use Rattle.area_core.specs.Areas.{records}
 use Rattle.claim_core.specs.Seats.{FlushSeatValue, flushing}
@@ -30,3 +30,8 @@ state_taken opening seat = state_after opening seat.taken
 pub record IsBatch (most most_bytes : ℕ) (cs : List CommandValue) : Type 0 where
   pub few : length cs ≤ most
   pub small : cs ≢ [] → length (records (take (length cs - 1) cs)) < most_bytes
+
+-- A batch whose records have as many bytes takes no further command, where an area has so many: a quarter of those, but 262,144
+-- at least, and of all this no more than a batch may have.
+abbrev pub block_bytes : (size most_bytes : ℕ) → ℕ
+block_bytes size most_bytes = min (max (size / 4) 262144) most_bytes

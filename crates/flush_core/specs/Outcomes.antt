@@ -1,5 +1,5 @@
 -- What calls of a flusher leave.
-use Rattle.std.specs.Prelude.{◌≡◌, ◌≢◌, ◌-◌, ◌++◌, drop, take, ℕ, List, [], Option, Some, true, false, Result, Ok, Err}
+use Rattle.std.specs.Prelude.{◌≡◌, ◌≢◌, ◌<◌, ◌≤◌, ◌-◌, ◌++◌, drop, take, ℕ, List, [], Option, Some, true, false, Result, Ok, Err}
 use Rattle.disk_core.specs.declared.disk.Disk.{Ghosts}
 use Rattle.command_core.specs.Commands.{CommandValue}
 use Rattle.command_core.specs.Outs.{OutValue}
@@ -10,12 +10,12 @@ use Rattle.recover_core.specs.Compactions.{HoldsItAlone}
 use Rattle.command_core.specs.Entries.{EntryValue}
 use Rattle.outbox_core.specs.Boxes.{SenderValue}
 use Rattle.outbox_core.specs.Giving.{AreGiven, Kept, unboxed, without}
-use Rattle.claim_core.specs.Seats.{when_stopped, with_mark, next_ticket}
+use Rattle.claim_core.specs.Seats.{FlushSeatValue, when_stopped, with_mark, next_ticket}
 use Rattle.flush_core.specs.declared.faults.FlushFault.{FlushFault}
 use Rattle.flush_core.specs.declared.faults.FlushFault.TheVariants.{Device, Full, Broken, Memory}
-use Rattle.flush_core.specs.Batches.{with_more, from_on, state_at, state_taken}
+use Rattle.flush_core.specs.Batches.{between, with_more, from_on, state_at}
 use Rattle.flush_core.specs.Flushed.{Flushed, gathered, unexecuted}
-use Rattle.flush_core.specs.Room.{Fits, IsTooLong, used_afresh}
+use Rattle.flush_core.specs.Room.{Fits, IsLongest, IsTooLong, used_afresh}
 use Rattle.flush_core.specs.Sessions.{boxes_after, ended_of}
 
 -- A step has failed: the flusher is broken, its ring is stopped, and what was taken, stored, published and may be handed
@@ -40,9 +40,18 @@ IsOutcome old new (Err (Memory _)) = Falls old new
 abbrev pub taking : {D : Type 0} → Flushed D → List (EntryValue SenderValue) → Flushed D
 taking f more = record f { seat = with_more f.seat (commands more); brought = f.brought ++ more }
 
--- all that was taken is stored, on this disk
-abbrev pub storing : {D : Type 0} → Flushed D → D → ℕ → ℕ → Option ℕ → Flushed D
-storing f disk size used won = record f { disk = disk; size = size; used = used; stored = next_ticket f.seat; won = won }
+-- what was taken is stored up to that number, on this disk
+abbrev pub storing : {D : Type 0} → Flushed D → ℕ → D → ℕ → ℕ → Option ℕ → Flushed D
+storing f n disk size used won = record f { disk = disk; size = size; used = used; stored = n; won = won }
+
+-- Of what is taken at the end, by that seat, what waits to be stored is stored up to that number, if any of it is: all where its
+-- block fits behind what is used, and else as much as has room behind a snapshot of the state.
+pub record IsNext {D : Type 0} (f : Flushed D) (seat : FlushSeatValue) (n : ℕ) : Type 0 where
+  pub from : f.stored ≤ n
+  pub to : n ≤ next_ticket seat
+  pub behind : f.stored < n → Fits f.size f.used (from_on seat f.stored) → n ≡ next_ticket seat
+  pub afresh : f.stored < n → IsTooLong f.size f.used (from_on seat f.stored)
+      → IsLongest f.size (used_afresh (state_at f.opening f.seat f.stored)) (from_on seat f.stored) (n - f.stored)
 
 -- so much of an area is used, on this disk, and a compaction has won so much
 abbrev pub using : {D : Type 0} → Flushed D → D → ℕ → Option ℕ → Flushed D
@@ -99,25 +108,27 @@ publishing f boxes = record f {
 
 -- the outputs that a turn publishes
 abbrev pub turned_outs : {D : Type 0} → Flushed D → Flushed D → List OutValue
-turned_outs old new = old.waiting ++ outs_of old.broker.state (from_on new.seat old.stored)
+turned_outs old new = old.waiting ++ outs_of old.broker.state (between new.seat old.stored new.stored)
 
 -- the boxes that stand when a turn that took these entries publishes
-abbrev pub turned_boxes : {D : Type 0} → Flushed D → List (EntryValue SenderValue) → Kept
-turned_boxes old more = without (boxes_after old.executed old.boxes (old.brought ++ more)) old.past
+abbrev pub turned_boxes : {D : Type 0} → Flushed D → Flushed D → List (EntryValue SenderValue) → Kept
+turned_boxes old new more = without (boxes_after old.executed old.boxes (take (new.stored - old.stored) (old.brought ++ more))) old.past
 
--- A turn has taken these entries, and all that was taken is stored, executed and published: the outputs of all that was not
--- published were given to the boxes of their sessions, or may be handed out, behind those that might be already.
+-- A turn has taken these entries, and what is stored is executed and published: the outputs of all that was not published
+-- were given to the boxes of their sessions, or may be handed out, behind those that might be already. What is not stored
+-- waits, with the boxes that came with it.
 pub record IsTurned {D : Type 0} (old new : Flushed D) (more : List (EntryValue SenderValue)) : Type 0 where
-  pub seat : new.seat ≡ with_mark (with_more old.seat (commands more)) (next_ticket (with_more old.seat (commands more)))
-  pub stored : new.stored ≡ next_ticket new.seat
-  pub executed : new.executed ≡ next_ticket new.seat
+  pub seat : new.seat ≡ with_mark (with_more old.seat (commands more)) new.stored
+  pub within : (old.stored ≤ new.stored) × (new.stored ≤ next_ticket new.seat)
+  pub executed : new.executed ≡ new.stored
+  pub brought : new.brought ≡ drop (new.stored - old.stored) (old.brought ++ more)
   pub opening : new.opening ≡ old.opening
-  pub broker : new.broker ≡ record { state = state_taken new.opening new.seat; broken = false }
-  pub given : AreGiven (turned_outs old new) (turned_boxes old more) new.boxes
-  pub past : new.past ≡ old.ended ++ ended_of old.broker.state (from_on new.seat old.stored)
+  pub broker : new.broker ≡ record { state = state_at new.opening new.seat new.stored; broken = false }
+  pub given : AreGiven (turned_outs old new) (turned_boxes old new more) new.boxes
+  pub past : new.past ≡ old.ended ++ ended_of old.broker.state (between new.seat old.stored new.stored)
   pub ended : new.ended ≡ []
   pub waiting : new.waiting ≡ []
-  pub left : new.left ≡ old.left ++ unboxed (turned_boxes old more) (turned_outs old new)
+  pub left : new.left ≡ old.left ++ unboxed (turned_boxes old new more) (turned_outs old new)
 
 -- A turn has failed: the flusher is broken and its ring is stopped. It may have taken and stored commands, but has
 -- published none, and what may be handed out stays.

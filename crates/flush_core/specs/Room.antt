@@ -1,5 +1,5 @@
 -- Where a block does not fit into the journal.
-use Rattle.std.specs.Prelude.{◌⊎◌, ◌<◌, ◌≤◌, ◌+◌, ℕ, List, length}
+use Rattle.std.specs.Prelude.{◌≡◌, ◌⊎◌, ◌<◌, ◌≤◌, ◌+◌, ◌-◌, ℕ, List, Option, Some, length, take}
 use Rattle.command_core.specs.Commands.{CommandValue}
 use Rattle.area_core.specs.declared.version.Version.{Version}
 use Rattle.area_core.specs.Areas.{front, records}
@@ -22,6 +22,22 @@ Fits size used cs = used + 9 + length (records cs) ≤ size
 -- and here it has none
 abbrev pub IsTooLong : (size used : ℕ) → List CommandValue → Type 0
 IsTooLong size used cs = size < used + 9 + length (records cs)
+
+-- So many of these commands, from the first on, are as many as an area has room for behind so many bytes that are used, but
+-- one at least: all of them where their block fits, and else one more would be too many.
+pub record IsLongest (size used : ℕ) (cs : List CommandValue) (count : ℕ) : Type 0 where
+  pub some : 0 < count
+  pub within : count ≤ length cs
+  pub all : Fits size used cs → count ≡ length cs
+  pub more : count < length cs → IsTooLong size used (take (count + 1) cs)
+
+-- What is stored of these commands behind a snapshot of this state: the first so many, of which the area has so many bytes used
+-- then; and the snapshot won as many bytes as were used before it and are not by it alone.
+pub record StoresAfresh (size before : ℕ) (s : State) (cs : List CommandValue) (count used : ℕ) (won : Option ℕ) : Type 0 where
+  pub longest : IsLongest size (used_afresh s) cs count
+  pub fits : Fits size (used_afresh s) (take count cs)
+  pub used_is : used ≡ used_afresh s + 9 + length (records (take count cs))
+  pub won_is : won ≡ Some (before - used_afresh s)
 
 -- The image stands for this state, and its live area is too short for a block of these commands: a gate, eight bytes of
 -- length, the records, and the closed gate behind it.

@@ -21,7 +21,8 @@ use std::marker::{Model, PhantomData};
 use std::snapshot::Snapshot;
 
 /// The one that takes commands from a ring, makes them durable, executes them and publishes them. A block of the journal has
-/// at most `W::COMMANDS` of them, and those in front of its last have records of fewer than `W::BYTES` bytes.
+/// at most `W::COMMANDS` of them, and those in front of its last have records of fewer than `W::BYTES` bytes, and of fewer than a
+/// quarter of an area, or than 262,144 bytes if that is more.
 ///
 /// Each image of its disk stands for the state after the commands taken up to some number from the mark on, also once a
 /// step has failed. No output is handed out but under the mark.
@@ -50,9 +51,9 @@ pub struct Flusher<D: Disk, B: Bell, W: Width> {
 
 impl<D: Disk, B: Bell, W: Width> Model for Flusher<D, B, W> {
     ghost use Rattle.std.specs.Prelude.{◌≡◌, ◌++◌, false, length, vec_capacity};
-    ghost use Rattle.recover_core.specs.Stores.{is_broken};
+    ghost use Rattle.recover_core.specs.Stores.{is_broken, size_of};
     ghost use Rattle.area_core.specs.Areas.{commands};
-    ghost use Rattle.flush_core.specs.Batches.{IsBatch};
+    ghost use Rattle.flush_core.specs.Batches.{IsBatch, block_bytes};
     ghost use Rattle.flush_core.specs.Flushed.{Flushed, IsFlusher, IsHeld, IsSpare, flushed};
 
     ghost Value = { Flushed D };
@@ -63,7 +64,7 @@ impl<D: Disk, B: Bell, W: Width> Model for Flusher<D, B, W> {
         × (a.broken ≡ false → IsHeld a.seat a.stored a.executed (is_broken a.journal) a.batch.items a.done.items a.bytes
         (length a.outlet.left.items) (length a.outlet.waiting.items) (vec_capacity a.outlet.left))
         × (a.broken ≡ false → IsSpare (length a.outlet.spare.items) (length a.outlet.waiting.items) (vec_capacity a.outlet.spare))
-        × (a.broken ≡ false → IsBatch W.COMMANDS W.BYTES (commands a.batch.items)) };
+        × (a.broken ≡ false → IsBatch W.COMMANDS (block_bytes (size_of a.journal) W.BYTES) (commands a.batch.items)) };
 }
 
 impl<D: Disk, B: Bell, W: Width> Flusher<D, B, W> {

@@ -4,7 +4,7 @@ ghost use Rattle.std.specs.Prelude.{◌≡◌, ◌<◌, ◌≤◌, ◌^◌, ◌+
 ghost use Rattle.command_core.specs.Entries.{EntryValue};
 ghost use Rattle.outbox_core.specs.Boxes.{SenderValue};
 ghost use Rattle.area_core.specs.Areas.{commands, records};
-ghost use Rattle.flush_core.specs.Batches.{IsBatch, with_more};
+ghost use Rattle.flush_core.specs.Batches.{IsBatch, block_bytes, with_more};
 ghost use Rattle.flush_core.specs.Faults.{NeedsNoDisk};
 ghost use Rattle.flush_core.specs.Flushed.{gathered};
 ghost use Rattle.flush_core.specs.Outcomes.{IsOutcome, taking};
@@ -25,15 +25,11 @@ impl<D: Disk, B: Bell, W: Width> Flusher<D, B, W> {
     // A batch whose records have as many bytes takes no further command: a quarter of an area, so that one block doesn't fill a
     // journal that holds little, but not more than a batch may have, and in small areas `LEAST_BYTES`.
     fn bytes_wanted(&self) -> u64
-        ensures wanted { result ≤ W.BYTES }
+        ensures wanted { result ≡ block_bytes self.now.size W.BYTES }
         ensures most { result ≤ 2 ^ 62 }
     {
         let quarter = self.journal.size() / 4;
-        if quarter > LEAST_BYTES {
-            quarter.min(W::BYTES)
-        } else {
-            LEAST_BYTES.min(W::BYTES)
-        }
+        quarter.max(LEAST_BYTES).min(W::BYTES)
     }
 
     // Takes the entries that are ready, one after another, until the batch is full or has so many bytes, and answers how many.
@@ -44,16 +40,15 @@ impl<D: Disk, B: Bell, W: Width> Flusher<D, B, W> {
         batch: &mut Vec<Entry<OutSender<B>>>,
         bytes: &mut u64,
     ) -> u64
-        requires wanted { wanted ≤ W.BYTES }
         requires most { wanted ≤ 2 ^ 62 }
         requires ring { seat.old.ring ≡ ring.now }
         requires room { W.COMMANDS ≤ vec_capacity batch.old }
         requires bytes { bytes.old ≡ length (records (commands batch.old.items)) }
-        requires batch { IsBatch W.COMMANDS W.BYTES (commands batch.old.items) }
+        requires batch { IsBatch W.COMMANDS wanted (commands batch.old.items) }
         ensures taken { (more : List (EntryValue SenderValue)) × (length more ≡ result) × (seat.new ≡ with_more seat.old (commands more))
             × (batch.new.items ≡ batch.old.items ++ more) }
         ensures bytes { bytes.new ≡ length (records (commands batch.new.items)) }
-        ensures batch { IsBatch W.COMMANDS W.BYTES (commands batch.new.items) }
+        ensures batch { IsBatch W.COMMANDS wanted (commands batch.new.items) }
     {
         let mut count = 0;
         while batch.len() < W::COMMANDS && *bytes < wanted {
@@ -75,15 +70,14 @@ impl<D: Disk, B: Bell, W: Width> Flusher<D, B, W> {
         batch: &mut Vec<Entry<OutSender<B>>>,
         bytes: &mut u64,
     ) -> Result<u64, AllocError>
-        requires wanted { wanted ≤ W.BYTES }
         requires most { wanted ≤ 2 ^ 62 }
         requires ring { seat.old.ring ≡ ring.now }
         requires bytes { bytes.old ≡ length (records (commands batch.old.items)) }
-        requires batch { IsBatch W.COMMANDS W.BYTES (commands batch.old.items) }
+        requires batch { IsBatch W.COMMANDS wanted (commands batch.old.items) }
         ensures taken { IfOk result (λ count. (more : List (EntryValue SenderValue)) × (length more ≡ count) × (seat.new ≡ with_more seat.old (commands more))
             × (batch.new.items ≡ batch.old.items ++ more)) }
         ensures bytes { bytes.new ≡ length (records (commands batch.new.items)) }
-        ensures batch { IsBatch W.COMMANDS W.BYTES (commands batch.new.items) }
+        ensures batch { IsBatch W.COMMANDS wanted (commands batch.new.items) }
         ensures refused { OnErr result (seat.new ≡ seat.old) }
     {
         batch.reserve(W::COMMANDS.saturating_sub(batch.len()))?;
@@ -91,14 +85,14 @@ impl<D: Disk, B: Bell, W: Width> Flusher<D, B, W> {
     }
 
     /// Takes the next commands in order from the ring, for as long as they are ready, fewer than `W::COMMANDS` wait to be stored, and
-    /// the records of these have fewer than `W::BYTES` bytes, and, in areas of more than a million, a quarter of an area. Answers
-    /// how many it took.
+    /// the records of these have fewer bytes than a quarter of an area, or than 262,144 if that is more, and fewer than
+    /// `W::BYTES`. Answers how many it took.
     ///
     /// `Memory` comes before anything is taken.
     pub fn gather(&mut self, ring: &BrokerRing<OutSender<B>>) -> Result<u64, FlushFault>
         requires ring { self.old.seat.ring ≡ ring.now }
         ensures taken { IfOk result (λ count. (more : List (EntryValue SenderValue)) × (length more ≡ count) × (self.new ≡ taking self.old more)) }
-        ensures batch { IfOk result (λ count. IsBatch W.COMMANDS W.BYTES (gathered self.new)) }
+        ensures batch { IfOk result (λ count. IsBatch W.COMMANDS (block_bytes self.old.size W.BYTES) (gathered self.new)) }
         ensures untouched { OnErr result ((self.new.disk ≡ self.old.disk) × (self.new.seat.taken ≡ self.old.seat.taken)) }
         ensures outcome { IsOutcome self.old self.new result }
         ensures stops { OnErr result ((self.new.broken ≡ true) × (self.new.seat.stopped ≡ true)) }

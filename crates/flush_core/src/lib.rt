@@ -5,6 +5,7 @@
 mod compacting;
 mod executing;
 mod faults;
+mod fitting;
 mod flusher;
 mod gathering;
 mod marking;

@@ -1,10 +1,9 @@
 -- How turns of the flusher follow one another.
-use Rattle.std.proofs.Common.{◌≡◌, ◌++◌, ℕ, List, [], None, Bool, true, false, Err, refl, sym, ap, ◌∙◌, append_assoc, append-nil, arith, length-append, subst}
+use Rattle.std.proofs.Common.{◌≡◌, ◌++◌, ℕ, List, [], None, Bool, true, false, Err, refl, sym, ap, ◌∙◌, append_assoc, append-nil, arith, subst}
 use Rattle.command_core.specs.Entries.{EntryValue}
 use Rattle.outbox_core.specs.Boxes.{SenderValue}
 use Rattle.area_core.specs.Areas.{commands}
-use Rattle.claim_core.specs.Seats.{FlushSeatValue, next_ticket}
-use Rattle.flush_core.specs.Batches.{with_more}
+use Rattle.claim_core.specs.Seats.{FlushSeatValue}
 use Rattle.flush_core.specs.Flushed.{Flushed, IsFlusher}
 use Rattle.flush_core.specs.Outcomes.{IsTurned, IsTurn, TurnFalls}
 use Rattle.flush_core.specs.declared.faults.FlushFault.{FlushFault}
@@ -47,18 +46,17 @@ more f g h a b = record {
 pub turned : {D : Type 0} (honest : D → Type 0) (images : D → List ℕ → Type 0) (old mid : Flushed D) (cs : List (EntryValue SenderValue))
     → IsFlusher honest images old → old.broken ≡ false → IsTurned old mid cs → Flushes old (record mid { left = []; won = None })
 turned honest images old mid cs kept whole t =
-    let At : FlushSeatValue → Type 0 = λ s. next_ticket s ≡ s.published in
-    let published : mid.seat.published ≡ next_ticket (with_more old.seat (commands cs)) = ap (λ (s : FlushSeatValue). s.published) t.seat in
+    let published : mid.seat.published ≡ mid.stored = ap (λ (s : FlushSeatValue). s.published) t.seat in
     record {
       ring = ap (λ (s : FlushSeatValue). s.ring) t.seat;
       base = ap (λ (s : FlushSeatValue). s.base) t.seat;
       seats = ap (λ (s : FlushSeatValue). s.seats) t.seat;
       taken = (commands cs, ap (λ (s : FlushSeatValue). s.taken) t.seat);
-      raised = omega (arith, published, length-append old.seat.taken (commands cs), kept.marked, kept.executed, kept.stored);
+      raised = omega (arith, published, t.within.0, kept.marked, kept.executed);
       opening = t.opening;
       broken = λ e. cc;
-      executed = λ e b. t.executed ∙ sym t.stored;
-      caught_up = λ e b. subst At (sym t.seat) refl;
+      executed = λ e b. t.executed;
+      caught_up = λ e b. sym published;
       left = λ e b. refl;
     }
 

@@ -1,12 +1,11 @@
 -- What turns of the flusher leave.
 use Rattle.std.specs.Prelude.{◌≡◌, ◌≤◌, [], ◌++◌, List, true, false}
 use Rattle.command_core.specs.Commands.{CommandValue}
-use Rattle.claim_core.specs.Seats.{next_ticket}
 use Rattle.flush_core.specs.Flushed.{Flushed}
 
 -- Turns were made, or none: the seat is of the same ring, with the same first ticket and as many sessions' seats, the
--- commands taken are those from before and more, and the mark has not fallen. Unless a step failed, all that was taken is
--- published where it was before, and no output is left where none was.
+-- commands taken are those from before and more, and the mark has not fallen. Unless a step failed, all that is stored is
+-- published if it was before, and no output is left if none was.
 pub record Flushes {D : Type 0} (old new : Flushed D) : Type 0 where
   pub ring : new.seat.ring ≡ old.seat.ring
   pub base : new.seat.base ≡ old.seat.base
@@ -16,5 +15,5 @@ pub record Flushes {D : Type 0} (old new : Flushed D) : Type 0 where
   pub opening : new.opening ≡ old.opening
   pub broken : old.broken ≡ true → new.broken ≡ true
   pub executed : (old.broken ≡ false → old.executed ≡ old.stored) → (new.broken ≡ false → new.executed ≡ new.stored)
-  pub caught_up : next_ticket old.seat ≡ old.seat.published → new.broken ≡ false → next_ticket new.seat ≡ new.seat.published
+  pub caught_up : old.stored ≡ old.seat.published → new.broken ≡ false → new.stored ≡ new.seat.published
   pub left : old.left ≡ [] → new.broken ≡ false → new.left ≡ []

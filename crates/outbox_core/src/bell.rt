@@ -5,6 +5,10 @@
 pub trait Bell: Drop {
     /// Tells the taker to look. It is called on the thread that gives, which goes on once it returns.
     fn ring(&self);
+
+    /// Says that a ring will follow. Where one thread looks for several takers, it can find them all once the first of their
+    /// bells is rung. It need not be written.
+    fn note(&self) {}
 }
 
 /// A bell that does nothing, for a taker that looks by itself.

@@ -1,7 +1,7 @@
 //! Boxes by session.
 
 ghost use Rattle.std.specs.Prelude.{◌≡◌, ◌==◌, ◌+◌, ◌<◌, ◌≤◌, [], ◌∷◌, ◌++◌, OnOk, OnErr, length, vec_capacity};
-ghost use Rattle.outbox_core.specs.Giving.{AreGiven, unboxed, with_box, without};
+ghost use Rattle.outbox_core.specs.Giving.{AreGiven, IsGiven, unboxed, with_box, without};
 
 use crate::bell::Bell;
 use crate::sender::OutSender;
@@ -10,10 +10,20 @@ use std::alloc::{AllocError, Global};
 use std::collections::BTreeMap;
 use std::marker::Model;
 
+// The boxes that were given something and are not rung yet.
+#[derive(Drop)]
+struct Unrung {
+    // Their sessions. There is room for each session that has a box.
+    sessions: Vec<u64>,
+    // Which list of outputs is given, counted from 1.
+    round: u64,
+}
+
 /// The sending ends of the outboxes of sessions. Contracts see each with the number of its session, by rising number.
 #[derive(Drop)]
 pub struct Boxes<B: Bell> {
     all: BTreeMap<u64, OutSender<B>>,
+    unrung: Unrung,
 }
 
 impl<B: Bell> Model for Boxes<B> {
@@ -24,6 +34,40 @@ impl<B: Bell> Model for Boxes<B> {
     ghost view = { λ a. a.all.entries };
 }
 
+// Makes room to note as many boxes as there are, and one more.
+fn make_room(unrung: &mut Unrung, boxes: usize) -> Result<(), AllocError> {
+    unrung.sessions.reserve(boxes.saturating_add(1))
+}
+
+// Gives an output to the box of a session, and notes that the box is to be rung, unless it was cut before. One that can't be
+// noted is rung at once.
+fn give_noting<B: Bell>(sender: &mut OutSender<B>, session: u64, out: Out, unrung: &mut Unrung)
+    ensures { IsGiven (out ∷ []) sender.old sender.new }
+{
+    let was_cut = sender.is_cut();
+    let _ = sender.put(out);
+    if was_cut {
+        return;
+    }
+    if !sender.note(unrung.round) {
+        return;
+    }
+    if unrung.sessions.len() < unrung.sessions.capacity() {
+        unrung.sessions.push_reserved(session);
+    } else {
+        sender.ring();
+    }
+}
+
+// Rings the boxes of these sessions.
+fn ring_each<B: Bell>(all: &BTreeMap<u64, OutSender<B>>, sessions: &[u64]) {
+    for session in sessions {
+        if let Some(sender) = all.get(session) {
+            sender.ring();
+        }
+    }
+}
+
 impl<B: Bell> Boxes<B> {
     /// None yet. No memory is taken.
     pub fn new(alloc: Global) -> Boxes<B>
@@ -31,6 +75,10 @@ impl<B: Bell> Boxes<B> {
     {
         Boxes {
             all: BTreeMap::new(alloc),
+            unrung: Unrung {
+                sessions: Vec::new(alloc),
+                round: 0,
+            },
         }
     }
 
@@ -47,6 +95,10 @@ impl<B: Bell> Boxes<B> {
         ensures kept { OnOk result (self.new ≡ with_box self.old session sender) }
         ensures refused { OnErr result (self.new ≡ self.old) }
     {
+        if let Err(refused) = make_room(&mut self.unrung, self.all.len()) {
+            drop(sender);
+            return Err(refused);
+        }
         self.all.insert(session, sender)?;
         Ok(())
     }
@@ -63,12 +115,33 @@ impl<B: Bell> Boxes<B> {
             left.push_reserved(out);
             return;
         };
-        let _ = sender.give(out);
+        give_noting(sender, session, out, &mut self.unrung);
     }
 
     /// Gives each output to the box of its session, in their order. What goes to a session without a box is left, behind what
     /// is there. What a box that is full or cut hands back is let go. No memory is taken.
+    ///
+    /// Each box that was given something, or is cut by it, is rung once, after all boxes have their outputs.
     pub fn give_all(&mut self, outs: Vec<Out>, left: &mut Vec<Out>)
+        requires room { length left.old.items + length outs.items ≤ vec_capacity left.old }
+        ensures given { AreGiven outs.items self.old self.new }
+        ensures left { left.new.items ≡ left.old.items ++ unboxed self.old outs.items }
+        ensures room { vec_capacity left.new ≡ vec_capacity left.old }
+    {
+        self.begin_round();
+        self.give_each(outs, left);
+        self.ring_noted();
+    }
+
+    // From here on no box is noted.
+    fn begin_round(&mut self)
+        ensures { self.new ≡ self.old }
+    {
+        self.unrung.round = self.unrung.round.wrapping_add(1);
+    }
+
+    // Gives each output, and notes the boxes that are to be rung.
+    fn give_each(&mut self, outs: Vec<Out>, left: &mut Vec<Out>)
         requires room { length left.old.items + length outs.items ≤ vec_capacity left.old }
         ensures given { AreGiven outs.items self.old self.new }
         ensures left { left.new.items ≡ left.old.items ++ unboxed self.old outs.items }
@@ -77,6 +150,14 @@ impl<B: Bell> Boxes<B> {
         for out in outs {
             self.give(out, left);
         }
+    }
+
+    // Rings the boxes that are noted.
+    fn ring_noted(&mut self)
+        ensures { self.new ≡ self.old }
+    {
+        ring_each(&self.all, &self.unrung.sessions);
+        self.unrung.sessions.clear();
     }
 
     /// Lets go of the boxes of sessions, of those that have one. No memory is taken.

@@ -33,6 +33,7 @@ pub fn outbox<B: Bell>(
     let sender = OutSender {
         end: End::Open(open),
         bell,
+        noted_in: 0,
     };
     let taker = OutTaker {
         outputs: taken,

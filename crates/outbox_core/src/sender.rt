@@ -42,6 +42,8 @@ impl End {
 pub struct OutSender<B: Bell> {
     pub(crate) end: End,
     pub(crate) bell: B,
+    // The round of outputs in which the box was noted last, so that it is rung once a round.
+    pub(crate) noted_in: u64,
 }
 
 impl<B: Bell> Model for OutSender<B> {
@@ -65,6 +67,30 @@ impl<B: Bell> OutSender<B> {
         ensures full { IfErr result (λ _. (self.old.cut ≡ true) ⊎ Overfill self.old.size (self.old.given ++ out ∷ [])) }
         ensures back { IfErr result (λ same. (same ≡ out) × CutsOff self.old self.new) }
     {
+        if self.is_cut() {
+            return Err(out);
+        }
+        let put = self.put(out);
+        self.bell.ring();
+        put
+    }
+
+    // Whether the box is cut.
+    pub(crate) fn is_cut(&self) -> bool
+        ensures { result ≡ self.now.cut }
+    {
+        match &self.end {
+            End::Open(_) => false,
+            End::Cut(_) | End::Gone => true,
+        }
+    }
+
+    // The same without the ring, which has to follow.
+    pub(crate) fn put(&mut self, out: Out) -> Result<(), Out>
+        ensures given { OnOk result ((self.old.cut ≡ false) × (self.new ≡ with_given self.old out)) }
+        ensures full { IfErr result (λ _. (self.old.cut ≡ true) ⊎ Overfill self.old.size (self.old.given ++ out ∷ [])) }
+        ensures back { IfErr result (λ same. (same ≡ out) × CutsOff self.old self.new) }
+    {
         let End::Open(open) = &mut self.end else {
             return Err(out);
         };
@@ -72,8 +98,24 @@ impl<B: Bell> OutSender<B> {
         if put.is_err() {
             self.end = replace(&mut self.end, End::Gone).cut();
         }
-        self.bell.ring();
         put
+    }
+
+    // Says that a ring will follow in this round, and answers whether that was not said yet.
+    pub(crate) fn note(&mut self, round: u64) -> bool
+        ensures { self.new ≡ self.old }
+    {
+        if self.noted_in == round {
+            return false;
+        }
+        self.noted_in = round;
+        self.bell.note();
+        true
+    }
+
+    // Rings.
+    pub(crate) fn ring(&self) {
+        self.bell.ring();
     }
 
     /// Ends the box and rings, and shows what was given. `None` where the box was cut, or its taker is gone. No memory is
@@ -81,7 +123,11 @@ impl<B: Bell> OutSender<B> {
     pub fn finish(self) -> Option<Finished>
         ensures { IfSome result (λ all. (self.cut ≡ false) × (all ≡ record { box = self.box; size = self.size; given = self.given })) }
     {
-        let OutSender { end, bell } = self;
+        let OutSender {
+            end,
+            bell,
+            noted_in: _,
+        } = self;
         let finished = match end {
             End::Open(open) => open.finish(),
             End::Cut(_) | End::Gone => None,
@@ -93,7 +139,11 @@ impl<B: Bell> OutSender<B> {
 
 impl<B: Bell> Drop for OutSender<B> {
     fn drop(self) {
-        let OutSender { end, bell } = self;
+        let OutSender {
+            end,
+            bell,
+            noted_in: _,
+        } = self;
         drop(end);
         bell.ring();
     }

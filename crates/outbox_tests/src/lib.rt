@@ -5,4 +5,6 @@
 #[cfg(test)]
 mod box_tests;
 #[cfg(test)]
+mod ring_tests;
+#[cfg(test)]
 mod thread_tests;

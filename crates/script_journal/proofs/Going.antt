@@ -14,12 +14,12 @@ use Rattle.claim_core.specs.Seats.{FlushSeatValue, SessionSeatValue, flushing, n
 use Rattle.recover_core.proofs.Stores.{after-append}
 use Rattle.flush_core.specs.declared.faults.FlushFault.{FlushFault}
 use Rattle.flush_core.specs.declared.faults.FlushFault.TheVariants.{Device, Full, Broken, Memory}
-use Rattle.flush_core.specs.Batches.{IsBatch, from_on, state_at, state_taken, with_more}
+use Rattle.flush_core.specs.Batches.{IsBatch, between, from_on, state_at, state_taken, with_more}
 use Rattle.script_journal.specs.declared.sizes.TheConstants.{BATCH, BATCH_BYTES}
 use Rattle.flush_core.specs.Flushed.{Flushed}
 use Rattle.flush_core.specs.Outcomes.{IsTurn, IsTurned, TurnFalls, turned_boxes, turned_outs}
 use Rattle.flush_core.specs.Room.{HasNoRoom}
-use Rattle.flush_core.proofs.Taken.{all_at, from_end, from_more}
+use Rattle.flush_core.proofs.Taken.{all_at, between_all, from_end, from_more}
 use Rattle.script_journal.specs.Going.{HasFilled, HasGone, HasGoneFront, HasGoneSomeWay, IsIdle}
 use Rattle.script_journal.specs.Journals.{IsFull}
 use Rattle.script_journal.specs.Placed.{AgreeAll, ArePlaced, commands_of}
@@ -68,20 +68,23 @@ module _ {D : Type 0} where
         left = sym (append-nil f.left);
       }
 
-  pub gone_turn : (f g : Flushed D) (more : List (EntryValue SenderValue)) → IsIdle f → g.broken ≡ false → g.boxes ≡ [] → IsTurned f g more → HasGone f g (commands more)
-  gone_turn f g more idle whole boxless turned =
+  pub gone_turn : (f g : Flushed D) (more : List (EntryValue SenderValue)) → IsIdle f → g.broken ≡ false → g.boxes ≡ [] → g.stored ≡ next_ticket g.seat → IsTurned f g more → HasGone f g (commands more)
+  gone_turn f g more idle whole boxless all turned =
       let cs : List CommandValue = commands more in
-      let rest : from_on g.seat f.stored ≡ cs = ap (λ (s : FlushSeatValue). from_on s f.stored) turned.seat
-      ∙ (from_more f.seat cs f.stored (omega (arith, idle.stored)) ∙ ap (λ (l : List CommandValue). l ++ cs) (from_end f.seat f.stored idle.stored)) in
-      let state : g.broker.state ≡ state_taken g.opening g.seat = ap (λ (b : BrokerValue). b.state) turned.broker in
+      let seat : g.seat ≡ gone_by f.seat cs = turned.seat ∙ ap (λ (n : ℕ). with_mark (with_more f.seat cs) n) (all ∙ ap next_ticket turned.seat) in
+      let begun : g.seat.base ≤ f.stored = omega (arith, idle.stored, ap (λ (s : FlushSeatValue). s.base) seat) in
+      let rest : between g.seat f.stored g.stored ≡ cs = between_all g.seat f.stored g.stored all begun
+      ∙ (ap (λ (s : FlushSeatValue). from_on s f.stored) seat
+      ∙ (from_more f.seat cs f.stored (omega (arith, idle.stored)) ∙ ap (λ (l : List CommandValue). l ++ cs) (from_end f.seat f.stored idle.stored))) in
+      let state : g.broker.state ≡ state_taken g.opening g.seat = ap (λ (b : BrokerValue). b.state) turned.broker ∙ all_at g.opening g.seat g.stored all in
       let outs_are : turned_outs f g ≡ outs_of f.broker.state cs = λ i. idle.waiting i ++ outs_of f.broker.state (rest i) in
-      let all_left : unboxed (turned_boxes f more) (turned_outs f g) ≡ turned_outs f g =
-      all_unboxed (turned_boxes f more) (turned_outs f g) (none_boxed (turned_outs f g) (turned_boxes f more) (subst (AreGiven (turned_outs f g) (turned_boxes f more)) boxless turned.given)) in
+      let all_left : unboxed (turned_boxes f g more) (turned_outs f g) ≡ turned_outs f g =
+      all_unboxed (turned_boxes f g more) (turned_outs f g) (none_boxed (turned_outs f g) (turned_boxes f g more) (subst (AreGiven (turned_outs f g) (turned_boxes f g more)) boxless turned.given)) in
       record {
-        idle = record { whole = whole; stored = turned.stored; executed = turned.executed; marked = ap (λ (s : FlushSeatValue). s.published) turned.seat ∙ sym (ap next_ticket turned.seat); waiting = turned.waiting; state = state };
-        seat = turned.seat;
+        idle = record { whole = whole; stored = all; executed = turned.executed ∙ all; marked = ap (λ (s : FlushSeatValue). s.published) turned.seat ∙ all; waiting = turned.waiting; state = state };
+        seat = seat;
         opening = turned.opening;
-        state = state ∙ ((λ i. state_after (turned.opening i) ((turned.seat i).taken)) ∙ (after-append f.seat.taken f.opening cs ∙ ap (λ (s : State). state_after s cs) (sym idle.state)));
+        state = state ∙ ((λ i. state_after (turned.opening i) ((seat i).taken)) ∙ (after-append f.seat.taken f.opening cs ∙ ap (λ (s : State). state_after s cs) (sym idle.state)));
         left = turned.left ∙ ap (λ (l : List OutValue). f.left ++ l) (all_left ∙ outs_are);
       }
 

@@ -1,57 +1,64 @@
-use Rattle.std.proofs.Common.{rules, ◌∙◌, ◌≡◌, [], ℕ, Result, Err, ap, refl, subst, sym, true}
+use Rattle.std.proofs.Common.{rules, ◌∙◌, ◌≡◌, ◌+◌, [], ℕ, List, Result, Err, ap, arith, length, length-append, refl, subst, sym, true}
+use Rattle.std.specs.Prelude.{IfOk}
 use Rattle.std.proofs.lemmas.Bool.{false≢true}
 use Rattle.std.proofs.lemmas.Result.{err_from_is_err_and}
+use Rattle.area_core.specs.Areas.{commands}
+use Rattle.claim_core.specs.Seats.{next_ticket}
+use Rattle.command_core.specs.Commands.{CommandValue}
 use Rattle.flush_core.specs.declared.faults.FlushFault.{FlushFault}
 use Rattle.flush_core.specs.declared.faults.FlushFault.TheVariants.{Full}
-use Rattle.broker_core.specs.States.{State}
-use Rattle.broker_core.specs.Steps.{state_after}
-use Rattle.recover_core.specs.Standing.{StandFor}
-use Rattle.flush_core.specs.Batches.{state_taken}
 use Rattle.flush_core.specs.Faults.{IsFlushCaused}
 use Rattle.flush_core.specs.Flushed.{Flushed, gathered}
 use Rattle.flush_core.specs.Outcomes.{IsTurn}
 use Rattle.flush_core.proofs.StoreFaults.{caused_none}
 use Rattle.flush_core.proofs.Room.{gathered_stays, had_no_room, still_published, still_unexecuted, was_full}
-use Rattle.flush_core.proofs.Turns.{failed_keeps, execute_falls, stored, turned, unstored}
+use Rattle.flush_core.proofs.Turns.{failed_keeps, execute_falls, stands_so, stored_all, turned, unstored}
 use Rattle.flush_core.proofs.flusher.Flusher.append_turn.Goals as goal
 
 pub returns-in_err-count-clause-any_moment : goal.returns-in_err-count-clause-any_moment
 returns-in_err-count-clause-any_moment g c honest whole =
     unstored g.D.Disk c.args.self.now c.gather.new.self.disk _ c.is_broken.ensures.kept whole (g.met.D.Disk.only_now c.args.self.now.disk) c.in_err-count.ensures.untouched.0 honest
 
-pub returns-in_err-append-clause-any_moment : goal.returns-in_err-append-clause-any_moment
-returns-in_err-append-clause-any_moment g c honest whole =
+pub returns-in_err-append_all-clause-any_moment : goal.returns-in_err-append_all-clause-any_moment
+returns-in_err-append_all-clause-any_moment g c honest whole =
     let took = c.in_ok-count.ensures.taken in
-    let same = failed_keeps c.gather.new.self c.append.new.self _ c.in_err-append.ensures.outcome in
-    stored g.D.Disk c.args.self.now c.gather.new.self took.0 c.append.new.self.disk c.append.new.self.disk c.append.new.self.opening c.append.new.self.seat c.is_broken.ensures.kept whole took.2 c.append.ensures.any_moment refl same.0 same.1 honest
+    let new = c.append_all.new.self in
+    let same = failed_keeps (Unit {0}) c.gather.new.self new _ c.in_err-append_all.ensures.outcome in
+    stored_all g.D.Disk c.args.self.now c.gather.new.self took.0 new.disk new.disk new.opening new.seat c.is_broken.ensures.kept whole took.2 c.append_all.ensures.any_moment refl same.0 same.1 same.2 honest
 
 pub returns-in_err-execute-clause-any_moment : goal.returns-in_err-execute-clause-any_moment
 returns-in_err-execute-clause-any_moment g c honest whole =
     let took = c.in_ok-count.ensures.taken in
-    let did = c.in_ok-append.ensures.stored in
-    let same = failed_keeps c.append.new.self c.execute.new.self _ c.in_err-execute.ensures.outcome in
-    stored g.D.Disk c.args.self.now c.gather.new.self took.0 c.append.new.self.disk c.execute.new.self.disk c.execute.new.self.opening c.execute.new.self.seat c.is_broken.ensures.kept whole took.2 c.append.ensures.any_moment c.execute.ensures.untouched
-    (same.0 ∙ ap (λ (f : Flushed g.row.D.Denot). f.opening) did) (same.1 ∙ ap (λ (f : Flushed g.row.D.Denot). f.seat.taken) did) honest
+    let new = c.execute.new.self in
+    let did = c.in_ok-append_all.ensures.stored in
+    let failed = failed_keeps (Unit {0}) c.append_all.new.self new _ c.in_err-execute.ensures.outcome in
+    stored_all g.D.Disk c.args.self.now c.gather.new.self took.0 c.append_all.new.self.disk new.disk new.opening new.seat c.is_broken.ensures.kept whole took.2 c.append_all.ensures.any_moment c.execute.ensures.untouched
+    (failed.0 ∙ ap (λ (f : Flushed g.row.D.Denot). f.opening) did) (failed.1 ∙ ap (λ (f : Flushed g.row.D.Denot). f.seat.taken) did) (failed.2 ∙ ap (λ (f : Flushed g.row.D.Denot). f.seat.base) did) honest
 
 pub returns-clause-any_moment : goal.returns-clause-any_moment
 returns-clause-any_moment g c honest whole =
     let took = c.in_ok-count.ensures.taken in
-    let did = c.in_ok-append.ensures.stored in
+    let new = c.publish.new.self in
+    let did = c.in_ok-append_all.ensures.stored in
     let executed = c.in_ok-execute.ensures.executed in
     let published = c.publish.ensures.published in
-    stored g.D.Disk c.args.self.now c.gather.new.self took.0 c.append.new.self.disk c.publish.new.self.disk c.publish.new.self.opening c.publish.new.self.seat c.is_broken.ensures.kept whole took.2 c.append.ensures.any_moment
-    (ap (λ (f : Flushed g.row.D.Denot). f.disk) published ∙ c.execute.ensures.untouched)
-    (ap (λ (f : Flushed g.row.D.Denot). f.opening) published ∙ (ap (λ (f : Flushed g.row.D.Denot). f.opening) executed ∙ ap (λ (f : Flushed g.row.D.Denot). f.opening) did))
-    (ap (λ (f : Flushed g.row.D.Denot). f.seat.taken) published ∙ (ap (λ (f : Flushed g.row.D.Denot). f.seat.taken) executed ∙ ap (λ (f : Flushed g.row.D.Denot). f.seat.taken) did)) honest
+    let opened : new.opening ≡ c.gather.new.self.opening = ap (λ (f : Flushed g.row.D.Denot). f.opening) published ∙ (ap (λ (f : Flushed g.row.D.Denot). f.opening) executed ∙ ap (λ (f : Flushed g.row.D.Denot). f.opening) did) in
+    let taken : new.seat.taken ≡ c.gather.new.self.seat.taken = ap (λ (f : Flushed g.row.D.Denot). f.seat.taken) published ∙ (ap (λ (f : Flushed g.row.D.Denot). f.seat.taken) executed ∙ ap (λ (f : Flushed g.row.D.Denot). f.seat.taken) did) in
+    let base : new.seat.base ≡ c.gather.new.self.seat.base = ap (λ (f : Flushed g.row.D.Denot). f.seat.base) published ∙ (ap (λ (f : Flushed g.row.D.Denot). f.seat.base) executed ∙ ap (λ (f : Flushed g.row.D.Denot). f.seat.base) did) in
+    stored_all g.D.Disk c.args.self.now c.gather.new.self took.0 c.append_all.new.self.disk new.disk new.opening new.seat c.is_broken.ensures.kept whole took.2 c.append_all.ensures.any_moment
+    (ap (λ (f : Flushed g.row.D.Denot). f.disk) published ∙ c.execute.ensures.untouched) opened taken base honest
 
 pub returns-clause-turned : goal.returns-clause-turned
 returns-clause-turned g c =
     let took = c.in_ok-count.ensures.taken in
-    let whole = c.in_ok-count.ensures.outcome.0 in (
+    let whole = c.in_ok-count.ensures.outcome.0 in
+    let kept = c.is_broken.ensures.kept in
+    let before = ap (λ (f : Flushed g.row.D.Denot). f.stored) took.2 in
+    let end = ap (λ (f : Flushed g.row.D.Denot). next_ticket f.seat) took.2 in (
       took.0,
       took.1,
-      turned g.D.Disk c.args.self.now c.gather.new.self c.append.new.self c.execute.new.self c.publish.new.self took.0 c.append.new.self.disk c.append.new.self.size c.append.new.self.used c.gather.new.self.won
-          c.is_broken.ensures.kept whole (c.requires.executed whole) took.2 c.in_ok-append.ensures.stored c.in_ok-execute.ensures.executed c.publish.ensures.published c.publish.ensures.given,
+      turned g.D.Disk c.args.self.now c.gather.new.self c.append_all.new.self c.execute.new.self c.publish.new.self took.0 (next_ticket c.gather.new.self.seat) c.append_all.new.self.disk c.append_all.new.self.size c.append_all.new.self.used c.gather.new.self.won
+          (c.requires.executed whole) (omega (arith, end, kept.stored, length-append c.args.self.now.seat.taken (commands took.0))) (omega (arith, end)) took.2 c.in_ok-append_all.ensures.stored c.in_ok-execute.ensures.executed c.publish.ensures.published c.publish.ensures.given,
     )
 
 pub returns-then-is_broken-clause-any_moment : goal.returns-then-is_broken-clause-any_moment
@@ -74,22 +81,22 @@ returns-then-is_broken-clause-full g c = λ is. absurd (cc is)
 pub returns-then-is_broken-clause-no_room : goal.returns-then-is_broken-clause-no_room
 returns-then-is_broken-clause-no_room g c = λ honest is. absurd (cc is)
 
-pub returns-in_err-append-clause-full : goal.returns-in_err-append-clause-full
-returns-in_err-append-clause-full g c is =
+pub returns-in_err-append_all-clause-full : goal.returns-in_err-append_all-clause-full
+returns-in_err-append_all-clause-full g c is =
     let took = c.in_ok-count.ensures.taken in
-    let p = err_from_is_err_and c.from_residual-in_err-append.result c.from_residual-in_err-append.ensures.1 in
-    let same : c.in_err-append.field-0.0 ≡ Full = cc (p.1, p.2, is) in
+    let p = err_from_is_err_and c.from_residual-in_err-append_all.result c.from_residual-in_err-append_all.ensures.1 in
+    let same : c.in_err-append_all.field-0.0 ≡ Full = cc (p.1, p.2, is) in
     let told = ap (λ (fault : FlushFault). Err fault) same in
-    was_full g.D.Disk c.args.self.now c.gather.new.self c.append.new.self took.0 _ c.is_broken.ensures.kept took.2 c.in_err-append.ensures.outcome (c.in_err-append.ensures.full told) c.in_ok-count.ensures.batch
-    (λ none. false≢true (c.in_err-append.ensures.nothing c.in_ok-count.ensures.outcome.1 none).0)
+    was_full g.D.Disk c.args.self.now c.gather.new.self c.append_all.new.self took.0 _ c.is_broken.ensures.kept took.2 c.in_err-append_all.ensures.outcome (c.in_err-append_all.ensures.full told) c.in_ok-count.ensures.batch
+    (λ none. false≢true (c.in_err-append_all.ensures.nothing c.in_ok-count.ensures.outcome.1 none).0)
 
-pub returns-in_err-append-clause-no_room : goal.returns-in_err-append-clause-no_room
-returns-in_err-append-clause-no_room g c honest is =
+pub returns-in_err-append_all-clause-no_room : goal.returns-in_err-append_all-clause-no_room
+returns-in_err-append_all-clause-no_room g c honest is =
     let took = c.in_ok-count.ensures.taken in
-    let p = err_from_is_err_and c.from_residual-in_err-append.result c.from_residual-in_err-append.ensures.1 in
-    let same : c.in_err-append.field-0.0 ≡ Full = cc (p.1, p.2, is) in
+    let p = err_from_is_err_and c.from_residual-in_err-append_all.result c.from_residual-in_err-append_all.ensures.1 in
+    let same : c.in_err-append_all.field-0.0 ≡ Full = cc (p.1, p.2, is) in
     let told = ap (λ (fault : FlushFault). Err fault) same in
-    had_no_room g.D.Disk c.args.self.now c.gather.new.self c.append.new.self took.0 _ c.is_broken.ensures.kept took.2 c.in_err-append.ensures.outcome (λ h. c.in_err-append.ensures.no_room h told) honest
+    had_no_room g.D.Disk c.args.self.now c.gather.new.self c.append_all.new.self took.0 _ c.is_broken.ensures.kept took.2 c.in_err-append_all.ensures.outcome (λ h. c.in_err-append_all.ensures.no_room h told) honest
 
 pub returns-clause-full : goal.returns-clause-full
 returns-clause-full g c = λ is. absurd (cc is)
@@ -116,37 +123,37 @@ returns-then-is_broken-clause-nothing g c = λ none. refl
 pub returns-in_err-count-clause-nothing : goal.returns-in_err-count-clause-nothing
 returns-in_err-count-clause-nothing g c = λ none. c.in_err-count.ensures.untouched.0
 
-pub returns-in_err-append-clause-nothing : goal.returns-in_err-append-clause-nothing
-returns-in_err-append-clause-nothing g c none =
+pub returns-in_err-append_all-clause-nothing : goal.returns-in_err-append_all-clause-nothing
+returns-in_err-append_all-clause-nothing g c none =
     let took = c.in_ok-count.ensures.taken in
-    let waits : gathered c.gather.new.self ≡ [] = gathered_stays g.D.Disk c.args.self.now c.gather.new.self c.append.new.self took.0 _ c.is_broken.ensures.kept took.2 c.in_err-append.ensures.outcome ∙ none in
-    absurd (false≢true (c.in_err-append.ensures.nothing c.in_ok-count.ensures.outcome.1 waits).0)
+    let waits : gathered c.gather.new.self ≡ [] = gathered_stays g.D.Disk c.args.self.now c.gather.new.self c.append_all.new.self took.0 _ c.is_broken.ensures.kept took.2 c.in_err-append_all.ensures.outcome ∙ none in
+    absurd (false≢true (c.in_err-append_all.ensures.nothing c.in_ok-count.ensures.outcome.1 waits).0)
 
 pub returns-in_err-execute-clause-nothing : goal.returns-in_err-execute-clause-nothing
 returns-in_err-execute-clause-nothing g c none =
     let took = c.in_ok-count.ensures.taken in
-    still_unexecuted c.args.self.now c.gather.new.self c.append.new.self took.0 _ _ _ _ took.2 c.in_ok-append.ensures.stored (λ waits. (c.append.ensures.nothing c.in_ok-count.ensures.outcome.1 waits).1)
+    still_unexecuted c.args.self.now c.gather.new.self c.append_all.new.self took.0 _ _ _ _ _ took.2 c.in_ok-append_all.ensures.stored (λ waits. (c.append_all.ensures.nothing c.in_ok-count.ensures.outcome.1 waits).1)
     c.execute.new.self _ c.in_err-execute.ensures.outcome c.execute.ensures.untouched none
 
 pub returns-clause-nothing : goal.returns-clause-nothing
 returns-clause-nothing g c none =
     let took = c.in_ok-count.ensures.taken in
-    still_published c.args.self.now c.gather.new.self c.append.new.self took.0 _ _ _ _ took.2 c.in_ok-append.ensures.stored (λ waits. (c.append.ensures.nothing c.in_ok-count.ensures.outcome.1 waits).1)
+    still_published c.args.self.now c.gather.new.self c.append_all.new.self took.0 _ _ _ _ _ took.2 c.in_ok-append_all.ensures.stored (λ waits. (c.append_all.ensures.nothing c.in_ok-count.ensures.outcome.1 waits).1)
     c.execute.new.self c.publish.new.self c.in_ok-execute.ensures.executed c.execute.ensures.untouched c.publish.ensures.published none
 
 pub returns-clause-uncompacted : goal.returns-clause-uncompacted
 returns-clause-uncompacted g c =
     let won = λ (f : Flushed g.row.D.Denot). f.won in
-    ap won c.publish.ensures.published ∙ (ap won c.in_ok-execute.ensures.executed ∙ (ap won c.in_ok-append.ensures.stored ∙ ap won c.in_ok-count.ensures.taken.2))
+    ap won c.publish.ensures.published ∙ (ap won c.in_ok-execute.ensures.executed ∙ (ap won c.in_ok-append_all.ensures.stored ∙ ap won c.in_ok-count.ensures.taken.2))
 
 pub returns-then-is_broken-clause-uncompacted : goal.returns-then-is_broken-clause-uncompacted
 returns-then-is_broken-clause-uncompacted g c = tt
 
-pub append-requires-clause-ring : goal.append-requires-clause-ring
-append-requires-clause-ring g c = ap (λ (f : Flushed g.row.D.Denot). f.seat.ring) c.in_ok-count.ensures.taken.2 ∙ c.requires.ring
+pub append_all-requires-clause-ring : goal.append_all-requires-clause-ring
+append_all-requires-clause-ring g c = ap (λ (f : Flushed g.row.D.Denot). f.seat.ring) c.in_ok-count.ensures.taken.2 ∙ c.requires.ring
 
-pub append-requires-clause-executed : goal.append-requires-clause-executed
-append-requires-clause-executed g c = λ whole.
+pub append_all-requires-clause-executed : goal.append_all-requires-clause-executed
+append_all-requires-clause-executed g c = λ whole.
     subst (λ (f : Flushed g.row.D.Denot). f.executed ≡ f.stored) (sym c.in_ok-count.ensures.taken.2) (c.requires.executed c.in_ok-count.ensures.outcome.0)
 
 pub returns-in_err-execute-clause-outcome : goal.returns-in_err-execute-clause-outcome
@@ -155,8 +162,8 @@ returns-in_err-execute-clause-outcome g c =
     let p = err_from_is_err_and c.from_residual-in_err-execute.result c.from_residual-in_err-execute.ensures.1 in
     let is : c.from_residual-in_err-execute.result ≡ Err c.in_err-execute.field-0.0 = cc (p.1, p.2) in
     subst (λ (r : Result ℕ FlushFault). IsTurn c.args.self.now c.execute.new.self r) (sym is)
-    (execute_falls c.args.self.now c.gather.new.self c.append.new.self c.execute.new.self took.0 _ _ _ _ c.in_ok-count.ensures.outcome.0 took.2 c.in_ok-append.ensures.stored
-    ℕ c.in_err-execute.field-0.0 c.in_ok-append.ensures.outcome.1 c.in_err-execute.ensures.outcome)
+    (execute_falls c.args.self.now c.gather.new.self c.append_all.new.self c.execute.new.self took.0 _ _ _ _ _ c.in_ok-count.ensures.outcome.0 took.2 c.in_ok-append_all.ensures.stored
+    ℕ c.in_err-execute.field-0.0 c.in_ok-append_all.ensures.outcome.1 c.in_err-execute.ensures.outcome)
 
 pub returns-in_err-execute-clause-cause : goal.returns-in_err-execute-clause-cause
 returns-in_err-execute-clause-cause g c =
@@ -165,16 +172,22 @@ returns-in_err-execute-clause-cause g c =
     let is : c.from_residual-in_err-execute.result ≡ Err c.in_err-execute.field-0.0 = cc (p.1, p.2) in
     subst (λ (r : Result ℕ FlushFault). IsFlushCaused (g.D.Disk.failures c.args.self.now.disk) (g.D.Disk.failures c.execute.new.self.disk) r) (sym is)
     (caused_none ℕ c.in_err-execute.field-0.0 (g.D.Disk.failures c.args.self.now.disk) (g.D.Disk.failures c.execute.new.self.disk) c.in_err-execute.ensures.fault
-    (ap (λ d. g.D.Disk.failures d) c.execute.ensures.untouched ∙ (c.in_ok-append.ensures.cause ∙ ap (λ (f : Flushed g.row.D.Denot). g.D.Disk.failures f.disk) took.2)))
+    (ap (λ d. g.D.Disk.failures d) c.execute.ensures.untouched ∙ (c.in_ok-append_all.ensures.cause ∙ ap (λ (f : Flushed g.row.D.Denot). g.D.Disk.failures f.disk) took.2)))
 
 pub returns-clause-after : goal.returns-clause-after
 returns-clause-after g c = λ honest.
     let took = c.in_ok-count.ensures.taken in
-    let did = c.in_ok-append.ensures.stored in
+    stands_so g.D.Disk c.gather.new.self c.append_all.new.self c.execute.new.self c.publish.new.self (next_ticket c.gather.new.self.seat) _ _ _ _ c.in_ok-append_all.ensures.stored c.in_ok-execute.ensures.executed c.execute.ensures.untouched c.publish.ensures.published
+    (c.in_ok-append_all.ensures.after (subst (λ (f : Flushed g.row.D.Denot). g.D.Disk.honest f.disk) (sym took.2) honest))
+
+pub returns-clause-all : goal.returns-clause-all
+returns-clause-all g c =
+    let did = c.in_ok-append_all.ensures.stored in
     let executed = c.in_ok-execute.ensures.executed in
     let published = c.publish.ensures.published in
-    let opened : c.publish.new.self.opening ≡ c.gather.new.self.opening = ap (λ (f : Flushed g.row.D.Denot). f.opening) published ∙ (ap (λ (f : Flushed g.row.D.Denot). f.opening) executed ∙ ap (λ (f : Flushed g.row.D.Denot). f.opening) did) in
-    let taken : c.publish.new.self.seat.taken ≡ c.gather.new.self.seat.taken = ap (λ (f : Flushed g.row.D.Denot). f.seat.taken) published ∙ (ap (λ (f : Flushed g.row.D.Denot). f.seat.taken) executed ∙ ap (λ (f : Flushed g.row.D.Denot). f.seat.taken) did) in
-    subst (λ d. StandFor (g.D.Disk.images d) (state_taken c.publish.new.self.opening c.publish.new.self.seat)) (sym (ap (λ (f : Flushed g.row.D.Denot). f.disk) published ∙ c.execute.ensures.untouched))
-    (subst (λ (s : State). StandFor (g.D.Disk.images c.append.new.self.disk) s) (sym (λ i. state_after (opened i) (taken i)))
-    (c.in_ok-append.ensures.after (subst (λ (f : Flushed g.row.D.Denot). g.D.Disk.honest f.disk) (sym took.2) honest)))
+    let number = λ (f : Flushed g.row.D.Denot). f.stored in
+    let end = λ (f : Flushed g.row.D.Denot). next_ticket f.seat in
+    (ap number published ∙ (ap number executed ∙ ap number did)) ∙ sym (ap end published ∙ (ap end executed ∙ ap end did))
+
+pub returns-then-is_broken-clause-all : goal.returns-then-is_broken-clause-all
+returns-then-is_broken-clause-all g c = tt

@@ -13,7 +13,8 @@ use Rattle.flush_core.specs.declared.faults.FlushFault.{FlushFault}
 use Rattle.flush_core.specs.declared.faults.FlushFault.TheVariants.{Full}
 use Rattle.flush_core.specs.Faults.{IsFlushCaused}
 use Rattle.flush_core.specs.Outcomes.{IsOutcome, compacted}
-use Rattle.flush_core.specs.Batches.{state_at}
+use Rattle.flush_core.specs.Batches.{IsBatch, state_at, block_bytes}
+use Rattle.area_core.specs.Areas.{commands}
 use Rattle.flush_core.specs.Flushed.{Flushed, flushed}
 use Rattle.flush_core.specs.Room.{HasNoRoomForState, used_afresh}
 use Rattle.flush_core.proofs.Compactions.{leaves_state, stand_then, stored_state}
@@ -36,7 +37,7 @@ invariant_of-self g c =
       compacts g.D.Disk.honest g.D.Disk.images f c.compact.new.self.disk _ _ _ c.if-self.false stand kept,
       λ w. let held = c.self.invariant.1 w in record { whole = c.in-Ok.ensures.ok; batch_is = held.batch_is; bytes_is = held.bytes_is; done_is = held.done_is; few = held.few; room_is = held.room_is },
       c.self.invariant.2,
-      c.self.invariant.3,
+      λ w. subst (λ n. IsBatch g.W.Width.COMMANDS (block_bytes n g.W.Width.BYTES) (commands it.batch.items)) (sym c.compact.ensures.size) (c.self.invariant.3 w),
     )
 
 pub invariant_of-self-in-Err : goal.invariant_of-self-in-Err
@@ -50,7 +51,7 @@ invariant_of-self-in-Err g c =
     let stand : g.D.Disk.honest c.compact.new.self.disk → StandFor (g.D.Disk.images c.compact.new.self.disk) s = λ h.
     stand_then g.D.Disk it.journal.disk c.compact.new.self.disk s it.broker.state same (c.compact.ensures.any_moment (c.compact.ensures.was_honest h) (c.self.invariant.1 c.if-self.false).whole)
     (λ t image le among. g.met.D.Disk.counts_now c.compact.new.self.disk t image le among) in (
-      store_fails g.D.Disk.honest g.D.Disk.images f c.stop.new.seat c.compact.new.self.disk _ _ c.stop.ensures
+      store_fails g.D.Disk.honest g.D.Disk.images f c.stop.new.seat c.compact.new.self.disk _ _ (it.done.items ++ it.batch.items) c.stop.ensures
           (λ h. hold_at (g.D.Disk.images c.compact.new.self.disk) it.opening.value.state it.seat it.stored (omega (arith, kept.marked, kept.executed)) kept.stored (stand h)) kept,
       λ w. absurd (cc w),
       λ w. absurd (cc w),
@@ -164,7 +165,7 @@ returns-in-Err-clause-cause g c =
     let after = g.D.Disk.failures c.compact.new.self.disk in
     subst (λ (f : Flushed g.row.D.Denot). IsFlushCaused {T = Unit {0}} (g.D.Disk.failures f.disk) after (Err c.from.result)) c.self.view_is
     (subst (λ (fault : FlushFault). IsFlushCaused {T = Unit {0}} before after (Err fault)) (sym c.from.ensures)
-    (caused_so c.in-Err.fault before after (subst (λ (r : Result (Unit {0}) AreaFault). IsCaused {T = Unit {0}} before after r) c.in-Err.is c.compact.ensures.cause)))
+    (caused_so (Unit {0}) c.in-Err.fault before after (subst (λ (r : Result (Unit {0}) AreaFault). IsCaused {T = Unit {0}} before after r) c.in-Err.is c.compact.ensures.cause)))
 
 pub returns-in-Ok-clause-compacted : goal.returns-in-Ok-clause-compacted
 returns-in-Ok-clause-compacted g c =

@@ -1,6 +1,7 @@
 use Rattle.std.proofs.Common.{sym, subst, ◌∙◌, ◌≡◌}
 use Rattle.recover_core.specs.Standing.{StandFor}
-use Rattle.flush_core.specs.Batches.{state_at}
+use Rattle.flush_core.specs.Batches.{IsBatch, state_at, block_bytes}
+use Rattle.area_core.specs.Areas.{commands}
 use Rattle.flush_core.specs.Flushed.{HoldBetween}
 use Rattle.flush_core.proofs.flusher.Flusher.fuse.Goals as goal
 
@@ -36,5 +37,5 @@ invariant_of-result g c =
         room_is = held.room_is;
       },
       c.self.invariant.2,
-      c.self.invariant.3,
+      λ w. subst (λ n. IsBatch g.W.Width.COMMANDS (block_bytes n g.W.Width.BYTES) (commands it.batch.items)) (sym c.fuse.ensures.size) (c.self.invariant.3 w),
     )

@@ -1,10 +1,10 @@
-use Rattle.std.proofs.Common.{arith, ap, append_assoc, refl, sym, subst, true, ◌∙◌, ◌++◌, ◌≡◌, ◌≤◌, List}
+use Rattle.std.proofs.Common.{arith, ap, append_assoc, refl, sym, subst, true, ◌∙◌, ◌++◌, ◌≡◌, ◌≤◌, List, ℕ}
 use Rattle.area_core.specs.Areas.{commands}
 use Rattle.command_core.specs.Commands.{CommandValue}
 use Rattle.command_core.specs.Entries.{EntryValue}
 use Rattle.outbox_core.specs.Boxes.{SenderValue}
 use Rattle.claim_core.specs.Seats.{FlushSeatValue, when_stopped}
-use Rattle.flush_core.specs.Batches.{IsBatch, from_on, with_more}
+use Rattle.flush_core.specs.Batches.{IsBatch, from_on, block_bytes, with_more}
 use Rattle.flush_core.specs.Flushed.{Flushed, flushed}
 use Rattle.flush_core.specs.Outcomes.{taking}
 use Rattle.flush_core.proofs.Keeping.{all_brought, fails, held_more, takes}
@@ -30,7 +30,8 @@ invariant_of-self g c =
       takes g.D.Disk.honest g.D.Disk.images f c.fill.new.seat more (it.done.items ++ c.fill.new.batch.items) seat brought c.if-self.false kept,
       λ _. now,
       c.self.invariant.2,
-      λ _. c.fill.ensures.batch,
+      λ _. subst (λ n. IsBatch g.W.Width.COMMANDS n (commands c.fill.new.batch.items))
+          (c.bytes_wanted-wanted.ensures.wanted ∙ ap (λ (f : Flushed g.row.D.Denot). block_bytes f.size g.W.Width.BYTES) (sym c.self.view_is)) c.fill.ensures.batch,
     )
 
 pub invariant_of-self-in-Err : goal.invariant_of-self-in-Err
@@ -53,7 +54,7 @@ returns-in-Ok-clause-batch g c =
     let is : commands c.fill.new.batch.items ≡ from_on c.fill.new.seat it.stored =
     ap (λ (l : List (EntryValue SenderValue)). commands l) took.3 ∙ (commands_both it.batch.items took.0
     ∙ (ap (λ (l : List CommandValue). l ++ more) held.batch_is ∙ (sym (from_more it.seat more it.stored c.self.invariant.0.stored) ∙ ap (λ (s : FlushSeatValue). from_on s it.stored) (sym took.2)))) in
-    subst (IsBatch g.W.Width.COMMANDS g.W.Width.BYTES) is c.fill.ensures.batch
+    subst (λ (z : ℕ × List CommandValue). IsBatch g.W.Width.COMMANDS z.0 z.1) (λ i. (c.bytes_wanted-wanted.ensures.wanted i, is i)) c.fill.ensures.batch
 
 pub returns-then-self-clause-taken : goal.returns-then-self-clause-taken
 returns-then-self-clause-taken g c = tt
@@ -128,4 +129,6 @@ pub fill-requires-clause-bytes : goal.fill-requires-clause-bytes
 fill-requires-clause-bytes g c = (c.self.invariant.1 c.if-self.false).bytes_is
 
 pub fill-requires-clause-batch : goal.fill-requires-clause-batch
-fill-requires-clause-batch g c = c.self.invariant.3 c.if-self.false
+fill-requires-clause-batch g c =
+    subst (λ n. IsBatch g.W.Width.COMMANDS n (commands c.self.inside.batch.items))
+    (sym (c.bytes_wanted-wanted.ensures.wanted ∙ ap (λ (f : Flushed g.row.D.Denot). block_bytes f.size g.W.Width.BYTES) (sym c.self.view_is))) (c.self.invariant.3 c.if-self.false)

@@ -5,7 +5,7 @@ use Rattle.area_core.specs.Areas.{commands, records}
 use Rattle.command_core.specs.Commands.{CommandValue}
 use Rattle.command_core.specs.Outs.{OutValue}
 use Rattle.recover_core.specs.Standing.{StandFor}
-use Rattle.flush_core.specs.Batches.{IsBatch}
+use Rattle.flush_core.specs.Batches.{IsBatch, block_bytes}
 use Rattle.flush_core.proofs.Keeping.{no_batch, starts}
 use Rattle.flush_core.proofs.Taken.{between_none, from_end}
 use Rattle.flush_core.proofs.flusher.Flusher.new.Goals as goal
@@ -33,5 +33,5 @@ invariant_of-result g c =
         room_is = λ some. omega (arith, some, ap (λ (l : List OutValue). length l) c.new-3.ensures.outs.1);
       },
       λ _. record { none = ap (λ (l : List OutValue). length l) c.new-3.ensures.outs.2; room_is = omega (arith, ap (λ (l : List OutValue). length l) c.new-3.ensures.outs.0) },
-      λ _. subst (IsBatch g.W.Width.COMMANDS g.W.Width.BYTES) (sym (ap (λ l. commands l) c.new.ensures.items)) (no_batch g.W.Width.COMMANDS g.W.Width.BYTES),
+      λ _. subst (IsBatch g.W.Width.COMMANDS (block_bytes c.args.journal.area.size g.W.Width.BYTES)) (sym (ap (λ l. commands l) c.new.ensures.items)) (no_batch g.W.Width.COMMANDS (block_bytes c.args.journal.area.size g.W.Width.BYTES)),
     )

@@ -11,7 +11,7 @@ invariant-loop-seat g l = record {
   few : l.count ≤ length l.batch.items;
   room : g.W.Width.COMMANDS ≤ vec_capacity l.batch;
   bytes : l.bytes ≡ length (records (commands l.batch.items));
-  batch : IsBatch g.W.Width.COMMANDS g.W.Width.BYTES (commands l.batch.items);
+  batch : IsBatch g.W.Width.COMMANDS l.wanted (commands l.batch.items);
 }
 
 abbrev pub decreases-loop-seat : goal.decreases-loop-seat

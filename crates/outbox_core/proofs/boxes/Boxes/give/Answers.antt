@@ -2,7 +2,6 @@ use Rattle.std.proofs.Common.{rules, ◌≡◌, ℕ, [], ◌∷◌, Some, None, 
 use Rattle.std.specs.BTreeMap.{is_at}
 use Rattle.std.specs.Ordering.{nat_cmp}
 use Rattle.outbox_core.specs.Giving.{AreGiven, Kept, box_of}
-use Rattle.outbox_core.proofs.Gifts.{answered}
 use Rattle.outbox_core.proofs.Sessions.{box_given, none_given}
 use Rattle.outbox_core.proofs.boxes.Boxes.give.Goals as goal
 
@@ -15,9 +14,8 @@ returns-in_default-clause-given g c =
 pub returns-clause-given : goal.returns-clause-given
 returns-clause-given g c =
     let found : box_of c.args.out.session c.args.self.now ≡ Some c.in-Some.sender.now = search rules in
-    let updates : (q : ℕ) → box_of q (c.get_mut.follows.lender c.give.new.self).entries ≡ cond (is_at (nat_cmp c.args.out.session) q) (Some c.give.new.self) (box_of q c.args.self.now) = search rules in
-    let given = answered c.give.result c.in-Some.sender.now c.give.new.self c.args.out c.give.ensures.given c.give.ensures.full c.give.ensures.back in
-    box_given c.args.out c.args.self.now (c.get_mut.follows.lender c.give.new.self).entries c.in-Some.sender.now c.give.new.self found updates given
+    let updates : (q : ℕ) → box_of q (c.get_mut.follows.lender c.give_noting.new.sender).entries ≡ cond (is_at (nat_cmp c.args.out.session) q) (Some c.give_noting.new.sender) (box_of q c.args.self.now) = search rules in
+    box_given c.args.out c.args.self.now (c.get_mut.follows.lender c.give_noting.new.sender).entries c.in-Some.sender.now c.give_noting.new.sender found updates c.give_noting.ensures
 
 pub returns-in_default-clause-left : goal.returns-in_default-clause-left
 returns-in_default-clause-left g c = search rules

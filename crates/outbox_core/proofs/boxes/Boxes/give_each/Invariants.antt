@@ -1,7 +1,7 @@
 use Rattle.std.proofs.Common.{◌≡◌, ◌++◌}
 use Rattle.std.specs.Prelude.{vec_capacity}
 use Rattle.outbox_core.specs.Giving.{AreGiven, unboxed}
-use Rattle.outbox_core.proofs.boxes.Boxes.give_all.Given as goal
+use Rattle.outbox_core.proofs.boxes.Boxes.give_each.Given as goal
 
 abbrev pub invariant-loop-out : goal.invariant-loop-out
 invariant-loop-out g l = record {

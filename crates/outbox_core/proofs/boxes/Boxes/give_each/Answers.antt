@@ -3,7 +3,7 @@ use Rattle.std.proofs.lemmas.Iterator.Consumers.{YieldsList-turn}
 use Rattle.std.proofs.lemmas.Iterator.Adapters.{YieldsList-from_vec}
 use Rattle.outbox_core.specs.Giving.{unboxed}
 use Rattle.outbox_core.proofs.Gifts.{are_more, are_none, left_few, left_more}
-use Rattle.outbox_core.proofs.boxes.Boxes.give_all.Goals as goal
+use Rattle.outbox_core.proofs.boxes.Boxes.give_each.Goals as goal
 
 pub loop-out-init : goal.loop-out-init
 loop-out-init g c = record { given = are_none c.args.self.now; left = sym (append-nil _); room = refl }

@@ -1,0 +1,9 @@
+use Rattle.std.proofs.Common.{◌≡◌, ◌+◌, flat_map, length, take}
+use Rattle.area_core.proofs.Batches.{entry_record}
+use Rattle.flush_core.proofs.fitting.count_within.Given as goal
+
+abbrev pub invariant-loop-entry : goal.invariant-loop-entry
+invariant-loop-entry g l = record {
+  count : l.count ≡ l.entry-index;
+  left : l.left + length (flat_map entry_record (take l.entry-index l.batch)) ≡ l.room;
+}

@@ -1,0 +1,103 @@
+//! Which of the entries that wait go into one block.
+
+ghost use Rattle.std.specs.Prelude.{◌≡◌, ◌+◌, ◌-◌, ◌<◌, ◌≤◌, drop, take, IfOk, IsErrOf, OnOk, length, true, false};
+ghost use Rattle.disk_core.specs.Moments.{LeavesOnly};
+ghost use Rattle.area_core.specs.Areas.{commands, records};
+ghost use Rattle.area_core.specs.Steps.{IfMemory, IsCaused};
+ghost use Rattle.broker_core.specs.States.{State};
+ghost use Rattle.broker_core.specs.Steps.{state_after};
+ghost use Rattle.recover_core.specs.Standing.{StandFor, StandsForEither};
+ghost use Rattle.recover_core.specs.Stores.{disk_of, is_broken, size_of, used_of};
+ghost use Rattle.flush_core.specs.Room.{Fits, IsTooLong};
+
+use area_core::AreaFault;
+use command_core::Entry;
+use disk_core::Disk;
+use recover_core::Store;
+use std::alloc::Global;
+
+// How many of the entries, from the first on, have records of no more than so many bytes together.
+fn count_within<B>(room: u64, batch: &[Entry<B>]) -> usize
+    ensures within { result ≤ length batch.now }
+    ensures fits { length (records (take result (commands batch.now))) ≤ room }
+    ensures more { result < length batch.now → room < length (records (take (result + 1) (commands batch.now))) }
+{
+    let mut left = room;
+    let mut count = 0;
+    for entry in batch {
+        let Some(less) = left.checked_sub(entry.bytes().len() as u64) else {
+            return count;
+        };
+        left = less;
+        count += 1;
+    }
+    count
+}
+
+/// How many of the entries, from the first on, have a block that fits behind so many used bytes of an area of that size; one
+/// where not even the first has.
+pub(crate) fn count_fitting<B>(size: u64, used: u64, batch: &[Entry<B>]) -> usize
+    ensures within { result ≤ length batch.now }
+    ensures some { 0 < length batch.now → 0 < result }
+    ensures one { IsTooLong size used (take result (commands batch.now)) → IsTooLong size used (take 1 (commands batch.now)) }
+    ensures more { result < length batch.now → IsTooLong size used (take (result + 1) (commands batch.now)) }
+{
+    let room = size.saturating_sub(used).saturating_sub(9);
+    count_within(room, batch).max(1).min(batch.len())
+}
+
+/// So many bytes without those of the records of these entries.
+pub(crate) fn bytes_without<B>(bytes: u64, batch: &[Entry<B>]) -> u64
+    ensures { result ≡ bytes - length (records (commands batch.now)) }
+{
+    let mut left = bytes;
+    for entry in batch {
+        left = left.saturating_sub(entry.bytes().len() as u64);
+    }
+    left
+}
+
+/// Makes the first so many entries durable, in one block, and takes those behind them out, which it answers. `Full` and
+/// `Memory` leave the disk as it was.
+pub(crate) fn append_first<D: Disk, B: Drop>(
+    alloc: Global,
+    journal: &mut Store<D>,
+    batch: &mut Vec<Entry<B>>,
+    count: usize,
+) -> Result<Vec<Entry<B>>, AreaFault>
+    requires some { 0 < count }
+    requires within { count ≤ length batch.old.items }
+    ensures first { OnOk result (batch.new.items ≡ take count batch.old.items) }
+    ensures rest { IfOk result (λ rest. rest.items ≡ drop count batch.old.items) }
+    ensures any_moment { D.honest (disk_of journal.old) → (s : State) → StandFor (D.images (disk_of journal.old)) s →
+        LeavesOnly D.moment D.images_since (disk_of journal.old) (disk_of journal.new)
+        (StandsForEither s (state_after s (commands (take count batch.old.items)))) }
+    ensures after { D.honest (disk_of journal.old) → OnOk result ((s : State) → StandFor (D.images (disk_of journal.old)) s →
+        StandFor (D.images (disk_of journal.new)) (state_after s (commands (take count batch.old.items)))) }
+    ensures fits { OnOk result (Fits (size_of journal.old) (used_of journal.old) (commands (take count batch.old.items))) }
+    ensures full { IsErrOf result AreaFault.Full →
+        IsTooLong (size_of journal.old) (used_of journal.old) (commands (take count batch.old.items)) × (disk_of journal.new ≡ disk_of journal.old) }
+    ensures memory { IfMemory result (disk_of journal.new ≡ disk_of journal.old) }
+    ensures sound { IsErrOf result AreaFault.Broken → is_broken journal.old ≡ true }
+    ensures ok { OnOk result (is_broken journal.new ≡ false) }
+    ensures cause { IsCaused (D.failures (disk_of journal.old)) (D.failures (disk_of journal.new)) result }
+    ensures size { size_of journal.new ≡ size_of journal.old }
+    ensures used { OnOk result (used_of journal.new ≡ used_of journal.old + 9 + length (records (commands (take count batch.old.items)))) }
+    ensures honest { D.honest (disk_of journal.old) → D.honest (disk_of journal.new) }
+    ensures was_honest { D.honest (disk_of journal.new) → D.honest (disk_of journal.old) }
+{
+    if !journal.fits(&batch[..count]) {
+        return Err(AreaFault::Full);
+    }
+    let rest = match batch.split_off(count) {
+        Ok(rest) => rest,
+        Err(refused) => return Err(AreaFault::Memory(refused)),
+    };
+    match journal.append(alloc, batch) {
+        Ok(()) => Ok(rest),
+        Err(fault) => {
+            drop(rest);
+            Err(fault)
+        }
+    }
+}
