@@ -26,6 +26,7 @@ SCRIPTS = [
     "tests/statuses.py",
     "tests/closed_streams.py",
     "tests/ending.py",
+    "tests/telling.py",
     "tests/serve_script.py",
     "tests/trace_format.sh",
     "tests/trace_serve.py",
@@ -67,8 +68,10 @@ LIGHT = [
     "tests/statuses.py",
     "tests/closed_streams.py",
     "tests/ending.py",
+    "tests/telling.py",
     "tests/serve_script.py",
     "tests/handshakes.py",
+    "tests/closes.py",
     "tests/refusals.py",
     "clients/crowd.py",
     "clients/waiting_queue.py",
@@ -82,7 +85,7 @@ LIGHT = [
 LIGHT_KILLS = {"clients/kills.py": ["--rounds", "20"], "clients/kills_crowd.py": ["--rounds", "5"], "tests/waits.py": ["--minutes", "1"]}
 
 # These mostly wait, so that they run side by side.
-WAITING = ["clients/slow_reader.py", "clients/holding.py"]
+WAITING = ["clients/slow_reader.py", "clients/steady_readers.py", "clients/holding.py", "tests/pauses.py"]
 
 # With this status a script says that it lacks a package.
 LACKS = 2

@@ -64,7 +64,7 @@ start_text s = codes "started: journal of version 2, areas of " ++ (decimal s.ar
 
 -- how it does
 abbrev pub figures_text : Figures → List ℕ
-figures_text f = codes "doing: " ++ (decimal f.connections ++ (codes " connections, " ++ (decimal f.commands ++ (codes " commands, " ++ (decimal f.held ++ (codes " bytes held, " ++ (decimal f.used ++ codes " bytes used")))))))
+figures_text f = codes "doing: " ++ (decimal f.connections ++ (codes " connections, " ++ (decimal f.commands ++ (codes " commands, " ++ (decimal f.frames ++ (codes " frames out, " ++ (decimal f.held ++ (codes " bytes held, " ++ (decimal f.used ++ codes " bytes used")))))))))
 
 -- the words of an event
 abbrev pub event_text : Event → List ℕ

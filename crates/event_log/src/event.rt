@@ -21,6 +21,8 @@ pub struct Figures {
     pub connections: u64,
     /// How many commands the journal counts.
     pub commands: u64,
+    /// How many frames were published since the server started.
+    pub frames: u64,
     /// How many bytes of messages are held.
     pub held: u64,
     /// How many bytes of the live area are used.
@@ -101,8 +103,8 @@ impl fmt::Display for Figures {
     fn fmt<W: fmt::Write>(&self, f: &mut fmt::Formatter<W>) -> fmt::Result {
         write!(
             f,
-            "doing: {} connections, {} commands, {} bytes held, {} bytes used",
-            self.connections, self.commands, self.held, self.used
+            "doing: {} connections, {} commands, {} frames out, {} bytes held, {} bytes used",
+            self.connections, self.commands, self.frames, self.held, self.used
         )
     }
 }

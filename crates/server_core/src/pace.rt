@@ -59,6 +59,8 @@ pub struct Pace<T> {
     began: AtomicU64,
     // For how many microseconds the flusher rests before its next turn.
     rest: AtomicU64,
+    // Whether the flusher's last turn has compacted the journal.
+    compacted: AtomicBool,
     teller: Arc<Teller>,
 }
 
@@ -80,6 +82,7 @@ impl<T: Wait> Pace<T> {
             posts,
             began: AtomicU64::new(0),
             rest: AtomicU64::new(0),
+            compacted: AtomicBool::new(false),
             teller,
         }
     }
@@ -139,6 +142,11 @@ impl<T> Pace<T> {
     /// Whether workers are to part with their clients.
     pub(crate) fn has_end_begun(&self) -> bool {
         self.ending.has_begun()
+    }
+
+    /// Whether the journal was compacted since this was last asked.
+    pub(crate) fn has_compacted(&self) -> bool {
+        self.compacted.swap(false, Ordering::SeqCst)
     }
 
     /// Whether the server was asked to end, and the flusher's last turn took nothing.
@@ -220,6 +228,7 @@ impl<T: Wait + Clock> Pacing for Pace<T> {
     }
 
     fn compacted(&self, won: u64) {
+        self.compacted.store(true, Ordering::SeqCst);
         let millis = self.taken() / 1_000;
         self.teller.note(&self.rt, Event::Compacted { won, millis });
     }

@@ -338,9 +338,15 @@ fn share<R: Wait + Clone + Drop>(
     Ok((shared, door, stations))
 }
 
-// Says how the server does.
-fn tell_figures(log: &Teller, flusher: &ServerFlusher, commands: u64) {
-    log.figures(commands, flusher.broker().held().bytes, flusher.used());
+// Says how the server does, and whether a compaction has left little room.
+fn tell_figures<R: Wait>(shared: &Shared<R>, flusher: &ServerFlusher, commands: u64) {
+    let (used, area) = (flusher.used(), flusher.size());
+    let held = flusher.broker().held().bytes;
+    let log = shared.pace.log();
+    log.figures(commands, flusher.tally(), held, used);
+    if shared.pace.has_compacted() && used / 3 > area / 4 {
+        log.note(&shared.rt, Event::NearlyFull { used, area });
+    }
 }
 
 // The value, for several threads.
@@ -372,7 +378,7 @@ fn flush<R: Wait + Clock + Drop>(
                 flusher.stop(&shared.ring);
                 return Ok(());
             }
-            Ok(commands) => tell_figures(shared.pace.log(), flusher, commands),
+            Ok(commands) => tell_figures(shared, flusher, commands),
             Err(fault) => return Err(fault),
         }
     }

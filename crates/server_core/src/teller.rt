@@ -3,6 +3,7 @@
 use crate::door::Door;
 use crossbeam_queue::ArrayQueue;
 use event_log::{Event, Figures, KINDS, Kind, Rhythm, write_line};
+use flush_core::Tally;
 use std::alloc::{AllocError, Global};
 use std::io::Write;
 use std::sync::Wait;
@@ -24,8 +25,11 @@ const LONG: u64 = 60_000;
 pub(crate) struct Teller {
     untold: ArrayQueue<Event>,
     counts: [AtomicU64; KINDS],
-    // What the flusher said last: how many commands the journal counts, how many bytes are held, and used.
+    // What the flusher said last: how many commands the journal counts, how many frames were published, how many of these say that there
+    // is no room, and how many bytes are held, and used.
     commands: AtomicU64,
+    frames: AtomicU64,
+    no_room: AtomicU64,
     held: AtomicU64,
     used: AtomicU64,
     thread: Parker,
@@ -52,6 +56,8 @@ impl Teller {
                 AtomicU64::new(0),
             ],
             commands: AtomicU64::new(0),
+            frames: AtomicU64::new(0),
+            no_room: AtomicU64::new(0),
             held: AtomicU64::new(0),
             used: AtomicU64::new(0),
             thread: Parker::new(),
@@ -68,16 +74,24 @@ impl Teller {
 
     /// Counts something.
     pub(crate) fn count(&self, kind: Kind) {
-        if self.counts[kind.place()].fetch_add(1, Ordering::SeqCst) == 0 {
+        self.count_more(kind, 1);
+    }
+
+    fn count_more(&self, kind: Kind, more: u64) {
+        if more > 0 && self.counts[kind.place()].fetch_add(more, Ordering::SeqCst) == 0 {
             self.thread.unpark();
         }
     }
 
-    /// Says how many commands the journal counts, how many bytes of messages are held, and how many of its area are used.
-    pub(crate) fn figures(&self, commands: u64, held: u64, used: u64) {
+    /// Says how many commands the journal counts, what was published so far, how many bytes of messages are held, and how many of its
+    /// area are used.
+    pub(crate) fn figures(&self, commands: u64, tally: Tally, held: u64, used: u64) {
         self.commands.store(commands, Ordering::SeqCst);
+        self.frames.store(tally.frames, Ordering::SeqCst);
         self.held.store(held, Ordering::SeqCst);
         self.used.store(used, Ordering::SeqCst);
+        let before = self.no_room.swap(tally.no_room, Ordering::SeqCst);
+        self.count_more(Kind::NoRoom, tally.no_room.saturating_sub(before));
     }
 
     /// Tells what comes. It does not return. A line that can't be written is left out.
@@ -147,6 +161,7 @@ impl Teller {
             let figures = Figures {
                 connections,
                 commands,
+                frames: self.frames.load(Ordering::SeqCst),
                 held: self.held.load(Ordering::SeqCst),
                 used: self.used.load(Ordering::SeqCst),
             };
