@@ -1,5 +1,5 @@
 -- What stands at a desk.
-use Rattle.std.proofs.Common.{◌≡◌, ℕ, zero, suc, ◌+◌, ◌-◌, ◌<◌, ◌≤◌, List, [], ◌∷◌, ◌++◌, Option, Some, None, length, take, drop, get_or, refl, sym, ap, ◌∙◌, subst, inl, inr, append-nil, arith}
+use Rattle.std.proofs.Common.{◌≡◌, ℕ, zero, suc, ◌+◌, ◌-◌, ◌<◌, ◌≤◌, List, [], ◌∷◌, ◌++◌, Option, Some, None, true, length, take, drop, get_or, refl, sym, ap, ◌∙◌, subst, inl, inr, append-nil, arith}
 use Rattle.std.specs.Prelude.{IfSome, slice_get, set}
 use Rattle.std.specs.List.{AllByRecursion, sum_by}
 use Rattle.std.specs.Option.{option_map}
@@ -22,7 +22,7 @@ use Rattle.desk_core.specs.Deeds.{commands_of}
 use Rattle.desk_core.specs.Goings.{GoesOn, Serves}
 use Rattle.desk_core.specs.Halting.{FindsEnd}
 use Rattle.desk_core.specs.Lives.{Idles}
-use Rattle.desk_core.specs.Places.{ServedAt, UnservedAt, progress_at}
+use Rattle.desk_core.specs.Places.{ServedAt, UnservedAt, is_over, is_over_at, progress_at}
 use Rattle.desk_core.specs.Slots.{IsNew, IsOwn, Message, Unserved, number_at}
 use Rattle.desk_core.specs.declared.slot.Slot.{Slot}
 use Rattle.connection_core.specs.Connections.{ConnectionValue}
@@ -338,8 +338,9 @@ admits_last {B} {L} old before seat places all at seated link same all_is at_is 
 -- ── a client is let go ──
 
 pub leaves_it : {B L : Type 0} (old : DeskValue B L) (before seat : SessionSeatValue) (places : List (Option (Seated B L))) (at : ℕ) (seated : Seated B L)
-    → desk before seat places ≡ old → at < length places → Some seated ≡ get_or places at (Some seated) → Leaves old (desk before seat (set places at None)) at seated.link
-leaves_it {B} {L} old before seat places at seated same within there = record {
+    → desk before seat places ≡ old → at < length places → Some seated ≡ get_or places at (Some seated) → is_over seated.slot.connection.stage ≡ true → Leaves old (desk before seat (set places at None)) at seated.link
+leaves_it {B} {L} old before seat places at seated same within there over = record {
+  over = over;
   was = seated;
   before = ap (λ (d : DeskValue B L). d.before) same;
   seat = ap (λ (d : DeskValue B L). d.seat) same;
@@ -365,10 +366,10 @@ taken_place before seat places at was is free there anew d =
     (λ n. subst (λ p. opens n p ≤ opens n (progress_at was)) (sym anew) (none_goes n (progress_at was)).1) d
 
 pub leaves_at : {B L : Type 0} (old : DeskValue B L) (before seat : SessionSeatValue) (places : List (Option (Seated B L))) (at : ℕ) (was is : Option (Seated B L)) (seated : Seated B L)
-    → desk before seat places ≡ old → at < length places → was ≡ get_or places at was → was ≡ Some seated → is ≡ None → Leaves old (desk before seat (set places at is)) at seated.link
-leaves_at old before seat places at was is seated same within there it none =
+    → desk before seat places ≡ old → at < length places → was ≡ get_or places at was → was ≡ Some seated → is ≡ None → is_over_at was ≡ true → Leaves old (desk before seat (set places at is)) at seated.link
+leaves_at {B} {L} old before seat places at was is seated same within there it none over =
     subst (λ o. Leaves old (desk before seat (set places at o)) at seated.link) (sym none)
-    (leaves_it old before seat places at seated same within (subst (λ o. o ≡ get_or places at o) it there))
+    (leaves_it old before seat places at seated same within (subst (λ o. o ≡ get_or places at o) it there) (subst (λ (o : Option (Seated B L)). is_over_at o ≡ true) it over))
 
 pub pushed : {B L : Type 0} (before seat : SessionSeatValue) (places all : List (Option (Seated B L))) (s : Option (Seated B L)) → all ≡ places ++ s ∷ [] → progress_at s ≡ New → IsDesk before seat places → IsDesk before seat all
 pushed before seat places all s is anew d = subst (λ l. IsDesk before seat l) (sym is) (admitted before seat places s anew d)

@@ -1,5 +1,5 @@
 -- What contracts see of a desk.
-use Rattle.std.specs.Prelude.{◌≡◌, ◌≢◌, ◌⊎◌, ℕ, List, ◌++◌, Option, Some, None, map, length, get_or, slice_get}
+use Rattle.std.specs.Prelude.{◌≡◌, ◌≢◌, ◌⊎◌, ℕ, List, ◌++◌, Option, Some, None, true, map, length, get_or, slice_get}
 use Rattle.claim_core.specs.Seats.{SessionSeatValue}
 use Rattle.connection_core.specs.declared.progress.Progress.{Progress}
 use Rattle.desk_core.specs.declared.place.Seated.{Seated}
@@ -10,7 +10,7 @@ use Rattle.desk_core.specs.Deeds.{Deed, commands_of, told_of}
 use Rattle.desk_core.specs.Conversations.{Speaks}
 use Rattle.desk_core.specs.Halting.{FindsEnd, HasHalted}
 use Rattle.desk_core.specs.Lives.{Heeds, Idles}
-use Rattle.desk_core.specs.Places.{progress_at}
+use Rattle.desk_core.specs.Places.{is_over, progress_at}
 use Rattle.desk_core.specs.Slots.{IsNew, Served, Unserved, number_at}
 
 -- The seat as it was when the desk was made, as it is, and what sits at the places.
@@ -80,12 +80,13 @@ pub record Admits {B L : Type 0} (old new : DeskValue B L) (link : L) (at : ℕ)
   pub is_new : IsNew seated.slot
   pub others : (k : ℕ) → k ≢ at → slice_get new.places k ≡ slice_get old.places k
 
--- What sits at that place is left as it stands, and its place is free.
+-- What sat at that place had ended, and its place is free.
 pub record Leaves {B L : Type 0} (old new : DeskValue B L) (at : ℕ) (link : L) : Type 0 where
   pub was : Seated B L
   pub before : new.before ≡ old.before
   pub seat : new.seat ≡ old.seat
   pub sat : SitsAt old.places at was
+  pub over : is_over was.slot.connection.stage ≡ true
   pub link_is : link ≡ was.link
   pub free : slice_get new.places at ≡ Some None
   pub others : Others old.places new.places at

@@ -40,11 +40,13 @@ impl<B: Bell, L> Model for Desk<B, L> {
 }
 
 impl<B: Bell, L: Link + Drop> Desk<B, L> {
-    ghost use Rattle.std.specs.Prelude.{[], None, OnErr, IsSome, Some, slice_get};
+    ghost use Rattle.std.specs.Prelude.{[], None, OnErr, IsSome, Some, slice_get, true};
     ghost use Rattle.std.specs.Prelude.{◌≤◌};
     ghost use Rattle.claim_core.specs.Seats.{with_seen};
     ghost use Rattle.desk_core.specs.Conversations.{Converse};
-    ghost use Rattle.desk_core.specs.Desks.{Admits, AreApart, Leaves, Others, Turns, Touches, desk, seated_at};
+    ghost use Rattle.desk_core.specs.Desks.{Admits, AreApart, Leaves, Others, SitsAt, Turns, Touches, desk, seated_at};
+    ghost use Rattle.desk_core.specs.Places.{is_open_at, is_over_at};
+    ghost use Rattle.desk_core.specs.declared.place.Seated.{Seated};
 
     /// A desk with no connection. No memory is taken.
     pub fn new(alloc: Global, seat: BrokerSeat<OutSender<B>>) -> Desk<B, L>
@@ -167,20 +169,32 @@ impl<B: Bell, L: Link + Drop> Desk<B, L> {
         }
     }
 
-    /// Whether the client at that place has opened its session.
-    pub fn is_open(&self, at: usize) -> bool {
+    /// Whether the client at that place has opened its session: its Open was appended. It is so too once the session has ended.
+    pub fn is_open(&self, at: usize) -> bool
+        ensures { result ≡ is_open_at (seated_at self.now.places at) }
+    {
         match self.places.get(at) {
             Some(Some(seated)) => seated.slot.connection.number().is_some(),
             _ => false,
         }
     }
 
-    /// Lets the connection at that place go, and hands its link back; `None` where there is none. Its conversation is left as it
-    /// stands: let it come to its end first.
+    /// The link of the client at that place, to look at.
+    pub fn link(&self, at: usize) -> Option<&L>
+        ensures { IfSome result (λ link. (seated : Seated B L) × SitsAt self.now.places at seated × (link.now ≡ seated.link)) }
+    {
+        match self.places.get(at) {
+            Some(Some(seated)) => Some(&seated.link),
+            _ => None,
+        }
+    }
+
+    /// Lets the connection at that place go, which has ended, and hands its link back. `None` if there is none, or it has not ended, as
+    /// its turns say by `Next::Over`: then nothing changes.
     pub fn dismiss(&mut self, at: usize) -> Option<L>
         ensures left { IfSome result (Leaves self.old self.new at) }
         ensures none { IsNone result → self.new ≡ self.old }
-        ensures some { IsSome (seated_at self.old.places at) → IsSome result }
+        ensures some { is_over_at (seated_at self.old.places at) ≡ true → IsSome result }
     {
         if at >= self.places.len() {
             return None;

@@ -2,7 +2,7 @@
 
 ghost use Rattle.std.specs.Prelude.{◌≡◌, Some, None, IfSome, IsNone, IsSome, true, slice_get};
 ghost use Rattle.desk_core.specs.Continues.{Continues};
-ghost use Rattle.desk_core.specs.Places.{ServedAt, UnservedAt, progress_at};
+ghost use Rattle.desk_core.specs.Places.{ServedAt, UnservedAt, is_over_at, progress_at};
 
 use crate::place::{Place, Seated};
 use crate::ringers::Ringers;
@@ -66,11 +66,27 @@ pub fn ping_at<B: Bell, L: Link>(place: &mut Place<B, L>)
     }
 }
 
-// Nobody sits there any more.
+// Where a connection there has ended, it sits there no more.
 pub fn vacate<B: Bell, L>(place: &mut Place<B, L>) -> Place<B, L>
-    ensures { (result ≡ place.old) × (place.new ≡ None) }
+    ensures taken { IsSome result → (result ≡ place.old) × (place.new ≡ None) × (is_over_at place.old ≡ true) }
+    ensures left { IsNone result → place.new ≡ place.old }
+    ensures over { is_over_at place.old ≡ true → IsSome result }
 {
-    mem::take(place)
+    if is_over(place) {
+        mem::take(place)
+    } else {
+        None
+    }
+}
+
+// Whether a connection there has ended.
+fn is_over<B: Bell, L>(place: &Place<B, L>) -> bool
+    ensures { result ≡ is_over_at place.now }
+{
+    match place {
+        Some(seated) => seated.slot.is_over(),
+        None => false,
+    }
 }
 
 // From now on that connection sits there.

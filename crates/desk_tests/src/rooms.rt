@@ -117,7 +117,12 @@ impl Room {
         self.desk.lose(at);
     }
 
-    /// The client there goes.
+    /// The client there.
+    pub fn client(&self, at: usize) -> Option<&Client> {
+        self.desk.link(at)
+    }
+
+    /// The client there goes, if its connection is over.
     pub fn dismiss(&mut self, at: usize) -> Option<Client> {
         self.desk.dismiss(at)
     }
