@@ -44,7 +44,7 @@ impl<B: Bell, L: Link + Drop> Desk<B, L> {
     ghost use Rattle.std.specs.Prelude.{◌≤◌};
     ghost use Rattle.claim_core.specs.Seats.{with_seen};
     ghost use Rattle.desk_core.specs.Conversations.{Converse};
-    ghost use Rattle.desk_core.specs.Desks.{Admits, AreApart, Leaves, Others, SitsAt, Turns, Touches, desk, seated_at};
+    ghost use Rattle.desk_core.specs.Desks.{Admits, AreApart, Leaves, Others, Turns, Touches, desk, seated_at};
     ghost use Rattle.desk_core.specs.Places.{is_open_at, is_over_at};
     ghost use Rattle.desk_core.specs.declared.place.Seated.{Seated};
 
@@ -176,16 +176,6 @@ impl<B: Bell, L: Link + Drop> Desk<B, L> {
         match self.places.get(at) {
             Some(Some(seated)) => seated.slot.connection.number().is_some(),
             _ => false,
-        }
-    }
-
-    /// The link of the client at that place, to look at.
-    pub fn link(&self, at: usize) -> Option<&L>
-        ensures { IfSome result (λ link. (seated : Seated B L) × SitsAt self.now.places at seated × (link.now ≡ seated.link)) }
-    {
-        match self.places.get(at) {
-            Some(Some(seated)) => Some(&seated.link),
-            _ => None,
         }
     }
 
