@@ -25,9 +25,34 @@ fn main(rt: HostRuntime) -> ExitCode {
             return ExitCode::from(told(&rt, &failure));
         }
     };
-    let status = status(&rt);
+    let words = match words_of(&rt) {
+        Ok(words) => words,
+        Err(status) => {
+            drop(streams);
+            return ExitCode::from(status);
+        }
+    };
+    let status = match served(rt.alloc(), words.as_slice()) {
+        Some(asked) => {
+            let (input, errors) = (rt.stdin().lock(), rt.stderr().lock());
+            let mut writer = rt.stdout().lock();
+            status_of(
+                &rt,
+                serve(&rt, rt.alloc(), asked, input, errors, &mut writer),
+            )
+        }
+        None => run_tool(&rt, words.as_slice()),
+    };
     drop(streams);
     ExitCode::from(status)
+}
+
+/// The status of a server that has ended so; a fault is told.
+fn status_of(rt: &HostRuntime, end: ServeEnd) -> u8 {
+    match end {
+        ServeEnd::Asked => DONE,
+        ServeEnd::Fault(fault) => told(rt, &Failure::Server(fault)),
+    }
 }
 
 /// Opens `/dev/null` as often as there are standard streams. A file gets the least number that is free, so whichever of the three
@@ -42,26 +67,6 @@ fn null(rt: &HostRuntime) -> io::Result<File> {
         .read(true)
         .write(true)
         .open(rt, "/dev/null")
-}
-
-/// Does what the arguments ask for, and answers the status.
-fn status(rt: &HostRuntime) -> u8 {
-    let words = match words_of(rt) {
-        Ok(words) => words,
-        Err(status) => return status,
-    };
-    match served(rt.alloc(), words.as_slice()) {
-        Some(asked) => {
-            let errors = rt.stderr().lock();
-            let mut writer = rt.stdout().lock();
-            let input = rt.stdin().lock();
-            match serve(rt, rt.alloc(), asked, input, errors, &mut writer) {
-                ServeEnd::Asked => DONE,
-                ServeEnd::Fault(fault) => told(rt, &Failure::Server(fault)),
-            }
-        }
-        None => run_tool(rt, words.as_slice()),
-    }
 }
 
 /// What is asked of a server.
