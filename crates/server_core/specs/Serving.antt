@@ -2,6 +2,7 @@
 use Rattle.std.specs.Prelude.{◌≡◌, ◌+◌, ◌≤◌, ℕ, List, [], ◌∷◌, ◌++◌, Option, Bool, true, false, codes, length}
 use Rattle.std.specs.List.{AllByRecursion}
 use Rattle.std.specs.Fmt.{decimal}
+use Rattle.std.specs.declared.thread.PromisedHandle.{PromisedHandle}
 use Rattle.atomic_table.specs.Seated.{TableId}
 use Rattle.claim_core.specs.Seats.{SessionSeatValue}
 use Rattle.limits_core.specs.declared.TheConstants.{SEATS}
@@ -69,15 +70,15 @@ abbrev pub announced : ℕ → List ℕ
 announced port = codes "listening " ++ (decimal port ++ 10 ∷ [])
 
 -- each of these threads hands back a seat at this ring
-abbrev pub ArePromised : TableId → List (PromisedHandle ServerSeat SeatBack) → Type 0
-ArePromised ring threads = AllByRecursion (λ thread. thread.promise.before.value.ring ≡ ring) threads
+abbrev pub ArePromised : TableId → List (PromisedHandle SessionSeatValue SeatBack) → Type 0
+ArePromised ring threads = AllByRecursion (λ (thread : PromisedHandle SessionSeatValue SeatBack). thread.promise.before.value.ring ≡ ring) threads
 
 -- What a server keeps: it has a station for each seat that it has, and no seat is lost while it is whole.
-pub record KeepsServer (s : ServerValue) (stations : List Station) (room : SeatRoom BellRope) (workers : List (PromisedHandle ServerSeat SeatBack)) (is_whole : Bool) : Type 0 where
-  pub server : IsServer s
-  pub stations : length stations ≡ length s.seats
-  pub room : room.seats.items ≡ []
-  pub workers : ArePromised s.ring workers
+pub record KeepsServer (s : ServerValue) (stations : List Station) (room : SeatRoom BellRope) (workers : List (PromisedHandle SessionSeatValue SeatBack)) (is_whole : Bool) : Type 0 where
+  pub server_is : IsServer s
+  pub manned : length stations ≡ length s.seats
+  pub empty : room.seats.items ≡ []
+  pub promised : ArePromised s.ring workers
   pub count : s.flusher.seat.seats ≡ SEATS
   pub all : is_whole ≡ true → length s.seats + length workers ≡ SEATS
 

@@ -149,9 +149,14 @@ impl<T> Pace<T> {
         self.compacted.swap(false, Ordering::SeqCst)
     }
 
-    /// Whether the server was asked to end, and the flusher's last turn took nothing.
-    pub(crate) fn is_done(&self) -> bool {
-        self.ending.is_asked() && !self.took.load(Ordering::SeqCst)
+    /// Whether the server was asked to end.
+    pub(crate) fn is_asked_to_end(&self) -> bool {
+        self.ending.is_asked()
+    }
+
+    /// Whether the flusher's last turn took something.
+    pub(crate) fn has_taken(&self) -> bool {
+        self.took.load(Ordering::SeqCst)
     }
 
     /// Says that nothing more will be published: workers are to part with their clients, and each is woken.

@@ -21,7 +21,7 @@ use disk_core::FileDisk;
 use event_log::{Event, Start};
 use flush_core::FlushFault;
 use hub_core::{Hub, HubFlusher, SeatRoom, flush_loop};
-use limits_core::SEATS;
+use limits_core::{PLACES, SEATS};
 use serve_faults::ServeFault;
 use std::alloc::Global;
 use std::fs::{File, Files};
@@ -371,16 +371,32 @@ fn flush<R: Wait + Clock + Drop>(
     ensures stops { flusher.new.seat.stopped ≡ true }
     ensures fails { IfErr result (λ _. flusher.new.broken ≡ true) }
 {
+    // Once the server was asked to end, a number over all that was claimed by then.
+    let mut last = None;
     for _round in shared.rt.forever() {
         match flush_loop(alloc, &shared.ring, flusher, &shared.pace, 1) {
-            Ok(_) if shared.pace.is_done() => {
+            Ok(mark) if is_last(shared, &mut last, mark) => {
                 shared.pace.log().note(&shared.rt, Event::Ending);
                 flusher.stop(&shared.ring);
                 return Ok(());
             }
-            Ok(commands) => tell_figures(shared, flusher, commands),
+            Ok(mark) => tell_figures(shared, flusher, mark),
             Err(fault) => return Err(fault),
         }
     }
     unreachable!()
+}
+
+// Whether the server was asked to end, and all that was claimed by then is published: the last turn took nothing, or the mark has come
+// over as many commands as the ring has places, and those that the flusher had taken.
+fn is_last<R>(shared: &Shared<R>, last: &mut Option<u64>, mark: u64) -> bool {
+    if !shared.pace.is_asked_to_end() {
+        return false;
+    }
+    let end = match *last {
+        Some(end) => end,
+        None => mark.saturating_add(2 * PLACES as u64),
+    };
+    *last = Some(end);
+    mark >= end || !shared.pace.has_taken()
 }

@@ -144,7 +144,7 @@ abbrev pub IsTold : Failure → Option (List ℕ) → Option (List ℕ) → Type
 IsTold (CommandLine error) before after = Unit {0}
 IsTold Number before after = Appends before after (line_of number_text)
 IsTold Origin before after = Appends before after (line_of origin_text)
-IsTold (Streams why) before after = Appends before after (line_of (codes "cannot open: /dev/null: " ++ reason_text why))
+IsTold (Streams why) before after = Appends before after (codes "stompd: cannot open: /dev/null: " ++ (reason_text why ++ 10 ∷ []))
 IsTold (Script fault) before after = Appends before after (line_of (fault_text fault))
 IsTold (Format fault) before after = Appends before after (line_of (format_text fault))
 IsTold (File fault) before after = Appends before after (line_of (file_text fault))

@@ -1,9 +1,10 @@
 //! A file that is only read.
 
-ghost use Rattle.std.specs.Prelude.{◌≡◌, ◌+◌, ◌≤◌, replicate, IfOk, IsErr, OnOk, length, ⊤};
+ghost use Rattle.std.specs.Prelude.{◌≡◌, ◌+◌, ◌≤◌, IfOk, IsErr, OnOk, length, ⊤};
 ghost use Rattle.disk_core.specs.Faults.{HasCause};
 ghost use Rattle.disk_core.specs.Images.{Frees, Torn, patched};
 ghost use Rattle.disk_core.specs.Moments.{Elapses};
+ghost use Rattle.tool_core.specs.Views.{zeros};
 
 use disk_core::{DeviceFault, Disk, OpenError};
 use std::fs::{File, OpenOptions};
@@ -48,7 +49,7 @@ impl FileView {
 
 impl Disk for FileView {
     // Its length alone is meant.
-    ghost content = { λ f. replicate f.size 0 };
+    ghost content = { λ f. zeros f.size };
 
     ghost images = { λ _ _. ⊤ };
 
@@ -81,10 +82,10 @@ impl Disk for FileView {
 
     /// It fails, and nothing is written.
     fn write_at(&mut self, at: u64, bytes: &[u8]) -> Result<(), DeviceFault>
-        requires { at + length bytes.now ≤ length (replicate self.old.size 0) }
-        ensures written { ⊥ → OnOk result (replicate self.new.size 0 ≡ patched at bytes.now (replicate self.old.size 0)) }
-        ensures content { ⊥ → Torn at (length bytes.now) (replicate self.old.size 0) (replicate self.new.size 0) }
-        ensures size { length (replicate self.new.size 0) ≡ length (replicate self.old.size 0) }
+        requires { at + length bytes.now ≤ length (zeros self.old.size) }
+        ensures written { ⊥ → OnOk result (zeros self.new.size ≡ patched at bytes.now (zeros self.old.size)) }
+        ensures content { ⊥ → Torn at (length bytes.now) (zeros self.old.size) (zeros self.new.size) }
+        ensures size { length (zeros self.new.size) ≡ length (zeros self.old.size) }
         ensures images { ⊥ → Frees at (length bytes.now) (λ _. ⊤) (λ _. ⊤) }
         ensures time { ⊥ → Elapses 0 0 (λ _ _. ⊤) (λ _ _. ⊤) (λ _. ⊤) }
         ensures cause { HasCause self.old.failures self.new.failures result }
