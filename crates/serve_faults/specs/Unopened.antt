@@ -38,3 +38,7 @@ file_text error = codes "cannot open: FILE: " ++ reason_text (unopened error)
 
 abbrev pub port_text : Unopened → List ℕ
 port_text why = codes "cannot open: PORT: " ++ reason_text why
+
+-- what the user is told of `/dev/null`
+abbrev pub streams_text : Unopened → List ℕ
+streams_text why = codes "cannot open: /dev/null: " ++ reason_text why

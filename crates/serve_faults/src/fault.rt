@@ -10,6 +10,8 @@ use std::{error, fmt};
 /// Why a server was not started, or has ended. A journal that was opened holds all that was acknowledged.
 #[derive(Debug, Drop)]
 pub enum ServeFault {
+    /// `/dev/null` was not opened, which keeps the numbers of closed standard streams from files. Nothing else was opened.
+    Streams(Unopened),
     /// The file was not opened: it is missing, or another server has its lock, or the system refuses it.
     File(OpenError),
     /// The port was not opened: it is taken, or the system refuses it.
@@ -35,6 +37,7 @@ impl fmt::Display for ServeFault {
 
     fn fmt<W: fmt::Write>(&self, f: &mut fmt::Formatter<W>) -> fmt::Result {
         match self {
+            ServeFault::Streams(why) => write!(f, "cannot open: /dev/null: {}", why.text()),
             ServeFault::File(error) => write!(
                 f,
                 "cannot open: FILE: {}",

@@ -21,7 +21,7 @@ fn main(rt: HostRuntime) -> ExitCode {
     let streams = match standard_streams(&rt) {
         Ok(streams) => streams,
         Err(error) => {
-            let failure = Failure::Streams(Unopened::by(error.kind()));
+            let failure = Failure::Server(ServeFault::Streams(Unopened::by(error.kind())));
             return ExitCode::from(told(&rt, &failure));
         }
     };

@@ -17,7 +17,7 @@ use Rattle.tool_core.specs.Failures.{RunsToEnd, IsAtOnce, IsBeforehand, IsDone, 
 use Rattle.words_core.specs.declared.command_line.Subcommand.{Subcommand}
 use Rattle.words_core.specs.declared.command_line.Subcommand.TheVariants.{Version}
 use Rattle.tool_core.specs.declared.program.Failure.{Failure}
-use Rattle.tool_core.specs.declared.program.Failure.TheVariants.{CommandLine, Number, Origin, Streams, Script, Format, File, Server}
+use Rattle.tool_core.specs.declared.program.Failure.TheVariants.{CommandLine, Number, Origin, Script, Format, File, Server}
 
 pub stops_before : (error : Error) (failure : Failure) (unread held : Option (List ℕ)) → Tells error failure → StopsBy failure unread unread held held
 stops_before error (CommandLine other) unread held told = (refl, refl)
@@ -26,7 +26,6 @@ stops_before error (File fault) unread held told = absurd told
 stops_before error (Server fault) unread held told = absurd told
 stops_before error Number unread held told = absurd told
 stops_before error Origin unread held told = absurd told
-stops_before error (Streams why) unread held told = absurd told
 stops_before error (Script (scripts.Memory refused)) unread held told = inl (tt, (refl, refl))
 stops_before error (Script (NotUnderstood k)) unread held told = absurd told
 stops_before error (Script CountTooLarge) unread held told = absurd told
@@ -42,7 +41,6 @@ stops_beforehand (File fault) unread held is = absurd is
 stops_beforehand (Server fault) unread held is = absurd is
 stops_beforehand Number unread held is = absurd is
 stops_beforehand Origin unread held is = absurd is
-stops_beforehand (Streams why) unread held is = absurd is
 stops_beforehand (Script (scripts.Memory refused)) unread held is = inl (tt, (refl, refl))
 stops_beforehand (Script (NotUnderstood k)) unread held is = absurd is
 stops_beforehand (Script CountTooLarge) unread held is = absurd is

@@ -6,7 +6,7 @@ use Rattle.clap.specs.declared.error.kind.ErrorKind.TheVariants.{OutOfMemory}
 use Rattle.engine_core.specs.Scripts.{IsScript}
 use Rattle.area_core.specs.declared.faults.FormatFault.TheVariants as formats
 use Rattle.area_core.specs.Texts.{format_text}
-use Rattle.serve_faults.specs.Unopened.{file_text as unopened_text, reason_text}
+use Rattle.serve_faults.specs.Unopened.{file_text as unopened_text}
 use Rattle.engine_core.specs.FaultTexts.{fault_text}
 use Rattle.journal_files.specs.JournalFiles.{Shows, show_text}
 use Rattle.serve_faults.specs.Faults.{serve_text}
@@ -24,7 +24,7 @@ use Rattle.words_core.specs.declared.command_line.Subcommand.TheVariants as asks
 use Rattle.tool_core.specs.declared.program.FileFault.{FileFault}
 use Rattle.tool_core.specs.declared.program.FileFault.TheVariants as files
 use Rattle.tool_core.specs.declared.program.Failure.{Failure}
-use Rattle.tool_core.specs.declared.program.Failure.TheVariants.{CommandLine, Number, Origin, Streams, Script, Format, File, Server}
+use Rattle.tool_core.specs.declared.program.Failure.TheVariants.{CommandLine, Number, Origin, Script, Format, File, Server}
 
 -- a script was read to its end, and what was written is what it prints from an empty journal on, on some disk
 pub record RunsToEnd (unread left before after : Option (List ℕ)) : Type 0 where
@@ -67,7 +67,6 @@ status_of (File fault) = 1
 status_of (Server fault) = 1
 status_of Number = 2
 status_of Origin = 2
-status_of (Streams why) = 1
 
 -- memory was refused, or the disk was not opened, before the script was read
 abbrev pub IsAtOnce : ScriptFault → Type 0
@@ -85,7 +84,6 @@ IsBeforehand (File fault) = ⊥
 IsBeforehand (Server fault) = ⊥
 IsBeforehand Number = ⊥
 IsBeforehand Origin = ⊥
-IsBeforehand (Streams why) = ⊥
 
 -- the failure is that of a script, or its disk was not formatted
 abbrev pub IsOfScript : Failure → Type 0
@@ -96,7 +94,6 @@ IsOfScript (File fault) = ⊥
 IsOfScript (Server fault) = ⊥
 IsOfScript Number = ⊥
 IsOfScript Origin = ⊥
-IsOfScript (Streams why) = ⊥
 
 -- a fault stops a script that began with an empty journal, on some disk
 pub record StopsOnDisk (fault : ScriptFault) (unread left before after : Option (List ℕ)) : Type 0 where
@@ -114,7 +111,6 @@ StopsBy (File fault) unread left before after = (left ≡ unread) × (fault ≢ 
 StopsBy (Server fault) unread left before after = Untouched unread left before after
 StopsBy Number unread left before after = Untouched unread left before after
 StopsBy Origin unread left before after = Untouched unread left before after
-StopsBy (Streams why) unread left before after = Untouched unread left before after
 
 -- it is told that the bytes are too few for a journal
 abbrev pub IsTooShort : {T : Type 0} → Result T FileFault → Type 0
@@ -144,7 +140,6 @@ abbrev pub IsTold : Failure → Option (List ℕ) → Option (List ℕ) → Type
 IsTold (CommandLine error) before after = Unit {0}
 IsTold Number before after = Appends before after (line_of number_text)
 IsTold Origin before after = Appends before after (line_of origin_text)
-IsTold (Streams why) before after = Appends before after (codes "stompd: cannot open: /dev/null: " ++ (reason_text why ++ 10 ∷ []))
 IsTold (Script fault) before after = Appends before after (line_of (fault_text fault))
 IsTold (Format fault) before after = Appends before after (line_of (format_text fault))
 IsTold (File fault) before after = Appends before after (line_of (file_text fault))
@@ -160,4 +155,3 @@ Tells error (File fault) = ⊥
 Tells error (Server fault) = ⊥
 Tells error Number = ⊥
 Tells error Origin = ⊥
-Tells error (Streams why) = ⊥

@@ -85,9 +85,6 @@ pub enum Failure {
     Number,
     /// An origin in the words is none that a browser sends.
     Origin,
-    /// The standard streams that were closed could not be opened at `/dev/null`, which keeps their numbers from files. Nothing else
-    /// was opened then.
-    Streams(Unopened),
     /// The script did not run to its end, or memory was refused before it began.
     Script(ScriptFault),
     /// The script's disk was not formatted.
@@ -105,11 +102,8 @@ impl Failure {
     {
         match self {
             Failure::CommandLine(_) | Failure::Number | Failure::Origin => BAD_COMMAND_LINE,
-            Failure::Script(_)
-            | Failure::Format(_)
-            | Failure::File(_)
-            | Failure::Server(_)
-            | Failure::Streams(_) => FAILED,
+            Failure::Script(_) | Failure::Format(_) | Failure::File(_) | Failure::Server(_) =>
+                FAILED,
         }
     }
 }

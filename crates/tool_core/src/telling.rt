@@ -38,6 +38,5 @@ fn tell<E: Write>(failure: &Failure, errors: &mut E) -> io::Result<()>
         Failure::Format(fault) => writeln!(errors, "stompd: {fault}"),
         Failure::File(fault) => writeln!(errors, "stompd: {fault}"),
         Failure::Server(fault) => writeln!(errors, "stompd: {fault}"),
-        Failure::Streams(why) => writeln!(errors, "stompd: cannot open: /dev/null: {}", why.text()),
     }
 }
