@@ -21,7 +21,7 @@ use ws_core::{Greeted, Greeting, Outgoing, Refusal, WsLink};
 const LONGEST_SLEEP: u64 = 10_000;
 
 /// For how many milliseconds a worker waits at most, once the server ends, for clients to take what is theirs and to close.
-const LONGEST_FAREWELL: u64 = 3_000;
+const LONGEST_FAREWELL: u64 = 2_000;
 
 /// For how many milliseconds it waits at most before it looks again whether that time is over.
 const LONGEST_LOOK: u64 = 250;
@@ -59,6 +59,7 @@ impl<'a, R: Wait + Clock + Drop> Shift<'a, R> {
         room: Room,
     ) -> Shift<'a, R>
         requires { seat.ring ≡ shared.now.ring }
+        ensures { result.shared.now ≡ shared.now }
     {
         let Station { poll, post } = station;
         let Room { events, clients } = room;
@@ -114,7 +115,9 @@ impl<'a, R: Wait + Clock + Drop> Shift<'a, R> {
 
     /// Waits until there is something to do, gives each client that is ready one turn, and then looks who took too long: what has come
     /// from a client is heard before that.
-    pub(crate) fn round(&mut self) {
+    pub(crate) fn round(&mut self)
+        ensures shared { self.new.shared ≡ self.old.shared }
+    {
         self.wait();
         self.look();
         self.serve();
@@ -125,7 +128,9 @@ impl<'a, R: Wait + Clock + Drop> Shift<'a, R> {
     }
 
     // Begins to part with all clients: each has a turn in which it hears what may leave yet.
-    fn part_with_all(&mut self) {
+    fn part_with_all(&mut self)
+        ensures shared { self.new.shared ≡ self.old.shared }
+    {
         self.parting = Some(self.now);
         for number in 0..self.clients.reach() {
             self.clients.wake(number);
@@ -134,7 +139,9 @@ impl<'a, R: Wait + Clock + Drop> Shift<'a, R> {
     }
 
     // Waits for its sockets and its bell, unless a client is ready.
-    fn wait(&mut self) {
+    fn wait(&mut self)
+        ensures shared { self.new.shared ≡ self.old.shared }
+    {
         let awaits_mark = self.clients.count_waiting() > 0;
         if awaits_mark {
             self.shared.pace.begin_to_wait(&self.post);
@@ -169,7 +176,9 @@ impl<'a, R: Wait + Clock + Drop> Shift<'a, R> {
     }
 
     // Finds out which of its clients are ready.
-    fn look(&mut self) {
+    fn look(&mut self)
+        ensures shared { self.new.shared ≡ self.old.shared }
+    {
         self.clients.note(&self.events, self.now);
         if self.post.bell().wakes_up() {
             self.hear_calls();
@@ -178,7 +187,9 @@ impl<'a, R: Wait + Clock + Drop> Shift<'a, R> {
     }
 
     // Finds out for whom the bell was rung: new clients, or those that it has.
-    fn hear_calls(&mut self) {
+    fn hear_calls(&mut self)
+        ensures shared { self.new.shared ≡ self.old.shared }
+    {
         for word in 0..WORDS {
             let called = self.post.bell().take_calls(word);
             self.wake_called(called);
@@ -187,7 +198,9 @@ impl<'a, R: Wait + Clock + Drop> Shift<'a, R> {
     }
 
     // Has those stand in line who were called for.
-    fn wake_called(&mut self, mut called: Called) {
+    fn wake_called(&mut self, mut called: Called)
+        ensures shared { self.new.shared ≡ self.old.shared }
+    {
         for _call in 0..BITS {
             match called.next() {
                 Some(number) => self.clients.wake(number),
@@ -197,7 +210,9 @@ impl<'a, R: Wait + Clock + Drop> Shift<'a, R> {
     }
 
     // Takes in the clients that were handed to it. Where there are more, it does not sleep before it has taken in those too.
-    fn take_in(&mut self) {
+    fn take_in(&mut self)
+        ensures shared { self.new.shared ≡ self.old.shared }
+    {
         for _client in 0..NEW_CLIENTS {
             match self.post.next(&self.shared.rt) {
                 Some(arrival) => self.admit(arrival),
@@ -208,7 +223,9 @@ impl<'a, R: Wait + Clock + Drop> Shift<'a, R> {
     }
 
     // Takes a client in. Where there is no room for it, or the system refuses what it is waited for by, its socket is closed.
-    fn admit(&mut self, arrival: Arrival) {
+    fn admit(&mut self, arrival: Arrival)
+        ensures shared { self.new.shared ≡ self.old.shared }
+    {
         if self.parting.is_some() {
             drop(arrival);
             self.post.leaves();
@@ -219,7 +236,9 @@ impl<'a, R: Wait + Clock + Drop> Shift<'a, R> {
         }
     }
 
-    fn begin(&mut self, arrival: Arrival) -> io::Result<()> {
+    fn begin(&mut self, arrival: Arrival) -> io::Result<()>
+        ensures shared { self.new.shared ≡ self.old.shared }
+    {
         let Some(number) = self.clients.next_number() else {
             drop(arrival);
             return Err(io::Error::from(io::ErrorKind::OutOfMemory));
@@ -244,7 +263,9 @@ impl<'a, R: Wait + Clock + Drop> Shift<'a, R> {
     }
 
     // Does what is due of clients.
-    fn look_at_timers(&mut self) {
+    fn look_at_timers(&mut self)
+        ensures shared { self.new.shared ≡ self.old.shared }
+    {
         for _due in 0..self.clients.reach() {
             match self.clients.take_due(self.now) {
                 Some(number) => self.come_due(number),
@@ -253,7 +274,9 @@ impl<'a, R: Wait + Clock + Drop> Shift<'a, R> {
         }
     }
 
-    fn come_due(&mut self, number: usize) {
+    fn come_due(&mut self, number: usize)
+        ensures shared { self.new.shared ≡ self.old.shared }
+    {
         let Some(client) = self.clients.get(number) else {
             return;
         };
@@ -296,7 +319,9 @@ impl<'a, R: Wait + Clock + Drop> Shift<'a, R> {
 
     // Gives each client that stands in line now one turn. Before each of these turns go those that are let in, so that one that
     // never waits does not fill the window before them.
-    fn serve(&mut self) {
+    fn serve(&mut self)
+        ensures shared { self.new.shared ≡ self.old.shared }
+    {
         self.let_in();
         for _client in 0..self.clients.count_ready() {
             if let Some((number, standing)) = self.clients.next() {
@@ -311,7 +336,9 @@ impl<'a, R: Wait + Clock + Drop> Shift<'a, R> {
 
     // Gives those a turn that the mark lets in, each once at most. It is the ring's own: that rises before the pace tells of it, and by
     // the same mark others find room.
-    fn let_in(&mut self) {
+    fn let_in(&mut self)
+        ensures shared { self.new.shared ≡ self.old.shared }
+    {
         for _client in 0..self.clients.count_waiting() {
             let mark = self.mark();
             match self.clients.let_in(mark) {
@@ -322,14 +349,18 @@ impl<'a, R: Wait + Clock + Drop> Shift<'a, R> {
     }
 
     // The ring's own mark, or a number over every mark once none will be published.
-    fn mark(&mut self) -> u64 {
+    fn mark(&mut self) -> u64
+        ensures shared { self.new.shared ≡ self.old.shared }
+    {
         self.desk
             .look(&self.shared.ring)
             .max(self.shared.pace.mark())
     }
 
     // Gives a client a turn, where it is there.
-    fn give_turn(&mut self, number: usize, standing: Standing) {
+    fn give_turn(&mut self, number: usize, standing: Standing)
+        ensures shared { self.new.shared ≡ self.old.shared }
+    {
         match standing {
             Standing::Seated(place) => self.turn(number, place),
             Standing::Greeting(greeting) => self.greet(number, greeting),
@@ -338,7 +369,9 @@ impl<'a, R: Wait + Clock + Drop> Shift<'a, R> {
     }
 
     // Gives a client at the desk a turn.
-    fn turn(&mut self, number: usize, place: usize) {
+    fn turn(&mut self, number: usize, place: usize)
+        ensures shared { self.new.shared ≡ self.old.shared }
+    {
         let ropes = Ropes {
             post: &self.post,
             client: number,
@@ -363,7 +396,9 @@ impl<'a, R: Wait + Clock + Drop> Shift<'a, R> {
     }
 
     // Parts with a client that has nothing more to do at once: it hears the close.
-    fn part(&mut self, number: usize, place: usize, next: Next) {
+    fn part(&mut self, number: usize, place: usize, next: Next)
+        ensures shared { self.new.shared ≡ self.old.shared }
+    {
         match next {
             Next::Go | Next::Write | Next::Close | Next::Over(_) => {}
             Next::Read | Next::Room(_) | Next::Output(_) | Next::Memory => {
@@ -385,7 +420,9 @@ impl<'a, R: Wait + Clock + Drop> Shift<'a, R> {
     }
 
     // Goes on with a client's handshake. Once it has its WebSocket, it sits at the desk.
-    fn greet(&mut self, number: usize, greeting: Greeting<Portions<TcpStream>>) {
+    fn greet(&mut self, number: usize, greeting: Greeting<Portions<TcpStream>>)
+        ensures shared { self.new.shared ≡ self.old.shared }
+    {
         match greeting.greet(self.alloc) {
             Greeted::Waits(greeting) if self.parting.is_some() => {
                 drop(greeting);
@@ -411,7 +448,9 @@ impl<'a, R: Wait + Clock + Drop> Shift<'a, R> {
     }
 
     // Lets a client go.
-    fn leave(&mut self, number: usize) {
+    fn leave(&mut self, number: usize)
+        ensures shared { self.new.shared ≡ self.old.shared }
+    {
         self.clients.remove(number);
         self.post.leaves();
     }
