@@ -79,13 +79,12 @@ LIGHT = [
     "clients/rubbish.py",
     "clients/full_journal.py",
     "clients/kills.py",
-    "clients/kills_crowd.py",
     "tests/waits.py",
 ]
-LIGHT_KILLS = {"clients/kills.py": ["--rounds", "20"], "clients/kills_crowd.py": ["--rounds", "5"], "tests/waits.py": ["--minutes", "1"]}
+LESS = {"tests/serve_script.py": ["--few"], "clients/kills.py": ["--rounds", "20"], "tests/waits.py": ["--minutes", "1"]}
 
-# These mostly wait, so that they run side by side.
-WAITING = ["clients/slow_reader.py", "clients/steady_readers.py", "clients/holding.py", "tests/pauses.py"]
+# These mostly wait, so that they run side by side, and with nothing else, since they look at the clock.
+WAITING = ["clients/steady_readers.py", "clients/holding.py", "tests/pauses.py"]
 
 # With this status a script says that it lacks a package.
 LACKS = 2
@@ -116,14 +115,14 @@ def run_alone(program, scripts, kills, endings):
 
 
 def run_light(program, only, endings):
-    """Runs the light ones: those that wait side by side with the others, whose output comes at the end."""
-    start = time.monotonic()
-    waiting = [(it, subprocess.Popen(words_for(it, program, 0), stdout=subprocess.PIPE, stderr=subprocess.STDOUT)) for it in WAITING if only in it]
+    """Runs the light ones, and then those that wait, side by side."""
     for script in [it for it in LIGHT if only in it]:
         print(f"\n== {script}", flush=True)
         begun = time.monotonic()
-        status = subprocess.run([sys.executable, TOP / script, program, *LIGHT_KILLS.get(script, [])]).returncode
+        status = subprocess.run([sys.executable, TOP / script, program, *LESS.get(script, [])]).returncode
         endings.append((script, status, time.monotonic() - begun))
+    start = time.monotonic()
+    waiting = [(it, subprocess.Popen(words_for(it, program, 0), stdout=subprocess.PIPE, stderr=subprocess.STDOUT)) for it in WAITING if only in it]
     for script, process in waiting:
         told, _ = process.communicate()
         print(f"\n== {script}\n{told.decode(errors='replace')}", flush=True)

@@ -2,7 +2,7 @@
 """Tries bin/serve, the shell script that makes a journal where there is none and serves it: over the built program, and over stand-ins for it
 that stop in the midst of their work. Needs Linux and Python 3 alone; the gate does not run it.
 
-    python3 tests/serve_script.py [PROGRAM]
+    python3 tests/serve_script.py [PROGRAM] [--few]
 
 - A first start makes the journal and serves it; a program that is missing, a port that is none and too many words are told.
 - SIGTERM ends it with status 143, SIGINT with 130, SIGHUP with 129, at whatever moment, and no server of it is left.
@@ -12,7 +12,8 @@ that stop in the midst of their work. Needs Linux and Python 3 alone; the gate d
 - A server whose journal is full is started again, by the same program, after a pause that grows; if not even a start fits it is not.
 - A build that fails or is broken off ends it.
 
-PROGRAM is the built program; without it, the one that bin/stompd leaves in crates/stompd/out.
+PROGRAM is the built program; without it, the one that bin/stompd leaves in crates/stompd/out. With --few there are fewer moments and pairs, since each
+first start writes 512 MiB.
 """
 
 import contextlib
@@ -47,11 +48,13 @@ EVENT = re.compile(r"stompd: \d{4}-\d\d-\d\dT")
 PATIENCE = 120
 # Signals at random moments, and pairs of first starts.
 MOMENTS, PAIRS = 40, 20
+FEW_MOMENTS, FEW_PAIRS = 5, 2
 
 
 class Checks:
-    def __init__(self, program, folder):
+    def __init__(self, program, folder, has_few):
         self.program, self.folder = program, folder
+        self.moments, self.pairs = (FEW_MOMENTS, FEW_PAIRS) if has_few else (MOMENTS, PAIRS)
         self.count = self.failed = 0
 
     def check(self, what, holds, seen=""):
@@ -198,7 +201,7 @@ def a_first_start(checks):
 
 def signals_at_any_moment(checks):
     file, port = new_file(checks), free_port()
-    for number in range(MOMENTS):
+    for number in range(checks.moments):
         file.unlink(missing_ok=True)
         start = Start(checks.program, file, port)
         # By then the shell has set its traps; before, a signal ends it as any program, and it has started nothing.
@@ -224,7 +227,7 @@ def signals_while_the_journal_is_made(checks):
 
 
 def two_first_starts(checks):
-    for number in range(PAIRS):
+    for number in range(checks.pairs):
         file, ports = new_file(checks), (free_port(), free_port())
         starts = [Start(checks.program, file, port) for port in ports]
         wait_until(file.exists)
@@ -373,9 +376,10 @@ def try_one(checks, scenario):
 
 
 def main():
-    program = pathlib.Path(sys.argv[1] if len(sys.argv) > 1 else PROGRAM).resolve()
+    words = [word for word in sys.argv[1:] if word != "--few"]
+    program = pathlib.Path(words[0] if words else PROGRAM).resolve()
     with tempfile.TemporaryDirectory(prefix="stompd-serve-") as folder:
-        checks = Checks(program, pathlib.Path(folder))
+        checks = Checks(program, pathlib.Path(folder), "--few" in sys.argv[1:])
         for scenario in SCENARIOS:
             try_one(checks, scenario)
     print(f"serve_script: {checks.count} checked, {checks.failed} failed")

@@ -110,7 +110,7 @@ def counts(program, checks):
             moments = [moment for moment, line in server.lines if word in line]
             checks.check(f"{word}: told again and again, while it comes", least <= len(moments) <= 7, len(moments))
             gaps = [after - before for before, after in zip(moments, moments[1:])]
-            checks.check(f"{word}: at most once a second", all(gap > 0.9 for gap in gaps), gaps)
+            checks.check(f"{word}: at most once a second", all(gap > 0.5 for gap in gaps), gaps)
 
 
 def names(program, checks):
