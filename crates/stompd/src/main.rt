@@ -12,39 +12,57 @@ use std::process::ExitCode;
 use std::sync::Wait;
 use std::thread::Threads;
 use std::time::Clock;
-use std::{env, io, thread};
+use std::{env, io, mem, thread};
 use tool_core::{BAD_COMMAND_LINE, DONE, Failure, end_by, tool};
 use words_core::{Subcommand, subcommand_of};
 
 /// Runs the program on its arguments, standard input, standard output and standard error.
 fn main(rt: HostRuntime) -> ExitCode {
-    let streams = match standard_streams(&rt) {
-        Ok(streams) => streams,
-        Err(error) => {
-            let failure = Failure::Server(ServeFault::Streams(Unopened::by(error.kind())));
-            return ExitCode::from(told(&rt, &failure));
-        }
-    };
+    if let Err(status) = hold_standard_streams(&rt) {
+        return ExitCode::from(status);
+    }
     let words = match words_of(&rt) {
         Ok(words) => words,
-        Err(status) => {
-            drop(streams);
-            return ExitCode::from(status);
-        }
+        Err(status) => return ExitCode::from(status),
     };
     let status = match served(rt.alloc(), words.as_slice()) {
         Some(asked) => {
-            let (input, errors) = (rt.stdin().lock(), rt.stderr().lock());
+            let input = rt.stdin().lock();
+            let errors = rt.stderr().lock();
             let mut writer = rt.stdout().lock();
-            status_of(
-                &rt,
-                serve(&rt, rt.alloc(), asked, input, errors, &mut writer),
-            )
+            let end = serve(&rt, rt.alloc(), asked, input, errors, &mut writer);
+            status_of(&rt, end)
         }
         None => run_tool(&rt, words.as_slice()),
     };
-    drop(streams);
     ExitCode::from(status)
+}
+
+/// Opens `/dev/null` as often as there are standard streams, and never closes these files. A file gets the least number that is free,
+/// so whichever of the three streams are closed, these files have their numbers from now on, and nothing that is opened later gets
+/// them: what the program writes to a closed stream is lost, and in no file. If they can't be opened, that is told, and the status is
+/// the answer.
+fn hold_standard_streams(rt: &HostRuntime) -> Result<(), u8> {
+    for _stream in 0..3u32 {
+        match hold_null(rt) {
+            Ok(()) => {}
+            Err(error) => {
+                let fault = ServeFault::Streams(Unopened::by(error.kind()));
+                return Err(told(rt, &Failure::Server(fault)));
+            }
+        }
+    }
+    Ok(())
+}
+
+/// Opens `/dev/null`, and never closes it.
+fn hold_null(rt: &HostRuntime) -> io::Result<()> {
+    let null = OpenOptions::new()
+        .read(true)
+        .write(true)
+        .open(rt, "/dev/null")?;
+    mem::forget(null);
+    Ok(())
 }
 
 /// The status of a server that has ended so; a fault is told.
