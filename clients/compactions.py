@@ -34,11 +34,13 @@ SELECTOR = 16
 TALKERS = 4
 # Groups of messages that a talker has under way, and the bytes of a body beside its name.
 UNDER_WAY = 8
+# How many messages a talker has in hand and does not acknowledge yet: after a kill each of them has to be there again.
+IN_HAND = 4
 PADDING = "x" * 4_000
 # Within this many seconds after a compaction has begun a kill comes that is aimed at it.
 AIM = 0.0005
 
-COMPACTED = re.compile(r"stompd: compacted: (\d+) bytes won in (\d+) ms\n")
+COMPACTED = re.compile(r"stompd: \S+ compacted: (\d+) bytes won in (\d+) ms\n")
 WRITE = re.compile(r"pwrite64\(\d+, .*, (\d+), (\d+)(?:\)| <unfinished)")
 
 
@@ -51,12 +53,15 @@ class Talker(kills.Sender):
         super().__init__(port, name, None, seed)
         self.queue = f"/queue/{name}"
         self.settled, self.had = set(), collections.Counter()
+        # What it has in hand, first come first: each message with the header by which it is acknowledged.
+        self.in_hand = collections.deque()
         # The groups that are under way, by their receipt, with the messages that are not settled.
         self.open, self.is_told_to_end = {}, False
 
     def go_on(self):
         self.client.send("SUBSCRIBE", [("id", "t"), ("destination", self.queue), ("ack", "client-individual")])
         while self.open or not self.is_told_to_end:
+            self.acknowledge(0 if self.is_told_to_end else IN_HAND)
             if len(self.open) < UNDER_WAY and not self.is_told_to_end:
                 group = self.send_some()
                 self.open[group.bodies[0]] = (group, set(group.bodies))
@@ -67,7 +72,7 @@ class Talker(kills.Sender):
         if frame.command == "MESSAGE":
             body = short(frame.body)
             self.had[body] += 1
-            self.client.send("ACK", [("id", frame.headers["ack"]), ("receipt", f"ack {body}")])
+            self.in_hand.append((body, frame.headers["ack"]))
             return
         assert frame.command == "RECEIPT", frame
         told = frame.headers["receipt-id"]
@@ -76,6 +81,13 @@ class Talker(kills.Sender):
         else:
             group, _ = self.open[told]
             group.is_receipted = True
+
+    def acknowledge(self, left):
+        """Acknowledges the first messages that it has in hand, until so many are left."""
+        while len(self.in_hand) > left:
+            body, ack = self.in_hand[0]
+            self.client.send("ACK", [("id", ack), ("receipt", f"ack {body}")])
+            self.in_hand.popleft()
 
     def settle(self, body):
         self.settled.add(body)
@@ -201,8 +213,13 @@ def found_in(port, talker):
 
 
 def faults_of_a_talker(port, talker):
+    """What is wrong, and how many messages were decided: those that nobody acknowledged, though they were handed out, and those of which the
+    acknowledgement was receipted."""
     found = found_in(port, talker)
-    return [*kills.faults_of_a_round([talker], talker, found), *kills.faults_of_order([talker], found)]
+    kept = [body for body, _ in talker.in_hand]
+    lost = [f"{body}: lost, although it was handed out and never acknowledged" for body in kept if body not in found]
+    faults = [*kills.faults_of_a_round([talker], talker, found), *kills.faults_of_order([talker], found), *lost]
+    return faults, len(kept) + len(talker.settled)
 
 
 def under_load(broker, seconds, chance, checks):
@@ -249,21 +266,23 @@ def one_kill(broker, name, chance, aimed):
     within = broker.runs
     join(talkers)
     broker.serve()
-    return within, [fault for one in talkers for fault in faults_of_a_talker(broker.port, one)]
+    judged = [faults_of_a_talker(broker.port, one) for one in talkers]
+    return within, [fault for faults, _ in judged for fault in faults], sum(count for _, count in judged)
 
 
 def killed(broker, words, chance, checks):
     """The server is killed again and again, at least half of the kills within a compaction."""
-    within = count = 0
+    within = count = decided = 0
     while count < words.kills or within < words.kills // 2:
-        runs, faults = one_kill(broker, f"kill{count}", chance, aimed=count % 4 != 0)
-        within, count = within + runs, count + 1
+        runs, faults, judged = one_kill(broker, f"kill{count}", chance, aimed=count % 4 != 0)
+        within, count, decided = within + runs, count + 1, decided + judged
         if faults:
             checks.check(f"kill {count}", False, faults[:5])
         if count > 20 * words.kills:
             break
     checks.check(f"at least {words.kills // 2} kills were within a compaction", within >= words.kills // 2, within)
-    checks.tell(f"{count} kills, {within} of them within a compaction")
+    checks.check("at least ten messages a kill were decided", decided >= 10 * count, decided)
+    checks.tell(f"{count} kills, {within} of them within a compaction; {decided} messages had to be there, or had to be gone")
 
 
 def main():

@@ -199,6 +199,7 @@ def judge(checks, told, sent, per_topic):
     checks.check("each subscriber has heard each SEND to its topic once, in order", not wrong, f"{wrong} have not")
     if last:
         figures = ", ".join(f"{name} {percentile(last.values(), at) / 1e6:.1f} ms" for name, at in (("half", 50), ("99 of 100", 99)))
+        checks.check("no SEND takes over a second", max(last.values()) <= 1e9, f"{max(last.values()) / 1e9:.1f} s")
         checks.tell(f"a SEND has reached its last of {per_topic} subscribers after: {figures}, at most {max(last.values()) / 1e6:.1f} ms")
 
 

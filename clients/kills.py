@@ -263,7 +263,7 @@ def main():
             if faults:
                 checks.check(f"kill {number}", False, faults[:5])
     checks.check(f"killed {words.rounds} times: all that was receipted is there once, and nothing else", not checks.failed)
-    checks.check("the load was one: some messages had no receipt at the kill", totals.unknown > 0)
+    checks.check("the load was one: some messages had no receipt at the kill, and far more had one", 0 < totals.unknown and 10 * words.rounds < totals.receipted)
     tell(checks, totals, words.rounds)
     return 1 if checks.failed else 0
 

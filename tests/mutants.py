@@ -6,7 +6,7 @@ must-fail edits that the gate tries; docs/GATE.md says which stand where. Needs 
     python3 tests/mutants.py [--applies] --changed COMMIT
 
 Without names, it tries those of all crates; with --changed those of the crates whose code, definitions or proofs differ from that commit's, of
-the crates above these, and the mutants that differ themselves. With --applies it proves nothing, and says in less than a second which
+the crates above these, and the mutants that differ themselves. With --applies it proves nothing, and says in a second or two which
 can't be applied: the text that each takes away has to stand in its file once.
 
 A copy of the crates is made, over what the checkout has built, so the checkout stays as it is. A crate that was checked on this machine takes
@@ -21,6 +21,8 @@ import shutil
 import subprocess
 import sys
 import tempfile
+
+import named
 
 TOP = pathlib.Path(__file__).resolve().parent.parent
 FURTHER = TOP / "mutants"
@@ -144,7 +146,8 @@ def main():
     lost = applied(tried) if words.applies else applied(tried) or refused(tried)
     what = "applied" if words.applies else "refused"
     print(f"{sum(map(len, tried.values()))} mutants of {len(tried)} crates, {lost} not {what}")
-    return 1 if lost else 0
+    misnamed = named.main() if words.applies else 0
+    return 1 if lost or misnamed else 0
 
 
 if __name__ == "__main__":

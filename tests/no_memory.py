@@ -95,12 +95,14 @@ def refuse_each(refusing, test):
     seen, wrong = collections.Counter(), {}
     first, _ = refusing.run(test, 0)
     if first != "whole":
-        wrong[0] = first
+        wrong[0] = f"nothing was refused, and it says {first}"
     for number in range(1, MOST):
         word, growths = refusing.run(test, number)
         if growths < number:
             if word != "whole":
                 wrong[number] = word
+            if not seen["refused"]:
+                wrong[number] = "no growth of the call was refused"
             return seen, wrong
         seen[word] += 1
         if word not in WORDS:

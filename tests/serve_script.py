@@ -9,7 +9,7 @@ that stop in the midst of their work. Needs Linux and Python 3 alone; the gate d
 - Of two first starts at once on one file one serves, the other ends since the file is locked, and neither replaces the other's journal.
 - What a killed first start has left is not taken for a journal, nor does it stand in the way of the next start.
 - What the server tells on standard error is told while it runs, and the origins that are named are passed on.
-- A server whose journal is full is started again, by the same program; where that is full again within seconds it is not.
+- A server whose journal is full is started again, by the same program, after a pause that grows; if not even a start fits it is not.
 - A build that fails or is broken off ends it.
 
 PROGRAM is the built program; without it, the one that bin/stompd leaves in crates/stompd/out.
@@ -19,9 +19,11 @@ import contextlib
 import os
 import pathlib
 import random
+import re
 import select
 import shutil
 import signal
+import socket
 import subprocess
 import sys
 import tempfile
@@ -37,8 +39,12 @@ from scenario import free_port  # noqa: E402
 from stomp_client import Client  # noqa: E402
 
 STATUSES = {signal.SIGTERM: 143, signal.SIGINT: 130, signal.SIGHUP: 129}
-LOCKED = "stompd: cannot open\n"
+LOCKED = "stompd: cannot open: FILE: another server has its lock\n"
 SMALL_JOURNAL = "131104"
+# What a running server tells has its moment in front.
+EVENT = re.compile(r"stompd: \d{4}-\d\d-\d\dT")
+# A first start writes and syncs 512 MiB, which a busy disk takes its time for. In seconds.
+PATIENCE = 120
 # Signals at random moments, and pairs of first starts.
 MOMENTS, PAIRS = 40, 20
 
@@ -82,16 +88,16 @@ class Start:
         self.process = subprocess.Popen([script, *map(str, words)], preexec_fn=as_from_a_terminal, start_new_session=True, text=True, **how)
         Start.every.append(self)
 
-    def listens(self, seconds=20):
+    def listens(self, seconds=PATIENCE):
         """Whether the server says within that time that it listens."""
         return bool(select.select([self.process.stdout], [], [], seconds)[0]) and self.process.stdout.readline().startswith("listening ")
 
-    def end(self, sent=None, seconds=20):
-        """The status, and what was told, once it has ended by itself or by that signal."""
+    def end(self, sent=None, seconds=PATIENCE):
+        """The status, and what was told besides the events of a running server, once it has ended by itself or by that signal."""
         if sent:
             self.process.send_signal(sent)
         _, told = self.process.communicate(timeout=seconds)
-        return self.process.returncode, told
+        return self.process.returncode, "".join(line for line in told.splitlines(keepends=True) if not EVENT.match(line))
 
     def kill_all(self):
         """Ends it and all that it has started, as a lost machine does."""
@@ -116,7 +122,7 @@ def beside(file):
     return sorted(it.name for it in file.parent.iterdir() if it.name.startswith(f"{file.name}."))
 
 
-def wait_until(holds, seconds=20):
+def wait_until(holds, seconds=PATIENCE):
     end = time.monotonic() + seconds
     while not holds():
         assert time.monotonic() < end, "it does not come"
@@ -145,10 +151,22 @@ def words_and_programs(checks):
     for program in (file.parent / "missing", file.parent):
         status, told = Start(program, file, free_port()).end()
         checks.same(f"{program} as the program", (status, told), (1, f"serve: there is no program {program}\n"))
-    for words in ([file, "eighty"], [file, "80", "x"], ["--port"], [file, "80", "--origin"], [file, "80", "--origin", "o", "p"]):
+    for words in ([file, "eighty"], [file, "0"], [file, "70000"], [file, "080800"], [file, "80", "x"], ["--port"], [file, "80", "--origin"], [file, "80", "--origin", "o", "p"]):
         status, told = Start(checks.program, *words).end()
         checks.check(f"{words} are refused", status == 2 and told.startswith("serve: "), (status, told))
+    status, told = Start(checks.program, file, free_port(), "--origin", "https://chat.example/").end()
+    checks.check("an origin that no browser sends is refused", status == 2 and "ORIGIN" in told, (status, told))
+    with socket.socket() as taken:
+        taken.bind(("127.0.0.1", 0))
+        taken.listen()
+        status, told = Start(checks.program, file, taken.getsockname()[1]).end()
+        checks.same("a port in use is told", (status, told), (1, "stompd: cannot open: PORT: another program listens there\n"))
     checks.same("and nothing is made", list(file.parent.iterdir()), [])
+    link = file.parent / "link"
+    link.symlink_to(file.parent / "nothing")
+    status, told = Start(checks.program, link, free_port()).end()
+    checks.check("a link to nothing is told", status == 1 and "is a link to" in told, (status, told))
+    link.unlink()
     nowhere = file.parent / "none" / "rooms.journal"
     status, told = Start(checks.program, nowhere, free_port()).end()
     checks.check("a folder that isn't there is told", status == 1 and str(nowhere) in told, (status, told))
@@ -159,7 +177,11 @@ def a_first_start(checks):
     first = Start(checks.program, file, port)
     checks.check("a first start serves", first.listens())
     publish(port, "before")
-    checks.same("and ends by SIGTERM", first.end(signal.SIGTERM), (143, f"serve: made the journal {file}\n"))
+    client = Client(port).connect()
+    status, told = first.end(signal.SIGTERM)
+    checks.check("and ends by SIGTERM", status == 143 and told.startswith(f"serve: made the journal {file}\n"), (status, told))
+    checks.same("its clients hear 1001", client.to_the_end()[1], 1001)
+    checks.same("only its owner may read the journal", file.stat().st_mode & 0o777, 0o600)
     checks.same("nothing is left beside the journal", beside(file), [])
     inode = file.stat().st_ino
     for sent in (signal.SIGINT, signal.SIGHUP, signal.SIGTERM):
@@ -260,25 +282,27 @@ def a_killed_first_start(checks):
 def a_full_journal(checks):
     file, port = new_file(checks), free_port()
     subprocess.run([checks.program, "format", file, SMALL_JOURNAL], check=True)
-    count = file.parent / "starts"
-    full = "echo 'stompd: J4 journal full' >&2; exit 1"
-    # The first server is full after six seconds, the second one serves until it is killed, by a word in a file.
+    count, full = file.parent / "starts", "echo 'stompd: J4 journal full' >&2; exit 1"
+    # Two servers are full soon, the third one serves until it is told to end; the fourth does not even start, and the fifth fails otherwise.
     program = checks.stand_in(f"""echo "$1" >> "{count}"
 case $(wc -l < "{count}") in
-    1) sleep 6; {full} ;;
-    3) {full} ;;
-    4) sleep 6; echo 'stompd: J3 device failed' >&2; exit 1 ;;
+    1 | 2) echo 'listening 0'; {full} ;;
+    4) {full} ;;
+    5) echo 'listening 0'; echo 'stompd: J3 device failed' >&2; exit 1 ;;
 esac""")
+    began = time.monotonic()
     start = Start(program, file, port)
-    checks.check("it is started again where it was full", start.listens())
+    checks.check("it is started again after it was full, and once more", [start.listens() for _ in range(3)] == [True] * 3)
+    checks.check("after a second, and after two more", 2.9 <= time.monotonic() - began < PATIENCE, time.monotonic() - began)
     publish(port, "kept")
     checks.same("and serves", found_in(port), ["kept"])
     status, told = start.end(signal.SIGTERM)
-    checks.same("until it is told to end", (status, told.splitlines()[-1]), (143, "serve: starting again, which makes room"))
+    again = [f"serve: starting again in {seconds} s, which makes room" for seconds in (1, 2)]
+    checks.same("until it is told to end", (status, [line for line in told.splitlines() if line.startswith("serve: ")]), (143, again))
     status, told = Start(program, file, port).end()
-    checks.check("where it is full at once it is not started again", status == 1 and "serve: the journal was full within 5 seconds" in told, (status, told))
+    checks.check("if not even a start fits it is not started again", status == 1 and "does not fit into half of it" in told, (status, told))
     checks.same("nor after another fault", Start(program, file, port).end(), (1, "stompd: J3 device failed\n"))
-    checks.same("and each was a server", count.read_text().split(), ["serve"] * 4)
+    checks.same("and each was a server", count.read_text().split(), ["serve"] * 5)
 
 
 def what_the_server_tells(checks):

@@ -245,6 +245,7 @@ def soak(broker, checks, chance, seconds):
         run.live()
     checks.check(f"killed {run.lives} times: all that was receipted is there, and nothing is there twice", not checks.failed)
     checks.check("there was something to do: compactions, and messages without a receipt", broker.compactions and run.totals.unknown)
+    checks.check("and receipts came: a hundred a life at least", run.totals.receipted >= 100 * run.lives, run.totals.receipted)
     run.tell()
 
 

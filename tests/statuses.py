@@ -16,7 +16,13 @@ import subprocess
 import sys
 import tempfile
 
-PROGRAM = pathlib.Path(__file__).resolve().parent.parent / "crates" / "stompd" / "out" / "stompd"
+TOP = pathlib.Path(__file__).resolve().parent.parent
+PROGRAM = TOP / "crates" / "stompd" / "out" / "stompd"
+sys.path.insert(0, str(TOP / "clients"))
+sys.dont_write_bytecode = True
+
+from old_journal import area, journal  # noqa: E402
+from scenario import free_port  # noqa: E402
 
 # What may be written: just this text, some text that is not ours to say, or nothing. Of None nothing is looked at.
 SOME = object()
@@ -27,7 +33,13 @@ def told(text):
     return f"stompd: {text}\n"
 
 
-CANNOT_OPEN = told("cannot open")
+def unopened(why):
+    return told(f"cannot open: {why}")
+
+
+MISSING = unopened("FILE: there is no such file")
+NUMBERS = told("BYTES is a decimal number under 2^64, and PORT one from 1 to 65535")
+ORIGINS = told("an ORIGIN is what a browser sends: SCHEME://HOST or SCHEME://HOST:PORT in small letters, with nothing after it")
 VERSION = "stompd 0.1.0\n"
 # Areas of 4,096 bytes.
 SMALLEST = 8_224
@@ -162,20 +174,21 @@ def word(length):
 
 
 def formats(checks, folder):
-    journal, other = str(folder / "journal"), str(folder / "other")
-    checks.run(["format", journal, str(SMALLEST)], 0, NOTHING, NOTHING)
-    made = pathlib.Path(journal).read_bytes()
+    file, other = str(folder / "journal"), str(folder / "other")
+    checks.run(["format", file, str(SMALLEST)], 0, NOTHING, NOTHING)
+    made = pathlib.Path(file).read_bytes()
     front = b"STOMPJ02" + struct.pack(">Q", 4_096) + bytes(16) + word(32) + bytes(33)
     checks.expect("the bytes of an empty journal", made == front + bytes(SMALLEST - len(front)), made[:80])
-    checks.run(["format", journal, str(SMALLEST)], 1, NOTHING, CANNOT_OPEN)
+    checks.expect("only its owner may read a journal", os.stat(file).st_mode & 0o777 == 0o600, oct(os.stat(file).st_mode))
+    checks.run(["format", file, str(SMALLEST)], 1, NOTHING, unopened("FILE: it is there already"))
     for few in (str(SMALLEST - 1), "31", "0"):
         checks.run(["format", other, few], 1, NOTHING, told("J8 disk too small"))
-        checks.run(["format", journal, few], 1, NOTHING, told("J8 disk too small"))
-    checks.run(["format", str(folder / "none" / "journal"), str(SMALLEST)], 1, NOTHING, CANNOT_OPEN)
+        checks.run(["format", file, few], 1, NOTHING, told("J8 disk too small"))
+    checks.run(["format", str(folder / "none" / "journal"), str(SMALLEST)], 1, NOTHING, MISSING)
     for number in ("8224x", "+8224", "0x2020", "8 224", "", "18446744073709551616", "99999999999999999999"):
-        checks.run(["format", other, number], 2, NOTHING, NOTHING)
+        checks.run(["format", other, number], 2, NOTHING, NUMBERS)
     checks.expect("refused words make no file", not os.path.exists(other))
-    checks.expect("refused words change no file", pathlib.Path(journal).read_bytes() == made)
+    checks.expect("refused words change no file", pathlib.Path(file).read_bytes() == made)
     zeros, odd = str(folder / "zeros"), str(folder / "odd")
     checks.run(["format", zeros, f"000{SMALLEST}"], 0, NOTHING, NOTHING)
     checks.expect("leading zeros count for nothing", pathlib.Path(zeros).read_bytes() == made)
@@ -222,11 +235,18 @@ def shows(checks, folder):
     for command in ("show", "held"):
         with open("/dev/full", "wb") as full:
             checks.run([command, str(folder / "journal")], 1, NOTHING, told("input or output failed"), sink=full)
-        checks.run([command, str(folder / "missing")], 1, NOTHING, CANNOT_OPEN)
-        checks.run([command, str(folder)], 1, NOTHING, CANNOT_OPEN)
+        checks.run([command, str(folder / "missing")], 1, NOTHING, MISSING)
+        checks.run([command, str(folder)], 1, NOTHING, SOME)
         for path, data, text in broken(folder):
             checks.run([command, str(path)], 1, NOTHING, text)
             checks.expect(f"{path.name} is left as it was", path.read_bytes() == data)
+
+
+def old_journal(folder):
+    """A journal of the first version, which a server rewrites as one of the second."""
+    path = folder / "old"
+    path.write_bytes(journal(4_096, area([]), b""))
+    return path
 
 
 def serves(checks, folder):
@@ -234,14 +254,20 @@ def serves(checks, folder):
         taken.bind(("127.0.0.1", 0))
         taken.listen()
         port = str(taken.getsockname()[1])
-        checks.run(["serve", str(folder / "missing"), port], 1, NOTHING, CANNOT_OPEN)
-        checks.run(["serve", str(folder / "journal"), port], 1, NOTHING, CANNOT_OPEN)
-        # The journal is opened before the port.
-        for path, data, text in broken(folder):
-            checks.run(["serve", str(path), port], 1, NOTHING, text)
-            checks.expect(f"{path.name} is left as it was", path.read_bytes() == data)
+        before = old_journal(folder).read_bytes()
+        in_use = unopened("PORT: another program listens there")
+        for name in ("missing", "journal", "old"):
+            checks.run(["serve", str(folder / name), port], 1, NOTHING, in_use)
+        checks.expect("a start that fails leaves an old journal as it was", (folder / "old").read_bytes() == before)
+    checks.run(["serve", str(folder / "missing"), port], 1, NOTHING, MISSING)
+    checks.run(["serve", str(folder), port], 1, NOTHING, unopened("FILE: it is a directory"))
+    for path, data, text in broken(folder):
+        checks.run(["serve", str(path), port], 1, NOTHING, text)
+        checks.expect(f"{path.name} is left as it was", path.read_bytes() == data)
     for number in ("0", "65536", "http", "80x", "+80", "", "99999999999999999999"):
-        checks.run(["serve", str(folder / "journal"), number], 2, NOTHING, NOTHING)
+        checks.run(["serve", str(folder / "journal"), number], 2, NOTHING, NUMBERS)
+    for origin in ("https://chat.example/", "https://chat.example/room", "chat.example", "http://Chat.example", "http://", "://x", "http//x", ""):
+        checks.run(["serve", str(folder / "journal"), port, "--origin", origin], 2, NOTHING, ORIGINS)
     serving = subprocess.Popen([checks.program, "serve", str(folder / "journal"), port], stdout=subprocess.PIPE, stderr=subprocess.PIPE)
     try:
         ready, _, _ = select.select([serving.stdout], [], [], 20)
@@ -250,21 +276,23 @@ def serves(checks, folder):
         with socket.create_connection(("127.0.0.1", int(port)), timeout=5):
             pass
         checks.expect("a connection that says nothing ends no server", serving.poll() is None)
+        locked = unopened("FILE: another server has its lock")
+        checks.run(["serve", str(folder / "journal"), str(free_port())], 1, NOTHING, locked)
     finally:
         serving.kill()
         serving.wait()
 
 
 def words(checks, folder):
-    journal = str(folder / "journal")
+    file = str(folder / "journal")
     checks.run(["--version"], 0, VERSION, NOTHING)
     checks.run(["--version"], 1, NOTHING, told("input or output failed"), sink=open("/dev/full", "wb"))
-    for bad in (["--version", "show", journal], ["held"], ["held", journal, "x"], ["format", "--sparse", journal]):
+    for bad in (["--version", "show", file], ["held"], ["held", file, "x"], ["format", "--sparse", file]):
         checks.run(bad, 2, NOTHING, None)
-    for bad in (["serve", journal, "80", "--origin"], ["show", "--origin", "null", journal], ["show", "--sparse", journal]):
+    for bad in (["serve", file, "80", "--origin"], ["show", "--origin", "null", file], ["show", "--sparse", file]):
         checks.run(bad, 2, NOTHING, SOME)
-    none = ([], ["flash"], ["--flash"], ["script", "x"], ["show"], ["show", journal, "x"], ["format", journal], ["format", journal, "1", "2"])
-    for bad in (*none, ["serve", journal], ["serve", journal, "80", "x"], ["--help"], ["show", "--help"]):
+    none = ([], ["flash"], ["--flash"], ["script", "x"], ["show"], ["show", file, "x"], ["format", file], ["format", file, "1", "2"])
+    for bad in (*none, ["serve", file], ["serve", file, "80", "x"], ["--help"], ["show", "--help"]):
         checks.run(bad, 2, NOTHING, SOME)
     for bad in ([b"\xff"], ["script", b"\xff"], ["show", b"\xff"], ["format", b"\xff", str(SMALLEST)], ["serve", b"\xff", "80"]):
         checks.run(bad, 2, NOTHING, NOTHING)

@@ -1,1 +1,4 @@
+pub mod Awaiting
+pub mod Holding
 pub mod Keeping
+pub mod Retrying

@@ -4,3 +4,4 @@ pub mod Lines
 pub mod Patience
 pub mod Timers
 pub mod Turns
+pub mod Watches

@@ -1,105 +1,125 @@
--- For how long a worker waits for a client. All is in milliseconds; where less would be left than nothing, nothing is left.
-use Rattle.std.specs.Prelude.{ℕ, Bool, true, false, Option, Some, None, ◌+◌, ◌-◌, ◌*◌, ◌^◌, ◌==◌, nat_lt, min, cond, unwrap_or}
-use Rattle.clients_core.specs.declared.patience.TheConstants.{LONGEST_PART, LONGEST_GREETING, QUIET, PINGS, LONGEST_WRITE, LONGEST_CLOSE}
+-- For how long a worker waits for a client, by what has happened to it. Moments are in milliseconds of the worker's own clock.
+use Rattle.std.specs.Prelude.{◌≡◌, ◌⊎◌, ℕ, Bool, true, false, Option, Some, None, ◌+◌, ◌-◌, ◌*◌, ◌/◌, ◌^◌, ◌≤◌, ◌<◌, ◌==◌, nat_lt, min, cond, unwrap_or}
+use Rattle.clients_core.specs.declared.patience.TheConstants.{LONGEST_PART, LONGEST_GREETING, QUIET, PINGS, SLOWEST, MOST_UNREAD, LONGEST_WRITE, LONGEST_CLOSE}
 use Rattle.clients_core.specs.declared.patience.Due.{Due}
-use Rattle.clients_core.specs.declared.patience.Due.TheVariants.{GivenUp, Ping, In}
+use Rattle.clients_core.specs.declared.patience.Due.TheVariants.{GivenUp, Write, Ping, In}
 use Rattle.clients_core.specs.declared.patience.Patience.{Patience}
 use Rattle.clients_core.specs.declared.patience.Phase.{Phase}
 use Rattle.clients_core.specs.declared.patience.Phase.TheVariants.{Greeting, Unopened, Open}
-use Rattle.clients_core.specs.declared.timers.TheConstants.{NEVER}
-use Rattle.clients_core.specs.declared.limits.TheConstants.{SHORTAGE}
-use Rattle.desk_core.specs.declared.turned.Next.{Next}
-use Rattle.desk_core.specs.declared.turned.Next.TheVariants.{Write, Close, Memory}
 
--- what is left of so long since then
-abbrev pub left_of : ℕ → ℕ → ℕ → ℕ
-left_of longest since now = longest - (now - since)
+-- so long have passed since then
+abbrev pub Passed : ℕ → ℕ → ℕ → Type 0
+Passed span since now = since + span ≤ now
 
--- the less of that, and of what is left of so long since then, if it has begun
-abbrev pub left_before : ℕ → ℕ → Option ℕ → ℕ → ℕ
-left_before left longest None now = left
-left_before left longest (Some since) now = min left (left_of longest since now)
+-- it says nothing between two parts of its handshake
+abbrev pub SaysNoPart : Phase → Patience → ℕ → Type 0
+SaysNoPart Greeting p now = Passed LONGEST_PART p.heard now
+SaysNoPart Unopened p now = ⊥
+SaysNoPart Open p now = ⊥
 
--- what is left for a client that has come so far: for the next part of its handshake, for its session, and for any answer at all
-abbrev pub left_in : Phase → Patience → ℕ → ℕ
-left_in Greeting p now = min (left_of LONGEST_GREETING p.since now) (left_of LONGEST_PART p.heard now)
-left_in Unopened p now = min (left_of LONGEST_GREETING p.since now) (left_of (QUIET * (PINGS + 1)) p.heard now)
-left_in Open p now = left_of (QUIET * (PINGS + 1)) p.heard now
+-- it is connected and opens no session
+abbrev pub OpensNothing : Phase → Patience → ℕ → Type 0
+OpensNothing Greeting p now = Passed LONGEST_GREETING p.connected now
+OpensNothing Unopened p now = Passed LONGEST_GREETING p.connected now
+OpensNothing Open p now = ⊥
 
--- the same with what is left for it to take what is written, and to close
-abbrev pub left : Patience → Phase → ℕ → ℕ
-left p phase now = left_before (left_before (left_in phase p now) LONGEST_WRITE p.held_up now) LONGEST_CLOSE p.parting now
+-- Something has waited for it, and its socket took nothing, for so long before it was offered that the last time.
+abbrev pub TakesNothing : Option ℕ → Patience → Type 0
+TakesNothing None p = ⊥
+TakesNothing (Some since) p = Passed LONGEST_WRITE since p.offered × Passed LONGEST_WRITE p.took p.offered
 
--- after how long the next ping is due, where so many were sent
-abbrev pub next_ping : Patience → ℕ → Option ℕ
-next_ping p now = cond (nat_lt p.pings PINGS) (Some (left_of (QUIET * (p.pings + 1)) p.heard now)) None
+-- its close is waited for and doesn't come
+abbrev pub NeverCloses : Option ℕ → ℕ → Type 0
+NeverCloses None now = ⊥
+NeverCloses (Some since) now = Passed LONGEST_CLOSE since now
 
--- the same, where nothing waits to be written and no close is waited for
-abbrev pub ping_unless : Option ℕ → Option ℕ → Patience → ℕ → Option ℕ
-ping_unless None None p now = next_ping p now
-ping_unless _ _ p now = None
+-- Its silence counts: it has its WebSocket, so that it answers pings, nothing waits to be written, and no close is waited for.
+abbrev pub counts : Phase → Option ℕ → Option ℕ → Bool
+counts Greeting held_up parting = false
+counts Unopened None None = true
+counts Open None None = true
+counts _ _ _ = false
 
--- after how long a client is to be sent a ping, once it has its WebSocket
-abbrev pub ping_in : Patience → Phase → ℕ → Option ℕ
-ping_in p Greeting now = None
-ping_in p Unopened now = ping_unless p.held_up p.parting p now
-ping_in p Open now = ping_unless p.held_up p.parting p now
+-- in how many milliseconds a client reads so many bytes that reads as slowly as it may: 300,000 at most
+abbrev pub reading_time : ℕ → ℕ
+reading_time bytes = min bytes MOST_UNREAD * 1000 / SLOWEST
 
--- what is due where so much is left, and a ping is due after so long
-abbrev pub due_by : ℕ → Option ℕ → Due
-due_by left None = In left
-due_by left (Some ping) = cond (ping == 0) Ping (In (min left ping))
+-- For how long it may be silent before a ping, and behind one: then it has to read first what its socket took before.
+abbrev pub wait_of : Patience → ℕ
+wait_of p = cond (p.pings == 0) QUIET (QUIET + reading_time p.unanswered)
 
--- A client for which nothing is left is given up.
-abbrev pub due : Patience → Phase → ℕ → Due
-due p phase now = cond (left p phase now == 0) GivenUp (due_by (left p phase now) (ping_in p phase now))
+-- since when it is silent: since something came from it, or else since it was sent the last ping
+abbrev pub silent_since : Patience → ℕ
+silent_since p = cond (p.pings == 0) p.heard p.pinged
 
--- what is known of a client that was connected just now
+-- it has been silent for so long, and in that time nothing waited to be written
+abbrev pub IsQuiet : Patience → ℕ → Type 0
+IsQuiet p now = Passed (wait_of p) (silent_since p) now × Passed (wait_of p) p.freed now
+
+-- it was sent all pings, and has answered none
+abbrev pub IsSilent : Phase → Patience → ℕ → Type 0
+IsSilent phase p now = (counts phase p.held_up p.parting ≡ true) × (PINGS ≤ p.pings) × IsQuiet p now
+
+-- It is to be given up.
+abbrev pub IsGivenUp : Phase → Patience → ℕ → Type 0
+IsGivenUp phase p now = SaysNoPart phase p now ⊎ OpensNothing phase p now ⊎ TakesNothing p.held_up p ⊎ NeverCloses p.parting now ⊎ IsSilent phase p now
+
+-- Something has waited for it, and its socket took nothing, for so long: that is to be offered once more.
+abbrev pub IsWriteDue : Option ℕ → Patience → ℕ → Type 0
+IsWriteDue None p now = ⊥
+IsWriteDue (Some since) p now = Passed LONGEST_WRITE since now × Passed LONGEST_WRITE p.took now
+
+-- it has been silent, and not all pings were sent
+abbrev pub IsPingDue : Phase → Patience → ℕ → Type 0
+IsPingDue phase p now = (counts phase p.held_up p.parting ≡ true) × (p.pings < PINGS) × IsQuiet p now
+
+-- something is to be done
+abbrev pub IsSomethingDue : Phase → Patience → ℕ → Type 0
+IsSomethingDue phase p now = IsGivenUp phase p now ⊎ IsWriteDue p.held_up p now ⊎ IsPingDue phase p now
+
+-- From now on that is not so for so long, and then it is; where no clock can tell that moment, it need not be.
+pub record Until (Holds : ℕ → Type 0) (now left : ℕ) : Type 0 where
+  pub at_once : left ≡ 0 → Holds now
+  pub not_before : (then : ℕ) → now ≤ then → then < now + left → Holds then → ⊥
+  pub by_then : Holds (now + left) ⊎ (2 ^ 64 - 1 ≤ now + left)
+
+-- What is due of a client: it is given up just where it is to be; or else what waits is offered, or a ping is sent, just where that is
+-- to be; or else nothing is due, and for so long nothing will be.
+abbrev pub IsDue : Phase → Patience → ℕ → Due → Type 0
+IsDue phase p now GivenUp = IsGivenUp phase p now
+IsDue phase p now Write = IsWriteDue p.held_up p now × (IsGivenUp phase p now → ⊥)
+IsDue phase p now Ping = IsPingDue phase p now × (IsGivenUp phase p now → ⊥) × (IsWriteDue p.held_up p now → ⊥)
+IsDue phase p now (In millis) = (0 < millis) × Until (IsSomethingDue phase p) now millis
+
+-- a client was connected just now
 abbrev pub fresh : ℕ → Patience
-fresh now = record { since = now; heard = now; pings = 0; held_up = None; parting = None }
+fresh now = record { connected = now; heard = now; pings = 0; pinged = now; took = now; unanswered = 0; taken = 0; held_up = None; freed = now; offered = now; parting = None }
 
--- the same once it was sent the ping that is due
-abbrev pub pinged_by : Due → Patience → Patience
-pinged_by Ping p = record p { pings = min (p.pings + 1) (2 ^ 64 - 1) }
-pinged_by _ p = p
+-- something came from it
+abbrev pub heard_by : ℕ → Patience → Patience
+heard_by now p = record p { heard = now; pings = 0; unanswered = 0 }
 
--- so many milliseconds later; where no clock can tell that, a moment that does not come
-abbrev pub later : ℕ → ℕ → ℕ
-later now millis = min (now + millis) (2 ^ 64 - 1)
+-- it was sent a ping
+abbrev pub pinged_by : ℕ → Patience → Patience
+pinged_by now p = record p { pings = min (p.pings + 1) (2 ^ 64 - 1); pinged = now }
 
--- when a client is to be looked at of which this is due; never, where it is to be given up
-abbrev pub moment_of : Due → ℕ → ℕ
-moment_of GivenUp now = NEVER
-moment_of Ping now = now
-moment_of (In millis) now = later now millis
+-- its socket has taken so many bytes in all
+abbrev pub taken_by : ℕ → ℕ → Patience → Patience
+taken_by taken now p = cond (nat_lt p.taken taken) (record p { took = now; unanswered = min (p.unanswered + (taken - p.taken)) (2 ^ 64 - 1); taken = taken }) p
 
--- when a client is to be looked at next, once what is due now is done
-abbrev pub next_look : Patience → Phase → ℕ → ℕ
-next_look p phase now = moment_of (due (pinged_by (due p phase now) p) phase now) now
+-- something waits to be written, and was offered to its socket
+abbrev pub held_up_by : ℕ → Patience → Patience
+held_up_by now p = record p { held_up = Some (unwrap_or p.held_up now); offered = now }
 
--- the same once something came of it
-abbrev pub heard_by : Bool → ℕ → Patience → Patience
-heard_by true now p = record p { heard = now; pings = 0 }
-heard_by false now p = p
+-- when nothing waited any more
+abbrev pub freed_at : Option ℕ → ℕ → ℕ → ℕ
+freed_at None now freed = freed
+freed_at (Some since) now freed = now
 
--- the same behind a turn that came to this: since when it takes nothing, and since when its close is waited for
-abbrev pub waited_by : Next → ℕ → Patience → Patience
-waited_by Write now p = record p { held_up = Some (unwrap_or p.held_up now) }
-waited_by Close now p = record p { held_up = None; parting = Some (unwrap_or p.parting now) }
-waited_by _ now p = record p { held_up = None }
+-- nothing waits to be written
+abbrev pub freed_by : ℕ → Patience → Patience
+freed_by now p = record p { held_up = None; freed = freed_at p.held_up now p.freed }
 
--- when it is to be looked at: once what is due then has come, or else now
-abbrev pub look_at : Due → ℕ → ℕ
-look_at (In millis) now = later now millis
-look_at _ now = now
-
--- when it is to be looked at behind a turn that came to this, at the latest
-abbrev pub look_by : Next → Patience → ℕ → ℕ
-look_by Write p now = look_at (due p Open now) now
-look_by Close p now = look_at (due p Open now) now
-look_by _ p now = NEVER
-
--- when they try again to whom memory was refused, behind a turn that came to this
-abbrev pub retry_by : Next → ℕ → ℕ → ℕ
-retry_by Memory retry now = min retry (later now SHORTAGE)
-retry_by _ retry now = retry
+-- its close is waited for
+abbrev pub parting_by : ℕ → Patience → Patience
+parting_by now p = record p { parting = Some (unwrap_or p.parting now) }

@@ -1,5 +1,5 @@
 -- Who has a turn, and what comes of one.
-use Rattle.std.specs.Prelude.{◌≡◌, ℕ, ◌&&◌, ◌⊎◌, Bool, false, [], Option, Some, None, cond, eqb, not, slice_get}
+use Rattle.std.specs.Prelude.{◌≡◌, ℕ, ◌&&◌, Bool, false, [], Option, Some, None, cond, eqb, not, slice_get}
 use Rattle.clients_core.specs.Lines.{WaitingValue, is_over, joined, waiting, waiting_first, without_first}
 use Rattle.clients_core.specs.declared.lines.Lines.{Lines}
 use Rattle.desk_core.specs.declared.turned.Turned.{Turned}
@@ -46,9 +46,9 @@ settled_by _ heard in_front n l = l
 abbrev pub settled : ℕ → Turned → Lines → Lines
 settled n turned l = settled_by turned.next turned.heard (keeps_place n turned l) n (record l { let_in = None })
 
--- the lines are these, or that client was woken too, since more of its bytes may be there
-abbrev pub MayWake : ℕ → Lines → Lines → Type 0
-MayWake n old new = (new ≡ old) ⊎ (new ≡ woken n old)
+-- that client stands in line for a turn where more of its bytes may be there
+abbrev pub gone_on : Bool → ℕ → Lines → Lines
+gone_on has_rest n l = cond has_rest (woken n l) l
 
 -- nobody stands in any line
 pub record IsNobody (l : Lines) : Type 0 where

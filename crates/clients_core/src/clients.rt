@@ -5,13 +5,14 @@ ghost use Rattle.std.specs.Option.{option_copied};
 ghost use Rattle.clients_core.specs.declared.limits.TheConstants.{CLIENTS};
 ghost use Rattle.clients_core.specs.declared.timers.TheConstants.{NEVER};
 ghost use Rattle.clients_core.specs.Lines.{is_over};
+ghost use Rattle.clients_core.specs.Clients.{begun, place_of};
 ghost use Rattle.clients_core.specs.Patience.{fresh};
 ghost use Rattle.clients_core.specs.Timers.{IsDue, IsNotDue, looked_through};
 
 use crate::limits::CLIENTS;
 use crate::lines::Lines;
 use crate::patience::Patience;
-use crate::portions::{Portions, Rest};
+use crate::portions::Portions;
 use crate::timers::{NEVER, Timers};
 use mio::net::TcpStream;
 use slab::Slab;
@@ -37,16 +38,28 @@ pub struct Client {
     pub(crate) patience: Patience,
     // Whether memory was refused in its last turn.
     pub(crate) is_short: bool,
-    // Whether more of its bytes may be there than its last turn has read.
-    pub(crate) rest: Rest,
 }
 
 impl Client {
     /// Its place at the desk, once it has one.
-    pub fn place(&self) -> Option<usize> {
+    pub fn place(&self) -> Option<usize>
+        ensures { result ≡ place_of self.now.standing }
+    {
         match self.standing {
             Standing::Seated(place) => Some(place),
             Standing::Greeting(_) | Standing::Away => None,
+        }
+    }
+
+    // Where it is whose turn begins. A handshake is taken out, to be gone on with.
+    fn begin_turn(&mut self) -> Standing
+        ensures whose { result ≡ self.old.standing }
+        ensures begins { self.new ≡ begun self.old }
+    {
+        self.is_short = false;
+        match self.standing {
+            Standing::Seated(place) => Standing::Seated(place),
+            _ => mem::replace(&mut self.standing, Standing::Away),
         }
     }
 }
@@ -67,8 +80,8 @@ pub struct Clients {
 }
 
 impl Clients {
-    ghost use Rattle.clients_core.specs.Clients.{Admits, IsEmpty, Removes, client_at};
-    ghost use Rattle.clients_core.specs.Turns.{MayWake, after_let_in, let_in, woken};
+    ghost use Rattle.clients_core.specs.Clients.{Admits, Begins, IsEmpty, Removes, client_at, standing_at};
+    ghost use Rattle.clients_core.specs.Turns.{after_let_in, gone_on, let_in, woken};
 
     /// None yet.
     pub fn new(alloc: Global) -> Result<Clients, AllocError>
@@ -96,17 +109,15 @@ impl Clients {
     pub fn admit(
         &mut self,
         greeting: Greeting<Portions<TcpStream>>,
-        rest: Rest,
         now: u64,
     ) -> Result<(), AllocError>
-        ensures ok { OnOk result (Admits now self.old self.new (record { standing = Standing.Greeting greeting; patience = fresh now; is_short = false; rest = rest })) }
+        ensures ok { OnOk result (Admits now self.old self.new (record { standing = Standing.Greeting greeting; patience = fresh now; is_short = false })) }
         ensures err { OnErr result (self.new ≡ record self.old { all = self.new.all }) }
     {
         let client = Client {
             standing: Standing::Greeting(greeting),
             patience: Patience::new(now),
             is_short: false,
-            rest,
         };
         let number = self.all.insert(client)?;
         self.reach = self.reach.max(number.saturating_add(1));
@@ -178,6 +189,8 @@ impl Clients {
         ensures none { IsNone result → self.old.lines.ready ≡ [] }
         ensures first { IfSome result (λ turn. self.old.lines.ready ≡ turn.0 ∷ self.new.lines.ready) }
         ensures rest { self.new.lines ≡ record self.old.lines { ready = self.new.lines.ready; let_in = None } }
+        ensures whose { IfSome result (λ turn. turn.1 ≡ standing_at turn.0 self.old) }
+        ensures begins { IfSome result (λ turn. Begins turn.0 self.old self.new) }
     {
         let number = self.lines.next()?;
         Some((number, self.begin_turn(number)))
@@ -188,6 +201,8 @@ impl Clients {
     pub fn let_in(&mut self, mark: u64) -> Option<(usize, Standing)>
         ensures who { option_map (λ turn. turn.0) result ≡ let_in mark self.old.lines }
         ensures after { self.new.lines ≡ after_let_in mark self.old.lines }
+        ensures whose { IfSome result (λ turn. turn.1 ≡ standing_at turn.0 self.old) }
+        ensures begins { IfSome result (λ turn. Begins turn.0 self.old self.new) }
     {
         let number = self.lines.let_in(mark)?;
         Some((number, self.begin_turn(number)))
@@ -195,40 +210,32 @@ impl Clients {
 
     // Where a client is whose turn begins.
     fn begin_turn(&mut self, number: usize) -> Standing
-        ensures { self.new ≡ record self.old { all = self.new.all } }
+        ensures whose { result ≡ standing_at number self.old }
+        ensures begins { Begins number self.old self.new }
+        ensures rest { self.new ≡ record self.old { all = self.new.all } }
     {
         match self.all.get_mut(number) {
-            Some(client) => {
-                client.is_short = false;
-                match client.standing {
-                    Standing::Seated(place) => Standing::Seated(place),
-                    _ => mem::replace(&mut client.standing, Standing::Away),
-                }
-            }
+            Some(client) => client.begin_turn(),
             None => Standing::Away,
         }
     }
 
-    /// A client is where it is said to be now. It stands in line again where more of its bytes may be there.
-    pub fn stand(&mut self, number: usize, standing: Standing)
+    /// A client is where it is said to be now. It stands in line again if more of its bytes may be there.
+    pub fn stand(&mut self, number: usize, standing: Standing, has_rest: bool)
         ensures there { MatchOption (client_at number self.old) (self.new.all ≡ self.old.all) (λ _. option_map (λ client. client.standing) (client_at number self.new) ≡ Some standing) }
-        ensures lines { MayWake number self.old.lines self.new.lines }
-        ensures rest { self.new ≡ record self.old { all = self.new.all; lines = self.new.lines } }
+        ensures rest { self.new ≡ record self.old { all = self.new.all; lines = gone_on has_rest number self.old.lines } }
     {
         if let Some(client) = self.all.get_mut(number) {
             drop(mem::replace(&mut client.standing, standing));
         }
-        self.go_on(number);
+        self.go_on(number, has_rest);
     }
 
     // Has a client stand in line whose last turn left bytes that may be there.
-    pub(crate) fn go_on(&mut self, number: usize)
-        ensures lines { MayWake number self.old.lines self.new.lines }
-        ensures rest { self.new ≡ record self.old { lines = self.new.lines } }
+    pub(crate) fn go_on(&mut self, number: usize, has_rest: bool)
+        ensures { self.new ≡ record self.old { lines = gone_on has_rest number self.old.lines } }
     {
-        if let Some(client) = self.all.get(number)
-            && client.rest.take()
-        {
+        if has_rest {
             self.wake(number);
         }
     }

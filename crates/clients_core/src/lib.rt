@@ -11,8 +11,10 @@ mod portions;
 mod timers;
 mod waiting;
 mod waking;
+mod watch;
 
 pub use clients::{Client, Clients, Standing};
 pub use limits::CLIENTS;
 pub use patience::{Due, Phase};
-pub use portions::{Portions, Rest};
+pub use portions::{Flow, Portions};
+pub use watch::Watch;

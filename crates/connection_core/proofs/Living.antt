@@ -4,15 +4,16 @@ use Rattle.session_core.specs.declared.act.Act.{Act}
 use Rattle.session_core.specs.declared.act.Act.TheVariants.{Do, Direct, Close}
 use Rattle.session_core.specs.declared.act.CloseCode.{CloseCode}
 use Rattle.session_core.specs.declared.act.CloseCode.TheVariants.{NormalClosure, ProtocolError}
-use Rattle.session_core.specs.declared.phase.Phase.{Phase}
-use Rattle.session_core.specs.Sessions.{Hearing, Hears, IsOver, after_loss, fresh, loss_of}
+use Rattle.session_core.specs.Sessions.{Hearing, Hears, IsOver, fresh}
 use Rattle.session_core.proofs.Hearings.{heard_as_one, pieces_as_one}
 use Rattle.frame_core.specs.Parts.{IsUnfinished}
 use Rattle.std.specs.Prelude.{OnErr, OnOk, Result, Ok, Err}
-use Rattle.connection_core.specs.Connections.{ConnectionValue, Fails, HearsBytes, IsLost, Listens, Takes, Wants, WantsBy, closed_by}
+use Rattle.connection_core.specs.Connections.{ConnectionValue, Fails, HearsBytes, IsLost, Listens, Wants, WantsBy, closed_by}
 use Rattle.connection_core.specs.Lives.{HasHeard, Went}
 use Rattle.connection_core.specs.Stages.{rested}
 use Rattle.connection_core.specs.Tasks.{Tasks, tasks, all_of}
+use Rattle.connection_core.specs.declared.progress.Progress.{Progress}
+use Rattle.connection_core.specs.declared.progress.Progress.TheVariants.{New, Open, Ended, Gone}
 use Rattle.connection_core.specs.declared.said.Wanted.{Wanted}
 use Rattle.connection_core.specs.declared.stage.Stage.{Stage}
 use Rattle.connection_core.specs.declared.stage.Stage.TheVariants.{Running, GivingUp, Closing, Parting, Leaving, Over}
@@ -68,12 +69,15 @@ hears_no_more before taken old new acts over h = record {
 pub still_runs : (old new : ConnectionValue) (act : Option Act) (wanted : Wanted) → WantsBy old new act wanted → new.stage ≡ Running → old.stage ≡ Running
 still_runs old new (Some (Do op receipt)) wanted by runs = sym by.1 ∙ runs
 still_runs old new (Some (Direct frame)) wanted by runs = sym by.1 ∙ runs
-still_runs old new (Some (Close code)) wanted by runs = by_code code old.last old.stage (sym by.1 ∙ runs)
+still_runs old new (Some (Close code)) wanted by runs = by_code code old.last old.progress old.stage (sym by.1 ∙ runs)
   where
-    by_code : (code : CloseCode) (last : Option ℕ) (stage : Stage) → closed_by code last stage ≡ Running → stage ≡ Running
-    by_code NormalClosure None stage e = cc
-    by_code NormalClosure (Some number) stage e = e
-    by_code ProtocolError last stage e = e
+    by_code : (code : CloseCode) (last : Option ℕ) (progress : Progress) (stage : Stage) → closed_by code last progress stage ≡ Running → stage ≡ Running
+    by_code NormalClosure None New stage e = cc
+    by_code NormalClosure None (Open number) stage e = e
+    by_code NormalClosure None (Ended number) stage e = cc
+    by_code NormalClosure None Gone stage e = cc
+    by_code NormalClosure (Some number) progress stage e = e
+    by_code ProtocolError last progress stage e = e
 still_runs old new None wanted by runs = by_stage old.stage (sym by.1 ∙ runs)
   where
     by_stage : (stage : Stage) → rested stage ≡ Running → stage ≡ Running

@@ -1,6 +1,8 @@
 -- What contracts see of a connection, and what its calls do.
 use Rattle.std.specs.Prelude.{◌≡◌, ◌∷◌, ℕ, List, [], Option, Some, None, cond}
+use Rattle.command_core.specs.declared.command.End.TheVariants as ends
 use Rattle.command_core.specs.declared.command.Op.{Op}
+use Rattle.command_core.specs.declared.command.Op.TheVariants as ops
 use Rattle.frame_core.specs.declared.frame.Verb.{Verb}
 use Rattle.frame_core.specs.declared.frame.Verb.TheVariants as verbs
 use Rattle.session_core.specs.declared.act.Act.{Act}
@@ -8,31 +10,33 @@ use Rattle.session_core.specs.declared.act.Act.TheVariants.{Do, Direct, Close}
 use Rattle.session_core.specs.declared.act.CloseCode.{CloseCode}
 use Rattle.session_core.specs.declared.act.CloseCode.TheVariants.{NormalClosure, ProtocolError}
 use Rattle.session_core.specs.declared.phase.Phase.TheVariants.{Failed}
-use Rattle.session_core.specs.Sessions.{HasForm, Hearing, Hears, after_loss, fresh, is_held, loss_of}
+use Rattle.session_core.specs.Sessions.{HasForm, Hearing, Hears, fresh, is_held}
 use Rattle.connection_core.specs.Conversations.{IsNext, after, asked, over}
 use Rattle.connection_core.specs.Stages.{rested}
 use Rattle.connection_core.specs.Tasks.{Tasks, tasks, all_of}
+use Rattle.connection_core.specs.declared.footprint.Part.{Part}
 use Rattle.connection_core.specs.declared.said.Said.{Said}
 use Rattle.connection_core.specs.declared.said.Wanted.{Wanted}
 use Rattle.connection_core.specs.declared.said.Wanted.TheVariants.{Append, Tell, Done, Rest}
 use Rattle.connection_core.specs.declared.ended.Ended.TheVariants.{Bye, Bad}
 use Rattle.connection_core.specs.declared.progress.Progress.{Progress}
-use Rattle.connection_core.specs.declared.progress.Progress.TheVariants.{New}
+use Rattle.connection_core.specs.declared.progress.Progress.TheVariants.{New, Open, Ended, Gone}
 use Rattle.connection_core.specs.declared.stage.Stage.{Stage}
-use Rattle.connection_core.specs.declared.stage.Stage.TheVariants.{Running, GivingUp, Closing, Parting, Leaving, Over}
+use Rattle.connection_core.specs.declared.stage.Stage.TheVariants.{Running, GivingUp, Closing, Leaving}
 
--- Its session of STOMP; what that asked for and is still to be done; how far its conversation with the broker has come; the
--- number of the DISCONNECT whose RECEIPT is the last frame; and what is to be done with it.
+-- Its session of STOMP; what that asked for and is still to be done; how far its conversation with the broker has come; what stands of
+-- its session in a snapshot; the number of the DISCONNECT whose RECEIPT is the last frame; and what is to be done with it.
 pub record ConnectionValue : Type 0 where
   pub session : Hearing
   pub acts : Tasks
   pub progress : Progress
+  pub footprint : List Part
   pub last : Option ℕ
   pub stage : Stage
 
 -- one that has heard nothing, and asked for nothing
 abbrev pub unheard : ConnectionValue
-unheard = record { session = fresh; acts = tasks None []; progress = New; last = None; stage = Running }
+unheard = record { session = fresh; acts = tasks None []; progress = New; footprint = []; last = None; stage = Running }
 
 -- its client may be heard: nothing else is to be done first
 abbrev pub Listens : ConnectionValue → Type 0
@@ -55,21 +59,34 @@ IsLost GivingUp = Unit {0}
 IsLost Leaving = Unit {0}
 IsLost _ = ⊥
 
+-- what the loss of a connection asks for: the end of a session that is open
+abbrev pub loss_of : Progress → Option Act
+loss_of New = None
+loss_of (Open number) = Some (Do (ops.End ends.Lost) None)
+loss_of (Ended number) = None
+loss_of Gone = None
+
 -- The act is the next: the first of those that wait; or, where none waits and the connection is lost, what its loss asks for.
 -- Nothing else of the connection has changed.
 pub record Takes (old new : ConnectionValue) (act : Option Act) : Type 0 where
   pub first : (one : Act) (others : List Act) → all_of old.acts ≡ one ∷ others → (act ≡ Some one) × (all_of new.acts ≡ others) × (new.session ≡ old.session)
-  pub loss : all_of old.acts ≡ [] → IsLost old.stage
-      → (act ≡ loss_of old.session.phase) × (all_of new.acts ≡ []) × (new.session ≡ record { rest = old.session.rest; phase = after_loss old.session.phase })
+  pub loss : all_of old.acts ≡ [] → IsLost old.stage → (act ≡ loss_of old.progress) × (all_of new.acts ≡ []) × (new.session ≡ old.session)
   pub none : all_of old.acts ≡ [] → (IsLost old.stage → ⊥) → (act ≡ None) × (all_of new.acts ≡ []) × (new.session ≡ old.session)
   pub again : new.acts.again ≡ None
   pub same : new ≡ record old { session = new.session; acts = new.acts }
 
+-- once its session has ended it is closed
+abbrev pub closed_behind : Progress → Stage → Stage
+closed_behind New stage = Closing Bye
+closed_behind (Open number) stage = stage
+closed_behind (Ended number) stage = Closing Bye
+closed_behind Gone stage = Closing Bye
+
 -- where a session's close is heard: behind a DISCONNECT at once, unless its RECEIPT is still to be sent; behind an ERROR once that is sent
-abbrev pub closed_by : CloseCode → Option ℕ → Stage → Stage
-closed_by NormalClosure None stage = Closing Bye
-closed_by NormalClosure (Some number) stage = stage
-closed_by ProtocolError last stage = stage
+abbrev pub closed_by : CloseCode → Option ℕ → Progress → Stage → Stage
+closed_by NormalClosure None progress stage = closed_behind progress stage
+closed_by NormalClosure (Some number) progress stage = stage
+closed_by ProtocolError last progress stage = stage
 
 -- What an operation asks for: its command, where that may be the next of the conversation.
 abbrev pub Asks : Progress → Op → Option (List ℕ) → Wanted → Type 0
@@ -83,7 +100,7 @@ Asks progress op receipt Rest = ⊥
 abbrev pub WantsBy : ConnectionValue → ConnectionValue → Option Act → Wanted → Type 0
 WantsBy old new (Some (Do op receipt)) wanted = Asks old.progress op receipt wanted × (new.stage ≡ old.stage)
 WantsBy old new (Some (Direct frame)) wanted = (wanted ≡ Tell frame) × (new.stage ≡ old.stage)
-WantsBy old new (Some (Close code)) wanted = (wanted ≡ Done) × (new.stage ≡ closed_by code old.last old.stage)
+WantsBy old new (Some (Close code)) wanted = (wanted ≡ Done) × (new.stage ≡ closed_by code old.last old.progress old.stage)
 WantsBy old new None wanted = (wanted ≡ Rest) × (new.stage ≡ rested old.stage)
 
 pub record Wants (old new : ConnectionValue) (wanted : Wanted) : Type 0 where

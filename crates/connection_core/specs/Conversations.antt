@@ -41,6 +41,20 @@ session_of progress role = 0
 abbrev pub asked : Progress → Op → Option (List ℕ) → CommandValue
 asked progress op receipt = record { session = session_of progress (role_of op); op = op; receipt = receipt }
 
+-- no session is open: none was opened, or nothing more of it is appended
+abbrev pub IsDone : Progress → Type 0
+IsDone New = Unit {0}
+IsDone (Open number) = ⊥
+IsDone (Ended number) = Unit {0}
+IsDone Gone = Unit {0}
+
+-- nothing more is appended
+abbrev pub IsFinished : Progress → Type 0
+IsFinished New = ⊥
+IsFinished (Open number) = ⊥
+IsFinished (Ended number) = Unit {0}
+IsFinished Gone = Unit {0}
+
 -- where nothing more is appended
 abbrev pub over : Progress → Progress
 over New = Gone

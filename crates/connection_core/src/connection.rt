@@ -1,16 +1,19 @@
 //! One connection.
 
-ghost use Rattle.std.specs.Prelude.{◌≡◌};
+ghost use Rattle.std.specs.Prelude.{◌≡◌, IfSome};
+ghost use Rattle.session_core.specs.Sessions.{HasForm};
+ghost use Rattle.connection_core.specs.Connections.{closed_behind, loss_of};
 
 use crate::acts::Acts;
 use crate::ended::Ended;
+use crate::footprint::Footprint;
 use crate::progress::{Progress, Role};
 use crate::said::{Said, Wanted};
 use crate::stage::Stage;
-use command_core::{Command, HeaderText, Op};
+use command_core::{Command, End, HeaderText, Op};
 use frame_core::Verb;
 use session_core::{Act, CloseCode, Notice, Session, SessionFault};
-use std::alloc::Global;
+use std::alloc::{AllocError, Global};
 use std::marker::Model;
 use std::mem;
 
@@ -18,13 +21,15 @@ use std::mem;
 ///
 /// What it wants appended is one conversation with the broker: an Open, then commands of the session whose number is the Open's
 /// ticket, and at most one End, behind which it wants nothing. These are what the client's bytes ask for, in that order,
-/// however they were cut; and where the connection is lost, the session's end.
+/// however they were cut; and where the connection is lost while its session is open, the session's end.
 #[derive(Drop)]
 pub struct Connection {
     session: Session,
     // What the session has asked for and is still to be done.
     acts: Acts,
     progress: Progress,
+    // What stands of its session in a snapshot, with the command that is under way.
+    footprint: Footprint,
     // The number of the DISCONNECT whose RECEIPT is the last frame.
     last_receipt: Option<u64>,
     stage: Stage,
@@ -35,18 +40,21 @@ impl Model for Connection {
 
     ghost Value = { ConnectionValue };
 
-    ghost view = { λ a. record { session = a.session; acts = a.acts; progress = a.progress; last = a.last_receipt; stage = a.stage } };
+    ghost view = { λ a. record { session = a.session; acts = a.acts; progress = a.progress; footprint = a.footprint; last = a.last_receipt; stage = a.stage } };
 }
 
 impl Connection {
-    ghost use Rattle.std.specs.Prelude.{◌++◌, [], List, ℕ, Some, None, IfSome, OnOk, OnErr, true, false};
+    ghost use Rattle.std.specs.Prelude.{◌<◌, ◌≤◌, ◌++◌, [], List, ℕ, Some, None, IfSome, OnOk, OnErr, true, false};
     ghost use Rattle.session_core.specs.declared.act.Act.{Act};
     ghost use Rattle.session_core.specs.declared.act.Act.TheVariants as acts;
     ghost use Rattle.session_core.specs.Sessions.{HasForm};
     ghost use Rattle.connection_core.specs.Connections.{Asks, Fails, HasWantedForm, HearsBytes, IsSent, Listens, Takes, Wants, closed_by, unheard, with_appended};
-    ghost use Rattle.connection_core.specs.Conversations.{number_in};
+    ghost use Rattle.connection_core.specs.Conversations.{number_in, over};
+    ghost use Rattle.connection_core.specs.Footprints.{charged, total};
+    ghost use Rattle.connection_core.specs.declared.footprint.TheConstants.{SESSION_BYTES};
     ghost use Rattle.connection_core.specs.Lives.{HasHeard, Went};
     ghost use Rattle.connection_core.specs.Stages.{given_up, lost, parted, stopped};
+    ghost use Rattle.connection_core.specs.Tasks.{tasks};
     ghost use Rattle.connection_core.specs.declared.stage.Stage.TheVariants.{Closing};
     ghost use Rattle.connection_core.specs.declared.ended.Ended.TheVariants as ended;
 
@@ -59,6 +67,7 @@ impl Connection {
             session: Session::new(alloc),
             acts: Acts::none(alloc),
             progress: Progress::New,
+            footprint: Footprint::new(alloc),
             last_receipt: None,
             stage: Stage::Running,
         }
@@ -136,6 +145,32 @@ impl Connection {
         self.stage = self.stage.given_up();
     }
 
+    /// Whether its session keeps within `SESSION_BYTES` with that command.
+    pub fn affords(&self, op: &Op) -> bool
+        ensures yes { result ≡ true → total (charged self.now.footprint op.now) ≤ SESSION_BYTES }
+        ensures no { result ≡ false → SESSION_BYTES < total (charged self.now.footprint op.now) }
+    {
+        self.footprint.admits(op)
+    }
+
+    /// Counts a command that is to be appended. Where memory is refused for that, nothing has changed.
+    pub fn charge(&mut self, alloc: Global, op: &Op) -> Result<(), AllocError>
+        requires { total (charged self.old.footprint op.now) ≤ SESSION_BYTES }
+        ensures ok { OnOk result (self.new ≡ record self.old { footprint = charged self.old.footprint op.now }) }
+        ensures err { OnErr result (self.new ≡ self.old) }
+    {
+        self.footprint.charge(alloc, op)
+    }
+
+    /// Its next command would have its session pass `SESSION_BYTES`: it is given up, and what waits of what its client has asked for
+    /// is dropped. No memory is taken.
+    pub fn cut_off(&mut self, alloc: Global)
+        ensures { self.new ≡ record self.old { acts = tasks None []; stage = given_up self.old.stage } }
+    {
+        drop(mem::replace(&mut self.acts, Acts::none(alloc)));
+        self.stage = self.stage.given_up();
+    }
+
     /// The broker takes nothing more.
     pub fn stop(&mut self)
         ensures { self.new ≡ record self.old { stage = stopped self.old.stage } }
@@ -173,14 +208,14 @@ impl Connection {
         }
     }
 
-    // The next act: those that wait come first. Where the connection is lost, its loss is the last.
+    // The next act: those that wait come first. Where the connection is lost, the end of its session is the last.
     fn next_act(&mut self) -> Option<Act>
         ensures takes { Takes self.old self.new result }
         ensures form { IfSome result HasForm }
     {
         match self.acts.next() {
             Some(act) => Some(act),
-            None if self.stage.is_lost() => self.session.lost(),
+            None if self.stage.is_lost() => loss_of(self.progress),
             None => None,
         }
     }
@@ -201,12 +236,13 @@ impl Connection {
         }
     }
 
-    // A fault closes the connection once its ERROR is sent, a DISCONNECT at once or once its RECEIPT is sent.
+    // A fault closes the connection once its ERROR is sent, a DISCONNECT at once or once its RECEIPT is sent. Its End comes before;
+    // here it is made sure of.
     fn close(&mut self, code: CloseCode)
-        ensures { self.new ≡ record self.old { stage = closed_by code self.old.last self.old.stage } }
+        ensures { self.new ≡ record self.old { stage = closed_by code self.old.last self.old.progress self.old.stage } }
     {
         if code == CloseCode::NormalClosure && self.last_receipt.is_none() {
-            self.stage = Stage::Closing(Ended::Bye);
+            self.stage = closed_behind(self.progress, self.stage);
         }
     }
 
@@ -238,10 +274,11 @@ impl Connection {
         }
     }
 
-    /// The frame that it wanted to be told was sent, an ERROR: it is to be closed.
+    /// The frame that it wanted to be told was sent, an ERROR: nothing more is appended, and it is to be closed.
     pub fn told(&mut self)
-        ensures { self.new ≡ record self.old { stage = Closing ended.Bad } }
+        ensures { self.new ≡ record self.old { progress = over self.old.progress; stage = Closing ended.Bad } }
     {
+        self.progress = self.progress.over();
         self.stage = Stage::Closing(Ended::Bad);
     }
 
@@ -268,5 +305,26 @@ impl Connection {
         if let Stage::Closing(ended) = self.stage {
             self.stage = Stage::Parting(ended);
         }
+    }
+}
+
+// What the loss of a connection asks for: the end of a session that is open.
+fn loss_of(progress: Progress) -> Option<Act>
+    ensures loss { result ≡ loss_of progress }
+    ensures form { IfSome result HasForm }
+{
+    match progress {
+        Progress::Open(_) => Some(Act::Do(Op::End(End::Lost), None)),
+        Progress::New | Progress::Ended(_) | Progress::Gone => None,
+    }
+}
+
+// Once the session has ended the connection is closed.
+fn closed_behind(progress: Progress, stage: Stage) -> Stage
+    ensures { result ≡ closed_behind progress stage }
+{
+    match progress {
+        Progress::Open(_) => stage,
+        Progress::New | Progress::Ended(_) | Progress::Gone => Stage::Closing(Ended::Bye),
     }
 }

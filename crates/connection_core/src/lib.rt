@@ -5,12 +5,14 @@
 mod acts;
 mod connection;
 mod ended;
+mod footprint;
 mod progress;
 mod said;
 mod stage;
 
 pub use connection::Connection;
 pub use ended::Ended;
+pub use footprint::SESSION_BYTES;
 pub use progress::{Progress, Role};
 pub use said::{Said, Wanted};
 pub use stage::Stage;

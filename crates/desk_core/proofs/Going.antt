@@ -1,7 +1,8 @@
 -- How a slot goes on: what its client is sent, what its seat gets, and what of its client's bytes that is.
-use Rattle.std.proofs.Common.{◌≡◌, ◌++◌, ◌∷◌, [], ℕ, List, Option, Some, None, refl, sym, ap, ◌∙◌, subst, inl, inr, append_assoc, append-nil}
+use Rattle.std.proofs.Common.{◌≡◌, ◌<◌, ◌≤◌, ◌++◌, ◌∷◌, [], ℕ, List, Option, Some, None, refl, sym, ap, ◌∙◌, subst, inl, inr, append_assoc, append-nil, arith, ◌⊎◌}
 use Rattle.std.specs.Prelude.{IsNone, Result, Ok, Err, OnOk, OnErr, IfSome, option_map}
 use Rattle.command_core.specs.Commands.{CommandValue}
+use Rattle.command_core.specs.declared.command.Op.{Op}
 use Rattle.frame_core.specs.declared.frame.Frame.{Frame}
 use Rattle.claim_core.specs.Appends.{Appends, Refuses}
 use Rattle.claim_core.specs.Seats.{SessionSeatValue, with_seen}
@@ -10,25 +11,32 @@ use Rattle.claim_core.specs.declared.refusals.Refused.TheVariants as refusals
 use Rattle.session_core.specs.declared.act.Act.{Act}
 use Rattle.connection_core.specs.Connections.{ConnectionValue, Fails, HearsBytes, Listens, Wants, WantsBy, with_appended}
 use Rattle.connection_core.specs.Conversations.{IsNext, said_of}
-use Rattle.connection_core.specs.Stages.{Executes, stopped}
-use Rattle.connection_core.specs.Tasks.{all_of}
+use Rattle.connection_core.specs.Footprints.{charged, total}
+use Rattle.connection_core.specs.Stages.{Executes, IsEnding, given_up, stopped}
+use Rattle.connection_core.specs.declared.footprint.TheConstants.{SESSION_BYTES}
+use Rattle.connection_core.specs.Tasks.{all_of, tasks}
 use Rattle.connection_core.specs.declared.progress.Progress.{Progress}
 use Rattle.connection_core.specs.declared.said.Wanted.{Wanted}
 use Rattle.connection_core.specs.declared.said.Wanted.TheVariants.{Append, Tell, Done, Rest}
+use Rattle.connection_core.specs.declared.stage.Stage.{Stage}
 use Rattle.connection_core.specs.declared.stage.Stage.TheVariants.{Running, GivingUp}
 use Rattle.session_core.specs.declared.act.Act.TheVariants.{Direct, Do, Close}
 use Rattle.desk_core.specs.Continues.{Continues}
 use Rattle.desk_core.specs.Conversations.{StaysOrEnds}
 use Rattle.desk_core.specs.Deeds.{Deed, Said, Told, Untold, Tells, commands_of, told_of, untold_of}
 use Rattle.desk_core.specs.Goings.{GoesOn, TellsIt}
-use Rattle.desk_core.specs.Lives.{Did, DoesWanted, HasTold, Heeds, Lives, LivesAt, LivesOn, Restaged, act_of, wanted_of}
+use Rattle.desk_core.specs.Halting.{FindsEnd, HasHalted, IsFinal}
+use Rattle.desk_core.specs.Lives.{Did, DoesWanted, HasTold, Heeds, Idles, Lives, LivesAt, LivesOn, Restaged, Steady, act_of, wanted_of}
+use Rattle.desk_core.specs.Spending.{Spends, ops_of, waiting_of}
 use Rattle.desk_core.specs.Slots.{IsNew, Served, Stays, Unserved}
 use Rattle.desk_core.specs.declared.pending.Pending.{Pending}
 use Rattle.desk_core.specs.declared.slot.Slot.{Slot}
 use Rattle.desk_core.proofs.Doing.{commands_append, told_append}
-use Rattle.desk_core.proofs.Living.{again_next, begins, hears_more, leaves_it, restages, same_stage, says_it, stopped_over, stops, tells_it, wants_next}
+use Rattle.desk_core.proofs.Living.{again_next, begins, halted_giving, hears_more, leaves_it, not_halted, restages, same_stage, says_it, stopped_over, stops, tells_it, tells_none, wants_halts, wants_next}
+use Rattle.desk_core.proofs.Spending.{counts_it, cut_by_count, cuts_it, spends_as, spends_charged, spends_new, spends_no_more, spends_on, spends_said, spends_wanted}
 use Rattle.desk_core.proofs.Messages.{quiet, restay, reserve, served, still, unserved, wants_no_other}
-use Rattle.desk_core.proofs.Talking.{joined, reads_so, stays}
+use Rattle.desk_core.proofs.Talking.{ends_so, joined, reads_so, stays}
+use Rattle.connection_core.proofs.Footprints.{within_less}
 
 -- ── what is heard and done ──
 
@@ -40,18 +48,26 @@ more_bytes : (received : Option (List ℕ)) (a b : List ℕ) → option_map (λ 
 more_bytes None a b = refl
 more_bytes (Some bytes) a b = ap (λ x. Some x) (append_assoc bytes a b)
 
+-- no deed more, and what waited waits
+as_before : {B : Type 0} (bytes : List ℕ) (before : List Deed) (is : Slot B) (p : Option (Pending B)) → is.pending ≡ p → Lives bytes before is.connection (wanted_of p) → Spends before is.connection (waiting_of p) → LivesAt bytes (before ++ []) is
+as_before bytes before is p pending l s =
+    subst (λ d. LivesAt bytes d is) (sym (append-nil before))
+    (subst (λ x. Lives bytes before is.connection (wanted_of x) × Spends before is.connection (waiting_of x)) (sym pending) (l, s))
+
 -- with no bytes and no commands
-pub heeds_quietly : {B L : Type 0} (received : L → Option (List ℕ)) (was is : Slot B) (from to : L) → received to ≡ received from → Restaged was.connection is.connection → is.pending ≡ was.pending → Heeds received was from is to []
-heeds_quietly received was is from to unread restaged pending = record {
-  got = [];
-  read = unread ∙ no_bytes (received from);
-  lives = λ bytes before l.
-      subst (λ s. Lives (bytes ++ []) s is.connection (wanted_of is.pending)) (sym (append-nil before))
-      (subst (λ p. Lives (bytes ++ []) before is.connection (wanted_of p)) (sym pending)
-      (restages bytes [] before was.connection is.connection (wanted_of was.pending) restaged (λ r. refl) l));
+pub heeds_quietly : {B L : Type 0} (received : L → Option (List ℕ)) (was is : Slot B) (from to : L) → received to ≡ received from → Steady was.connection is.connection → is.pending ≡ was.pending → Idles received was from is to
+heeds_quietly received was is from to unread steady pending = let restaged = steady.restaged in record {
+  heeds = record {
+    got = [];
+    read = unread ∙ no_bytes (received from);
+    lives = λ bytes before l.
+        as_before (bytes ++ []) before is (was.pending) pending (restages bytes [] before was.connection is.connection (wanted_of was.pending) restaged (λ r. refl) l.0)
+        (spends_on before (waiting_of was.pending) was.connection is.connection restaged.executes restaged.footprint l.1);
+  };
+  halts = steady.halts;
 }
 
-pub heeds_none : {B L : Type 0} (received : L → Option (List ℕ)) (s : Slot B) (l : L) → Heeds received s l s l []
+pub heeds_none : {B L : Type 0} (received : L → Option (List ℕ)) (s : Slot B) (l : L) → Idles received s l s l
 heeds_none received s l = heeds_quietly received s s l l refl (same_stage s.connection s.connection refl) refl
 
 pub heeds_then : {B L : Type 0} (received : L → Option (List ℕ)) (was mid is : Slot B) (l m n : L) (a b : List Deed) → Heeds received was l mid m a → Heeds received mid m is n b → Heeds received was l is n (a ++ b)
@@ -75,6 +91,7 @@ goes_then sent received was mid is s t u l m n a b = record {
   continues = joined was.connection.progress mid.connection.progress is.connection.progress s t u a.continues b.continues;
   served = subst (λ frames. Served sent frames was l is n) (sym (told_append a.deeds b.deeds)) (served sent (told_of a.deeds) (told_of b.deeds) was mid is l m n a.served b.served);
   heeds = heeds_then received was mid is l m n a.deeds b.deeds a.heeds b.heeds;
+  halts = λ before h. b.halts (λ m. a.halts before m) h;
 }
 
 -- the conversation stands where it stood
@@ -82,27 +99,33 @@ stands : (p q : Progress) (s t : SessionSeatValue) → q ≡ p → t ≡ s → C
 stands p q s t same seat = subst (λ x. Continues p s x t) (sym same) (subst (λ x. Continues p s p x) (sym seat) (stays p s))
 
 -- where nothing is said, told or sent
-pub goes_quietly : {B L : Type 0} (sent : L → Option (List (List ℕ))) (received : L → Option (List ℕ)) (was is : Slot B) (s : SessionSeatValue) (l m : L) → Unserved sent was l is m → Heeds received was l is m [] → GoesOn sent received was s l is s m
+pub goes_quietly : {B L : Type 0} (sent : L → Option (List (List ℕ))) (received : L → Option (List ℕ)) (was is : Slot B) (s : SessionSeatValue) (l m : L) → Unserved sent was l is m → Idles received was l is m → GoesOn sent received was s l is s m
 goes_quietly sent received was is s l m u h = record {
   deeds = [];
   added = sym (append-nil s.own);
   continues = stands was.connection.progress is.connection.progress s s u.progress refl;
   served = unserved sent was is l m u;
-  heeds = h;
+  heeds = h.heeds;
+  halts = λ before e. before (h.halts e);
 }
 
 pub goes_none : {B L : Type 0} (sent : L → Option (List (List ℕ))) (received : L → Option (List ℕ)) (slot : Slot B) (s : SessionSeatValue) (l : L) → GoesOn sent received slot s l slot s l
 goes_none sent received slot s l = goes_quietly sent received slot slot s l l (record { progress = refl; pending = refl; outbox = refl; kept = refl; sent = refl }) (heeds_none received slot l)
 
+found_later : (s t : SessionSeatValue) (mark : ℕ) → t ≡ with_seen s mark → s.seen ≤ t.seen → FindsEnd s → FindsEnd t
+found_later s t mark seen no_less (inl stopped) = inl (ap (λ (x : SessionSeatValue). x.stopped) seen ∙ stopped)
+found_later s t mark seen no_less (inr far) = inr (omega (arith, far, no_less))
+
 -- where the mark is read, and outputs are sent
 pub goes_reading : {B L : Type 0} (sent : L → Option (List (List ℕ))) (received : L → Option (List ℕ)) (was is : Slot B) (s t : SessionSeatValue) (l m : L) (mark : ℕ)
-    → StaysOrEnds was.connection.progress is.connection.progress → t ≡ with_seen s mark → Served sent [] was l is m → Heeds received was l is m [] → GoesOn sent received was s l is t m
-goes_reading sent received was is s t l m mark ends seen served heeds = record {
+    → StaysOrEnds was.connection.progress is.connection.progress → t ≡ with_seen s mark → s.seen ≤ t.seen → Served sent [] was l is m → Idles received was l is m → GoesOn sent received was s l is t m
+goes_reading sent received was is s t l m mark ends seen no_less served idles = record {
   deeds = [];
   added = ap (λ (x : SessionSeatValue). x.own) seen ∙ sym (append-nil s.own);
   continues = reads_so was.connection.progress was.connection.progress is.connection.progress s s t mark (stays was.connection.progress s) ends seen;
   served = served;
-  heeds = heeds;
+  heeds = idles.heeds;
+  halts = λ before e. found_later s t mark seen no_less (before (idles.halts e));
 }
 
 -- with what was wanted and done, and no bytes
@@ -117,17 +140,24 @@ by_deeds received was is l m deeds unread lives = record {
 -- the whole life of a connection
 pub did : {B : Type 0} (was is : Slot B) (got : List ℕ) (deeds : List Deed) → IsNew was → ((bytes : List ℕ) (before : List Deed) → LivesAt bytes before was → LivesAt (bytes ++ got) (before ++ deeds) is) → Did got deeds
 did was is got deeds anew lives =
-    let first : LivesAt [] [] was = subst (λ p. Lives [] [] was.connection (wanted_of p)) (sym anew.pending) (begins was.connection anew.connection) in
-    let last : LivesAt got deeds is = lives [] [] first in record {
+    let spends = spends_new was.connection (ap (λ (c : ConnectionValue). c.footprint) anew.connection) in
+    let both : LivesAt got deeds is =
+    lives [] [] (subst (λ p. Lives [] [] was.connection (wanted_of p) × Spends [] was.connection (waiting_of p)) (sym anew.pending) (begins was.connection anew.connection, spends)) in
+    let last = both.0 in record {
       heard = last.heard;
       unheard = last.unheard;
       whole = last.whole;
       all = last.all;
       session = last.session;
       hears = last.hears;
+      asked_for = last.asked_for;
+      cut = last.cut;
+      halves = last.halves;
       losses = last.losses;
       are_losses = last.are_losses;
       done = last.done;
+      cut_for = last.cut_for;
+      within = within_less (ops_of (commands_of deeds)) (waiting_of is.pending) both.1.within;
       left = act_of (wanted_of is.pending) ++ (last.left ++ all_of is.connection.acts);
       split = last.split;
       reached = last.reached;
@@ -137,151 +167,222 @@ did was is got deeds anew lives =
 -- ── what a link gave ──
 
 -- where its link gave nothing
-pub heeds_silence : {B L : Type 0} (received : L → Option (List ℕ)) (was is : Slot B) (from to : L) → received to ≡ option_map (λ bytes. bytes ++ []) (received from) → Restaged was.connection is.connection → is.pending ≡ was.pending
-    → Heeds received was from is to []
+pub heeds_silence : {B L : Type 0} (received : L → Option (List ℕ)) (was is : Slot B) (from to : L) → received to ≡ option_map (λ bytes. bytes ++ []) (received from) → Steady was.connection is.connection → is.pending ≡ was.pending
+    → Idles received was from is to
 heeds_silence received was is from to read restaged pending = heeds_quietly received was is from to (read ∙ sym (no_bytes (received from))) restaged pending
 
 -- where what it gave is not heard any more
 pub heeds_unheard : {B L : Type 0} (received : L → Option (List ℕ)) (was is : Slot B) (from to : L) (got : List ℕ) → received to ≡ option_map (λ bytes. bytes ++ got) (received from) → (is.connection.stage ≡ Running → ⊥)
-    → Restaged was.connection is.connection → is.pending ≡ was.pending → Heeds received was from is to []
-heeds_unheard received was is from to got read over restaged pending = record {
-  got = got;
-  read = read;
-  lives = λ bytes before l.
-      subst (λ s. Lives (bytes ++ got) s is.connection (wanted_of is.pending)) (sym (append-nil before))
-      (subst (λ p. Lives (bytes ++ got) before is.connection (wanted_of p)) (sym pending)
-      (restages bytes got before was.connection is.connection (wanted_of was.pending) restaged (λ r. absurd (over r)) l));
+    → Steady was.connection is.connection → is.pending ≡ was.pending → Idles received was from is to
+heeds_unheard received was is from to got read over steady pending = let restaged = steady.restaged in record {
+  heeds = record {
+    got = got;
+    read = read;
+    lives = λ bytes before l.
+        as_before (bytes ++ got) before is was.pending pending (restages bytes got before was.connection is.connection (wanted_of was.pending) restaged (λ r. absurd (over r)) l.0)
+        (spends_on before (waiting_of was.pending) was.connection is.connection restaged.executes restaged.footprint l.1);
+  };
+  halts = steady.halts;
 }
 
 no_giving : GivingUp ≡ Running → ⊥
 no_giving e = cc
 
-fails_so : (old new : ConnectionValue) → Listens old → Fails old new → Restaged old new
-fails_so old new listens f = record {
+fails_restaged : (old new : ConnectionValue) → Listens old → Fails old new → Restaged old new
+fails_restaged old new listens f = record {
   acts = ap (λ (c : ConnectionValue). c.acts) f.same;
   session = λ r. absurd (no_giving (sym (ap (λ (c : ConnectionValue). c.stage) f.same) ∙ r));
   runs = λ r. listens.0;
   told = λ t. subst HasTold (sym listens.0) tt;
   executes = λ e. subst Executes (sym listens.0) tt;
   progress = λ e. ap (λ (c : ConnectionValue). c.progress) f.same;
+  footprint = ap (λ (c : ConnectionValue). c.footprint) f.same;
+  last = ap (λ (c : ConnectionValue). c.last) f.same;
+  stood = inl (ap (λ (c : ConnectionValue). c.progress) f.same);
+  ended = λ last ended e. absurd (subst IsEnding (ap (λ (c : ConnectionValue). c.stage) f.same) e);
+}
+
+fails_so : (old new : ConnectionValue) → Listens old → Fails old new → Steady old new
+fails_so old new listens f = record {
+  halts = λ h. absurd (subst HasHalted (ap (λ (c : ConnectionValue). c.stage) f.same) h);
+  restaged = fails_restaged old new listens f;
 }
 
 -- where it heard the bytes, or memory was refused for them
 pub heeds_bytes : {B L E : Type 0} (received : L → Option (List ℕ)) (was is : Slot B) (from to : L) (got : List ℕ) (r : Result (Unit {0}) E) → Listens was.connection → was.pending ≡ None
-    → OnOk r (HearsBytes was.connection got is.connection) → OnErr r (Fails was.connection is.connection) → received to ≡ option_map (λ bytes. bytes ++ got) (received from) → is.pending ≡ was.pending → Heeds received was from is to []
+    → OnOk r (HearsBytes was.connection got is.connection) → OnErr r (Fails was.connection is.connection) → received to ≡ option_map (λ bytes. bytes ++ got) (received from) → is.pending ≡ was.pending → Idles received was from is to
 heeds_bytes received was is from to got (Ok x) listens none heard failed read pending = record {
-  got = got;
-  read = read;
-  lives = λ bytes before l.
-      subst (λ s. Lives (bytes ++ got) s is.connection (wanted_of is.pending)) (sym (append-nil before))
-      (subst (λ p. Lives (bytes ++ got) before is.connection (wanted_of p)) (sym (pending ∙ none))
-      (hears_more bytes got before was.connection is.connection listens heard (subst (λ p. Lives bytes before was.connection (wanted_of p)) none l)));
+  heeds = record {
+    got = got;
+    read = read;
+    lives = λ bytes before l.
+        as_before (bytes ++ got) before is None (pending ∙ none)
+        (hears_more bytes got before was.connection is.connection listens heard (subst (λ p. Lives bytes before was.connection (wanted_of p)) none l.0))
+        (spends_on before [] was.connection is.connection (λ e. subst Executes (sym listens.0) tt) (ap (λ (c : ConnectionValue). c.footprint) heard.same)
+        (subst (λ p. Spends before was.connection (waiting_of p)) none l.1));
+  };
+  halts = λ h. subst HasHalted (ap (λ (c : ConnectionValue). c.stage) heard.same) h;
 }
 heeds_bytes received was is from to got (Err e) listens none heard failed read pending =
     heeds_unheard received was is from to got read (λ r. no_giving (sym (ap (λ (c : ConnectionValue). c.stage) failed.same) ∙ r)) (fails_so was.connection is.connection listens failed) pending
 
 -- ── what is wanted ──
 
-lives_by : {B : Type 0} (bytes : List ℕ) (before : List Deed) (new : ConnectionValue) (p : Option (Pending B)) (wanted : Wanted) → wanted_of p ≡ wanted → Lives bytes before new wanted → Lives bytes (before ++ []) new (wanted_of p)
-lives_by bytes before new p wanted is l =
-    subst (λ s. Lives bytes s new (wanted_of p)) (sym (append-nil before)) (subst (λ w. Lives bytes before new w) (sym is) l)
+-- where nothing waits
+none_waits : {B : Type 0} (bytes : List ℕ) (deeds : List Deed) (new : ConnectionValue) (p : Option (Pending B)) → p ≡ None → Lives bytes deeds new Rest → Spends deeds new [] → Lives bytes deeds new (wanted_of p) × Spends deeds new (waiting_of p)
+none_waits bytes deeds new p none l s = subst (λ x. Lives bytes deeds new (wanted_of x) × Spends deeds new (waiting_of x)) (sym none) (l, s)
 
-pub held_so : {B : Type 0} (old new : ConnectionValue) (p : Option (Pending B)) (pending : Pending B) (c : CommandValue) → pending.entry.command ≡ c → new ≡ old → p ≡ Some pending → LivesOn (Append c) old new p []
-held_so old new p pending c command same kept = λ bytes before l.
-    lives_by bytes before new p (Append c) (ap wanted_of kept ∙ ap (λ x. Append x) command) (subst (λ x. Lives bytes before x (Append c)) (sym same) l)
+-- and no deed is added
+none_more_waits : {B : Type 0} (bytes : List ℕ) (before : List Deed) (new : ConnectionValue) (p : Option (Pending B)) → p ≡ None → Lives bytes before new Rest → Spends before new [] → Lives bytes (before ++ []) new (wanted_of p) × Spends (before ++ []) new (waiting_of p)
+none_more_waits bytes before new p none l s = subst (λ d. Lives bytes d new (wanted_of p) × Spends d new (waiting_of p)) (sym (append-nil before)) (none_waits bytes before new p none l s)
 
-pub stopped_so : {B : Type 0} (old new : ConnectionValue) (p : Option (Pending B)) (wanted : Wanted) → new ≡ record old { stage = stopped old.stage } → p ≡ None → LivesOn wanted old new p []
-stopped_so old new p wanted same none = λ bytes before l.
-    lives_by bytes before new p Rest (ap wanted_of none) (leaves_it bytes before old new wanted (stops old new same) (stopped_over old new same) l)
+pub held_so : {B : Type 0} (old new : ConnectionValue) (p : Option (Pending B)) (pending : Pending B) → new ≡ old → p ≡ Some pending → LivesOn (Append pending.entry.command) (pending.entry.command.op ∷ []) old new p []
+held_so old new p pending same kept = λ bytes before l s.
+    subst (λ d. Lives bytes d new (wanted_of p) × Spends d new (waiting_of p)) (sym (append-nil before))
+    (subst (λ x. Lives bytes before new (wanted_of x) × Spends before new (waiting_of x)) (sym kept)
+    (subst (λ x. Lives bytes before x (Append pending.entry.command) × Spends before x (pending.entry.command.op ∷ [])) (sym same) (l, s)))
 
-pub said_so : {B : Type 0} (old new : ConnectionValue) (p : Option (Pending B)) (c : CommandValue) (ticket : ℕ) → Executes old.stage → new ≡ with_appended old (said_of c) ticket → p ≡ None → LivesOn (Append c) old new p (Said (ticket, c) ∷ [])
-said_so old new p c ticket executes same none = λ bytes before l.
-    subst (λ x. Lives bytes (before ++ Said (ticket, c) ∷ []) new (wanted_of x)) (sym none) (says_it bytes before old new c ticket executes same l)
+pub stopped_so : {B : Type 0} (old new : ConnectionValue) (p : Option (Pending B)) (wanted : Wanted) (waiting : List Op) → new ≡ record old { stage = stopped old.stage } → p ≡ None → LivesOn wanted waiting old new p []
+stopped_so old new p wanted waiting same none = λ bytes before l s.
+    none_more_waits bytes before new p none (leaves_it bytes before old new wanted (stops old new same) (stopped_over old new same) l)
+    (spends_no_more before waiting old new (stopped_over old new same) s)
 
-told_so : {B : Type 0} (old new : ConnectionValue) (p : Option (Pending B)) (frame : Frame) (deed : Deed) → Executes old.stage → Restaged old new → Tells frame deed → (HasTold new.stage → untold_of (deed ∷ []) ≡ []) → p ≡ None
-    → LivesOn (Tell frame) old new p (deed ∷ [])
-told_so old new p frame deed executes restaged tells none_untold none = λ bytes before l.
-    subst (λ x. Lives bytes (before ++ deed ∷ []) new (wanted_of x)) (sym none) (tells_it bytes before old new frame deed restaged executes tells none_untold l)
+pub said_so : {B : Type 0} (old new : ConnectionValue) (p : Option (Pending B)) (c : CommandValue) (ticket : ℕ) → Executes old.stage → new ≡ with_appended old (said_of c) ticket → p ≡ None → LivesOn (Append c) (c.op ∷ []) old new p (Said (ticket, c) ∷ [])
+said_so old new p c ticket executes same none = λ bytes before l s.
+    none_waits bytes (before ++ Said (ticket, c) ∷ []) new p none (says_it bytes before old new c ticket executes same l)
+    (spends_said before old new c ticket executes (ap (λ (x : ConnectionValue). x.footprint) same) s)
+
+pub told_so : {B : Type 0} (old new : ConnectionValue) (p : Option (Pending B)) (frame : Frame) (deed : Deed) → Executes old.stage → Restaged old new → Tells frame deed → (HasTold new.stage → untold_of (deed ∷ []) ≡ []) → p ≡ None
+    → LivesOn (Tell frame) [] old new p (deed ∷ [])
+told_so old new p frame deed executes restaged tells none_untold none = λ bytes before l s.
+    none_waits bytes (before ++ deed ∷ []) new p none (tells_it bytes before old new frame deed restaged executes tells none_untold l)
+    (spends_as before (before ++ deed ∷ []) [] new (tells_none before frame deed tells) (spends_on before [] old new restaged.executes restaged.footprint s))
 
 pub again_so : {B : Type 0} (old new : ConnectionValue) (p : Option (Pending B)) (wanted : Wanted) (act : Act) → Executes old.stage → old.acts.again ≡ None → act_of wanted ≡ act ∷ []
-    → new ≡ record old { acts = record old.acts { again = Some act } } → p ≡ None → LivesOn wanted old new p []
-again_so old new p wanted act executes first is_act same none = λ bytes before l. lives_by bytes before new p Rest (ap wanted_of none) (again_next bytes before old new wanted act executes first is_act same l)
+    → new ≡ record old { acts = record old.acts { again = Some act } } → p ≡ None → LivesOn wanted [] old new p []
+again_so old new p wanted act executes first is_act same none = λ bytes before l s.
+    none_more_waits bytes before new p none (again_next bytes before old new wanted act executes first is_act same l)
+    (spends_on before [] old new (λ e. executes) (ap (λ (x : ConnectionValue). x.footprint) same) s)
 
-pub nothing_wanted : {B : Type 0} (wanted : Wanted) (old new : ConnectionValue) (p : Option (Pending B)) (s t : SessionSeatValue) → t.own ≡ s.own → LivesOn wanted old new p [] → DoesWanted wanted old s new p t
-nothing_wanted wanted old new p s t own lives = record { deeds = []; added = own ∙ sym (append-nil s.own); none_told = refl; lives = lives }
+pub nothing_wanted : {B : Type 0} (wanted : Wanted) (old new : ConnectionValue) (p : Option (Pending B)) (waiting : List Op) (s t : SessionSeatValue) → t.own ≡ s.own → (HasHalted new.stage → HasHalted old.stage ⊎ FindsEnd t) → LivesOn wanted waiting old new p [] → DoesWanted wanted waiting old s new p t
+nothing_wanted wanted old new p waiting s t own halts lives = record { deeds = []; added = own ∙ sym (append-nil s.own); none_told = refl; halts = halts; lives = lives }
 
 pub said_it : {B : Type 0} (window : ℕ) (old new : ConnectionValue) (p : Option (Pending B)) (s t : SessionSeatValue) (c : CommandValue) (ticket : ℕ) → Executes old.stage → Appends window s t ticket c → new ≡ with_appended old (said_of c) ticket → p ≡ None
-    → DoesWanted (Append c) old s new p t
-said_it window old new p s t c ticket executes a same none = record { deeds = Said (ticket, c) ∷ []; added = ap (λ (x : SessionSeatValue). x.own) a.added; none_told = refl; lives = said_so old new p c ticket executes same none }
+    → DoesWanted (Append c) (c.op ∷ []) old s new p t
+said_it window old new p s t c ticket executes a same none = record { deeds = Said (ticket, c) ∷ []; added = ap (λ (x : SessionSeatValue). x.own) a.added; none_told = refl; halts = λ h. inl (subst HasHalted (ap (λ (x : ConnectionValue). x.stage) same) h); lives = said_so old new p c ticket executes same none }
 
 pub said_some : {B : Type 0} (window : ℕ) (old new : ConnectionValue) (p : Option (Pending B)) (s t : SessionSeatValue) (c : CommandValue) (o : Option ℕ) (ticket : ℕ) → o ≡ Some ticket → Executes old.stage
-    → IfSome o (λ n. Appends window s t n c × IsNext old.progress c × (new ≡ with_appended old (said_of c) n)) → p ≡ None → DoesWanted (Append c) old s new p t
+    → IfSome o (λ n. Appends window s t n c × IsNext old.progress c × (new ≡ with_appended old (said_of c) n)) → p ≡ None → DoesWanted (Append c) (c.op ∷ []) old s new p t
 said_some window old new p s t c o ticket is executes spoken none =
     let so = subst (λ x. IfSome x (λ n. Appends window s t n c × IsNext old.progress c × (new ≡ with_appended old (said_of c) n))) is spoken in
     said_it window old new p s t c ticket executes so.0 so.2 none
 
 -- it may not be the next of the conversation, which is not so of what it wants
-pub never_dropped : {B : Type 0} (old new : ConnectionValue) (p : Option (Pending B)) (c : CommandValue) → Executes old.stage → (IsNext old.progress c → ⊥) → LivesOn (Append c) old new p []
-never_dropped old new p c executes other = λ bytes before l.
+pub never_dropped : {B : Type 0} (old new : ConnectionValue) (p : Option (Pending B)) (c : CommandValue) → Executes old.stage → (IsNext old.progress c → ⊥) → LivesOn (Append c) (c.op ∷ []) old new p []
+never_dropped old new p c executes other = λ bytes before l s.
     absurd (other (subst (λ x. IsNext x c) (sym (l.stands executes)) (l.next executes).0))
 
 pub dropped_so : {B : Type 0} (old new : ConnectionValue) (p : Option (Pending B)) (s t : SessionSeatValue) (c : CommandValue) (o : Option ℕ) → o ≡ None → Executes old.stage
-    → (IsNone o → (IsNext old.progress c → ⊥) × (t ≡ s) × (new ≡ old)) → DoesWanted (Append c) old s new p t
+    → (IsNone o → (IsNext old.progress c → ⊥) × (t ≡ s) × (new ≡ old)) → DoesWanted (Append c) (c.op ∷ []) old s new p t
 dropped_so old new p s t c o none executes dropped =
     let so = dropped (subst (λ (x : Option ℕ). IsNone x) (sym none) refl) in
-    nothing_wanted (Append c) old new p s t (ap (λ (x : SessionSeatValue). x.own) so.1) (never_dropped old new p c executes so.0)
+    nothing_wanted (Append c) old new p (c.op ∷ []) s t (ap (λ (x : SessionSeatValue). x.own) so.1) (λ h. inl (subst HasHalted (ap (λ (x : ConnectionValue). x.stage) so.2) h)) (never_dropped old new p c executes so.0)
 
 own_refused : (window : ℕ) (refused : Refused) (s t : SessionSeatValue) → Refuses window s t refused → t.own ≡ s.own
 own_refused window refusals.Stopped s t is = ap (λ (x : SessionSeatValue). x.own) is
 own_refused window refusals.Exhausted s t is = ap (λ (x : SessionSeatValue). x.own) is.2
 own_refused window (refusals.Busy mark) s t is = ap (λ (x : SessionSeatValue). x.own) is.3
 
-pub refused_so : {B : Type 0} (window : ℕ) (refused : Refused) (old mid new : ConnectionValue) (p : Option (Pending B)) (s t : SessionSeatValue) (c d : CommandValue) → Refuses window s t refused → mid ≡ old → d ≡ c → LivesOn (Append d) mid new p []
-    → DoesWanted (Append c) old s new p t
-refused_so window refused old mid new p s t c d is same command lives =
-    nothing_wanted (Append c) old new p s t (own_refused window refused s t is) (subst (λ x. LivesOn (Append x) old new p []) command (subst (λ x. LivesOn (Append d) x new p []) same lives))
+found_so : (window : ℕ) (refused : Refused) (s t : SessionSeatValue) → Refuses window s t refused → IsFinal refused → FindsEnd t
+found_so window refusals.Stopped s t is final = inl (ap (λ (x : SessionSeatValue). x.stopped) is)
+found_so window refusals.Exhausted s t is final = inr is.1
+found_so window (refusals.Busy mark) s t is final = absurd final
+
+pub refused_so : {B : Type 0} (window : ℕ) (refused : Refused) (old mid new : ConnectionValue) (p : Option (Pending B)) (s t : SessionSeatValue) (c d : CommandValue) → Refuses window s t refused → mid ≡ old → d ≡ c → (HasHalted new.stage → HasHalted mid.stage ⊎ IsFinal refused) → LivesOn (Append d) (d.op ∷ []) mid new p []
+    → DoesWanted (Append c) (c.op ∷ []) old s new p t
+refused_so window refused old mid new p s t c d is same command halts lives =
+    nothing_wanted (Append c) old new p (c.op ∷ []) s t (own_refused window refused s t is)
+    (λ h. elim (halts h) [ inl before ↦ inl (subst (λ (x : ConnectionValue). HasHalted x.stage) same before) | inr final ↦ inr (found_so window refused s t is final) ])
+    (subst (λ (x : CommandValue). LivesOn (Append x) (x.op ∷ []) old new p []) command (subst (λ x. LivesOn (Append d) (d.op ∷ []) x new p []) same lives))
+
+-- the command would have the session pass its bytes, and is dropped with all that waits behind it
+pub cut_so : {B : Type 0} (old new : ConnectionValue) (p : Option (Pending B)) (s : SessionSeatValue) (c : CommandValue) → Executes old.stage → SESSION_BYTES < total (charged old.footprint c.op) → new ≡ record old { acts = tasks None []; stage = given_up old.stage } → p ≡ None
+    → DoesWanted (Append c) [] old s new p s
+cut_so old new p s c executes passes same none = nothing_wanted (Append c) old new p [] s s refl (λ h. inl (halted_giving old.stage (subst HasHalted (ap (λ (x : ConnectionValue). x.stage) same) h))) (λ bytes before l spends.
+    let by = cut_by_count before old c.op executes spends passes in
+    none_more_waits bytes before new p none (cuts_it bytes before old new c executes same by.0 by.1 l)
+    (spends_on before [] old new (λ e. executes) (ap (λ (x : ConnectionValue). x.footprint) same) spends))
+
+-- the command is counted first
+pub charged_so : {B : Type 0} (old mid new : ConnectionValue) (p : Option (Pending B)) (s t : SessionSeatValue) (c d : CommandValue) → Executes old.stage → total (charged old.footprint c.op) ≤ SESSION_BYTES → mid ≡ record old { footprint = charged old.footprint c.op } → d ≡ c
+    → (Executes mid.stage → DoesWanted (Append d) (d.op ∷ []) mid s new p t) → DoesWanted (Append c) [] old s new p t
+charged_so {B} old mid new p s t c d executes fits counted command does =
+    let own : DoesWanted (Append c) (c.op ∷ []) mid s new p t =
+    subst (λ (x : CommandValue). DoesWanted {B = B} (Append x) (x.op ∷ []) mid s new p t) command (does (subst Executes (sym (ap (λ (x : ConnectionValue). x.stage) counted)) executes)) in record {
+      deeds = own.deeds;
+      added = own.added;
+      none_told = own.none_told;
+      halts = λ h. elim (own.halts h) [ inl before ↦ inl (subst HasHalted (ap (λ (x : ConnectionValue). x.stage) counted) before) | inr found ↦ inr found ];
+      lives = λ bytes before l spends.
+          own.lives bytes before (subst (λ x. Lives bytes before x (Append c)) (sym counted) (counts_it bytes before old (charged old.footprint c.op) (Append c) l))
+          (spends_charged before old mid c.op executes fits (ap (λ (x : ConnectionValue). x.footprint) counted) spends);
+    }
+
+spending : {B : Type 0} (before : List Deed) (c : ConnectionValue) (p : Option (Pending B)) → p ≡ None → Spends before c (waiting_of p) → Spends before c []
+spending before c p none s = subst (λ x. Spends before c (waiting_of x)) none s
 
 wanting : {B : Type 0} (bytes : List ℕ) (before : List Deed) (c : ConnectionValue) (p : Option (Pending B)) → p ≡ None → Lives bytes before c (wanted_of p) → Lives bytes before c Rest
 wanting bytes before c p none l = subst (λ x. Lives bytes before c (wanted_of x)) none l
 
 -- the command of an entry that waited, or the next that was wanted
 goes_doing : {B L : Type 0} (sent : L → Option (List (List ℕ))) (received : L → Option (List ℕ)) (was is : Slot B) (s t : SessionSeatValue) (l : L) (deeds : List Deed) → t.own ≡ s.own ++ commands_of deeds → told_of deeds ≡ []
-    → Continues was.connection.progress s is.connection.progress t → Stays was is → ((bytes : List ℕ) (before : List Deed) → LivesAt bytes before was → LivesAt bytes (before ++ deeds) is) → GoesOn sent received was s l is t l
-goes_doing sent received was is s t l deeds added none_told continues same lives = record {
+    → Continues was.connection.progress s is.connection.progress t → Stays was is → ((bytes : List ℕ) (before : List Deed) → LivesAt bytes before was → LivesAt bytes (before ++ deeds) is) → (HasHalted is.connection.stage → FindsEnd t) → GoesOn sent received was s l is t l
+goes_doing sent received was is s t l deeds added none_told continues same lives halts = record {
   deeds = deeds;
   added = added;
   continues = continues;
   served = subst (λ frames. Served sent frames was l is l) (sym none_told) (quiet sent was is l l same refl);
   heeds = by_deeds received was is l l deeds refl lives;
+  halts = λ before h. halts h;
 }
 
+only_found : (stage : Stage) (t : SessionSeatValue) → Executes stage → HasHalted stage ⊎ FindsEnd t → FindsEnd t
+only_found stage t executes (inl halted) = absurd (not_halted stage executes halted)
+only_found stage t executes (inr found) = found
+
 pub goes_wanted : {B L : Type 0} (sent : L → Option (List (List ℕ))) (received : L → Option (List ℕ)) (was mid is : Slot B) (s t : SessionSeatValue) (l : L) (wanted : Wanted)
-    → Executes was.connection.stage → was.pending ≡ None → Wants was.connection mid.connection wanted → mid.outbox ≡ was.outbox → mid.kept ≡ was.kept
-    → Continues mid.connection.progress s is.connection.progress t → Stays mid is → DoesWanted wanted mid.connection s is.connection is.pending t → GoesOn sent received was s l is t l
-goes_wanted sent received was mid is s t l wanted executes none w outbox kept continues same d =
+    → Executes was.connection.stage → Executes mid.connection.stage → was.pending ≡ None → Wants was.connection mid.connection wanted → mid.outbox ≡ was.outbox → mid.kept ≡ was.kept
+    → Continues mid.connection.progress s is.connection.progress t → Stays mid is → DoesWanted wanted [] mid.connection s is.connection is.pending t → GoesOn sent received was s l is t l
+goes_wanted sent received was mid is s t l wanted executes still_so none w outbox kept continues same d =
     let progress = wants_no_other was.connection mid.connection wanted w in
     goes_doing sent received was is s t l d.deeds d.added d.none_told (subst (λ p. Continues p s is.connection.progress t) progress continues) (restay was mid is progress outbox kept same)
-    (λ bytes before x. d.lives bytes before (wants_next bytes before was.connection mid.connection wanted executes w (wanting bytes before was.connection was.pending none x)))
+    (λ bytes before x. d.lives bytes before (wants_next bytes before was.connection mid.connection wanted executes w (wanting bytes before was.connection was.pending none x.0))
+    (spends_wanted before [] was.connection mid.connection wanted executes w (spending before was.connection was.pending none x.1)))
+    (λ h. only_found mid.connection.stage t still_so (d.halts h))
 
-pub goes_pending : {B L : Type 0} (sent : L → Option (List (List ℕ))) (received : L → Option (List ℕ)) (was mid is : Slot B) (s t : SessionSeatValue) (l : L) (pending : Pending B) → was.pending ≡ Some pending
+pub goes_pending : {B L : Type 0} (sent : L → Option (List (List ℕ))) (received : L → Option (List ℕ)) (was mid is : Slot B) (s t : SessionSeatValue) (l : L) (pending : Pending B) → Executes was.connection.stage → was.pending ≡ Some pending
     → mid.connection ≡ was.connection → mid.outbox ≡ was.outbox → mid.kept ≡ was.kept → Continues mid.connection.progress s is.connection.progress t → Stays mid is
-    → DoesWanted (Append pending.entry.command) mid.connection s is.connection is.pending t → GoesOn sent received was s l is t l
-goes_pending sent received was mid is s t l pending some connection outbox kept continues same d =
+    → DoesWanted (Append pending.entry.command) (pending.entry.command.op ∷ []) mid.connection s is.connection is.pending t → GoesOn sent received was s l is t l
+goes_pending sent received was mid is s t l pending executes some connection outbox kept continues same d =
     let progress = ap (λ (c : ConnectionValue). c.progress) connection in
     goes_doing sent received was is s t l d.deeds d.added d.none_told (subst (λ p. Continues p s is.connection.progress t) progress continues) (restay was mid is progress outbox kept same)
-    (λ bytes before x. d.lives bytes before (subst (λ c. Lives bytes before c (Append pending.entry.command)) (sym connection) (subst (λ p. Lives bytes before was.connection (wanted_of p)) some x)))
+    (λ bytes before x. d.lives bytes before (subst (λ c. Lives bytes before c (Append pending.entry.command)) (sym connection) (subst (λ p. Lives bytes before was.connection (wanted_of p)) some x.0))
+    (subst (λ c. Spends before c (pending.entry.command.op ∷ [])) (sym connection) (subst (λ p. Spends before was.connection (waiting_of p)) some x.1)))
+    (λ h. only_found mid.connection.stage t (subst (λ (c : ConnectionValue). Executes c.stage) (sym connection) executes) (d.halts h))
 
 -- a frame that was wanted to be told
 pub goes_telling : {B L : Type 0} (sent : L → Option (List (List ℕ))) (received : L → Option (List ℕ)) (was mid is : Slot B) (s : SessionSeatValue) (l m : L) (frame : Frame) → Executes was.connection.stage → Executes mid.connection.stage → was.pending ≡ None
-    → Wants was.connection mid.connection (Tell frame) → mid.outbox ≡ was.outbox → mid.kept ≡ was.kept → received m ≡ received l → is.connection.progress ≡ mid.connection.progress → TellsIt sent frame mid l is m → GoesOn sent received was s l is s m
+    → Wants was.connection mid.connection (Tell frame) → mid.outbox ≡ was.outbox → mid.kept ≡ was.kept → received m ≡ received l → StaysOrEnds mid.connection.progress is.connection.progress → TellsIt sent frame mid l is m → GoesOn sent received was s l is s m
 goes_telling sent received was mid is s l m frame executes still_so none w outbox kept unread same t =
     let progress = wants_no_other was.connection mid.connection (Tell frame) w in record {
       deeds = t.deeds;
       added = sym (append-nil s.own) ∙ ap (λ x. s.own ++ x) (sym t.none_said);
-      continues = stands was.connection.progress is.connection.progress s s (same ∙ progress) refl;
+      continues = ends_so was.connection.progress was.connection.progress is.connection.progress s s (stays was.connection.progress s) (subst (λ p. StaysOrEnds p is.connection.progress) progress same);
       served = reserve sent (told_of t.deeds) was mid is l m progress outbox kept t.served;
       heeds = by_deeds received was is l m t.deeds unread
-          (λ bytes before x. t.lives still_so bytes before (wants_next bytes before was.connection mid.connection (Tell frame) executes w (wanting bytes before was.connection was.pending none x)));
+          (λ bytes before x. t.lives still_so bytes before (wants_next bytes before was.connection mid.connection (Tell frame) executes w (wanting bytes before was.connection was.pending none x.0))
+          (spends_wanted before [] was.connection mid.connection (Tell frame) executes w (spending before was.connection was.pending none x.1)));
+      halts = λ before h. absurd (not_halted mid.connection.stage still_so (t.halts still_so h));
     }
 
 done_rest : (bytes : List ℕ) (before : List Deed) (c : ConnectionValue) → Lives bytes before c Done → Lives bytes before c Rest
@@ -307,6 +408,14 @@ done_rest bytes before c l = record {
   none_left = l.none_left;
   stands = l.stands;
   next = λ e. tt;
+  asked_for = l.asked_for;
+  cut = l.cut;
+  halves = l.halves;
+  cut_for = l.cut_for;
+  none_cut = l.none_cut;
+  stood = l.stood;
+  last = l.last;
+  ended = l.ended;
 }
 
 -- nothing is to be done from outside
@@ -315,16 +424,20 @@ pub goes_done : {B L : Type 0} (sent : L → Option (List (List ℕ))) (received
 goes_done sent received was is s l executes none still_none outbox kept w =
     let progress = wants_no_other was.connection is.connection Done w in
     goes_doing sent received was is s s l [] (sym (append-nil s.own)) refl (stands was.connection.progress is.connection.progress s s progress refl) (still was is progress outbox kept)
-    (λ bytes before x. lives_by bytes before is.connection is.pending Rest (ap wanted_of still_none)
-    (done_rest bytes before is.connection (wants_next bytes before was.connection is.connection Done executes w (wanting bytes before was.connection was.pending none x))))
+    (λ bytes before x. none_more_waits bytes before is.connection is.pending still_none
+    (done_rest bytes before is.connection (wants_next bytes before was.connection is.connection Done executes w (wanting bytes before was.connection was.pending none x.0)))
+    (spends_wanted before [] was.connection is.connection Done executes w (spending before was.connection was.pending none x.1)))
+    (λ h. absurd (wants_halts was.connection is.connection w.act Done executes w.asked_for h))
 
 pub goes_rest : {B L : Type 0} (sent : L → Option (List (List ℕ))) (received : L → Option (List ℕ)) (was is : Slot B) (s : SessionSeatValue) (l : L) → Executes was.connection.stage → was.pending ≡ None → is.pending ≡ None → is.outbox ≡ was.outbox → is.kept ≡ was.kept
     → Wants was.connection is.connection Rest → GoesOn sent received was s l is s l
 goes_rest sent received was is s l executes none still_none outbox kept w =
     let progress = wants_no_other was.connection is.connection Rest w in
     goes_doing sent received was is s s l [] (sym (append-nil s.own)) refl (stands was.connection.progress is.connection.progress s s progress refl) (still was is progress outbox kept)
-    (λ bytes before x. lives_by bytes before is.connection is.pending Rest (ap wanted_of still_none)
-    (wants_next bytes before was.connection is.connection Rest executes w (wanting bytes before was.connection was.pending none x)))
+    (λ bytes before x. none_more_waits bytes before is.connection is.pending still_none
+    (wants_next bytes before was.connection is.connection Rest executes w (wanting bytes before was.connection was.pending none x.0))
+    (spends_wanted before [] was.connection is.connection Rest executes w (spending before was.connection was.pending none x.1)))
+    (λ h. absurd (wants_halts was.connection is.connection w.act Rest executes w.asked_for h))
 
 pub not_some : {X : Type 0} (o : Option X) → ((x : X) → o ≡ Some x → ⊥) → o ≡ None
 not_some None other = refl
@@ -349,23 +462,25 @@ still_executes old new wanted executes w outside = subst Executes (sym (same_sta
 -- ── a frame is told ──
 
 -- The link took it; it was over, now or before; or memory was refused, and it is wanted again.
-pub tells_told : {B L : Type 0} (sent : L → Option (List (List ℕ))) (frame : Frame) (was is : Slot B) (l m : L) → was.pending ≡ None → is.pending ≡ was.pending → (Executes was.connection.stage → Restaged was.connection is.connection)
+pub tells_told : {B L : Type 0} (sent : L → Option (List (List ℕ))) (frame : Frame) (was is : Slot B) (l m : L) → was.pending ≡ None → is.pending ≡ was.pending → (Executes was.connection.stage → Steady was.connection is.connection)
     → Served sent (frame ∷ []) was l is m → TellsIt sent frame was l is m
-tells_told sent frame was is l m none pending restaged s = record {
+tells_told sent frame was is l m none pending steady s = record {
+  halts = λ executes. (steady executes).halts;
   deeds = Told frame ∷ [];
   none_said = refl;
   served = s;
-  lives = λ executes. told_so was.connection is.connection is.pending frame (Told frame) executes (restaged executes) (inl refl) (λ t. refl) (pending ∙ none);
+  lives = λ executes. told_so was.connection is.connection is.pending frame (Told frame) executes (steady executes).restaged (inl refl) (λ t. refl) (pending ∙ none);
 }
 
-pub tells_nobody : {B L : Type 0} (sent : L → Option (List (List ℕ))) (frame : Frame) (was is : Slot B) (l m : L) → was.pending ≡ None → is.pending ≡ was.pending → Restaged was.connection is.connection
+pub tells_nobody : {B L : Type 0} (sent : L → Option (List (List ℕ))) (frame : Frame) (was is : Slot B) (l m : L) → was.pending ≡ None → is.pending ≡ was.pending → Steady was.connection is.connection
     → (Executes was.connection.stage → HasTold is.connection.stage → ⊥) → Served sent [] was l is m → TellsIt sent frame was l is m
-tells_nobody sent frame was is l m none pending restaged over s = record {
+tells_nobody sent frame was is l m none pending steady over s = record {
+  halts = λ executes. steady.halts;
   deeds = Untold frame ∷ [];
   none_said = refl;
   served = s;
-  lives = λ executes. told_so was.connection is.connection is.pending frame (Untold frame) executes restaged (inr refl) (λ t. absurd (over executes t)) (pending ∙ none);
+  lives = λ executes. told_so was.connection is.connection is.pending frame (Untold frame) executes steady.restaged (inr refl) (λ t. absurd (over executes t)) (pending ∙ none);
 }
 
-pub tells_later : {B L : Type 0} (sent : L → Option (List (List ℕ))) (frame : Frame) (was is : Slot B) (l m : L) → Served sent [] was l is m → (Executes was.connection.stage → LivesOn (Tell frame) was.connection is.connection is.pending []) → TellsIt sent frame was l is m
-tells_later sent frame was is l m s lives = record { deeds = []; none_said = refl; served = s; lives = lives }
+pub tells_later : {B L : Type 0} (sent : L → Option (List (List ℕ))) (frame : Frame) (was is : Slot B) (l m : L) → Served sent [] was l is m → (HasHalted is.connection.stage → HasHalted was.connection.stage) → (Executes was.connection.stage → LivesOn (Tell frame) [] was.connection is.connection is.pending []) → TellsIt sent frame was l is m
+tells_later sent frame was is l m s halts lives = record { halts = λ executes. halts; deeds = []; none_said = refl; served = s; lives = lives }

@@ -1,8 +1,10 @@
 pub mod Answering
+pub mod Chaining
 pub mod Doing
 pub mod Going
 pub mod Lists
 pub mod Living
 pub mod Messages
+pub mod Spending
 pub mod Standing
 pub mod Talking

@@ -1,8 +1,10 @@
 -- How a connection at a seat does what its client's bytes ask for.
-use Rattle.std.proofs.Common.{◌≡◌, ◌++◌, ◌∷◌, [], ℕ, List, Bool, true, false, Option, Some, None, refl, sym, ap, ◌∙◌, subst, inl, inr, append_assoc, append-nil}
-use Rattle.std.specs.Prelude.{cond, option_to_list}
+use Rattle.std.proofs.Common.{◌≡◌, ◌++◌, ◌∷◌, [], ℕ, List, Option, Some, None, refl, sym, ap, ◌∙◌, subst, inl, inr, append_assoc, append-nil}
+use Rattle.std.specs.Prelude.{◌&&◌, ◌<◌, ◌⊎◌, cond, is_some, option_to_list}
+use Rattle.std.proofs.lemmas.List.{map-append}
 use Rattle.std.specs.List.{AllByRecursion}
 use Rattle.command_core.specs.Commands.{CommandValue}
+use Rattle.command_core.specs.declared.command.Op.{Op}
 use Rattle.command_core.specs.declared.command.Op.TheVariants as ops
 use Rattle.command_core.specs.declared.command.End.TheVariants as ends
 use Rattle.frame_core.specs.declared.frame.Frame.{Frame}
@@ -10,11 +12,13 @@ use Rattle.session_core.specs.declared.act.Act.{Act}
 use Rattle.session_core.specs.declared.act.Act.TheVariants.{Do, Direct, Close}
 use Rattle.session_core.specs.declared.act.CloseCode.{CloseCode}
 use Rattle.session_core.specs.declared.act.CloseCode.TheVariants.{NormalClosure, ProtocolError}
-use Rattle.session_core.specs.Sessions.{Hearing, Hears, IsOver, fresh, is_held}
-use Rattle.connection_core.specs.Connections.{ConnectionValue, HearsBytes, IsSent, Listens, Wants, WantsBy, closed_by, unheard, with_appended}
-use Rattle.connection_core.specs.Conversations.{IsNext, after, asked, over, role_of, said_of}
+use Rattle.session_core.specs.Sessions.{Hearing, Hears, IsOver, fresh}
+use Rattle.connection_core.specs.Connections.{ConnectionValue, HearsBytes, IsLost, IsSent, Listens, Takes, Wants, WantsBy, closed_by, loss_of, unheard, with_appended}
+use Rattle.connection_core.specs.Conversations.{IsDone, IsFinished, IsNext, after, asked, is_farewell, over, role_of, said_of}
+use Rattle.connection_core.specs.Footprints.{footprint}
+use Rattle.connection_core.specs.declared.footprint.TheConstants.{SESSION_BYTES}
 use Rattle.connection_core.specs.Lives.{HasHeard}
-use Rattle.connection_core.specs.Stages.{Executes, given_up, lost, parted, rested, stopped}
+use Rattle.connection_core.specs.Stages.{Executes, IsEnding, IsOwnEnd, given_up, lost, parted, rested, stopped}
 use Rattle.connection_core.specs.Tasks.{Tasks, all_of}
 use Rattle.connection_core.specs.declared.ended.Ended.{Ended}
 use Rattle.connection_core.specs.declared.ended.Ended.TheVariants.{Bye, Lost, Bad, Stopped, Turns}
@@ -22,15 +26,20 @@ use Rattle.frame_core.specs.declared.frame.Verb.{Verb}
 use Rattle.frame_core.specs.declared.frame.Verb.TheVariants as verbs
 use Rattle.std.proofs.lemmas.Bool.{cases_eq}
 use Rattle.connection_core.specs.declared.progress.Progress.{Progress}
-use Rattle.connection_core.specs.declared.progress.Progress.TheVariants.{New}
+use Rattle.connection_core.specs.declared.progress.Progress.TheVariants.{New, Open, Ended as Finished, Gone}
 use Rattle.connection_core.specs.declared.said.Wanted.{Wanted}
 use Rattle.connection_core.specs.declared.said.Wanted.TheVariants.{Append, Tell, Done, Rest}
 use Rattle.connection_core.specs.declared.stage.Stage.{Stage}
 use Rattle.connection_core.specs.declared.stage.Stage.TheVariants.{Running, GivingUp, Closing, Parting, Leaving, Over}
+use Rattle.claim_core.specs.Counts.{Pair}
+use Rattle.connection_core.proofs.Footprints.{nothing_by_end}
 use Rattle.connection_core.proofs.Living.{hears_on, lost_or_not, lost_runs, nothing_heard_yet, still_runs}
-use Rattle.desk_core.specs.Deeds.{Deed, Does, Said, Tells, untold_of}
-use Rattle.desk_core.specs.Lives.{HasTold, IsAsked, IsBad, IsLoss, Lives, Restaged, act_of}
-use Rattle.desk_core.proofs.Doing.{IsSilent, does_say, does_silent, does_tell, none_more}
+use Rattle.desk_core.specs.Conversations.{StaysOrEnds}
+use Rattle.desk_core.specs.Deeds.{Deed, Does, Said, Tells, commands_of, untold_of}
+use Rattle.desk_core.specs.Lives.{HasTold, IsAsked, IsBad, IsLast, IsLoss, Lives, Restaged, Steady, act_of}
+use Rattle.desk_core.specs.Halting.{HasHalted, IsStopped}
+use Rattle.desk_core.specs.Spending.{IsCut, ops_of}
+use Rattle.desk_core.proofs.Doing.{IsSilent, commands_append, does_say, does_silent, does_tell, none_more}
 use Rattle.desk_core.proofs.Lists.{all_append}
 
 -- ── a connection begins ──
@@ -43,24 +52,72 @@ begins c is = subst (λ x. Lives [] [] x Rest) (sym is) record {
   all = [];
   session = fresh;
   hears = nothing_heard_yet;
+  asked_for = [];
+  cut = [];
+  halves = refl;
   losses = [];
   are_losses = tt;
   done = [];
   left = [];
   split = refl;
+  cut_for = inl refl;
   reached = New;
   does = (refl, refl);
   none_untold = λ t. refl;
   none_unheard = λ r. refl;
   none_lost = λ r. refl;
+  none_cut = λ r. refl;
   phase = λ r. refl;
   rest = λ r o. refl;
   none_left = λ e. refl;
   stands = λ e. refl;
   next = λ e. tt;
+  stood = inl refl;
+  last = inl refl;
+  ended = λ e. absurd e;
 }
 
 -- ── it comes to another stage ──
+
+over_twice : (p : Progress) → over (over p) ≡ over p
+over_twice New = refl
+over_twice (Open number) = refl
+over_twice (Finished number) = refl
+over_twice Gone = refl
+
+pub finished_over : (p : Progress) → IsFinished (over p)
+finished_over New = tt
+finished_over (Open number) = tt
+finished_over (Finished number) = tt
+finished_over Gone = tt
+
+pub done_finished : (p : Progress) → IsFinished p → IsDone p
+done_finished New f = tt
+done_finished (Open number) f = absurd f
+done_finished (Finished number) f = tt
+done_finished Gone f = tt
+
+stood_then : (p q r : Progress) → StaysOrEnds p q → StaysOrEnds q r → StaysOrEnds p r
+stood_then p q r (inl a) (inl b) = inl (b ∙ a)
+stood_then p q r (inl a) (inr b) = inr (b ∙ ap over a)
+stood_then p q r (inr a) (inl b) = inr (b ∙ a)
+stood_then p q r (inr a) (inr b) = inr (b ∙ ap over a ∙ over_twice p)
+
+finished_then : (p q : Progress) → StaysOrEnds p q → IsFinished p → IsFinished q
+finished_then p q (inl same) f = subst IsFinished (sym same) f
+finished_then p q (inr ends) f = subst IsFinished (sym ends) (finished_over p)
+
+last_then : (old new : ConnectionValue) → new.last ≡ old.last → StaysOrEnds old.progress new.progress → IsLast old → IsLast new
+last_then old new last stood (inl none) = inl (last ∙ none)
+last_then old new last stood (inr f) = inr (finished_then old.progress new.progress stood f)
+
+pub goes_on_then : (stage : Stage) → Executes stage → IsEnding stage → ⊥
+goes_on_then Running e i = i
+goes_on_then GivingUp e i = i
+goes_on_then Leaving e i = i
+goes_on_then (Closing ended) e i = e
+goes_on_then (Parting ended) e i = e
+goes_on_then (Over ended) e i = e
 
 -- with bytes that came and were not heard, where it does not run
 pub restages : (bytes got : List ℕ) (deeds : List Deed) (old new : ConnectionValue) (wanted : Wanted) → Restaged old new → (new.stage ≡ Running → got ≡ []) → Lives bytes deeds old wanted → Lives (bytes ++ got) deeds new wanted
@@ -71,21 +128,29 @@ restages bytes got deeds old new wanted r none l = record {
   all = l.all;
   session = l.session;
   hears = l.hears;
+  asked_for = l.asked_for;
+  cut = l.cut;
+  halves = l.halves;
   losses = l.losses;
   are_losses = l.are_losses;
   done = l.done;
   left = l.left;
   split = l.split ∙ ap (λ (t : Tasks). l.done ++ (act_of wanted ++ (l.left ++ all_of t))) (sym r.acts);
+  cut_for = l.cut_for;
   reached = l.reached;
   does = l.does;
   none_untold = λ t. l.none_untold (r.told t);
   none_unheard = λ run. ap (λ b. l.unheard ++ b) (none run) ∙ append-nil l.unheard ∙ l.none_unheard (r.runs run);
   none_lost = λ run. l.none_lost (r.runs run);
+  none_cut = λ run. l.none_cut (r.runs run);
   phase = λ run. l.phase (r.runs run) ∙ ap (λ (h : Hearing). h.phase) (sym (r.session run));
   rest = λ run on. l.rest (r.runs run) (λ over. on (subst (λ (h : Hearing). IsOver h.phase) (sym (r.session run)) over)) ∙ sym (r.session run);
   none_left = λ e. l.none_left (r.executes e);
   stands = λ e. r.progress e ∙ l.stands (r.executes e);
   next = λ e. l.next (r.executes e);
+  stood = stood_then l.reached old.progress new.progress l.stood r.stood;
+  last = last_then old new r.last r.stood l.last;
+  ended = r.ended l.last l.ended;
 }
 
 as_bytes : (bytes : List ℕ) (deeds : List Deed) (c : ConnectionValue) (wanted : Wanted) → Lives (bytes ++ []) deeds c wanted → Lives bytes deeds c wanted
@@ -95,8 +160,20 @@ pub restays : (bytes : List ℕ) (deeds : List Deed) (old new : ConnectionValue)
 restays bytes deeds old new wanted r l = as_bytes bytes deeds new wanted (restages bytes [] deeds old new wanted r (λ run. refl) l)
 
 -- by the stage alone
-pub by_stage : (old : ConnectionValue) (stage : Stage) → (stage ≡ Running → old.stage ≡ Running) → (HasTold stage → HasTold old.stage) → (Executes stage → Executes old.stage) → Restaged old (record old { stage = stage })
-by_stage old stage runs told executes = record { acts = refl; session = λ r. refl; runs = runs; told = told; executes = executes; progress = λ e. refl }
+pub by_stage : (old : ConnectionValue) (stage : Stage) → (stage ≡ Running → old.stage ≡ Running) → (HasTold stage → HasTold old.stage) → (Executes stage → Executes old.stage) → (IsEnding stage → IsEnding old.stage)
+    → Restaged old (record old { stage = stage })
+by_stage old stage runs told executes ending = record {
+  acts = refl;
+  session = λ r. refl;
+  runs = runs;
+  told = told;
+  executes = executes;
+  progress = λ e. refl;
+  footprint = refl;
+  last = refl;
+  stood = inl refl;
+  ended = λ last ended e. ended (ending e);
+}
 
 pub as_restaged : (old new it : ConnectionValue) → new ≡ it → Restaged old it → Restaged old new
 as_restaged old new it is r = subst (λ x. Restaged old x) (sym is) r
@@ -111,21 +188,29 @@ hears_more bytes got deeds old new listens is l = record {
   all = l.all ++ all_of new.acts;
   session = now.session;
   hears = now.hears;
+  asked_for = l.all ++ all_of new.acts;
+  cut = [];
+  halves = sym (append-nil (l.all ++ all_of new.acts));
   losses = [];
   are_losses = tt;
   done = l.done;
   left = [];
   split = append-nil (l.all ++ all_of new.acts) ∙ ap (λ a. a ++ all_of new.acts) all_done;
+  cut_for = inl refl;
   reached = l.reached;
   does = l.does;
   none_untold = λ t. l.none_untold (subst HasTold (sym runs) tt);
   none_unheard = λ r. refl;
   none_lost = λ r. refl;
+  none_cut = λ r. refl;
   phase = now.phase;
   rest = now.rest;
   none_left = λ e. refl;
-  stands = λ e. ap (λ (c : ConnectionValue). c.progress) is.same ∙ l.stands executes;
+  stands = λ e. progress ∙ l.stands executes;
   next = λ e. tt;
+  stood = inl (progress ∙ l.stands executes);
+  last = last_then old new (ap (λ (c : ConnectionValue). c.last) is.same) (inl progress) l.last;
+  ended = λ e. absurd (subst IsEnding (ap (λ (c : ConnectionValue). c.stage) is.same ∙ runs) e);
 }
   where
     runs : old.stage ≡ Running
@@ -133,6 +218,9 @@ hears_more bytes got deeds old new listens is l = record {
 
     executes : Executes old.stage
     executes = subst Executes (sym runs) tt
+
+    progress : new.progress ≡ old.progress
+    progress = ap (λ (c : ConnectionValue). c.progress) is.same
 
     was : HasHeard l.heard l.all old
     was = record {
@@ -146,7 +234,78 @@ hears_more bytes got deeds old new listens is l = record {
     now = hears_on got l.heard l.all old new listens is was
 
     all_done : l.all ≡ l.done
-    all_done = sym (append-nil l.all) ∙ ap (λ a. l.all ++ a) (sym (l.none_lost runs)) ∙ l.split ∙ ap (λ a. l.done ++ a) (ap (λ a. a ++ all_of old.acts) (l.none_left executes) ∙ listens.1) ∙ append-nil l.done
+    all_done = l.halves ∙ ap (λ a. l.asked_for ++ a) (l.none_cut runs) ∙ ap (λ a. l.asked_for ++ a) (sym (l.none_lost runs)) ∙ l.split ∙ ap (λ a. l.done ++ a) (ap (λ a. a ++ all_of old.acts) (l.none_left executes) ∙ listens.1) ∙ append-nil l.done
+
+-- ── where it is cut off ──
+
+cut_more : (asked cut done acts : List Act) (said after_it : List Pair) → after_it ≡ said → IsCut asked cut done said → IsCut asked cut (done ++ acts) after_it
+cut_more asked cut done acts said after_it same (inl none) = inl none
+cut_more asked cut done acts said after_it same (inr c) = inr record {
+  op = c.op;
+  receipt = c.receipt;
+  others = c.others;
+  first = c.first;
+  more = c.more ++ acts;
+  before = ap (λ l. l ++ acts) c.before ∙ append_assoc asked c.more acts;
+  passes = subst (λ l. SESSION_BYTES < footprint (ops_of l ++ c.op ∷ [])) (sym same) c.passes;
+}
+
+same_front : {X : Type 0} (xs ys zs : List X) → xs ++ ys ≡ xs ++ zs → ys ≡ zs
+same_front [] ys zs e = e
+same_front (x ∷ xs) ys zs e = same_front xs ys zs (let tail : xs ++ ys ≡ xs ++ zs = cc in tail)
+
+loss_in : (more losses others : List Act) (act : Act) → AllByRecursion IsLoss losses → losses ≡ more ++ (act ∷ others) → IsLoss act
+loss_in [] losses others act all e = (subst (AllByRecursion IsLoss) e all).0
+loss_in (m ∷ more) losses others act all e = loss_in more (more ++ (act ∷ others)) others act (subst (AllByRecursion IsLoss) e all).1 refl
+
+end_of : (op : Op) (receipt : Option (List ℕ)) → Do op receipt ≡ Do (ops.End ends.Lost) None → op ≡ ops.End ends.Lost
+end_of op receipt e = cc
+
+-- what is appended behind the last act before the cut is the session's end
+cut_end : (asked cut done others losses : List Act) (said : List Pair) (ticket : ℕ) (c : CommandValue) → AllByRecursion IsLoss losses → asked ++ losses ≡ done ++ (Do c.op c.receipt ∷ others) → IsCut asked cut done said
+    → IsCut asked cut (done ++ Do c.op c.receipt ∷ []) (said ++ (ticket, c) ∷ [])
+cut_end asked cut done others losses said ticket c are_losses split (inl none) = inl none
+cut_end asked cut done others losses said ticket c are_losses split (inr k) =
+    let behind : losses ≡ k.more ++ (Do c.op c.receipt ∷ others) =
+    same_front asked losses (k.more ++ (Do c.op c.receipt ∷ others)) (split ∙ ap (λ l. l ++ (Do c.op c.receipt ∷ others)) k.before ∙ append_assoc asked k.more (Do c.op c.receipt ∷ others)) in
+    let end : c.op ≡ ops.End ends.Lost = end_of c.op c.receipt (loss_in k.more losses others (Do c.op c.receipt) are_losses behind) in
+    let all : ops_of (said ++ (ticket, c) ∷ []) ≡ ops_of said ++ ops.End ends.Lost ∷ [] = map-append (λ (p : Pair). p.1.op) said ((ticket, c) ∷ []) ∙ ap (λ o. ops_of said ++ o ∷ []) end in
+    inr record {
+      op = k.op;
+      receipt = k.receipt;
+      others = k.others;
+      first = k.first;
+      more = k.more ++ Do c.op c.receipt ∷ [];
+      before = ap (λ l. l ++ Do c.op c.receipt ∷ []) k.before ∙ append_assoc asked k.more (Do c.op c.receipt ∷ []);
+      passes = subst (λ l. SESSION_BYTES < footprint (l ++ k.op ∷ [])) (sym all)
+          (subst (λ n. SESSION_BYTES < n) (sym (nothing_by_end (ops_of said) ends.Lost k.op)) k.passes);
+    }
+
+pub tells_none : (deeds : List Deed) (frame : Frame) (deed : Deed) → Tells frame deed → commands_of (deeds ++ deed ∷ []) ≡ commands_of deeds
+tells_none deeds frame deed (inl told) = commands_append deeds (deed ∷ []) ∙ ap (λ d. commands_of deeds ++ commands_of (d ∷ [])) told ∙ append-nil (commands_of deeds)
+tells_none deeds frame deed (inr untold) = commands_append deeds (deed ∷ []) ∙ ap (λ d. commands_of deeds ++ commands_of (d ∷ [])) untold ∙ append-nil (commands_of deeds)
+
+never_next : (p : Progress) (c : CommandValue) → IsFinished p → IsNext p c → ⊥
+never_next New c f next = f
+never_next (Open number) c f next = f
+never_next (Finished number) c f next = next
+never_next Gone c f next = next
+
+none_before : (p : Progress) (last : Option ℕ) → (IsFinished p → ⊥) → (last ≡ None) ⊎ IsFinished p → last ≡ None
+none_before p last on (inl none) = none
+none_before p last on (inr f) = absurd (on f)
+
+last_said : (p : Progress) (last : Option ℕ) (op : Op) (receipt : Option (List ℕ)) (ticket : ℕ) → (IsFinished p → ⊥) → (last ≡ None) ⊎ IsFinished p
+    → (cond (is_farewell op && is_some receipt) (Some ticket) last ≡ None) ⊎ IsFinished (after p (role_of op) ticket)
+last_said p last (ops.End how) receipt ticket on l = inr (finished_over p)
+last_said p last (ops.Open client_id) receipt ticket on l = inl (none_before p last on l)
+last_said p last (ops.Send sending) receipt ticket on l = inl (none_before p last on l)
+last_said p last (ops.Subscribe id to mode durable) receipt ticket on l = inl (none_before p last on l)
+last_said p last (ops.Unsubscribe id durable) receipt ticket on l = inl (none_before p last on l)
+last_said p last (ops.Ack delivery) receipt ticket on l = inl (none_before p last on l)
+last_said p last (ops.Nack delivery) receipt ticket on l = inl (none_before p last on l)
+last_said p last (ops.Commit members) receipt ticket on l = inl (none_before p last on l)
+last_said p last ops.Note receipt ticket on l = inl (none_before p last on l)
 
 -- ── it wants what is next ──
 
@@ -160,18 +319,18 @@ done_further all losses done others act split = split ∙ sym (append_assoc done
 -- what stands behind the next act
 record Next (bytes : List ℕ) (deeds : List Deed) (old new : ConnectionValue) (act : Act) : Type 0 where
   lives : Lives bytes deeds old Rest
-  all : List Act
-  session : Hearing
   losses : List Act
-  hears : Hears fresh lives.heard all session
   are_losses : AllByRecursion IsLoss losses
-  split : all ++ losses ≡ lives.done ++ (act ∷ [] ++ ([] ++ all_of new.acts))
+  split : lives.asked_for ++ losses ≡ lives.done ++ (act ∷ [] ++ ([] ++ all_of new.acts))
   told : HasTold new.stage → HasTold old.stage
   none_unheard : new.stage ≡ Running → lives.unheard ≡ []
   none_lost : new.stage ≡ Running → losses ≡ []
-  phase : new.stage ≡ Running → session.phase ≡ new.session.phase
-  rest : new.stage ≡ Running → (IsOver new.session.phase → ⊥) → session ≡ new.session
+  none_cut : new.stage ≡ Running → lives.cut ≡ []
+  phase : new.stage ≡ Running → lives.session.phase ≡ new.session.phase
+  rest : new.stage ≡ Running → (IsOver new.session.phase → ⊥) → lives.session ≡ new.session
   progress : new.progress ≡ lives.reached
+  last : IsLast new
+  ended : IsEnding new.stage → IsDone new.progress
 
 wants_it : (bytes : List ℕ) (deeds : List Deed) (old new : ConnectionValue) (act : Act) (wanted : Wanted) → Next bytes deeds old new act → act_of wanted ≡ act ∷ [] → ((p : Progress) → p ≡ old.progress → IsAsked p wanted) → old.progress ≡ new.progress
     → Lives bytes deeds new wanted
@@ -179,12 +338,16 @@ wants_it bytes deeds old new act wanted n is asked_for same = record {
   heard = n.lives.heard;
   unheard = n.lives.unheard;
   whole = n.lives.whole;
-  all = n.all;
-  session = n.session;
-  hears = n.hears;
+  all = n.lives.all;
+  session = n.lives.session;
+  hears = n.lives.hears;
+  asked_for = n.lives.asked_for;
+  cut = n.lives.cut;
+  halves = n.lives.halves;
   losses = n.losses;
   are_losses = n.are_losses;
   done = n.lives.done;
+  cut_for = n.lives.cut_for;
   left = [];
   split = n.split ∙ ap (λ l. n.lives.done ++ (l ++ ([] ++ all_of new.acts))) (sym is);
   reached = n.lives.reached;
@@ -192,11 +355,15 @@ wants_it bytes deeds old new act wanted n is asked_for same = record {
   none_untold = λ t. n.lives.none_untold (n.told t);
   none_unheard = n.none_unheard;
   none_lost = n.none_lost;
+  none_cut = n.none_cut;
   phase = n.phase;
   rest = n.rest;
   none_left = λ e. refl;
   stands = λ e. n.progress;
   next = λ e. asked_for n.lives.reached (sym n.progress ∙ sym same);
+  stood = inl n.progress;
+  last = n.last;
+  ended = n.ended;
 }
 
 passes_it : (bytes : List ℕ) (deeds : List Deed) (old new : ConnectionValue) (act : Act) (wanted : Wanted) → Next bytes deeds old new act → act_of wanted ≡ [] → ((p : Progress) → IsAsked p wanted) → ((p : Progress) → p ≡ old.progress → IsSilent p act) → old.progress ≡ new.progress
@@ -205,24 +372,32 @@ passes_it bytes deeds old new act wanted n is asked_for silent same = record {
   heard = n.lives.heard;
   unheard = n.lives.unheard;
   whole = n.lives.whole;
-  all = n.all;
-  session = n.session;
-  hears = n.hears;
+  all = n.lives.all;
+  session = n.lives.session;
+  hears = n.lives.hears;
+  asked_for = n.lives.asked_for;
+  cut = n.lives.cut;
+  halves = n.lives.halves;
   losses = n.losses;
   are_losses = n.are_losses;
   done = n.lives.done ++ act ∷ [];
+  cut_for = cut_more n.lives.asked_for n.lives.cut n.lives.done (act ∷ []) (commands_of deeds) (commands_of deeds) refl n.lives.cut_for;
   left = [];
-  split = done_further n.all n.losses n.lives.done (all_of new.acts) act n.split ∙ ap (λ l. (n.lives.done ++ act ∷ []) ++ (l ++ ([] ++ all_of new.acts))) (sym is);
+  split = done_further n.lives.asked_for n.losses n.lives.done (all_of new.acts) act n.split ∙ ap (λ l. (n.lives.done ++ act ∷ []) ++ (l ++ ([] ++ all_of new.acts))) (sym is);
   reached = n.lives.reached;
   does = does_silent New n.lives.done deeds n.lives.reached act n.lives.does (silent n.lives.reached (sym n.progress ∙ sym same));
   none_untold = λ t. n.lives.none_untold (n.told t);
   none_unheard = n.none_unheard;
   none_lost = n.none_lost;
+  none_cut = n.none_cut;
   phase = n.phase;
   rest = n.rest;
   none_left = λ e. refl;
   stands = λ e. n.progress;
   next = λ e. asked_for n.lives.reached;
+  stood = inl n.progress;
+  last = n.last;
+  ended = n.ended;
 }
 
 -- by what an act asks for
@@ -238,78 +413,89 @@ by_act bytes deeds old new (Direct frame) wanted n by same = subst (λ w. Lives 
 by_act bytes deeds old new (Close code) wanted n by same = subst (λ w. Lives bytes deeds new w) (sym by.0) (passes_it bytes deeds old new (Close code) Done n refl (λ p. tt) (λ p e. tt) same)
 
 first_next : (bytes : List ℕ) (deeds : List Deed) (old new : ConnectionValue) (act : Act) (others : List Act) → Lives bytes deeds old Rest → Executes old.stage → all_of old.acts ≡ act ∷ others → all_of new.acts ≡ others → new.session ≡ old.session
-    → (new.stage ≡ Running → old.stage ≡ Running) → (HasTold new.stage → HasTold old.stage) → new.progress ≡ old.progress → Next bytes deeds old new act
-first_next bytes deeds old new act others l executes first now session runs told progress = record {
+    → (new.stage ≡ Running → old.stage ≡ Running) → (HasTold new.stage → HasTold old.stage) → new.progress ≡ old.progress → new.last ≡ old.last → (IsEnding new.stage → IsDone old.progress) → Next bytes deeds old new act
+first_next bytes deeds old new act others l executes first now session runs told progress last ended = record {
   lives = l;
-  all = l.all;
-  session = l.session;
   losses = l.losses;
-  hears = l.hears;
   are_losses = l.are_losses;
-  split = one_further l.all l.losses l.done l.left (all_of old.acts) others act l.split (l.none_left executes) first ∙ ap (λ o. l.done ++ (act ∷ o)) (sym now);
+  split = one_further l.asked_for l.losses l.done l.left (all_of old.acts) others act l.split (l.none_left executes) first ∙ ap (λ o. l.done ++ (act ∷ o)) (sym now);
   told = told;
   none_unheard = λ r. l.none_unheard (runs r);
   none_lost = λ r. l.none_lost (runs r);
+  none_cut = λ r. l.none_cut (runs r);
   phase = λ r. l.phase (runs r) ∙ ap (λ (h : Hearing). h.phase) (sym session);
   rest = λ r on. l.rest (runs r) (λ over. on (subst (λ (h : Hearing). IsOver h.phase) (sym session) over)) ∙ sym session;
   progress = progress ∙ l.stands executes;
+  last = last_then old new last (inl progress) l.last;
+  ended = λ e. subst IsDone (sym progress) (ended e);
 }
 
 loss_next : (bytes : List ℕ) (deeds : List Deed) (old new : ConnectionValue) (act : Act) → Lives bytes deeds old Rest → Executes old.stage → IsLoss act → all_of old.acts ≡ [] → all_of new.acts ≡ []
-    → (new.stage ≡ Running → ⊥) → (HasTold new.stage → HasTold old.stage) → new.progress ≡ old.progress → Next bytes deeds old new act
-loss_next bytes deeds old new act l executes loss none now lost told progress = record {
+    → (new.stage ≡ Running → ⊥) → (HasTold new.stage → HasTold old.stage) → new.progress ≡ old.progress → new.last ≡ old.last → (IsEnding new.stage → IsDone old.progress) → Next bytes deeds old new act
+loss_next bytes deeds old new act l executes loss none now lost told progress last ended = record {
   lives = l;
-  all = l.all;
-  session = l.session;
   losses = l.losses ++ act ∷ [];
-  hears = l.hears;
   are_losses = all_append IsLoss l.losses (act ∷ []) l.are_losses (loss, tt);
-  split = sym (append_assoc l.all l.losses (act ∷ [])) ∙ ap (λ a. a ++ act ∷ []) (l.split ∙ ap (λ a. l.done ++ a) (ap (λ a. a ++ all_of old.acts) (l.none_left executes) ∙ none) ∙ append-nil l.done)
+  split = sym (append_assoc l.asked_for l.losses (act ∷ [])) ∙ ap (λ a. a ++ act ∷ []) (l.split ∙ ap (λ a. l.done ++ a) (ap (λ a. a ++ all_of old.acts) (l.none_left executes) ∙ none) ∙ append-nil l.done)
       ∙ ap (λ o. l.done ++ (act ∷ o)) (sym now);
   told = told;
   none_unheard = λ r. absurd (lost r);
   none_lost = λ r. absurd (lost r);
+  none_cut = λ r. absurd (lost r);
   phase = λ r. absurd (lost r);
   rest = λ r on. absurd (lost r);
   progress = progress ∙ l.stands executes;
+  last = last_then old new last (inl progress) l.last;
+  ended = λ e. subst IsDone (sym progress) (ended e);
 }
 
 -- nothing was next
 rests_so : (bytes : List ℕ) (deeds : List Deed) (old new : ConnectionValue) (wanted : Wanted) → Lives bytes deeds old Rest → Executes old.stage → WantsBy old new None wanted → all_of old.acts ≡ [] → all_of new.acts ≡ []
-    → (new.stage ≡ Running → (old.stage ≡ Running) × (new.session ≡ old.session)) → (HasTold new.stage → HasTold old.stage) → new.progress ≡ old.progress → Lives bytes deeds new wanted
-rests_so bytes deeds old new wanted l executes by none now runs told progress = subst (λ w. Lives bytes deeds new w) (sym by.0) record {
+    → (new.stage ≡ Running → (old.stage ≡ Running) × (new.session ≡ old.session)) → (HasTold new.stage → HasTold old.stage) → new.progress ≡ old.progress → new.last ≡ old.last → (IsEnding new.stage → IsDone old.progress) → Lives bytes deeds new wanted
+rests_so bytes deeds old new wanted l executes by none now runs told progress last ended = subst (λ w. Lives bytes deeds new w) (sym by.0) record {
   heard = l.heard;
   unheard = l.unheard;
   whole = l.whole;
   all = l.all;
   session = l.session;
   hears = l.hears;
+  asked_for = l.asked_for;
+  cut = l.cut;
+  halves = l.halves;
   losses = l.losses;
   are_losses = l.are_losses;
   done = l.done;
   left = [];
+  cut_for = l.cut_for;
   split = l.split ∙ ap (λ a. l.done ++ a) (ap (λ a. a ++ all_of old.acts) (l.none_left executes) ∙ none ∙ sym now);
   reached = l.reached;
   does = l.does;
   none_untold = λ t. l.none_untold (told t);
   none_unheard = λ r. l.none_unheard (runs r).0;
   none_lost = λ r. l.none_lost (runs r).0;
+  none_cut = λ r. l.none_cut (runs r).0;
   phase = λ r. l.phase (runs r).0 ∙ ap (λ (h : Hearing). h.phase) (sym (runs r).1);
   rest = λ r on. l.rest (runs r).0 (λ over. on (subst (λ (h : Hearing). IsOver h.phase) (sym (runs r).1) over)) ∙ sym (runs r).1;
   none_left = λ e. refl;
   stands = λ e. progress ∙ l.stands executes;
   next = λ e. tt;
+  stood = inl (progress ∙ l.stands executes);
+  last = last_then old new last (inl progress) l.last;
+  ended = λ e. subst IsDone (sym progress) (ended e);
 }
 
 still_told : (old new : ConnectionValue) (act : Option Act) (wanted : Wanted) → WantsBy old new act wanted → HasTold new.stage → HasTold old.stage
 still_told old new (Some (Do op receipt)) wanted by told = subst HasTold by.1 told
 still_told old new (Some (Direct frame)) wanted by told = subst HasTold by.1 told
-still_told old new (Some (Close code)) wanted by told = by_code code old.last old.stage (subst HasTold by.1 told)
+still_told old new (Some (Close code)) wanted by told = by_code code old.last old.progress old.stage (subst HasTold by.1 told)
   where
-    by_code : (code : CloseCode) (last : Option ℕ) (stage : Stage) → HasTold (closed_by code last stage) → HasTold stage
-    by_code NormalClosure None stage t = absurd t
-    by_code NormalClosure (Some number) stage t = t
-    by_code ProtocolError last stage t = t
+    by_code : (code : CloseCode) (last : Option ℕ) (progress : Progress) (stage : Stage) → HasTold (closed_by code last progress stage) → HasTold stage
+    by_code NormalClosure None New stage t = absurd t
+    by_code NormalClosure None (Open number) stage t = t
+    by_code NormalClosure None (Finished number) stage t = absurd t
+    by_code NormalClosure None Gone stage t = absurd t
+    by_code NormalClosure (Some number) progress stage t = t
+    by_code ProtocolError last progress stage t = t
 still_told old new None wanted by told = by_rest old.stage (subst HasTold by.1 told)
   where
     by_rest : (stage : Stage) → HasTold (rested stage) → HasTold stage
@@ -319,6 +505,42 @@ still_told old new None wanted by told = by_rest old.stage (subst HasTold by.1 t
     by_rest (Parting ended) t = t
     by_rest Leaving t = absurd t
     by_rest (Over ended) t = t
+
+-- it ends so only once its session has
+still_ends : (old new : ConnectionValue) (act : Option Act) (wanted : Wanted) → Executes old.stage → WantsBy old new act wanted → (act ≡ None → IsLost old.stage → IsDone old.progress) → IsEnding new.stage → IsDone old.progress
+still_ends old new (Some (Do op receipt)) wanted executes by none ending = absurd (goes_on_then old.stage executes (subst IsEnding by.1 ending))
+still_ends old new (Some (Direct frame)) wanted executes by none ending = absurd (goes_on_then old.stage executes (subst IsEnding by.1 ending))
+still_ends old new (Some (Close code)) wanted executes by none ending = by_code code old.last old.progress old.stage executes (subst IsEnding by.1 ending)
+  where
+    by_code : (code : CloseCode) (last : Option ℕ) (progress : Progress) (stage : Stage) → Executes stage → IsEnding (closed_by code last progress stage) → IsDone progress
+    by_code NormalClosure None New stage e i = tt
+    by_code NormalClosure None (Open number) stage e i = absurd (goes_on_then stage e i)
+    by_code NormalClosure None (Finished number) stage e i = tt
+    by_code NormalClosure None Gone stage e i = tt
+    by_code NormalClosure (Some number) progress stage e i = absurd (goes_on_then stage e i)
+    by_code ProtocolError last progress stage e i = absurd (goes_on_then stage e i)
+still_ends old new None wanted executes by none ending = by_rest old.stage executes (none refl) (subst IsEnding by.1 ending)
+  where
+    by_rest : (stage : Stage) → Executes stage → (IsLost stage → IsDone old.progress) → IsEnding (rested stage) → IsDone old.progress
+    by_rest Running e lost i = absurd i
+    by_rest GivingUp e lost i = lost tt
+    by_rest (Closing ended) e lost i = absurd e
+    by_rest (Parting ended) e lost i = absurd e
+    by_rest Leaving e lost i = lost tt
+    by_rest (Over ended) e lost i = absurd e
+
+loss_none : (p : Progress) → loss_of p ≡ None → IsDone p
+loss_none New e = tt
+loss_none (Open number) e = absurd (let never : Some (Do (ops.End ends.Lost) None) ≡ None = e in cc)
+loss_none (Finished number) e = tt
+loss_none Gone e = tt
+
+none_lost_yet : (old new : ConnectionValue) (act : Option Act) → Takes old new act → act ≡ None → IsLost old.stage → IsDone old.progress
+none_lost_yet old new act t none lost = by_list (all_of old.acts) refl
+  where
+    by_list : (a : List Act) → all_of old.acts ≡ a → IsDone old.progress
+    by_list (one ∷ others) e = absurd (let never : None ≡ Some one = sym none ∙ (t.first one others e).0 in cc)
+    by_list [] e = loss_none old.progress (sym (t.loss e lost).0 ∙ none)
 
 pub wants_next : (bytes : List ℕ) (deeds : List Deed) (old new : ConnectionValue) (wanted : Wanted) → Executes old.stage → Wants old new wanted → Lives bytes deeds old Rest → Lives bytes deeds new wanted
 wants_next bytes deeds old new wanted executes w l = by_list (all_of old.acts) refl
@@ -332,22 +554,34 @@ wants_next bytes deeds old new wanted executes w l = by_list (all_of old.acts) r
     told : HasTold new.stage → HasTold old.stage
     told = still_told old new w.act wanted w.asked_for
 
-    by_loss : (held : Bool) → all_of old.acts ≡ [] → all_of new.acts ≡ [] → (new.stage ≡ Running → ⊥) → w.act ≡ cond held (Some (Do (ops.End ends.Lost) None)) None → Lives bytes deeds new wanted
-    by_loss true none now lost is = by_act bytes deeds old new (Do (ops.End ends.Lost) None) wanted (loss_next bytes deeds old new (Do (ops.End ends.Lost) None) l executes refl none now lost told progress)
+    last : new.last ≡ old.last
+    last = ap (λ (c : ConnectionValue). c.last) w.taken.same
+
+    ended : IsEnding new.stage → IsDone old.progress
+    ended = still_ends old new w.act wanted executes w.asked_for (none_lost_yet old (record new { stage = old.stage }) w.act w.taken)
+
+    rests : all_of old.acts ≡ [] → all_of new.acts ≡ [] → (new.stage ≡ Running → ⊥) → w.act ≡ None → Lives bytes deeds new wanted
+    rests none now lost is = rests_so bytes deeds old new wanted l executes (subst (λ a. WantsBy old new a wanted) is w.asked_for) none now (λ r. absurd (lost r)) told progress last ended
+
+    by_loss : (p : Progress) → all_of old.acts ≡ [] → all_of new.acts ≡ [] → (new.stage ≡ Running → ⊥) → w.act ≡ loss_of p → Lives bytes deeds new wanted
+    by_loss New none now lost is = rests none now lost is
+    by_loss (Open number) none now lost is =
+        by_act bytes deeds old new (Do (ops.End ends.Lost) None) wanted (loss_next bytes deeds old new (Do (ops.End ends.Lost) None) l executes refl none now lost told progress last ended)
         (subst (λ a. WantsBy old new a wanted) is w.asked_for) (sym progress)
-    by_loss false none now lost is = rests_so bytes deeds old new wanted l executes (subst (λ a. WantsBy old new a wanted) is w.asked_for) none now (λ r. absurd (lost r)) told progress
+    by_loss (Finished number) none now lost is = rests none now lost is
+    by_loss Gone none now lost is = rests none now lost is
 
     by_list : (a : List Act) → all_of old.acts ≡ a → Lives bytes deeds new wanted
     by_list (act ∷ others) e =
         let is = w.taken.first act others e in
-        by_act bytes deeds old new act wanted (first_next bytes deeds old new act others l executes e is.1 is.2 runs told progress) (subst (λ a. WantsBy old new a wanted) is.0 w.asked_for) (sym progress)
+        by_act bytes deeds old new act wanted (first_next bytes deeds old new act others l executes e is.1 is.2 runs told progress last ended) (subst (λ a. WantsBy old new a wanted) is.0 w.asked_for) (sym progress)
     by_list [] e = elim (lost_or_not old.stage) [
       | inl lost ↦
           let is = w.taken.loss e lost in
-          by_loss (is_held old.session.phase) e is.1 (λ r. lost_runs old.stage lost (runs r)) is.0
+          by_loss old.progress e is.1 (λ r. lost_runs old.stage lost (runs r)) is.0
       | inr goes ↦
           let is = w.taken.none e goes in
-          rests_so bytes deeds old new wanted l executes (subst (λ a. WantsBy old new a wanted) is.0 w.asked_for) e is.1 (λ r. (runs r, is.2)) told progress
+          rests_so bytes deeds old new wanted l executes (subst (λ a. WantsBy old new a wanted) is.0 w.asked_for) e is.1 (λ r. (runs r, is.2)) told progress last ended
     ]
 
 -- ── what is wanted is done ──
@@ -364,9 +598,14 @@ says_it bytes deeds old new c ticket executes is l =
       all = l.all;
       session = l.session;
       hears = l.hears;
+      asked_for = l.asked_for;
+      cut = l.cut;
+      halves = l.halves;
       losses = l.losses;
       are_losses = l.are_losses;
       done = l.done ++ Do c.op c.receipt ∷ [];
+      cut_for = subst (λ said. IsCut l.asked_for l.cut (l.done ++ Do c.op c.receipt ∷ []) said) (sym (commands_append deeds (Said (ticket, c) ∷ [])))
+          (cut_end l.asked_for l.cut l.done (l.left ++ all_of old.acts) l.losses (commands_of deeds) ticket c l.are_losses l.split l.cut_for);
       left = l.left;
       split = l.split ∙ sym (append_assoc l.done (Do c.op c.receipt ∷ []) (l.left ++ all_of old.acts));
       reached = after l.reached (role_of c.op) ticket;
@@ -375,11 +614,15 @@ says_it bytes deeds old new c ticket executes is l =
       none_untold = λ t. none_more deeds (Said (ticket, c)) (l.none_untold t) refl;
       none_unheard = l.none_unheard;
       none_lost = l.none_lost;
+      none_cut = l.none_cut;
       phase = l.phase;
       rest = l.rest;
       none_left = l.none_left;
       stands = λ e. ap (λ p. after p (role_of c.op) ticket) (l.stands e);
       next = λ e. tt;
+      stood = inl (ap (λ p. after p (role_of c.op) ticket) (l.stands executes));
+      last = last_said old.progress old.last c.op c.receipt ticket (λ f. never_next old.progress c f (subst (λ p. IsNext p c) (sym (l.stands executes)) next.0)) l.last;
+      ended = λ e. absurd (goes_on_then old.stage executes e);
     }
 
 -- it is left undone, where nothing more is appended
@@ -392,9 +635,13 @@ leaves_it bytes deeds old new wanted r over m =
       all = l.all;
       session = l.session;
       hears = l.hears;
+      asked_for = l.asked_for;
+      cut = l.cut;
+      halves = l.halves;
       losses = l.losses;
       are_losses = l.are_losses;
       done = l.done;
+      cut_for = l.cut_for;
       left = act_of wanted ++ l.left;
       split = l.split ∙ ap (λ a. l.done ++ a) (sym (append_assoc (act_of wanted) l.left (all_of new.acts)));
       reached = l.reached;
@@ -402,11 +649,15 @@ leaves_it bytes deeds old new wanted r over m =
       none_untold = l.none_untold;
       none_unheard = l.none_unheard;
       none_lost = l.none_lost;
+      none_cut = l.none_cut;
       phase = l.phase;
       rest = l.rest;
       none_left = λ e. absurd (over e);
       stands = λ e. absurd (over e);
       next = λ e. absurd (over e);
+      stood = l.stood;
+      last = l.last;
+      ended = l.ended;
     }
 
 -- a frame was told, or was not, since its link was over
@@ -420,9 +671,13 @@ tells_it bytes deeds old new frame deed r executes tells none m =
       all = l.all;
       session = l.session;
       hears = l.hears;
+      asked_for = l.asked_for;
+      cut = l.cut;
+      halves = l.halves;
       losses = l.losses;
       are_losses = l.are_losses;
       done = l.done ++ Direct frame ∷ [];
+      cut_for = cut_more l.asked_for l.cut l.done (Direct frame ∷ []) (commands_of deeds) (commands_of (deeds ++ deed ∷ [])) (tells_none deeds frame deed tells) l.cut_for;
       left = l.left;
       split = l.split ∙ sym (append_assoc l.done (Direct frame ∷ []) (l.left ++ all_of new.acts));
       reached = l.reached;
@@ -430,11 +685,15 @@ tells_it bytes deeds old new frame deed r executes tells none m =
       none_untold = λ t. none_more deeds deed (l.none_untold t) (none t);
       none_unheard = l.none_unheard;
       none_lost = l.none_lost;
+      none_cut = l.none_cut;
       phase = l.phase;
       rest = l.rest;
       none_left = l.none_left;
       stands = l.stands;
       next = λ e. tt;
+      stood = l.stood;
+      last = l.last;
+      ended = l.ended;
     }
 
 -- memory was refused: it is the next again
@@ -447,9 +706,13 @@ again_next bytes deeds old new wanted act executes first is_act is l = subst (λ
   all = l.all;
   session = l.session;
   hears = l.hears;
+  asked_for = l.asked_for;
+  cut = l.cut;
+  halves = l.halves;
   losses = l.losses;
   are_losses = l.are_losses;
   done = l.done;
+  cut_for = l.cut_for;
   left = [];
   split = l.split ∙ ap (λ a. l.done ++ a) (ap (λ a. a ++ (l.left ++ all_of old.acts)) is_act ∙ ap (λ a. act ∷ (a ++ all_of old.acts)) (l.none_left executes) ∙ ap (λ o. act ∷ (option_to_list o ++ old.acts.rest)) first);
   reached = l.reached;
@@ -457,11 +720,15 @@ again_next bytes deeds old new wanted act executes first is_act is l = subst (λ
   none_untold = l.none_untold;
   none_unheard = l.none_unheard;
   none_lost = l.none_lost;
+  none_cut = l.none_cut;
   phase = l.phase;
   rest = l.rest;
   none_left = λ e. refl;
   stands = l.stands;
   next = λ e. tt;
+  stood = l.stood;
+  last = l.last;
+  ended = l.ended;
 }
 
 -- ── stages ──
@@ -485,8 +752,16 @@ untold_stop (Closing ended) t = t
 untold_stop (Parting ended) t = t
 untold_stop (Over ended) t = t
 
+ending_stop : (stage : Stage) → IsEnding (stopped stage) → IsEnding stage
+ending_stop Running i = i
+ending_stop GivingUp i = i
+ending_stop Leaving i = i
+ending_stop (Closing ended) i = i
+ending_stop (Parting ended) i = i
+ending_stop (Over ended) i = i
+
 pub stops : (old new : ConnectionValue) → new ≡ record old { stage = stopped old.stage } → Restaged old new
-stops old new is = as_restaged old new _ is (by_stage old (stopped old.stage) (λ r. absurd (no_run (stopped old.stage) (never_again old.stage) r)) (untold_stop old.stage) (λ e. absurd (never_again old.stage e)))
+stops old new is = as_restaged old new _ is (by_stage old (stopped old.stage) (λ r. absurd (no_run (stopped old.stage) (never_again old.stage) r)) (untold_stop old.stage) (λ e. absurd (never_again old.stage e)) (ending_stop old.stage))
 
 pub stopped_over : (old new : ConnectionValue) → new ≡ record old { stage = stopped old.stage } → Executes new.stage → ⊥
 stopped_over old new is e = never_again old.stage (subst Executes (ap (λ (c : ConnectionValue). c.stage) is) e)
@@ -521,8 +796,88 @@ untold_loss (Closing ended) t = of_closing ended t
 untold_loss (Parting ended) t = t
 untold_loss (Over ended) t = t
 
-pub loses : (old new : ConnectionValue) → new ≡ record old { stage = lost old.stage } → Restaged old new
-loses old new is = as_restaged old new _ is (by_stage old (lost old.stage) (λ r. absurd ((lost_stage old.stage).0 r)) (untold_loss old.stage) (lost_stage old.stage).1)
+ending_loss : (stage : Stage) → IsEnding (lost stage) → IsEnding stage
+ending_loss Running i = i
+ending_loss GivingUp i = i
+ending_loss Leaving i = i
+ending_loss (Closing ended) i = of_closing ended i
+  where
+    of_closing : (ended : Ended) → IsEnding (lost (Closing ended)) → IsOwnEnd ended
+    of_closing Bye i = tt
+    of_closing Bad i = tt
+    of_closing Lost i = tt
+    of_closing Stopped i = i
+    of_closing Turns i = i
+ending_loss (Parting ended) i = i
+ending_loss (Over ended) i = i
+
+halted_loss : (stage : Stage) → HasHalted (lost stage) → HasHalted stage
+halted_loss Running h = h
+halted_loss GivingUp h = h
+halted_loss Leaving h = h
+halted_loss (Closing ended) h = of_closing ended h
+  where
+    of_closing : (ended : Ended) → HasHalted (lost (Closing ended)) → IsStopped ended
+    of_closing Bye h = h
+    of_closing Bad h = h
+    of_closing Lost h = h
+    of_closing Stopped h = h
+    of_closing Turns h = h
+halted_loss (Parting ended) h = h
+halted_loss (Over ended) h = h
+
+pub halted_giving : (stage : Stage) → HasHalted (given_up stage) → HasHalted stage
+halted_giving Running h = h
+halted_giving GivingUp h = h
+halted_giving Leaving h = h
+halted_giving (Closing ended) h = h
+halted_giving (Parting ended) h = h
+halted_giving (Over ended) h = h
+
+halted_parting : (stage : Stage) → HasHalted (parted stage) → HasHalted stage
+halted_parting Running h = h
+halted_parting GivingUp h = h
+halted_parting Leaving h = h
+halted_parting (Closing ended) h = h
+halted_parting (Parting ended) h = h
+halted_parting (Over ended) h = h
+
+pub not_halted : (stage : Stage) → Executes stage → HasHalted stage → ⊥
+not_halted Running e h = h
+not_halted GivingUp e h = h
+not_halted Leaving e h = h
+not_halted (Closing ended) e h = e
+not_halted (Parting ended) e h = e
+not_halted (Over ended) e h = e
+
+-- what is wanted next stops nothing
+pub wants_halts : (old new : ConnectionValue) (act : Option Act) (wanted : Wanted) → Executes old.stage → WantsBy old new act wanted → HasHalted new.stage → ⊥
+wants_halts old new (Some (Do op receipt)) wanted executes by h = not_halted old.stage executes (subst HasHalted by.1 h)
+wants_halts old new (Some (Direct frame)) wanted executes by h = not_halted old.stage executes (subst HasHalted by.1 h)
+wants_halts old new (Some (Close code)) wanted executes by h = by_code code old.last old.progress old.stage executes (subst HasHalted by.1 h)
+  where
+    by_code : (code : CloseCode) (last : Option ℕ) (progress : Progress) (stage : Stage) → Executes stage → HasHalted (closed_by code last progress stage) → ⊥
+    by_code NormalClosure None New stage e h = h
+    by_code NormalClosure None (Open number) stage e h = not_halted stage e h
+    by_code NormalClosure None (Finished number) stage e h = h
+    by_code NormalClosure None Gone stage e h = h
+    by_code NormalClosure (Some number) progress stage e h = not_halted stage e h
+    by_code ProtocolError last progress stage e h = not_halted stage e h
+wants_halts old new None wanted executes by h = by_rest old.stage executes (subst HasHalted by.1 h)
+  where
+    by_rest : (stage : Stage) → Executes stage → HasHalted (rested stage) → ⊥
+    by_rest Running e h = h
+    by_rest GivingUp e h = h
+    by_rest (Closing ended) e h = e
+    by_rest (Parting ended) e h = e
+    by_rest Leaving e h = h
+    by_rest (Over ended) e h = e
+
+pub loses : (old new : ConnectionValue) → new ≡ record old { stage = lost old.stage } → Steady old new
+loses old new is = record {
+  restaged = as_restaged old new _ is (by_stage old (lost old.stage) (λ r. absurd ((lost_stage old.stage).0 r)) (untold_loss old.stage) (lost_stage old.stage).1 (ending_loss old.stage));
+  halts = λ h. halted_loss old.stage (subst HasHalted (ap (λ (c : ConnectionValue). c.stage) is) h);
+}
 
 pub loses_run : (old new : ConnectionValue) → new ≡ record old { stage = lost old.stage } → new.stage ≡ Running → ⊥
 loses_run old new is r = (lost_stage old.stage).0 (sym (ap (λ (c : ConnectionValue). c.stage) is) ∙ r)
@@ -535,7 +890,7 @@ given_up_stage (Closing ended) = (λ e. e, λ e. e)
 given_up_stage (Parting ended) = (λ e. e, λ e. e)
 given_up_stage (Over ended) = (λ e. e, λ e. e)
 
-untold_giving : (stage : Stage) → HasTold (given_up stage) → HasTold stage
+pub untold_giving : (stage : Stage) → HasTold (given_up stage) → HasTold stage
 untold_giving Running t = tt
 untold_giving GivingUp t = t
 untold_giving Leaving t = t
@@ -543,8 +898,19 @@ untold_giving (Closing ended) t = t
 untold_giving (Parting ended) t = t
 untold_giving (Over ended) t = t
 
-pub gives_up : (old new : ConnectionValue) → new ≡ record old { stage = given_up old.stage } → Restaged old new
-gives_up old new is = as_restaged old new _ is (by_stage old (given_up old.stage) (given_up_stage old.stage).0 (untold_giving old.stage) (given_up_stage old.stage).1)
+ending_giving : (stage : Stage) → IsEnding (given_up stage) → IsEnding stage
+ending_giving Running i = i
+ending_giving GivingUp i = i
+ending_giving Leaving i = i
+ending_giving (Closing ended) i = i
+ending_giving (Parting ended) i = i
+ending_giving (Over ended) i = i
+
+pub gives_up : (old new : ConnectionValue) → new ≡ record old { stage = given_up old.stage } → Steady old new
+gives_up old new is = record {
+  restaged = as_restaged old new _ is (by_stage old (given_up old.stage) (given_up_stage old.stage).0 (untold_giving old.stage) (given_up_stage old.stage).1 (ending_giving old.stage));
+  halts = λ h. halted_giving old.stage (subst HasHalted (ap (λ (c : ConnectionValue). c.stage) is) h);
+}
 
 parted_stage : (stage : Stage) → (parted stage ≡ Running → stage ≡ Running) × (Executes (parted stage) → Executes stage)
 parted_stage Running = (λ e. e, λ e. e)
@@ -562,8 +928,19 @@ untold_parting (Closing ended) t = t
 untold_parting (Parting ended) t = t
 untold_parting (Over ended) t = t
 
-pub parts : (old new : ConnectionValue) → new ≡ record old { stage = parted old.stage } → Restaged old new
-parts old new is = as_restaged old new _ is (by_stage old (parted old.stage) (parted_stage old.stage).0 (untold_parting old.stage) (parted_stage old.stage).1)
+ending_parting : (stage : Stage) → IsEnding (parted stage) → IsEnding stage
+ending_parting Running i = i
+ending_parting GivingUp i = i
+ending_parting Leaving i = i
+ending_parting (Closing ended) i = i
+ending_parting (Parting ended) i = i
+ending_parting (Over ended) i = i
+
+pub parts : (old new : ConnectionValue) → new ≡ record old { stage = parted old.stage } → Steady old new
+parts old new is = record {
+  restaged = as_restaged old new _ is (by_stage old (parted old.stage) (parted_stage old.stage).0 (untold_parting old.stage) (parted_stage old.stage).1 (ending_parting old.stage));
+  halts = λ h. halted_parting old.stage (subst HasHalted (ap (λ (c : ConnectionValue). c.stage) is) h);
+}
 
 pub none_told_lost : (stage : Stage) → Executes stage → HasTold (lost stage) → ⊥
 none_told_lost Running e t = t
@@ -585,27 +962,62 @@ told_where (Parting ended) e heard = absurd e
 told_where (Over ended) e heard = absurd e
 
 -- where it is closed by what was sent
-pub closes_so : (old new : ConnectionValue) (p : Progress) (ended : Ended) → (IsBad ended → HasTold old.stage) → new ≡ record old { progress = p; stage = Closing ended } → Restaged old new
-closes_so old new p ended told is = as_restaged old new _ is (record { acts = refl; session = λ r. refl; runs = λ r. cc; told = told; executes = λ e. absurd e; progress = λ e. absurd e })
+pub closes_so : (old new : ConnectionValue) (p : Progress) (ended : Ended) → (IsBad ended → HasTold old.stage) → StaysOrEnds old.progress p → (IsLast old → IsDone p) → (IsStopped ended → ⊥) → new ≡ record old { progress = p; stage = Closing ended } → Steady old new
+closes_so old new p ended told stood is_done goes is = record {
+  restaged = as_restaged old new _ is (record {
+    acts = refl;
+    session = λ r. refl;
+    runs = λ r. cc;
+    told = told;
+    executes = λ e. absurd e;
+    progress = λ e. absurd e;
+    footprint = refl;
+    last = refl;
+    stood = stood;
+    ended = λ last before e. is_done last;
+  });
+  halts = λ h. absurd (goes (subst HasHalted (ap (λ (c : ConnectionValue). c.stage) is) h));
+}
 
-pub same_stage : (old new : ConnectionValue) → new ≡ old → Restaged old new
-same_stage old new is = as_restaged old new old is (record { acts = refl; session = λ r. refl; runs = λ r. r; told = λ t. t; executes = λ e. e; progress = λ e. refl })
+pub closes_over : (old new : ConnectionValue) → HasTold old.stage → new ≡ record old { progress = over old.progress; stage = Closing Bad } → Steady old new
+closes_over old new told is = closes_so old new (over old.progress) Bad (λ bad. told) (inr refl) (λ last. done_finished (over old.progress) (finished_over old.progress)) (λ h. h) is
 
-sends_receipt : (old new : ConnectionValue) (number : ℕ) → IsSent old number verbs.Receipt new → Restaged old new
+pub same_stage : (old new : ConnectionValue) → new ≡ old → Steady old new
+same_stage old new is = record {
+  restaged = as_restaged old new old is (record {
+    acts = refl;
+    session = λ r. refl;
+    runs = λ r. r;
+    told = λ t. t;
+    executes = λ e. e;
+    progress = λ e. refl;
+    footprint = refl;
+    last = refl;
+    stood = inl refl;
+    ended = λ last ended. ended;
+  });
+  halts = λ h. subst HasHalted (ap (λ (c : ConnectionValue). c.stage) is) h;
+}
+
+sends_receipt : (old new : ConnectionValue) (number : ℕ) → IsSent old number verbs.Receipt new → Steady old new
 sends_receipt old new number s = by_last old.last refl
   where
-    closing : old.last ≡ Some number → Restaged old new
-    closing e = closes_so old new old.progress Bye (λ bad. absurd bad) (s.0 e)
+    is_done : old.last ≡ Some number → IsLast old → IsDone old.progress
+    is_done e (inl none) = absurd (let never : Some number ≡ None = sym e ∙ none in cc)
+    is_done e (inr f) = done_finished old.progress f
 
-    by_last : (last : Option ℕ) → old.last ≡ last → Restaged old new
+    closing : old.last ≡ Some number → Steady old new
+    closing e = closes_so old new old.progress Bye (λ bad. absurd bad) (inl refl) (is_done e) (λ h. h) (s.0 e)
+
+    by_last : (last : Option ℕ) → old.last ≡ last → Steady old new
     by_last None e = same_stage old new (s.1 (λ f. let none : None ≡ Some number = sym e ∙ f in cc))
     by_last (Some other) e = elim (cases_eq other number) [
       | inl same ↦ closing (e ∙ ap (λ n. Some n) same)
       | inr differs ↦ same_stage old new (s.1 (λ f. differs (let both : Some other ≡ Some number = sym e ∙ f in cc)))
     ]
 
-pub sends_so : (old new : ConnectionValue) (number : ℕ) (verb : Verb) → HasTold old.stage → IsSent old number verb new → Restaged old new
-sends_so old new number verbs.Error t s = closes_so old new (over old.progress) Bad (λ bad. t) s
+pub sends_so : (old new : ConnectionValue) (number : ℕ) (verb : Verb) → HasTold old.stage → IsSent old number verb new → Steady old new
+sends_so old new number verbs.Error t s = closes_over old new t s
 sends_so old new number verbs.Receipt t s = sends_receipt old new number s
 sends_so old new number verbs.Connect t s = same_stage old new s
 sends_so old new number verbs.Stomp t s = same_stage old new s

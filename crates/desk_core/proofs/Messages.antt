@@ -232,9 +232,9 @@ slot_relayed {B} {L} sent was is l m t u k was_is is_is kept number r = record {
 
 -- an ERROR that doesn't wait for the broker
 pub told_one : {B L : Type 0} (sent : L → Option (List (List ℕ))) (was is : Slot B) (l m : L) (frame : Frame) → frame.verb ≡ verbs.Error
-    → is.connection.progress ≡ was.connection.progress → is.outbox ≡ was.outbox → is.kept ≡ was.kept → sent m ≡ with_message (written frame) (sent l) → Served sent (frame ∷ []) was l is m
+    → StaysOrEnds was.connection.progress is.connection.progress → is.outbox ≡ was.outbox → is.kept ≡ was.kept → sent m ≡ with_message (written frame) (sent l) → Served sent (frame ∷ []) was l is m
 told_one sent was is l m frame error progress outbox kept told = record {
-  stays = λ n e. ap number_in progress ∙ e;
+  stays = λ n e. same_number was.connection.progress is.connection.progress progress ∙ e;
   one_box = λ t e. box_same t was.outbox is.outbox outbox e;
   passes = record {
     messages = inl frame ∷ [];

@@ -1,5 +1,5 @@
 -- What stands at a desk.
-use Rattle.std.proofs.Common.{◌≡◌, ℕ, zero, suc, ◌+◌, ◌-◌, ◌<◌, ◌≤◌, List, [], ◌∷◌, ◌++◌, Option, Some, None, length, take, drop, get_or, refl, sym, ap, ◌∙◌, subst, inl, inr, append-nil, arith}
+use Rattle.std.proofs.Common.{◌≡◌, ℕ, zero, suc, ◌+◌, ◌-◌, ◌<◌, ◌≤◌, List, [], ◌∷◌, ◌++◌, Option, Some, None, true, length, take, drop, get_or, refl, sym, ap, ◌∙◌, subst, inl, inr, append-nil, arith}
 use Rattle.std.specs.Prelude.{IfSome, slice_get, set}
 use Rattle.std.specs.List.{AllByRecursion, sum_by}
 use Rattle.std.specs.Option.{option_map}
@@ -20,12 +20,14 @@ use Rattle.desk_core.specs.Conversations.{Converse, IsConversation, IsPart, Spea
 use Rattle.desk_core.specs.Desks.{Admits, AreApart, DeskValue, IsDesk, Leaves, Others, Touches, Turns, desk, seated_at, stand_of}
 use Rattle.desk_core.specs.Deeds.{commands_of}
 use Rattle.desk_core.specs.Goings.{GoesOn, Serves}
-use Rattle.desk_core.specs.Places.{ServedAt, UnservedAt, progress_at}
+use Rattle.desk_core.specs.Halting.{FindsEnd}
+use Rattle.desk_core.specs.Lives.{Idles}
+use Rattle.desk_core.specs.Places.{ServedAt, UnservedAt, is_over, is_over_at, progress_at}
 use Rattle.desk_core.specs.Slots.{IsNew, IsOwn, Message, Unserved, number_at}
 use Rattle.desk_core.specs.declared.slot.Slot.{Slot}
 use Rattle.connection_core.specs.Connections.{ConnectionValue}
 use Rattle.desk_core.proofs.Lists.{all_weaker, cond_same}
-use Rattle.desk_core.proofs.Going.{did}
+use Rattle.desk_core.proofs.Going.{did, heeds_none}
 use Rattle.desk_core.proofs.Talking.{beside}
 
 -- ── a desk begins ──
@@ -237,9 +239,9 @@ unmoved before seat places at was is within there same d = record {
       (stand_was places at was within there ∙ ap (λ p. take at (stand_of places) ++ p ∷ drop (suc at) (stand_of places)) (sym same) ∙ sym (stand_is places at is within)) d.speaks;
 }
 
-pub same_progress : {B L : Type 0} (sent : L → Option (List (List ℕ))) (was is : Option (Seated B L)) → UnservedAt sent was is → progress_at is ≡ progress_at was
-same_progress sent None is u = ap progress_at u
-same_progress sent (Some was) is u = ap progress_at u.1 ∙ u.2.progress
+pub same_progress : {B L : Type 0} (sent : L → Option (List (List ℕ))) (received : L → Option (List ℕ)) (was is : Option (Seated B L)) → UnservedAt sent received was is → progress_at is ≡ progress_at was
+same_progress sent received None is u = ap progress_at u
+same_progress sent received (Some was) is u = ap progress_at u.1 ∙ u.2.progress
 
 sitting : {B L : Type 0} (places : List (Option (Seated B L))) (at : ℕ) (was : Option (Seated B L)) → at < length places → was ≡ get_or places at was → slice_get places at ≡ Some was
 sitting places at was within there = slice_get-get_or places at was within ∙ ap (λ x. Some x) (sym there)
@@ -247,28 +249,29 @@ sitting places at was within there = slice_get-get_or places at was within ∙ a
 same_of : {X : Type 0} (x y : X) → Some x ≡ Some y → x ≡ y
 same_of x y e = cc
 
-pub touches : {B L : Type 0} (sent : L → Option (List (List ℕ))) (old : DeskValue B L) (before seat : SessionSeatValue) (places : List (Option (Seated B L))) (at : ℕ) (was is : Option (Seated B L))
-    → desk before seat places ≡ old → at < length places → was ≡ get_or places at was → UnservedAt sent was is → Touches sent old (desk before seat (set places at is)) at
-touches {B} {L} sent old before seat places at was is same within there u = record {
+pub touches : {B L : Type 0} (sent : L → Option (List (List ℕ))) (received : L → Option (List ℕ)) (old : DeskValue B L) (before seat : SessionSeatValue) (places : List (Option (Seated B L))) (at : ℕ) (was is : Option (Seated B L))
+    → desk before seat places ≡ old → at < length places → was ≡ get_or places at was → UnservedAt sent received was is → Touches sent received old (desk before seat (set places at is)) at
+touches {B} {L} sent received old before seat places at was is same within there u = record {
   before = ap (λ (d : DeskValue B L). d.before) same;
   seat = ap (λ (d : DeskValue B L). d.seat) same;
   others = others old.places places at is (ap (λ (d : DeskValue B L). d.places) same);
   unserved = λ w sat.
       let it : was ≡ Some w = same_of _ _ (sym (sitting places at was within there) ∙ ap (λ (d : DeskValue B L). slice_get d.places at) same ∙ sat) in
-      let so : UnservedAt sent (Some w) is = subst (λ o. UnservedAt sent o is) it u in
-      (so.0, get_same places at is within ∙ ap (λ x. Some x) so.1, so.2);
+      let so : UnservedAt sent received (Some w) is = subst (λ o. UnservedAt sent received o is) it u in
+      (so.0, get_same places at is within ∙ ap (λ x. Some x) so.1, so.2, so.3);
 }
 
-pub touches_none : {B L : Type 0} (sent : L → Option (List (List ℕ))) (old new : DeskValue B L) (at : ℕ) → new ≡ old → Touches sent old new at
-touches_none {B} {L} sent old new at same = record {
+pub touches_none : {B L : Type 0} (sent : L → Option (List (List ℕ))) (received : L → Option (List ℕ)) (old new : DeskValue B L) (at : ℕ) → new ≡ old → Touches sent received old new at
+touches_none {B} {L} sent received old new at same = record {
   before = ap (λ (d : DeskValue B L). d.before) same;
   seat = ap (λ (d : DeskValue B L). d.seat) same;
   others = nothing_else old.places new.places at (ap (λ (d : DeskValue B L). d.places) same);
-  unserved = λ w sat. (w, ap (λ (d : DeskValue B L). slice_get d.places at) same ∙ sat, record { progress = refl; pending = refl; outbox = refl; kept = refl; sent = refl });
+  unserved = λ w sat. (w, ap (λ (d : DeskValue B L). slice_get d.places at) same ∙ sat, record { progress = refl; pending = refl; outbox = refl; kept = refl; sent = refl }, heeds_none received w.slot w.link);
 }
 
-pub unserved_some : {B L : Type 0} (sent : L → Option (List (List ℕ))) (o : Option (Seated B L)) (was is : Seated B L) → o ≡ Some was → Unserved sent was.slot was.link is.slot is.link → UnservedAt sent o (Some is)
-unserved_some sent o was is e u = subst (λ x. UnservedAt sent x (Some is)) (sym e) (is, refl, u)
+pub unserved_some : {B L : Type 0} (sent : L → Option (List (List ℕ))) (received : L → Option (List ℕ)) (o : Option (Seated B L)) (was is : Seated B L) → o ≡ Some was → Unserved sent was.slot was.link is.slot is.link → Idles received was.slot was.link is.slot is.link
+    → UnservedAt sent received o (Some is)
+unserved_some sent received o was is e u h = subst (λ x. UnservedAt sent received x (Some is)) (sym e) (is, refl, u, h)
 
 -- ── a turn ──
 
@@ -286,6 +289,7 @@ turns {B} {L} sent received old before seat after places at was is turned same w
       (subst (λ l. AllByRecursion (λ (x : Pair). number_in (progress_at is) ≡ Some (number_of x)) l) (cancel seat.own c.said (commands_of s.goes.deeds) (sym c.added ∙ s.goes.added)) c.of_it);
   served = s.goes.served;
   heeds = s.goes.heeds;
+  halts = λ before h. s.goes.halts (λ m. subst (λ (d : DeskValue B L). FindsEnd d.seat) (sym same) (before m)) h;
   answers = subst (λ (x : SessionSeatValue). Answers received turned x s.was.link s.is.slot after s.is.link) (ap (λ (d : DeskValue B L). d.seat) same) s.answers;
 }
 
@@ -334,8 +338,9 @@ admits_last {B} {L} old before seat places all at seated link same all_is at_is 
 -- ── a client is let go ──
 
 pub leaves_it : {B L : Type 0} (old : DeskValue B L) (before seat : SessionSeatValue) (places : List (Option (Seated B L))) (at : ℕ) (seated : Seated B L)
-    → desk before seat places ≡ old → at < length places → Some seated ≡ get_or places at (Some seated) → Leaves old (desk before seat (set places at None)) at seated.link
-leaves_it {B} {L} old before seat places at seated same within there = record {
+    → desk before seat places ≡ old → at < length places → Some seated ≡ get_or places at (Some seated) → is_over seated.slot.connection.stage ≡ true → Leaves old (desk before seat (set places at None)) at seated.link
+leaves_it {B} {L} old before seat places at seated same within there over = record {
+  over = over;
   was = seated;
   before = ap (λ (d : DeskValue B L). d.before) same;
   seat = ap (λ (d : DeskValue B L). d.seat) same;
@@ -361,10 +366,10 @@ taken_place before seat places at was is free there anew d =
     (λ n. subst (λ p. opens n p ≤ opens n (progress_at was)) (sym anew) (none_goes n (progress_at was)).1) d
 
 pub leaves_at : {B L : Type 0} (old : DeskValue B L) (before seat : SessionSeatValue) (places : List (Option (Seated B L))) (at : ℕ) (was is : Option (Seated B L)) (seated : Seated B L)
-    → desk before seat places ≡ old → at < length places → was ≡ get_or places at was → was ≡ Some seated → is ≡ None → Leaves old (desk before seat (set places at is)) at seated.link
-leaves_at old before seat places at was is seated same within there it none =
+    → desk before seat places ≡ old → at < length places → was ≡ get_or places at was → was ≡ Some seated → is ≡ None → is_over_at was ≡ true → Leaves old (desk before seat (set places at is)) at seated.link
+leaves_at {B} {L} old before seat places at was is seated same within there it none over =
     subst (λ o. Leaves old (desk before seat (set places at o)) at seated.link) (sym none)
-    (leaves_it old before seat places at seated same within (subst (λ o. o ≡ get_or places at o) it there))
+    (leaves_it old before seat places at seated same within (subst (λ o. o ≡ get_or places at o) it there) (subst (λ (o : Option (Seated B L)). is_over_at o ≡ true) it over))
 
 pub pushed : {B L : Type 0} (before seat : SessionSeatValue) (places all : List (Option (Seated B L))) (s : Option (Seated B L)) → all ≡ places ++ s ∷ [] → progress_at s ≡ New → IsDesk before seat places → IsDesk before seat all
 pushed before seat places all s is anew d = subst (λ l. IsDesk before seat l) (sym is) (admitted before seat places s anew d)

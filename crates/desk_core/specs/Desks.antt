@@ -1,5 +1,5 @@
 -- What contracts see of a desk.
-use Rattle.std.specs.Prelude.{◌≡◌, ◌≢◌, ◌⊎◌, ℕ, List, ◌++◌, Option, Some, None, map, length, get_or, slice_get}
+use Rattle.std.specs.Prelude.{◌≡◌, ◌≢◌, ◌⊎◌, ℕ, List, ◌++◌, Option, Some, None, true, map, length, get_or, slice_get}
 use Rattle.claim_core.specs.Seats.{SessionSeatValue}
 use Rattle.connection_core.specs.declared.progress.Progress.{Progress}
 use Rattle.desk_core.specs.declared.place.Seated.{Seated}
@@ -8,8 +8,9 @@ use Rattle.desk_core.specs.Answers.{Answers}
 use Rattle.desk_core.specs.Continues.{AreSaid}
 use Rattle.desk_core.specs.Deeds.{Deed, commands_of, told_of}
 use Rattle.desk_core.specs.Conversations.{Speaks}
-use Rattle.desk_core.specs.Lives.{Heeds}
-use Rattle.desk_core.specs.Places.{progress_at}
+use Rattle.desk_core.specs.Halting.{FindsEnd, HasHalted}
+use Rattle.desk_core.specs.Lives.{Heeds, Idles}
+use Rattle.desk_core.specs.Places.{is_over, progress_at}
 use Rattle.desk_core.specs.Slots.{IsNew, Served, Unserved, number_at}
 
 -- The seat as it was when the desk was made, as it is, and what sits at the places.
@@ -45,7 +46,8 @@ abbrev pub seated_at : {B L : Type 0} → List (Option (Seated B L)) → ℕ →
 seated_at places at = get_or places at None
 
 -- These deeds were done at that place. The seat got the commands among them, which are of its own session; its client was sent the
--- frames among them, beside outputs of that session; and they are what it has next of what its bytes ask for. The turn answers so.
+-- frames among them, beside outputs of that session; and they are what it has next of what its bytes ask for. It is stopped only
+-- where the seat has found that the ring takes nothing more. The turn answers so.
 pub record Turns {B L : Type 0} (sent : L → Option (List (List ℕ))) (received : L → Option (List ℕ)) (old new : DeskValue B L) (at : ℕ) (turned : Turned) : Type 0 where
   pub was : Seated B L
   pub is : Seated B L
@@ -56,6 +58,7 @@ pub record Turns {B L : Type 0} (sent : L → Option (List (List ℕ))) (receive
   pub of_it : AreSaid is.slot.connection.progress (commands_of deeds)
   pub served : Served sent (told_of deeds) was.slot was.link is.slot is.link
   pub heeds : Heeds received was.slot was.link is.slot is.link deeds
+  pub halts : (HasHalted was.slot.connection.stage → FindsEnd old.seat) → HasHalted is.slot.connection.stage → FindsEnd new.seat
   pub answers : Answers received turned old.seat was.link is.slot new.seat is.link
 
 -- no two places have one session
@@ -77,19 +80,21 @@ pub record Admits {B L : Type 0} (old new : DeskValue B L) (link : L) (at : ℕ)
   pub is_new : IsNew seated.slot
   pub others : (k : ℕ) → k ≢ at → slice_get new.places k ≡ slice_get old.places k
 
--- What sits at that place is left as it stands, and its place is free.
+-- What sat at that place had ended, and its place is free.
 pub record Leaves {B L : Type 0} (old new : DeskValue B L) (at : ℕ) (link : L) : Type 0 where
   pub was : Seated B L
   pub before : new.before ≡ old.before
   pub seat : new.seat ≡ old.seat
   pub sat : SitsAt old.places at was
+  pub over : is_over was.slot.connection.stage ≡ true
   pub link_is : link ≡ was.link
   pub free : slice_get new.places at ≡ Some None
   pub others : Others old.places new.places at
 
--- Nothing was said or sent at any place, and nothing has changed but what the connection at that place is told.
-pub record Touches {B L : Type 0} (sent : L → Option (List (List ℕ))) (old new : DeskValue B L) (at : ℕ) : Type 0 where
+-- Nothing was said or sent at any place, and nothing has changed but what the connection at that place is told, which goes on from
+-- there with no deed.
+pub record Touches {B L : Type 0} (sent : L → Option (List (List ℕ))) (received : L → Option (List ℕ)) (old new : DeskValue B L) (at : ℕ) : Type 0 where
   pub before : new.before ≡ old.before
   pub seat : new.seat ≡ old.seat
   pub others : Others old.places new.places at
-  pub unserved : (was : Seated B L) → SitsAt old.places at was → (is : Seated B L) × SitsAt new.places at is × Unserved sent was.slot was.link is.slot is.link
+  pub unserved : (was : Seated B L) → SitsAt old.places at was → (is : Seated B L) × SitsAt new.places at is × Unserved sent was.slot was.link is.slot is.link × Idles received was.slot was.link is.slot is.link

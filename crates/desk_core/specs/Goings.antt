@@ -8,25 +8,29 @@ use Rattle.connection_core.specs.declared.said.Wanted.TheVariants.{Tell}
 use Rattle.desk_core.specs.Continues.{Continues}
 use Rattle.desk_core.specs.Conversations.{IsConversation}
 use Rattle.desk_core.specs.Deeds.{Deed, commands_of, told_of}
+use Rattle.desk_core.specs.Halting.{FindsEnd, HasHalted}
 use Rattle.desk_core.specs.Lives.{Did, Heeds, LivesOn}
 use Rattle.desk_core.specs.Slots.{IsOwn, Message, Served, bytes_of, frames_of}
 use Rattle.desk_core.specs.declared.slot.Slot.{Slot}
 
 -- These deeds were done at a slot, of what its client's bytes ask for next: its seat got the commands among them, and nothing
 -- else, which go on with its own conversation; and its link was sent the frames among them, beside its own session's outputs.
+-- It is stopped only where its seat has found that the ring takes nothing more.
 pub record GoesOn {B L : Type 0} (sent : L → Option (List (List ℕ))) (received : L → Option (List ℕ)) (was : Slot B) (old : SessionSeatValue) (from : L) (is : Slot B) (new : SessionSeatValue) (to : L) : Type 0 where
   pub deeds : List Deed
   pub added : new.own ≡ old.own ++ commands_of deeds
   pub continues : Continues was.connection.progress old is.connection.progress new
   pub served : Served sent (told_of deeds) was from is to
   pub heeds : Heeds received was from is to deeds
+  pub halts : (HasHalted was.connection.stage → FindsEnd old) → HasHalted is.connection.stage → FindsEnd new
 
 -- what became of a frame that the connection wanted to be told
 pub record TellsIt {B L : Type 0} (sent : L → Option (List (List ℕ))) (frame : Frame) (was : Slot B) (from : L) (is : Slot B) (to : L) : Type 0 where
   pub deeds : List Deed
   pub none_said : commands_of deeds ≡ []
   pub served : Served sent (told_of deeds) was from is to
-  pub lives : Executes was.connection.stage → LivesOn (Tell frame) was.connection is.connection is.pending deeds
+  pub halts : Executes was.connection.stage → HasHalted is.connection.stage → HasHalted was.connection.stage
+  pub lives : Executes was.connection.stage → LivesOn (Tell frame) [] was.connection is.connection is.pending deeds
 
 -- One client alone was served through a seat. The seat got one conversation, and the client was sent outputs of that session
 -- alone, and at once the frames that were told it. These commands and frames are what the bytes ask for that its link gave.

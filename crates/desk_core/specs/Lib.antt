@@ -1,13 +1,16 @@
 pub mod Answers
 pub mod Boxes
+pub mod Chains
 pub mod Continues
 pub mod Conversations
 pub mod Deeds
 pub mod Desks
 pub mod Goings
+pub mod Halting
 pub mod Holding
 pub mod Keeping
 pub mod Lives
 pub mod Places
 pub mod Relays
 pub mod Slots
+pub mod Spending

@@ -1,5 +1,5 @@
 -- What is done at a place of a desk.
-use Rattle.std.specs.Prelude.{◌≡◌, ℕ, List, Option, Some, None}
+use Rattle.std.specs.Prelude.{◌≡◌, ℕ, List, Bool, true, false, Option, Some, None, is_some}
 use Rattle.connection_core.specs.declared.progress.Progress.{Progress}
 use Rattle.connection_core.specs.declared.progress.Progress.TheVariants.{Gone}
 use Rattle.desk_core.specs.declared.place.Seated.{Seated}
@@ -7,7 +7,10 @@ use Rattle.claim_core.specs.Seats.{SessionSeatValue}
 use Rattle.desk_core.specs.declared.turned.Turned.{Turned}
 use Rattle.desk_core.specs.Answers.{Answers}
 use Rattle.desk_core.specs.Goings.{GoesOn}
-use Rattle.desk_core.specs.Slots.{Unserved}
+use Rattle.desk_core.specs.Lives.{Idles}
+use Rattle.connection_core.specs.declared.stage.Stage.{Stage}
+use Rattle.connection_core.specs.declared.stage.Stage.TheVariants.{Running, GivingUp, Closing, Parting, Leaving, Over}
+use Rattle.desk_core.specs.Slots.{Unserved, number_at}
 
 -- how far the conversation has come of what sits at a place
 abbrev pub progress_at : {B L : Type 0} → Option (Seated B L) → Progress
@@ -24,7 +27,27 @@ pub record ServedAt {B L : Type 0} (sent : L → Option (List (List ℕ))) (rece
   pub goes : GoesOn sent received was.slot before was.link is.slot after is.link
   pub answers : Answers received turned before was.link is.slot after is.link
 
--- nothing was sent there, and nobody came or went
-abbrev pub UnservedAt : {B L : Type 0} → (L → Option (List (List ℕ))) → Option (Seated B L) → Option (Seated B L) → Type 0
-UnservedAt sent None new = new ≡ None
-UnservedAt sent (Some was) new = (is : Seated _ _) × (new ≡ Some is) × Unserved sent was.slot was.link is.slot is.link
+-- it has ended
+abbrev pub is_over : Stage → Bool
+is_over Running = false
+is_over GivingUp = false
+is_over (Closing ended) = false
+is_over (Parting ended) = false
+is_over Leaving = false
+is_over (Over ended) = true
+
+-- the connection has ended that sits at a place
+abbrev pub is_over_at : {B L : Type 0} → Option (Seated B L) → Bool
+is_over_at None = false
+is_over_at (Some seated) = is_over seated.slot.connection.stage
+
+-- the connection has opened its session that sits at a place
+abbrev pub is_open_at : {B L : Type 0} → Option (Seated B L) → Bool
+is_open_at None = false
+is_open_at (Some seated) = is_some (number_at seated.slot)
+
+-- nothing was sent there, nobody came or went, and who sits there goes on from there with no deed
+abbrev pub UnservedAt : {B L : Type 0} → (L → Option (List (List ℕ))) → (L → Option (List ℕ)) → Option (Seated B L) → Option (Seated B L) → Type 0
+UnservedAt sent received None new = new ≡ None
+UnservedAt sent received (Some was) new =
+    (is : Seated _ _) × (new ≡ Some is) × Unserved sent was.slot was.link is.slot is.link × Idles received was.slot was.link is.slot is.link

@@ -4,7 +4,7 @@ ghost use Rattle.std.specs.Prelude.{◌≡◌, ◌≢◌, None, true, false};
 ghost use Rattle.session_core.specs.Sessions.{HasForm};
 ghost use Rattle.session_core.specs.declared.act.Act.TheVariants as acts;
 
-use crate::pending::Pending;
+use crate::pending::{Pending, charge};
 use crate::ringers::Ringers;
 use crate::slot::Slot;
 use crate::speaking::speak;
@@ -67,12 +67,14 @@ impl Executed {
 }
 
 impl<B: Bell> Slot<B> {
-    ghost use Rattle.std.specs.Prelude.{[], Some};
+    ghost use Rattle.std.specs.Prelude.{◌∷◌, ◌⊎◌, [], Some};
     ghost use Rattle.outbox_core.specs.Boxes.{TakerValue};
     ghost use Rattle.desk_core.specs.Answers.{Appended, Grows, IsQuiet, Leaves};
     ghost use Rattle.connection_core.specs.Stages.{Executes};
     ghost use Rattle.connection_core.specs.declared.said.Wanted.TheVariants.{Append};
     ghost use Rattle.desk_core.specs.Continues.{Continues};
+    ghost use Rattle.desk_core.specs.Conversations.{StaysOrEnds};
+    ghost use Rattle.desk_core.specs.Halting.{HasHalted, IsFinal};
     ghost use Rattle.desk_core.specs.Holding.{Holds};
     ghost use Rattle.desk_core.specs.Goings.{GoesOn, TellsIt};
     ghost use Rattle.desk_core.specs.Lives.{DoesWanted, LivesOn};
@@ -136,7 +138,8 @@ impl<B: Bell> Slot<B> {
         }
     }
 
-    // Makes the entry of a command and appends it. Where memory is refused, the connection wants the command again.
+    // Makes the entry of a command and appends it. Where memory is refused, the connection wants the command again. One that would have
+    // the session pass its bytes is dropped, with all that waits behind it: the connection is given up.
     fn prepare<M: Ringers<B>>(
         &mut self,
         alloc: Global,
@@ -151,11 +154,16 @@ impl<B: Bell> Slot<B> {
         requires nothing { self.old.pending ≡ None }
         ensures continues { Continues self.old.connection.progress seat.old self.new.connection.progress seat.new }
         ensures stays { Stays self.old self.new }
-        ensures lives { Executes self.old.connection.stage → DoesWanted (Append command) self.old.connection seat.old self.new.connection self.new.pending seat.new }
+        ensures lives { Executes self.old.connection.stage → DoesWanted (Append command) [] self.old.connection seat.old self.new.connection self.new.pending seat.new }
         ensures grows { Grows result seat.old seat.new }
         ensures leaves { Leaves result self.new.pending seat.new }
     {
-        match Pending::new(alloc, ringers, command) {
+        if !self.connection.affords(command.op()) {
+            drop(command);
+            self.connection.cut_off(alloc);
+            return Step::Done;
+        }
+        match charge(alloc, ringers, &mut self.connection, command) {
             Ok(pending) => self.append(ring, seat, pending),
             Err(command) => {
                 self.connection.retry(command);
@@ -176,7 +184,7 @@ impl<B: Bell> Slot<B> {
         ensures continues { Continues self.old.connection.progress seat.old self.new.connection.progress seat.new }
         ensures stays { Stays self.old self.new }
         ensures taker { (taker : TakerValue) → pending.taker ≡ Some taker → result ≡ Step.Appended → self.new.outbox ≡ Some taker }
-        ensures lives { Executes self.old.connection.stage → DoesWanted (Append pending.entry.command) self.old.connection seat.old self.new.connection self.new.pending seat.new }
+        ensures lives { Executes self.old.connection.stage → DoesWanted (Append pending.entry.command) (pending.entry.command.op ∷ []) self.old.connection seat.old self.new.connection self.new.pending seat.new }
         ensures grows { Grows result seat.old seat.new }
         ensures leaves { Leaves result self.new.pending seat.new }
     {
@@ -202,7 +210,8 @@ impl<B: Bell> Slot<B> {
         ensures same { self.new.connection.progress ≡ self.old.connection.progress }
         ensures stays { (self.new.outbox ≡ self.old.outbox) × (self.new.kept ≡ self.old.kept) }
         ensures holds { Holds pending refused self.new.pending result }
-        ensures lives { self.old.pending ≡ None → LivesOn (Append pending.entry.command) self.old.connection self.new.connection self.new.pending [] }
+        ensures halts { HasHalted self.new.connection.stage → HasHalted self.old.connection.stage ⊎ IsFinal refused }
+        ensures lives { self.old.pending ≡ None → LivesOn (Append pending.entry.command) (pending.entry.command.op ∷ []) self.old.connection self.new.connection self.new.pending [] }
     {
         match refused {
             Refused::Busy(mark) => {
@@ -221,7 +230,7 @@ impl<B: Bell> Slot<B> {
     fn tell<L: Link>(&mut self, alloc: Global, link: &mut L, notice: Notice) -> Step
         requires first { self.old.connection.acts.again ≡ None }
         requires nothing { self.old.pending ≡ None }
-        ensures same { self.new.connection.progress ≡ self.old.connection.progress }
+        ensures ends { StaysOrEnds self.old.connection.progress self.new.connection.progress }
         ensures unread { L.received link.new ≡ L.received link.old }
         ensures tells { TellsIt L.sent notice self.old link.old self.new link.new }
         ensures quiet { IsQuiet result }

@@ -3,7 +3,7 @@
 ghost use Rattle.std.specs.Prelude.{◌≡◌, IfOk, IfSome, IsNone, length};
 
 use crate::place::{Place, Seated};
-use crate::placing::{is_free, lose_at, ping_at, take_place, turn_at, vacate};
+use crate::placing::{give_up_at, is_free, lose_at, ping_at, take_place, turn_at, vacate};
 use crate::ringers::Ringers;
 use crate::slot::Slot;
 use crate::turned::Turned;
@@ -22,7 +22,7 @@ use ws_core::Link;
 #[derive(Drop)]
 pub struct Desk<B: Bell, L> {
     seat: BrokerSeat<OutSender<B>>,
-    places: Vec<Place<B, L>>,
+    pub(crate) places: Vec<Place<B, L>>,
     // Places from which a connection went, to be taken again.
     free: Vec<usize>,
     // The seat as it was when the desk was made.
@@ -40,11 +40,13 @@ impl<B: Bell, L> Model for Desk<B, L> {
 }
 
 impl<B: Bell, L: Link + Drop> Desk<B, L> {
-    ghost use Rattle.std.specs.Prelude.{[], None, OnErr, IsSome, Some, slice_get};
+    ghost use Rattle.std.specs.Prelude.{[], None, OnErr, IsSome, Some, slice_get, true};
     ghost use Rattle.std.specs.Prelude.{◌≤◌};
     ghost use Rattle.claim_core.specs.Seats.{with_seen};
     ghost use Rattle.desk_core.specs.Conversations.{Converse};
     ghost use Rattle.desk_core.specs.Desks.{Admits, AreApart, Leaves, Others, Turns, Touches, desk, seated_at};
+    ghost use Rattle.desk_core.specs.Places.{is_open_at, is_over_at};
+    ghost use Rattle.desk_core.specs.declared.place.Seated.{Seated};
 
     /// A desk with no connection. No memory is taken.
     pub fn new(alloc: Global, seat: BrokerSeat<OutSender<B>>) -> Desk<B, L>
@@ -141,37 +143,48 @@ impl<B: Bell, L: Link + Drop> Desk<B, L> {
 
     /// The connection at that place is over: its link has failed, or took too long. Its next turns end it.
     pub fn lose(&mut self, at: usize)
-        ensures { Touches L.sent self.old self.new at }
+        ensures { Touches L.sent L.received self.old self.new at }
     {
         if at < self.places.len() {
             lose_at(&mut self.places[at]);
         }
     }
 
+    /// The connection at that place is given up, since the server ends: its next turns close its link with 1001.
+    pub fn give_up(&mut self, at: usize)
+        ensures { Touches L.sent L.received self.old self.new at }
+    {
+        if at < self.places.len() {
+            give_up_at(&mut self.places[at]);
+        }
+    }
+
     /// Sends a ping to the client at that place (RFC 6455, section 5.5.2), as far as its stream takes it. Nothing where there is none,
     /// or where memory is refused; a link that is over is found so by the connection's next turn.
     pub fn ping(&mut self, at: usize)
-        ensures { Touches L.sent self.old self.new at }
+        ensures { Touches L.sent L.received self.old self.new at }
     {
         if at < self.places.len() {
             ping_at(&mut self.places[at]);
         }
     }
 
-    /// Whether the client at that place has opened its session.
-    pub fn is_open(&self, at: usize) -> bool {
+    /// Whether the client at that place has opened its session: its Open was appended. It is so too once the session has ended.
+    pub fn is_open(&self, at: usize) -> bool
+        ensures { result ≡ is_open_at (seated_at self.now.places at) }
+    {
         match self.places.get(at) {
             Some(Some(seated)) => seated.slot.connection.number().is_some(),
             _ => false,
         }
     }
 
-    /// Lets the connection at that place go, and hands its link back; `None` where there is none. Its conversation is left as it
-    /// stands: let it come to its end first.
+    /// Lets the connection at that place go, which has ended, and hands its link back. `None` if there is none, or it has not ended, as
+    /// its turns say by `Next::Over`: then nothing changes.
     pub fn dismiss(&mut self, at: usize) -> Option<L>
         ensures left { IfSome result (Leaves self.old self.new at) }
         ensures none { IsNone result → self.new ≡ self.old }
-        ensures some { IsSome (seated_at self.old.places at) → IsSome result }
+        ensures some { is_over_at (seated_at self.old.places at) ≡ true → IsSome result }
     {
         if at >= self.places.len() {
             return None;

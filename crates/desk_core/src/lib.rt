@@ -5,6 +5,8 @@
 mod appending;
 mod desk;
 mod kept;
+mod laws;
+mod lending;
 mod pacing;
 mod passing;
 mod pending;
@@ -21,6 +23,7 @@ mod working;
 pub use connection_core::Ended;
 pub use desk::Desk;
 pub use kept::{Kept, Relayed};
+pub use laws::a_connection_at_a_desk_lives_one_life;
 pub use pacing::Pacing;
 pub use place::Seated;
 pub use relaying::relay;

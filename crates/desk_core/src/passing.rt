@@ -2,7 +2,7 @@
 
 ghost use Rattle.std.specs.Prelude.{◌≡◌, ◌≢◌, true};
 ghost use Rattle.desk_core.specs.Conversations.{StaysOrEnds};
-ghost use Rattle.desk_core.specs.Lives.{Restaged};
+ghost use Rattle.desk_core.specs.Lives.{Steady};
 ghost use Rattle.claim_core.specs.Seats.{with_seen};
 
 use crate::kept::Relayed;
@@ -32,9 +32,9 @@ pub enum PassedOn {
 }
 
 impl<B: Bell> Slot<B> {
-    ghost use Rattle.std.specs.Prelude.{[]};
+    ghost use Rattle.std.specs.Prelude.{◌≤◌, []};
     ghost use Rattle.desk_core.specs.Goings.{GoesOn};
-    ghost use Rattle.desk_core.specs.Lives.{Heeds};
+    ghost use Rattle.desk_core.specs.Lives.{Idles};
     ghost use Rattle.desk_core.specs.Slots.{Served};
 
     // Sends what may leave, until nothing more may or so much was sent. A link that has not taken all before gets nothing more.
@@ -77,8 +77,9 @@ impl<B: Bell> Slot<B> {
         requires { seat.old.ring ≡ ring.now }
         ensures ends { StaysOrEnds self.old.connection.progress self.new.connection.progress }
         ensures seen { seat.new ≡ with_seen seat.old seat.new.seen }
+        ensures no_less { seat.old.seen ≤ seat.new.seen }
         ensures served { Served L.sent [] self.old link.old self.new link.new }
-        ensures lives { Heeds L.received self.old link.old self.new link.new [] }
+        ensures lives { Idles L.received self.old link.old self.new link.new }
         ensures pending { self.new.pending ≡ self.old.pending }
         ensures unread { L.received link.new ≡ L.received link.old }
     {
@@ -106,7 +107,7 @@ impl<B: Bell> Slot<B> {
 fn note(connection: &mut Connection, relayed: Relayed) -> Option<usize>
     requires { connection.old.stage ≡ Stage.Running }
     ensures ends { StaysOrEnds connection.old.progress connection.new.progress }
-    ensures rest { Restaged connection.old connection.new }
+    ensures rest { Steady connection.old connection.new }
     ensures gives_up { relayed ≡ Relayed.Foreign → connection.new.stage ≢ Stage.Running }
 {
     match relayed {

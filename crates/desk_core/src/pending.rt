@@ -1,14 +1,16 @@
 //! A command on its way into the ring.
 
-ghost use Rattle.std.specs.Prelude.{◌≡◌, ◌≢◌, [], Some, None, IfOk, IfErr};
+ghost use Rattle.std.specs.Prelude.{◌≡◌, ◌≢◌, ◌≤◌, [], Some, None, IfOk, IfErr};
 ghost use Rattle.connection_core.specs.Conversations.{role_of};
+ghost use Rattle.connection_core.specs.Footprints.{charged, total};
+ghost use Rattle.connection_core.specs.declared.footprint.TheConstants.{SESSION_BYTES};
 ghost use Rattle.connection_core.specs.declared.progress.Role.TheVariants.{Opens};
 ghost use Rattle.outbox_core.specs.Boxes.{TakerValue};
 ghost use Rattle.desk_core.specs.Boxes.{IsBoxFor, box_of};
 
 use crate::ringers::Ringers;
 use command_core::{Command, Entry};
-use connection_core::Role;
+use connection_core::{Connection, Role};
 use outbox_core::{Bell, BoxSize, OutSender, OutTaker, outbox};
 use std::alloc::{AllocError, Global};
 
@@ -46,6 +48,36 @@ impl<B: Bell> Pending<B> {
                 Err(command)
             }
         }
+    }
+
+    // The command. Its entry and its box are let go.
+    fn into_command(self) -> Command
+        ensures { result ≡ self.entry.command }
+    {
+        let Pending { entry, taker } = self;
+        let (command, sender) = entry.into_parts();
+        drop(sender);
+        drop(taker);
+        command
+    }
+}
+
+// Makes the entry of a command, and counts the command. Where memory is refused for either, the command comes back and nothing has changed.
+pub fn charge<B: Bell, M: Ringers<B>>(
+    alloc: Global,
+    ringers: &M,
+    connection: &mut Connection,
+    command: Command,
+) -> Result<Pending<B>, Command>
+    requires { total (charged connection.old.footprint command.op) ≤ SESSION_BYTES }
+    ensures ok { IfOk result (λ pending. (pending.entry.command ≡ command)
+        × (connection.new ≡ record connection.old { footprint = charged connection.old.footprint command.op })) }
+    ensures back { IfErr result (λ back. (back ≡ command) × (connection.new ≡ connection.old)) }
+{
+    let pending = Pending::new(alloc, ringers, command)?;
+    match connection.charge(alloc, pending.entry.command().op()) {
+        Ok(()) => Ok(pending),
+        Err(_) => Err(pending.into_command()),
     }
 }
 

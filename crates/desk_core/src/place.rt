@@ -15,18 +15,29 @@ pub struct Seated<B: Bell, L> {
 pub(crate) type Place<B, L> = Option<Seated<B, L>>;
 
 impl<B: Bell, L: Link> Seated<B, L> {
+    ghost use Rattle.desk_core.specs.Lives.{Idles};
     ghost use Rattle.desk_core.specs.Slots.{Unserved};
 
     // Its link is over.
     pub(crate) fn lose(&mut self)
-        ensures { Unserved L.sent self.old.slot self.old.link self.new.slot self.new.link }
+        ensures unserved { Unserved L.sent self.old.slot self.old.link self.new.slot self.new.link }
+        ensures lives { Idles L.received self.old.slot self.old.link self.new.slot self.new.link }
     {
         self.slot.connection.lose();
     }
 
+    // It is given up.
+    pub(crate) fn give_up(&mut self)
+        ensures unserved { Unserved L.sent self.old.slot self.old.link self.new.slot self.new.link }
+        ensures lives { Idles L.received self.old.slot self.old.link self.new.slot self.new.link }
+    {
+        self.slot.connection.give_up();
+    }
+
     // Sends its client a ping.
     pub(crate) fn ping(&mut self)
-        ensures { Unserved L.sent self.old.slot self.old.link self.new.slot self.new.link }
+        ensures unserved { Unserved L.sent self.old.slot self.old.link self.new.slot self.new.link }
+        ensures lives { Idles L.received self.old.slot self.old.link self.new.slot self.new.link }
     {
         let _ = self.link.ping();
         let _ = self.link.flush();

@@ -2,7 +2,7 @@
 
 ghost use Rattle.std.specs.Prelude.{◌≡◌, Some, None, IfSome, IsNone, IsSome, true, slice_get};
 ghost use Rattle.desk_core.specs.Continues.{Continues};
-ghost use Rattle.desk_core.specs.Places.{ServedAt, UnservedAt, progress_at};
+ghost use Rattle.desk_core.specs.Places.{ServedAt, UnservedAt, is_over_at, progress_at};
 
 use crate::place::{Place, Seated};
 use crate::ringers::Ringers;
@@ -41,27 +41,52 @@ pub fn turn_at<B: Bell, M: Ringers<B>, L: Link>(
 
 // The link there is over.
 pub fn lose_at<B: Bell, L: Link>(place: &mut Place<B, L>)
-    ensures { UnservedAt L.sent place.old place.new }
+    ensures { UnservedAt L.sent L.received place.old place.new }
 {
     if let Some(seated) = place {
         seated.lose();
     }
 }
 
+// The connection there is given up.
+pub fn give_up_at<B: Bell, L: Link>(place: &mut Place<B, L>)
+    ensures { UnservedAt L.sent L.received place.old place.new }
+{
+    if let Some(seated) = place {
+        seated.give_up();
+    }
+}
+
 // Sends the client there a ping.
 pub fn ping_at<B: Bell, L: Link>(place: &mut Place<B, L>)
-    ensures { UnservedAt L.sent place.old place.new }
+    ensures { UnservedAt L.sent L.received place.old place.new }
 {
     if let Some(seated) = place {
         seated.ping();
     }
 }
 
-// Nobody sits there any more.
+// Where a connection there has ended, it sits there no more.
 pub fn vacate<B: Bell, L>(place: &mut Place<B, L>) -> Place<B, L>
-    ensures { (result ≡ place.old) × (place.new ≡ None) }
+    ensures taken { IsSome result → (result ≡ place.old) × (place.new ≡ None) × (is_over_at place.old ≡ true) }
+    ensures left { IsNone result → place.new ≡ place.old }
+    ensures over { is_over_at place.old ≡ true → IsSome result }
 {
-    mem::take(place)
+    if is_over(place) {
+        mem::take(place)
+    } else {
+        None
+    }
+}
+
+// Whether a connection there has ended.
+fn is_over<B: Bell, L>(place: &Place<B, L>) -> bool
+    ensures { result ≡ is_over_at place.now }
+{
+    match place {
+        Some(seated) => seated.slot.is_over(),
+        None => false,
+    }
 }
 
 // From now on that connection sits there.

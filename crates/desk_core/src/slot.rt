@@ -6,7 +6,7 @@ ghost use Rattle.desk_core.specs.Keeping.{KeepsOwn};
 
 use crate::kept::Kept;
 use crate::pending::Pending;
-use connection_core::Connection;
+use connection_core::{Connection, Stage};
 use outbox_core::{Bell, OutTaker};
 use std::alloc::Global;
 
@@ -24,6 +24,7 @@ pub struct Slot<B: Bell> {
 }
 
 impl<B: Bell> Slot<B> {
+    ghost use Rattle.desk_core.specs.Places.{is_over};
     ghost use Rattle.desk_core.specs.Slots.{IsNew};
 
     /// A connection whose client was not heard yet. No memory is taken.
@@ -36,5 +37,12 @@ impl<B: Bell> Slot<B> {
             outbox: None,
             kept: Kept::Nothing,
         }
+    }
+
+    // Whether its connection has ended.
+    pub(crate) fn is_over(&self) -> bool
+        ensures { result ≡ is_over self.now.connection.stage }
+    {
+        matches!(self.connection.stage(), Stage::Over(_))
     }
 }

@@ -26,14 +26,14 @@ enum Hearing {
 }
 
 impl<B: Bell> Slot<B> {
-    ghost use Rattle.std.specs.Prelude.{◌≢◌, [], None};
+    ghost use Rattle.std.specs.Prelude.{◌≢◌, None};
     ghost use Rattle.desk_core.specs.Answers.{Answers, AwaitsBy, IsRest};
     ghost use Rattle.desk_core.specs.declared.appending.Step.{Step};
     ghost use Rattle.desk_core.specs.declared.turning.Hearing.TheVariants.{Something};
     ghost use Rattle.connection_core.specs.Connections.{Listens};
     ghost use Rattle.connection_core.specs.declared.stage.Stage.TheVariants.{Running};
     ghost use Rattle.desk_core.specs.Goings.{GoesOn};
-    ghost use Rattle.desk_core.specs.Lives.{Heeds};
+    ghost use Rattle.desk_core.specs.Lives.{Idles};
     ghost use Rattle.desk_core.specs.Slots.{Unserved};
 
     /// Lets the connection go on: what waits in its link is written, its client is heard where nothing else is to be done first, what
@@ -70,7 +70,7 @@ impl<B: Bell> Slot<B> {
     // Reads once, where nothing else is to be done first, and answers what came. Behind its own close it waits for the peer's.
     fn read<L: Link>(&mut self, alloc: Global, link: &mut L) -> Hearing
         ensures unserved { Unserved L.sent self.old link.old self.new link.new }
-        ensures lives { Heeds L.received self.old link.old self.new link.new [] }
+        ensures lives { Idles L.received self.old link.old self.new link.new }
         ensures heard { result ≢ Something → L.received link.new ≡ L.received link.old }
     {
         if matches!(self.connection.stage(), Stage::Parting(_)) {
@@ -90,7 +90,7 @@ impl<B: Bell> Slot<B> {
         requires listens { Listens self.old.connection }
         requires nothing { self.old.pending ≡ None }
         ensures unserved { Unserved L.sent self.old link.old self.new link.new }
-        ensures lives { Heeds L.received self.old link.old self.new link.new [] }
+        ensures lives { Idles L.received self.old link.old self.new link.new }
         ensures heard { result ≢ Something → L.received link.new ≡ L.received link.old }
     {
         match link.receive(alloc) {
@@ -100,6 +100,10 @@ impl<B: Bell> Slot<B> {
             }
             Received::Skipped => Hearing::Something,
             Received::Nothing => Hearing::Nothing,
+            Received::Failed => {
+                self.connection.give_up();
+                Hearing::Something
+            }
             Received::Closed => {
                 self.connection.lose();
                 Hearing::Nothing
@@ -111,7 +115,7 @@ impl<B: Bell> Slot<B> {
     fn await_close<L: Link>(&mut self, alloc: Global, link: &mut L) -> Hearing
         requires { self.old.connection.stage ≢ Running }
         ensures unserved { Unserved L.sent self.old link.old self.new link.new }
-        ensures lives { Heeds L.received self.old link.old self.new link.new [] }
+        ensures lives { Idles L.received self.old link.old self.new link.new }
         ensures heard { result ≢ Something → L.received link.new ≡ L.received link.old }
     {
         match link.receive(alloc) {
@@ -121,6 +125,7 @@ impl<B: Bell> Slot<B> {
             }
             Received::Nothing => Hearing::Nothing,
             Received::Skipped => Hearing::Something,
+            Received::Failed => Hearing::Something,
             Received::Bytes(bytes) => {
                 drop(bytes);
                 Hearing::Something
@@ -131,7 +136,7 @@ impl<B: Bell> Slot<B> {
     // Has all leave that was sent, and closes the link where that is to be done. Answers whether memory was refused for that.
     fn finish<L: Link>(&mut self, link: &mut L) -> bool
         ensures unserved { Unserved L.sent self.old link.old self.new link.new }
-        ensures lives { Heeds L.received self.old link.old self.new link.new [] }
+        ensures lives { Idles L.received self.old link.old self.new link.new }
         ensures unread { L.received link.new ≡ L.received link.old }
     {
         match self.connection.stage() {
@@ -148,7 +153,7 @@ impl<B: Bell> Slot<B> {
     // Says the close, and answers whether memory was refused for it.
     fn part<L: Link>(&mut self, link: &mut L, ended: Ended) -> bool
         ensures unserved { Unserved L.sent self.old link.old self.new link.new }
-        ensures lives { Heeds L.received self.old link.old self.new link.new [] }
+        ensures lives { Idles L.received self.old link.old self.new link.new }
         ensures unread { L.received link.new ≡ L.received link.old }
     {
         match link.end(reason_of(ended)) {

@@ -54,16 +54,13 @@ fn turn_both(alloc: Global, ring: &HubRing, desk: &mut MemDesk, rounds: u32)
     }
 }
 
-// What the client there, which goes, was closed with, where it heard these.
-fn end_of(desk: &mut MemDesk, at: usize, wanted: &[&[u8]]) -> Option<Option<u16>> {
-    match desk.dismiss(at) {
-        Some(client) => {
-            let right = client.heard(wanted);
-            let code = client.code();
-            drop(client);
-            if right { Some(code) } else { None }
-        }
-        None => None,
+// What the client there was closed with, where it heard these.
+fn end_of(desk: &MemDesk, at: usize, wanted: &[&[u8]]) -> Option<Option<u16>> {
+    let client = desk.link(at)?;
+    if client.heard(wanted) {
+        Some(client.code())
+    } else {
+        None
     }
 }
 
@@ -99,10 +96,7 @@ fn run(alloc: Global) -> Option<(Option<Option<u16>>, Option<Option<u16>>)> {
     }
     publish(&ring, &mut flusher);
     turn_both(alloc, &ring, &mut desk, 3);
-    let ends = (
-        end_of(&mut desk, 0, &[]),
-        end_of(&mut desk, 1, &[CONNECTED]),
-    );
+    let ends = (end_of(&desk, 0, &[]), end_of(&desk, 1, &[CONNECTED]));
     drop(desk);
     drop(first);
     drop(second);

@@ -4,6 +4,8 @@
 #![tactic(auto)]
 
 #[cfg(test)]
+mod budget_tests;
+#[cfg(test)]
 mod clients;
 #[cfg(test)]
 mod crowd_tests;

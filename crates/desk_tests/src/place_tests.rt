@@ -133,7 +133,7 @@ fn admit_all(alloc: Global, room: &mut Room, guests: &[Guest]) {
 }
 
 // The first that heard something else.
-fn first_wrong_guest(room: &mut Room, guests: &[Guest]) -> Option<usize> {
+fn first_wrong_guest(room: &Room, guests: &[Guest]) -> Option<usize> {
     for (at, guest) in guests.iter().enumerate() {
         if !has_heard(room, at, guest.hears) {
             return Some(at);
@@ -142,14 +142,10 @@ fn first_wrong_guest(room: &mut Room, guests: &[Guest]) -> Option<usize> {
     None
 }
 
-// Whether the client there, which goes, has heard these.
-fn has_heard(room: &mut Room, at: usize, wanted: &[&[u8]]) -> bool {
-    match room.dismiss(at) {
-        Some(client) => {
-            let right = client.heard(wanted);
-            drop(client);
-            right
-        }
+// Whether the client there has heard these.
+fn has_heard(room: &Room, at: usize, wanted: &[&[u8]]) -> bool {
+    match room.client(at) {
+        Some(client) => client.heard(wanted),
         None => false,
     }
 }
@@ -160,7 +156,7 @@ fn run(alloc: Global, guests: &[Guest]) -> Option<(u64, Option<usize>)> {
     admit_all(alloc, &mut room, guests);
     room.go_round(alloc, ROUNDS);
     let count = room.count();
-    let wrong = first_wrong_guest(&mut room, guests);
+    let wrong = first_wrong_guest(&room, guests);
     drop(room);
     Some((count?, wrong))
 }
@@ -187,7 +183,7 @@ fn run_cut(alloc: Global, stream: &[u8], at: usize, wanted: &[&[u8]]) -> Option<
     let place = room.admit(alloc, client);
     room.go_round(alloc, ROUNDS);
     let count = room.count();
-    let right = place == Some(1) && has_heard(&mut room, 1, wanted);
+    let right = place == Some(1) && has_heard(&room, 1, wanted);
     drop(room);
     Some((count?, right))
 }
@@ -213,6 +209,17 @@ fn bytes_that_are_cut_anywhere_come_out_the_same(rt: HostRuntime) -> Result<(), 
     Ok(())
 }
 
+// Whether the client there goes.
+fn dismisses(room: &mut Room, at: usize) -> bool {
+    match room.dismiss(at) {
+        Some(client) => {
+            drop(client);
+            true
+        }
+        None => false,
+    }
+}
+
 // A subscriber that takes nothing goes while a message waits for it, and another takes its place: the place, and whether that one
 // heard its own CONNECTED alone.
 fn run_again(alloc: Global) -> Option<(Option<usize>, bool)> {
@@ -229,13 +236,14 @@ fn run_again(alloc: Global) -> Option<(Option<usize>, bool)> {
         ],
     );
     room.go_round(alloc, ROUNDS);
+    let sits = room.dismiss(0).is_none();
     room.lose(0);
     room.go_round(alloc, 2);
-    let left = has_heard(&mut room, 0, &[]);
+    let left = sits && has_heard(&room, 0, &[]) && dismisses(&mut room, 0);
     let next = Client::new(alloc, &[CONNECT], 0)?;
     let place = room.admit(alloc, next);
     room.go_round(alloc, ROUNDS);
-    let right = left && has_heard(&mut room, 0, &[CONNECTED]);
+    let right = left && has_heard(&room, 0, &[CONNECTED]);
     drop(room);
     Some((place, right))
 }

@@ -68,9 +68,16 @@ pub struct Room {
 }
 
 impl Room {
-    /// The room of an empty journal.
+    /// The room of an empty journal with small areas.
     pub fn new(alloc: Global) -> Option<Room> {
-        match new_hub(alloc, 4_096) {
+        Room::with_areas(alloc, 4_096)
+    }
+
+    /// The room of an empty journal with areas of so many bytes.
+    pub fn with_areas(alloc: Global, area_bytes: u64) -> Option<Room>
+        requires { (4096 ≤ area_bytes) × (area_bytes ≤ 262144) }
+    {
+        match new_hub(alloc, area_bytes) {
             Some(hub) => Some(Room::of(alloc, hub)),
             None => None,
         }
@@ -110,7 +117,12 @@ impl Room {
         self.desk.lose(at);
     }
 
-    /// The client there goes.
+    /// The client there.
+    pub fn client(&self, at: usize) -> Option<&Client> {
+        self.desk.link(at)
+    }
+
+    /// The client there goes, if its connection is over.
     pub fn dismiss(&mut self, at: usize) -> Option<Client> {
         self.desk.dismiss(at)
     }

@@ -4,7 +4,7 @@ ghost use Rattle.std.specs.Prelude.{◌≡◌, replicate, IfOk, ⊤};
 use crate::faults::count;
 use crate::{DeviceFault, Disk};
 use std::fs::{File, OpenOptions, TryLockError};
-use std::os::unix::fs::FileExt;
+use std::os::unix::fs::{FileExt, OpenOptionsExt};
 use std::path::Path;
 use std::rt::Files;
 use std::{error, fmt, io};
@@ -60,8 +60,9 @@ pub struct FileDisk {
 impl FileDisk {
     ghost use Rattle.disk_core.specs.File.{file_size, file_failures};
 
-    /// Makes a file of so many zeros, and has it and its name on the device. A file that is there
-    /// is left as it is; one that cannot be sized or synced is removed again.
+    /// Makes a file of so many zeros, which only its owner may read and write, and has it and its
+    /// name on the device. A file that is there is left as it is; one that cannot be sized or synced
+    /// is removed again.
     pub fn create<R: Files<File = File>>(
         rt: &R,
         path: &str,
@@ -74,6 +75,7 @@ impl FileDisk {
             .read(true)
             .write(true)
             .create_new(true)
+            .mode(0o600)
             .open(rt, path)?;
         if let Err(error) = settle(rt, &file, path, size) {
             let _ = std::fs::remove_file(rt, path);

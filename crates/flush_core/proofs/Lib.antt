@@ -7,3 +7,4 @@ pub mod Room
 pub mod Prefixes
 pub mod Compactions
 pub mod RoomWon
+pub mod Halting

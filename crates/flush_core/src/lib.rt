@@ -11,10 +11,14 @@ mod gathering;
 mod marking;
 mod outlet;
 mod publishing;
+mod sizing;
+mod stopping;
 mod storing;
+mod tally;
 mod turning;
 mod width;
 
 pub use faults::FlushFault;
 pub use flusher::Flusher;
+pub use tally::Tally;
 pub use width::Width;

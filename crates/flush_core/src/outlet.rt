@@ -4,6 +4,7 @@ ghost use Rattle.std.specs.Prelude.{◌≡◌, ◌<◌, ◌≤◌, ◌+◌, ◌+
 ghost use Rattle.outbox_core.specs.Giving.{AreGiven, unboxed, without};
 ghost use Rattle.flush_core.specs.Flushed.{AreUnder};
 
+use crate::tally::Tally;
 use claim_core::FlushSeat;
 use command_core::Out;
 use outbox_core::{Bell, Boxes, OutSender};
@@ -23,6 +24,7 @@ pub(crate) struct Outlet<B: Bell> {
     pub(crate) left: Vec<Out>,
     // Room for what goes to no box, for as long as a call of `give` lasts.
     pub(crate) spare: Vec<Out>,
+    pub(crate) tally: Tally,
 }
 
 impl<B: Bell> Outlet<B> {
@@ -39,6 +41,7 @@ impl<B: Bell> Outlet<B> {
             waiting: Vec::new(alloc),
             left: Vec::new(alloc),
             spare: Vec::new(alloc),
+            tally: Tally::none(),
         }
     }
 

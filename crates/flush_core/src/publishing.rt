@@ -8,6 +8,7 @@ ghost use Rattle.flush_core.specs.Flushed.{AreUnder};
 ghost use Rattle.flush_core.specs.Outcomes.{publishing, standing};
 
 use crate::flusher::Flusher;
+use crate::tally::Tally;
 use crate::width::Width;
 use claim_core::BrokerRing;
 use command_core::Out;
@@ -30,7 +31,13 @@ impl<D: Disk, B: Bell, W: Width> Flusher<D, B, W> {
         ensures held { D.honest self.new.disk → StandFor (D.images self.new.disk) (state_at self.new.opening self.new.seat self.new.seat.published) }
     {
         ring.raise(&mut self.seat, self.stored);
+        self.outlet.tally.add(&self.outlet.waiting);
         self.outlet.give(&self.seat);
+    }
+
+    /// How many outputs were published so far.
+    pub fn tally(&self) -> Tally {
+        self.outlet.tally
     }
 
     /// Hands out the outputs that are published and went to no box, in the order of their commands: the number of each is under

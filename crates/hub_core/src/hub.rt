@@ -2,6 +2,7 @@
 
 ghost use Rattle.std.specs.Prelude.{◌≡◌, ◌≤◌, ◌^◌, ◌∷◌, [], All, None, Some, IfSome, IsSome, IfOk, IfErr, MatchOption, false, length};
 ghost use Rattle.std.specs.VecDeque.{deque_capacity};
+ghost use Rattle.limits_core.specs.declared.TheConstants.{SEATS};
 ghost use Rattle.broker_core.specs.Operations.{restarted};
 ghost use Rattle.broker_core.specs.States.{State};
 ghost use Rattle.claim_core.specs.Seats.{new_session};
@@ -160,12 +161,36 @@ impl<D: Disk + Drop, B: Bell> Hub<D, B> {
         (ring, seats)
     }
 
-    /// The ring alone, to be shared by threads. What was not handed out is let go.
-    pub fn into_ring(self) -> BrokerRing<OutSender<B>>
-        ensures { result ≡ self.ring }
+    /// The ring alone, to be shared by threads, and the room for all seats, by which `again` makes a hub of it once more. The
+    /// flusher is let go if it was not handed out.
+    pub fn into_ring(self) -> (BrokerRing<OutSender<B>>, SeatRoom<B>)
+        ensures ring { result.0 ≡ self.ring }
+        ensures room { (result.1.seats.items ≡ self.seats) × (SEATS ≤ deque_capacity result.1.seats) }
     {
+        let base = self.base;
         let (ring, seats) = self.into_seats();
-        drop(seats);
-        ring
+        (ring, SeatRoom { base, seats })
     }
+
+    /// The hub of a ring whose seats and flusher were all handed out.
+    pub fn again(ring: BrokerRing<OutSender<B>>, room: SeatRoom<B>) -> Hub<D, B>
+        requires { room.seats.items ≡ [] }
+        ensures { result ≡ hub ring room.base [] None }
+    {
+        let SeatRoom { base, seats } = room;
+        Hub {
+            ring,
+            base,
+            seats,
+            flusher: None,
+        }
+    }
+}
+
+/// The seats of a hub that were not handed out, with room for all, so that closing the hub needs no memory.
+#[derive(Drop)]
+pub struct SeatRoom<B: Bell> {
+    pub(crate) base: u64,
+    pub(crate) seats: VecDeque<BrokerSeat<OutSender<B>>>,
+    ghost room: { SEATS ≤ deque_capacity seats },
 }

@@ -13,5 +13,5 @@ pub use desk_core::{
     Desk, Ended, Kept, Next, Pacing, Relayed, Ringers, Slot, Turned, relay, worker,
 };
 pub use flushing::flush_loop;
-pub use hub::Hub;
+pub use hub::{Hub, SeatRoom};
 pub use sizes::{HubFlusher, HubWidth};

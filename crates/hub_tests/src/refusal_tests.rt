@@ -230,8 +230,9 @@ fn word_of_work<R: Threads + Wait + Clock + Sync>(
         (Some((Ended::Bad, 5, true)), Flushed::To(7)) => "whole",
         (Some((Ended::Lost, _, true)), Flushed::To(_)) => "refused",
         (Some((Ended::Stopped | Ended::Lost | Ended::Bad, _, true)), Flushed::Refused) => "unseen",
-        // All was appended before the flusher stopped, so that what is still to come does not come.
-        (Some((Ended::Turns, _, true)), _) => "unseen",
+        // All was appended before the flusher stopped, so that what is still to come does not come. A worker that stalls beside a
+        // flusher that goes on is wrong.
+        (Some((Ended::Turns, _, true)), Flushed::Refused) => "unseen",
         _ => "wrong",
     }
 }

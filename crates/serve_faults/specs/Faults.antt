@@ -1,15 +1,15 @@
 -- Why a server does not serve.
 use Rattle.std.specs.Prelude.{List, ℕ, codes}
-use Rattle.disk_core.specs.File.{open_error_text}
 use Rattle.flush_core.specs.Faults.{flush_text}
 use Rattle.recover_core.specs.Texts.{open_text}
+use Rattle.serve_faults.specs.Unopened.{file_text, port_text}
 use Rattle.serve_faults.specs.declared.fault.ServeFault.{ServeFault}
 use Rattle.serve_faults.specs.declared.fault.ServeFault.TheVariants.{File, Port, Opening, Memory, Threads, Output, Flushing}
 
 -- what the user is told of a server that was not started, or has ended
 abbrev pub serve_text : ServeFault → List ℕ
-serve_text (File error) = open_error_text error
-serve_text Port = codes "cannot open"
+serve_text (File error) = file_text error
+serve_text (Port why) = port_text why
 serve_text (Opening fault) = open_text fault
 serve_text Memory = codes "no memory"
 serve_text Threads = codes "cannot start a thread"

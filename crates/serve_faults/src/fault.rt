@@ -1,5 +1,6 @@
 //! Why a server does not serve.
 
+use crate::unopened::Unopened;
 use disk_core::OpenError;
 use flush_core::FlushFault;
 use recover_core::OpenFault;
@@ -12,12 +13,12 @@ pub enum ServeFault {
     /// The file was not opened: it is missing, or another server has its lock, or the system refuses it.
     File(OpenError),
     /// The port was not opened: it is taken, or the system refuses it.
-    Port,
+    Port(Unopened),
     /// The journal was not opened.
     Opening(OpenFault),
     /// Memory was refused while the server was started.
     Memory,
-    /// The system starts no more threads.
+    /// The system starts no more threads, or refuses what threads wait by.
     Threads,
     /// That it listens could not be written.
     Output,
@@ -34,8 +35,12 @@ impl fmt::Display for ServeFault {
 
     fn fmt<W: fmt::Write>(&self, f: &mut fmt::Formatter<W>) -> fmt::Result {
         match self {
-            ServeFault::File(error) => write!(f, "{error}"),
-            ServeFault::Port => f.write_str("cannot open"),
+            ServeFault::File(error) => write!(
+                f,
+                "cannot open: FILE: {}",
+                Unopened::of(error).text()
+            ),
+            ServeFault::Port(why) => write!(f, "cannot open: PORT: {}", why.text()),
             ServeFault::Opening(fault) => write!(f, "{fault}"),
             ServeFault::Memory => f.write_str("no memory"),
             ServeFault::Threads => f.write_str("cannot start a thread"),

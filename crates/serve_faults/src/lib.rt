@@ -3,5 +3,7 @@
 #![tactic(auto)]
 
 mod fault;
+mod unopened;
 
 pub use fault::ServeFault;
+pub use unopened::Unopened;

@@ -3,10 +3,12 @@
 ghost use Rattle.std.specs.Prelude.{◌≡◌, [], IfSome, IsNone};
 ghost use Rattle.server_core.specs.Handing.{IsFewest};
 
+use crate::ending::Ending;
 use crate::post::{Arrival, Post};
+use crate::teller::Teller;
+use event_log::Kind;
 use limits_core::SEATS;
-use serve_faults::ServeFault;
-use std::alloc::Global;
+use serve_faults::{ServeFault, Unopened};
 use std::net::{Net, TcpListener, TcpStream};
 use std::sync::{Arc, Wait};
 use std::thread;
@@ -15,57 +17,90 @@ use std::time::{Clock, Duration};
 /// For how many milliseconds nobody is accepted where a connection was not.
 const REST: u64 = 20;
 
-/// Where clients come in, the origins whose pages are served (all, where none is named), and how many clients the server takes.
+/// Where clients come in, the posts of the workers that get them, and how many clients the server takes.
 #[derive(Drop)]
-pub struct Door {
-    pub(crate) listener: TcpListener,
-    pub(crate) origins: Arc<Vec<Vec<u8>>>,
-    pub(crate) most_clients: u64,
+pub(crate) struct Door<R> {
+    rt: R,
+    listener: TcpListener,
+    posts: Vec<Arc<Post>>,
+    most_clients: u64,
+    ending: Arc<Ending>,
+    log: Arc<Teller>,
 }
 
-impl Door {
-    /// Opens the port at 127.0.0.1. `Port` where the system refuses it.
-    pub(crate) fn open<R: Net<Listener = TcpListener, Stream = TcpStream>>(
-        alloc: Global,
-        net: &R,
-        port: u16,
-        origins: Vec<Vec<u8>>,
+impl<R> Door<R> {
+    /// Where clients come in by this listener.
+    pub(crate) fn new(
+        rt: R,
+        listener: TcpListener,
+        posts: Vec<Arc<Post>>,
         most_clients: u64,
-    ) -> Result<Door, ServeFault> {
-        let Ok(origins) = Arc::new(alloc, origins) else {
-            return Err(ServeFault::Memory);
-        };
-        match TcpListener::bind(net, ("127.0.0.1", port)) {
-            Ok(listener) => Ok(Door {
-                listener,
-                origins,
-                most_clients,
-            }),
-            Err(_) => Err(ServeFault::Port),
+        ending: Arc<Ending>,
+        log: Arc<Teller>,
+    ) -> Door<R> {
+        Door {
+            rt,
+            listener,
+            posts,
+            most_clients,
+            ending,
+            log,
         }
     }
 
-    /// Accepts clients for ever, and hands each to the worker that has the fewest.
-    pub(crate) fn accept_all<R: Wait + Clock>(&self, rt: &R, posts: &[Arc<Post>]) {
-        for _client in rt.forever() {
+    /// How many clients the server takes.
+    pub(crate) fn most_clients(&self) -> u64 {
+        self.most_clients
+    }
+
+    /// How many clients there are.
+    pub(crate) fn clients(&self) -> u64 {
+        let mut total = 0u64;
+        for post in &self.posts {
+            total = total.saturating_add(post.clients());
+        }
+        total
+    }
+}
+
+/// Opens the port at 127.0.0.1. `Port` if the system refuses it.
+pub(crate) fn listen<R: Net<Listener = TcpListener, Stream = TcpStream>>(
+    net: &R,
+    port: u16,
+) -> Result<TcpListener, ServeFault> {
+    match TcpListener::bind(net, ("127.0.0.1", port)) {
+        Ok(listener) => Ok(listener),
+        Err(error) => Err(ServeFault::Port(Unopened::by(error.kind()))),
+    }
+}
+
+impl<R: Wait + Clock> Door<R> {
+    /// Accepts clients and hands each to the worker that has the fewest, until the server is asked to end: whoever comes then is let
+    /// go.
+    pub(crate) fn accept_all(&self) {
+        for _client in self.rt.forever() {
             match self.listener.accept() {
-                Ok((socket, _)) => self.hand_out(rt, posts, socket),
-                Err(_) => thread::sleep(rt, Duration::from_millis(REST)),
+                Ok((socket, _)) if self.ending.is_asked() => drop(socket),
+                Ok((socket, _)) => self.hand_out(socket),
+                Err(_) => {
+                    self.log.count(Kind::NotAccepted);
+                    thread::sleep(&self.rt, Duration::from_millis(REST));
+                }
             }
         }
     }
 
     // Hands a client to the worker that has the fewest. Where as many are there as the server takes, it is only to be told that.
-    fn hand_out<R: Wait>(&self, rt: &R, posts: &[Arc<Post>], socket: TcpStream) {
+    fn hand_out(&self, socket: TcpStream) {
         let mut counts = [0u64; SEATS];
-        let total = count(posts, &mut counts);
-        let workers = posts.len().min(SEATS);
+        let total = count(&self.posts, &mut counts);
+        let workers = self.posts.len().min(SEATS);
         let is_full = total >= self.most_clients;
         let Some(at) = fewest(&counts[..workers]) else {
             drop(socket);
             return;
         };
-        posts[at].hand(rt, Arrival { socket, is_full });
+        self.posts[at].hand(&self.rt, Arrival { socket, is_full });
     }
 }
 

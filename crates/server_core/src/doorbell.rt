@@ -43,6 +43,11 @@ impl Doorbell {
         }
     }
 
+    /// Notes that client, for whom it will be rung: a worker that looks before that finds it too.
+    pub(crate) fn note(&self, client: usize) {
+        self.calls.call(client);
+    }
+
     /// Rings for that client.
     pub(crate) fn call(&self, client: usize) {
         self.calls.call(client);

@@ -2,14 +2,15 @@
 
 ghost use Rattle.std.specs.Prelude.{◌≡◌, ◌<◌, ◌≤◌};
 
+use crate::ending::Ending;
 use crate::post::Post;
-use crate::teller::{Compaction, Teller};
+use crate::teller::Teller;
+use event_log::Event;
 use hub_core::Pacing;
-use std::io::Write;
+use std::alloc::AllocError;
 use std::sync::atomic::{AtomicBool, AtomicU64, Ordering};
 use std::sync::{Arc, Wait};
 use std::thread;
-use std::thread::Parker;
 use std::time::{Clock, Duration};
 
 /// For how many seconds the flusher sleeps at most before it looks again. Nothing waits for this to end: it is woken when there
@@ -45,8 +46,8 @@ fn rest_behind(micros: u64, commands: u64) -> u64
 #[derive(Drop)]
 pub struct Pace<T> {
     rt: T,
-    // The flusher's sleep.
-    flusher: Parker,
+    // The flusher's sleep, and whether the server is to end.
+    ending: Arc<Ending>,
     // Whether the flusher's last turn took something: more may be ready then, so that it doesn't sleep.
     took: AtomicBool,
     // The mark that was published last, or a number over every mark once none will be; and how many workers wait for a
@@ -58,41 +59,45 @@ pub struct Pace<T> {
     began: AtomicU64,
     // For how many microseconds the flusher rests before its next turn.
     rest: AtomicU64,
-    teller: Teller,
+    // Whether the flusher's last turn has compacted the journal.
+    compacted: AtomicBool,
+    teller: Arc<Teller>,
 }
 
 impl<T: Wait> Pace<T> {
-    /// The pace of a server whose mark is this, which tells so of compactions, and whose workers have these posts.
-    pub(crate) fn new(rt: T, mark: u64, teller: Teller, posts: Vec<Arc<Post>>) -> Pace<T> {
+    /// The pace of a server whose mark is this, which ends so, tells so of compactions, and whose workers have these posts.
+    pub(crate) fn new(
+        rt: T,
+        mark: u64,
+        ending: Arc<Ending>,
+        teller: Arc<Teller>,
+        posts: Vec<Arc<Post>>,
+    ) -> Pace<T> {
         Pace {
             rt,
-            flusher: Parker::new(),
+            ending,
             took: AtomicBool::new(false),
             mark: AtomicU64::new(mark),
             waiting: AtomicU64::new(0),
             posts,
             began: AtomicU64::new(0),
             rest: AtomicU64::new(0),
+            compacted: AtomicBool::new(false),
             teller,
         }
-    }
-
-    /// Tells the operator of each compaction as it comes. It does not return; the flusher and the workers never wait for it.
-    pub(crate) fn tell_compactions<W: Write>(&self, writer: &mut W) {
-        self.teller.run(&self.rt, writer);
     }
 
     /// Returns once the flusher has something to do: at once where its last turn took something, since more may be ready.
     fn await_commands(&self) {
         if !self.took.swap(false, Ordering::SeqCst) {
             let longest = Duration::from_secs(LONGEST_SLEEP);
-            self.flusher.park_timeout(&self.rt, longest);
+            self.ending.sleep(&self.rt, longest);
         }
     }
 
     /// Says that a command was put into the ring.
     fn wake_flusher(&self) {
-        self.flusher.unpark();
+        self.ending.wake_flusher();
     }
 
     /// Says that the flusher took something, and that the mark is this now.
@@ -122,6 +127,40 @@ impl<T> Pace<T> {
     /// The posts of the workers.
     pub(crate) fn posts(&self) -> &[Arc<Post>] {
         &self.posts
+    }
+
+    /// What takes lines for the operator.
+    pub(crate) fn log(&self) -> &Arc<Teller> {
+        &self.teller
+    }
+
+    /// By what the server is asked to end.
+    pub(crate) fn ending(&self) -> Result<Arc<Ending>, AllocError> {
+        self.ending.clone()
+    }
+
+    /// Whether workers are to part with their clients.
+    pub(crate) fn has_end_begun(&self) -> bool {
+        self.ending.has_begun()
+    }
+
+    /// Whether the journal was compacted since this was last asked.
+    pub(crate) fn has_compacted(&self) -> bool {
+        self.compacted.swap(false, Ordering::SeqCst)
+    }
+
+    /// Whether the server was asked to end, and the flusher's last turn took nothing.
+    pub(crate) fn is_done(&self) -> bool {
+        self.ending.is_asked() && !self.took.load(Ordering::SeqCst)
+    }
+
+    /// Says that nothing more will be published: workers are to part with their clients, and each is woken.
+    pub(crate) fn end(&self) {
+        self.mark.store(u64::MAX, Ordering::SeqCst);
+        self.ending.begin();
+        for post in &self.posts {
+            post.bell().ring();
+        }
     }
 
     /// The mark that was published last, or a number over every mark once none will be.
@@ -189,8 +228,9 @@ impl<T: Wait + Clock> Pacing for Pace<T> {
     }
 
     fn compacted(&self, won: u64) {
+        self.compacted.store(true, Ordering::SeqCst);
         let millis = self.taken() / 1_000;
-        self.teller.note(&self.rt, Compaction { won, millis });
+        self.teller.note(&self.rt, Event::Compacted { won, millis });
     }
 
     fn stopped(&self) {

@@ -103,6 +103,11 @@ pub struct BellRope {
 }
 
 impl Bell for BellRope {
+    // The worker finds all clients of a batch by the first ring.
+    fn note(&self) {
+        self.post.bell.note(self.client);
+    }
+
     fn ring(&self) {
         self.post.bell.call(self.client);
     }

@@ -1,22 +1,26 @@
 //! A server.
 
-ghost use Rattle.std.specs.Prelude.{◌≡◌, ◌≢◌, ◌+◌, [], true, length, IfOk, IfErr, OnOk, OnErr, MatchOption};
+ghost use Rattle.std.specs.Prelude.{◌≡◌, ◌≢◌, ◌+◌, [], true, length, IfErr, IfOk, OnOk};
 ghost use Rattle.std.specs.Arc.{arc_value};
 ghost use Rattle.std.specs.Io.KnownBytes.{Appends};
 ghost use Rattle.serve_faults.specs.Faults.{IsNotStarted};
-ghost use Rattle.server_core.specs.Serving.{AreAt, IsReady, IsNewHub, IsOpened, HandsOut, IsEnd, announced};
-ghost use Rattle.serve_faults.specs.declared.fault.ServeFault.TheVariants.{Output};
+ghost use Rattle.server_core.specs.Serving.{AreAt, IsReady, IsNewHub, IsOpened, IsEnd, announced};
 
+use crate::descriptors::clients_allowed;
 use crate::door::Door;
+use crate::ending::Ending;
+use crate::entrance::{Entrance, posts_of};
 use crate::pace::Pace;
-use crate::post::{BellRope, Post};
+use crate::post::BellRope;
 use crate::shared::{ServerRing, ServerSeat, Shared};
-use crate::station::{Station, man};
+use crate::station::Station;
 use crate::teller::Teller;
-use crate::worker::Worker;
+use crate::worker::WorkerThread;
+use connection_core::SESSION_BYTES;
 use disk_core::FileDisk;
+use event_log::{Event, Start};
 use flush_core::FlushFault;
-use hub_core::{Hub, HubFlusher, flush_loop};
+use hub_core::{Hub, HubFlusher, SeatRoom, flush_loop};
 use limits_core::SEATS;
 use serve_faults::ServeFault;
 use std::alloc::Global;
@@ -25,59 +29,64 @@ use std::io::Write;
 use std::marker::Model;
 use std::net::{Net, TcpListener, TcpStream};
 use std::sync::{Arc, Wait};
-use std::thread;
-use std::thread::Threads;
-use std::time::{Clock, Duration};
+use std::time::Clock;
 
-type ServerHub = Hub<FileDisk, BellRope>;
+pub(crate) type ServerHub = Hub<FileDisk, BellRope>;
 
-type ServerFlusher = HubFlusher<FileDisk, BellRope>;
-
-// Where clients come in, and the posts of the workers that get them.
-#[derive(Drop)]
-struct Entrance {
-    door: Door,
-    posts: Vec<Arc<Post>>,
-}
+pub(crate) type ServerFlusher = HubFlusher<FileDisk, BellRope>;
 
 /// How many clients a server takes at a time.
 pub const MOST_CLIENTS: u64 = 16_384;
 
-/// How many milliseconds the workers have, once nothing more is acknowledged, to tell their clients that the broker stops.
-const FAREWELL: u64 = 1_000;
+/// How many bytes of an area all that may be held takes at most, with a block of commands and what a snapshot has besides.
+const HELD_BYTES: u64 = 25_300_000;
+
+/// Why a server serves no more.
+#[derive(Debug, Drop)]
+pub enum ServeEnd {
+    /// It was asked to end: all that was claimed by then is stored.
+    Asked,
+    /// A fault.
+    Fault(ServeFault),
+}
 
 /// A server whose journal and port are open. It is the flusher, and has the seats of its workers until they are started.
 #[derive(Drop)]
 pub struct Server<R: Drop> {
-    shared: Arc<Shared<R>>,
-    port: u16,
-    seats: Vec<ServerSeat>,
+    pub(crate) shared: Arc<Shared<R>>,
+    pub(crate) port: u16,
+    pub(crate) door: Arc<Door<R>>,
+    pub(crate) seats: Vec<ServerSeat>,
     // One for each seat.
-    stations: Vec<Station>,
-    flusher: ServerFlusher,
+    pub(crate) stations: Vec<Station>,
+    // Where the seats of workers that have ended come back to.
+    pub(crate) room: SeatRoom<BellRope>,
+    pub(crate) flusher: ServerFlusher,
+    pub(crate) workers: Vec<WorkerThread>,
+    // Whether each seat is here, or with a worker that was started.
+    pub(crate) is_whole: bool,
 }
 
 impl<R: Drop> Model for Server<R> {
-    ghost use Rattle.std.specs.Prelude.{◌≡◌, length};
     ghost use Rattle.std.specs.Arc.{arc_value};
-    ghost use Rattle.server_core.specs.Serving.{ServerValue, IsServer, server};
+    ghost use Rattle.server_core.specs.Serving.{KeepsServer, ServerValue, server};
 
     ghost Value = { ServerValue };
 
     ghost view = { λ a. server a.port (arc_value a.shared).ring a.seats.items a.flusher };
 
-    ghost invariant = { λ a. IsServer (server a.port (arc_value a.shared).ring a.seats.items a.flusher) × (length a.stations.items ≡ length a.seats.items) };
+    ghost invariant = { λ a. KeepsServer (server a.port (arc_value a.shared).ring a.seats.items a.flusher) a.stations.items a.room a.workers.items a.is_whole };
 }
 
 impl<R> Server<R>
 where
     R: Files<File = File> + Net<Listener = TcpListener, Stream = TcpStream> + Wait + Clone + Drop,
 {
-    /// Opens the journal in a file, whose lock the server has from then on until its flusher is gone, and the port at 127.0.0.1.
-    /// Pages of these origins are served alone; where none is named, all are. `File` where the file can't be opened, or another
-    /// server has its lock: nothing of it is read or written then. `Opening` where the journal is refused, `Port` where the
-    /// port can't be opened, and `Threads` where the system refuses what workers wait by: what opening a journal leaves is said
-    /// there. No lock is kept of a refusal.
+    /// Opens the port at 127.0.0.1, and then the journal in a file, whose lock the server has from then on until its flusher is gone.
+    /// Pages of these origins are served alone; if none is named, all are. `Port` if the port can't be opened, `Threads` if the
+    /// system refuses what workers wait by, and `File` if the file can't be opened, or another server has its lock: nothing of it
+    /// is read or written then. `Opening` if the journal is refused: what opening a journal leaves is said there. No lock is kept of
+    /// a refusal. It takes `MOST_CLIENTS` clients at a time, or as many as the process may have descriptors for, if these are fewer.
     pub fn open(
         alloc: Global,
         rt: &R,
@@ -87,10 +96,14 @@ where
     ) -> Result<Server<R>, ServeFault>
         ensures { IfOk result (IsOpened port) }
     {
-        Server::open_for(alloc, rt, path, port, origins, MOST_CLIENTS)
+        let most_clients = match clients_allowed(alloc, rt) {
+            Some(allowed) => allowed.min(MOST_CLIENTS),
+            None => MOST_CLIENTS,
+        };
+        Server::open_for(alloc, rt, path, port, origins, most_clients)
     }
 
-    /// The same of a server that takes so many clients at a time, in place of `MOST_CLIENTS`. One more is told so (503).
+    /// The same of a server that takes so many clients at a time. One more is told so (503).
     pub fn open_for(
         alloc: Global,
         rt: &R,
@@ -101,44 +114,25 @@ where
     ) -> Result<Server<R>, ServeFault>
         ensures { IfOk result (IsOpened port) }
     {
-        let hub = match open_hub(alloc, rt, path) {
-            Ok(hub) => hub,
-            Err(fault) => {
-                drop(origins);
-                return Err(fault);
-            }
-        };
-        match Door::open(alloc, rt, port, origins, most_clients) {
-            Ok(door) => Server::behind(alloc, rt, hub, door, port),
-            Err(fault) => {
-                drop(hub);
-                Err(fault)
-            }
+        match Entrance::open(alloc, rt, port, origins, most_clients) {
+            Ok(entrance) => Server::behind(alloc, rt, path, entrance),
+            Err(fault) => Err(fault),
         }
     }
-}
 
-impl<R: Net + Wait + Clone + Drop> Server<R> {
-    // A server over a hub that was just opened, which accepts clients there.
+    // A server that is entered there.
     fn behind(
         alloc: Global,
         rt: &R,
-        hub: ServerHub,
-        door: Door,
-        port: u16,
+        path: &str,
+        entrance: Entrance,
     ) -> Result<Server<R>, ServeFault>
-        requires whole { IsNewHub hub }
-        ensures { IfOk result (IsOpened port) }
+        ensures { IfOk result (IsOpened entrance.port) }
     {
-        let mut stations = Vec::new(alloc);
-        let mut posts = Vec::new(alloc);
-        match man(alloc, rt, &mut stations, &mut posts) {
-            Ok(()) => Server::manned(alloc, rt, hub, Entrance { door, posts }, port, stations),
+        match open_hub(alloc, rt, path) {
+            Ok(hub) => Server::over(alloc, rt, hub, entrance),
             Err(fault) => {
-                drop(stations);
-                drop(posts);
-                drop(hub);
-                drop(door);
+                drop(entrance);
                 Err(fault)
             }
         }
@@ -146,18 +140,15 @@ impl<R: Net + Wait + Clone + Drop> Server<R> {
 }
 
 impl<R: Wait + Clone + Drop> Server<R> {
-    // The same, with the stations of its workers.
-    fn manned(
+    // The same, over a hub that was just opened.
+    fn over(
         alloc: Global,
         rt: &R,
         hub: ServerHub,
         entrance: Entrance,
-        port: u16,
-        stations: Vec<Station>,
     ) -> Result<Server<R>, ServeFault>
-        requires whole { IsNewHub hub }
-        requires count { length stations.items ≡ SEATS }
-        ensures { IfOk result (IsOpened port) }
+        requires { IsNewHub hub }
+        ensures { IfOk result (IsOpened entrance.port) }
     {
         let mut hub = hub;
         let mut seats = Vec::new(alloc);
@@ -165,24 +156,29 @@ impl<R: Wait + Clone + Drop> Server<R> {
             Ok(()) => {}
             Err(fault) => {
                 drop(seats);
-                drop(stations);
                 drop(hub);
                 drop(entrance);
                 return Err(fault);
             }
         }
         let flusher = hub.flusher().unwrap();
-        match share(alloc, rt, hub.into_ring(), entrance, flusher.mark()) {
-            Ok(shared) => Ok(Server {
+        let (ring, room) = hub.into_ring();
+        let port = entrance.port;
+        match share(alloc, rt, ring, entrance, flusher.mark()) {
+            Ok((shared, door, stations)) => Ok(Server {
                 shared,
                 port,
+                door,
                 seats,
                 stations,
+                room,
                 flusher,
+                workers: Vec::new(alloc),
+                is_whole: true,
             }),
             Err(fault) => {
                 drop(seats);
-                drop(stations);
+                drop(room);
                 drop(flusher);
                 Err(fault)
             }
@@ -190,128 +186,63 @@ impl<R: Wait + Clone + Drop> Server<R> {
     }
 }
 
-impl<R: Drop> Server<R> {
-    /// The next worker, which is to be run in a thread of its own; `None` once all are handed out. Where memory is
-    /// refused, nothing has changed.
-    pub fn next_worker(&mut self) -> Result<Option<Worker<R>>, ServeFault>
-        ensures next { IfOk result (λ next. MatchOption next ((self.old.seats ≡ []) × (self.new ≡ self.old)) (HandsOut self.old self.new)) }
-        ensures refused { OnErr result (self.new ≡ self.old) }
-        ensures memory { IfErr result (λ fault. fault ≡ ServeFault.Memory) }
-    {
-        let shared = match self.shared.clone() {
-            Ok(shared) => shared,
-            Err(_) => return Err(ServeFault::Memory),
-        };
-        let Some(seat) = self.seats.pop() else {
-            drop(shared);
-            return Ok(None);
-        };
-        let station = self.stations.pop().unwrap();
-        Ok(Some(Worker {
-            shared,
-            seat,
-            station,
-        }))
-    }
-}
-
-impl<R> Server<R>
-where
-    R: Threads + Wait + Clock + Clone + Drop + Send + Sync + 'static,
-{
-    /// Starts all workers, each in a thread of its own, and a thread that accepts clients and hands them to workers. `Threads`
-    /// where the system starts no more, and `Memory` where that is refused: those that were started go on.
-    pub fn start_workers(&mut self, rt: &R, alloc: Global) -> Result<(), ServeFault>
-        ensures all { OnOk result (self.new.seats ≡ []) }
-        ensures same { self.new ≡ record self.old { seats = self.new.seats } }
-        ensures refused { IfErr result IsNotStarted }
-    {
-        for _seat in 0..self.seats.len() {
-            start_worker(rt, alloc, self)?;
-        }
-        self.start_accepting(rt)
-    }
-
-    // Starts the thread that accepts clients.
-    fn start_accepting(&self, rt: &R) -> Result<(), ServeFault>
-        ensures { IfErr result IsNotStarted }
-    {
-        let shared = self.shared.clone().map_err(|_| ServeFault::Memory)?;
-        match thread::spawn(rt, move || shared.accept_all()) {
-            Ok(_) => Ok(()),
-            Err(_) => Err(ServeFault::Threads),
-        }
-    }
-
-    /// Starts the thread that tells an operator of each compaction of the journal, a line each: the bytes that it won, and the
-    /// milliseconds of the flusher's turn that made it. No other thread waits for it; where the writer takes nothing, up to 64
-    /// lines wait, and more are left out. `Threads` where the system starts no more, and `Memory` where that is refused: nothing
-    /// was written then.
-    pub fn start_teller<W: Write + Drop + Send + 'static>(
-        &self,
-        rt: &R,
-        writer: W,
-    ) -> Result<(), ServeFault>
-        ensures { IfErr result IsNotStarted }
-    {
-        let Ok(shared) = self.shared.clone() else {
-            drop(writer);
-            return Err(ServeFault::Memory);
-        };
-        let mut writer = writer;
-        match thread::spawn(rt, move || shared.pace.tell_compactions(&mut writer)) {
-            Ok(_) => Ok(()),
-            Err(_) => Err(ServeFault::Threads),
-        }
-    }
-}
-
 impl<R: Wait + Clock + Drop> Server<R> {
-    /// Writes `listening` and the port, and flushes until a step fails, which it answers: the flusher is broken then, its
-    /// ring is stopped, and nothing more is acknowledged. `Output` where the line can't be written: nothing has changed.
-    pub fn run<W: Write>(&mut self, alloc: Global, writer: &mut W) -> ServeFault
+    /// Writes `listening` and the port, and flushes until the server is asked to end, or a step fails: then the flusher is broken.
+    /// The ring is stopped in both cases, and nothing more is acknowledged. `Output` if the line can't be written: nothing has
+    /// changed.
+    pub fn run<W: Write>(&mut self, alloc: Global, writer: &mut W) -> ServeEnd
         ensures end { IsEnd self.old self.new result }
-        ensures told { result ≢ Output → Appends (W.contents writer.old) (W.contents writer.new) (announced self.old.port) }
+        ensures told { result ≢ ServeEnd.Fault ServeFault.Output → Appends (W.contents writer.old) (W.contents writer.new) (announced self.old.port) }
     {
         let port = self.port;
         if writeln!(writer, "listening {port}").is_err() || writer.flush().is_err() {
-            return ServeFault::Output;
+            return ServeEnd::Fault(ServeFault::Output);
         }
-        ServeFault::Flushing(flush(alloc, &self.shared, &mut self.flusher))
+        self.tell_start();
+        match flush(alloc, &self.shared, &mut self.flusher) {
+            Ok(()) => ServeEnd::Asked,
+            Err(fault) => ServeEnd::Fault(ServeFault::Flushing(fault)),
+        }
     }
 
-    /// Ends the server: outboxes, disk and lock go with the flusher, which calls the workers for each client that has a session;
-    /// those that waited for the mark were woken by the failed step. All have a second to tell their clients that the broker stops.
-    pub fn close(self) {
-        let Server {
-            shared,
-            port: _,
-            seats,
-            stations,
-            flusher,
-        } = self;
-        drop(flusher);
-        thread::sleep(&shared.rt, Duration::from_millis(FAREWELL));
-        drop(shared);
-        drop(seats);
-        drop(stations);
+    // Tells the operator with what the server starts, and whether its journal may be too small.
+    fn tell_start(&self) {
+        let clients = self.door.most_clients();
+        let area = self.flusher.size();
+        let start = Start {
+            area,
+            messages: self.flusher.broker().held().messages,
+            clients,
+        };
+        let (log, rt) = (self.shared.pace.log(), &self.shared.rt);
+        log.note(rt, Event::Started(start));
+        let needed = clients
+            .saturating_mul(SESSION_BYTES)
+            .saturating_add(HELD_BYTES);
+        if area < needed {
+            log.note(rt, Event::Small { area, needed });
+        }
+    }
+
+    /// What asks the server to end, in good order.
+    pub fn ender(&self) -> Result<Ender, ServeFault> {
+        match self.shared.pace.ending() {
+            Ok(ending) => Ok(Ender { ending }),
+            Err(_) => Err(ServeFault::Memory),
+        }
     }
 }
 
-// Starts the next worker, if there is one.
-fn start_worker<R>(rt: &R, alloc: Global, server: &mut Server<R>) -> Result<(), ServeFault>
-where
-    R: Threads + Wait + Clock + Clone + Drop + Send + Sync + 'static,
-    ensures one { server.old.seats ≢ [] → OnOk result (length server.old.seats ≡ length server.new.seats + 1) }
-    ensures same { server.new ≡ record server.old { seats = server.new.seats } }
-    ensures refused { IfErr result IsNotStarted }
-{
-    let Some(worker) = server.next_worker()? else {
-        return Ok(());
-    };
-    match thread::spawn(rt, move || worker.run(alloc)) {
-        Ok(_) => Ok(()),
-        Err(_) => Err(ServeFault::Threads),
+/// Asks a server to end in good order: what is claimed is stored, and clients hear it.
+#[derive(Drop)]
+pub struct Ender {
+    ending: Arc<Ending>,
+}
+
+impl Ender {
+    /// Asks it.
+    pub fn ask(&self) {
+        self.ending.ask();
     }
 }
 
@@ -338,6 +269,7 @@ fn add_seats(seats: &mut Vec<ServerSeat>, hub: &mut ServerHub) -> Result<(), Ser
     requires all { length hub.old.seats ≡ SEATS }
     ensures rest { hub.new ≡ record hub.old { seats = hub.new.seats } }
     ensures count { OnOk result (length seats.new.items ≡ length seats.old.items + SEATS) }
+    ensures none { OnOk result (hub.new.seats ≡ []) }
     ensures seats { AreAt hub.old.ring seats.old.items → OnOk result (AreAt hub.old.ring seats.new.items) }
 {
     for _seat in 0..SEATS {
@@ -364,47 +296,90 @@ fn add_seat(seats: &mut Vec<ServerSeat>, hub: &mut ServerHub) -> Result<(), Serv
     }
 }
 
-// What the threads share.
+// What the threads share, where clients come in, and what the workers wait by.
 fn share<R: Wait + Clone + Drop>(
     alloc: Global,
     rt: &R,
     ring: ServerRing,
     entrance: Entrance,
     mark: u64,
-) -> Result<Arc<Shared<R>>, ServeFault>
-    ensures { IfOk result (λ shared. (arc_value shared).ring ≡ ring) }
+) -> Result<(Arc<Shared<R>>, Arc<Door<R>>, Vec<Station>), ServeFault>
+    ensures ring { IfOk result (λ shares. (arc_value shares.0).ring ≡ ring) }
+    ensures stations { IfOk result (λ shares. shares.2 ≡ entrance.stations) }
 {
-    let Entrance { door, posts } = entrance;
-    let teller = Teller::new(alloc)?;
-    let mine = rt.clone()?;
-    let its = rt.clone()?;
-    let pace = Pace::new(its, mark, teller, posts);
+    let Entrance {
+        listener,
+        port: _,
+        origins,
+        most_clients,
+        posts,
+        stations,
+    } = entrance;
+    let log = shared_by(alloc, Teller::new(alloc)?)?;
+    let ending = shared_by(alloc, Ending::new())?;
+    let known = posts_of(alloc, &posts)?;
+    let door = Door::new(
+        rt.clone()?,
+        listener,
+        known,
+        most_clients,
+        ending.clone()?,
+        log.clone()?,
+    );
+    let pace = Pace::new(rt.clone()?, mark, ending, log, posts);
     let shared = Shared {
-        rt: mine,
+        rt: rt.clone()?,
         ring,
-        door,
+        origins,
         pace,
     };
-    match Arc::new(alloc, shared) {
+    let door = shared_by(alloc, door)?;
+    let shared = shared_by(alloc, shared)?;
+    Ok((shared, door, stations))
+}
+
+// Says how the server does, and whether a compaction has left little room.
+fn tell_figures<R: Wait>(shared: &Shared<R>, flusher: &ServerFlusher, commands: u64) {
+    let (used, area) = (flusher.used(), flusher.size());
+    let held = flusher.broker().held().bytes;
+    let log = shared.pace.log();
+    log.figures(commands, flusher.tally(), held, used);
+    if shared.pace.has_compacted() && used / 3 > area / 4 {
+        log.note(&shared.rt, Event::NearlyFull { used, area });
+    }
+}
+
+// The value, for several threads.
+fn shared_by<T: Drop>(alloc: Global, value: T) -> Result<Arc<T>, ServeFault>
+    ensures { IfOk result (λ shared. arc_value shared ≡ value) }
+{
+    match Arc::new(alloc, value) {
         Ok(shared) => Ok(shared),
         Err(_) => Err(ServeFault::Memory),
     }
 }
 
-// Flushes until a step fails, and answers why it did.
+// Flushes until the server was asked to end and nothing that was claimed is left, and stops the ring then; or until a step fails.
 fn flush<R: Wait + Clock + Drop>(
     alloc: Global,
     shared: &Shared<R>,
     flusher: &mut ServerFlusher,
-) -> FlushFault
+) -> Result<(), FlushFault>
     requires { IsReady shared.now.ring flusher.old }
-    ensures ring { flusher.new.seat.ring ≡ flusher.old.seat.ring }
-    ensures stops { (flusher.new.broken ≡ true) × (flusher.new.seat.stopped ≡ true) }
+    ensures ready { IsReady shared.now.ring flusher.new }
+    ensures seats { flusher.new.seat.seats ≡ flusher.old.seat.seats }
+    ensures stops { flusher.new.seat.stopped ≡ true }
+    ensures fails { IfErr result (λ _. flusher.new.broken ≡ true) }
 {
     for _round in shared.rt.forever() {
-        match flush_loop(alloc, &shared.ring, flusher, &shared.pace, u64::MAX) {
-            Ok(_) => {}
-            Err(fault) => return fault,
+        match flush_loop(alloc, &shared.ring, flusher, &shared.pace, 1) {
+            Ok(_) if shared.pace.is_done() => {
+                shared.pace.log().note(&shared.rt, Event::Ending);
+                flusher.stop(&shared.ring);
+                return Ok(());
+            }
+            Ok(commands) => tell_figures(shared, flusher, commands),
+            Err(fault) => return Err(fault),
         }
     }
     unreachable!()

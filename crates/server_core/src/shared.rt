@@ -1,11 +1,10 @@
 //! What the threads of a server share.
 
-use crate::door::Door;
 use crate::pace::Pace;
 use crate::post::BellRope;
 use claim_core::{BrokerRing, BrokerSeat};
 use outbox_core::OutSender;
-use std::sync::Wait;
+use std::sync::Arc;
 use std::time::Clock;
 
 pub(crate) type ServerRing = BrokerRing<OutSender<BellRope>>;
@@ -17,15 +16,9 @@ pub(crate) type ServerSeat = BrokerSeat<OutSender<BellRope>>;
 pub struct Shared<R> {
     pub(crate) rt: R,
     pub(crate) ring: ServerRing,
-    pub(crate) door: Door,
+    /// The origins whose pages are served; all, if none is named.
+    pub(crate) origins: Arc<Vec<Vec<u8>>>,
     pub(crate) pace: Pace<R>,
-}
-
-impl<R: Wait + Clock> Shared<R> {
-    /// Accepts clients for ever.
-    pub(crate) fn accept_all(&self) {
-        self.door.accept_all(&self.rt, self.pace.posts());
-    }
 }
 
 impl<R: Clock> Shared<R> {

@@ -6,7 +6,8 @@ use crate::calls::{BITS, Called, WORDS};
 use crate::post::{Arrival, BellRope, Post, Ropes};
 use crate::shared::{ServerSeat, Shared};
 use crate::station::{Room, Station};
-use clients_core::{Clients, Due, Phase, Portions, Standing};
+use clients_core::{Clients, Due, Flow, Phase, Portions, Standing, Watch};
+use event_log::Kind;
 use hub_core::{Desk, Next, Pacing};
 use mio::net::TcpStream;
 use mio::{Events, Interest, Poll, Token};
@@ -14,10 +15,16 @@ use std::alloc::Global;
 use std::sync::{Arc, Wait};
 use std::time::{Clock, Duration};
 use std::{io, mem};
-use ws_core::{Greeted, Greeting, WsLink};
+use ws_core::{Greeted, Greeting, Outgoing, Refusal, WsLink};
 
 /// For how many milliseconds a worker waits at most before it looks again. Nothing waits for this to end.
 const LONGEST_SLEEP: u64 = 10_000;
+
+/// For how many milliseconds a worker waits at most, once the server ends, for clients to take what is theirs and to close.
+const LONGEST_FAREWELL: u64 = 3_000;
+
+/// For how many milliseconds it waits at most before it looks again whether that time is over.
+const LONGEST_LOOK: u64 = 250;
 
 /// How many new clients a worker takes in at most before it serves those that it has.
 const NEW_CLIENTS: u32 = 64;
@@ -32,10 +39,13 @@ pub(crate) struct Shift<'a, R: Drop> {
     events: Events<Global>,
     desk: Desk<BellRope, WsLink<Portions<TcpStream>>>,
     clients: Clients,
-    // The moment of this round, in milliseconds of the clock.
+    watch: Watch,
+    // The moment of this round, in milliseconds of the watch.
     now: u64,
     // Whether a command was put into the ring in this round.
     appended: bool,
+    // Since when it parts with its clients, once the server ends.
+    parting: Option<u64>,
     ghost at_ring: { desk.seat.ring ≡ shared.now.ring },
 }
 
@@ -61,16 +71,66 @@ impl<'a, R: Wait + Clock + Drop> Shift<'a, R> {
             events,
             desk: Desk::new(alloc, seat),
             clients,
+            watch: Watch::new(now),
             now,
             appended: false,
+            parting: None,
         }
     }
 
-    /// Waits until there is something to do, and gives each client that is ready one turn.
+    /// The seat, with all that was said at it. Clients that are left are let go.
+    pub(crate) fn into_seat(self) -> ServerSeat
+        ensures { result.ring ≡ self.entry.shared.now.ring }
+    {
+        let Shift {
+            alloc: _,
+            shared: _,
+            post,
+            poll,
+            events,
+            desk,
+            clients,
+            watch: _,
+            now: _,
+            appended: _,
+            parting: _,
+        } = self;
+        drop(clients);
+        drop(events);
+        drop(poll);
+        drop(post);
+        desk.into_seat()
+    }
+
+    /// Whether the server has ended for it: it parts with its clients, and has none any more, or has waited for them long enough.
+    pub(crate) fn is_over(&self) -> bool {
+        match self.parting {
+            Some(since) => {
+                self.post.clients() == 0 || self.now.saturating_sub(since) >= LONGEST_FAREWELL
+            }
+            None => false,
+        }
+    }
+
+    /// Waits until there is something to do, gives each client that is ready one turn, and then looks who took too long: what has come
+    /// from a client is heard before that.
     pub(crate) fn round(&mut self) {
         self.wait();
         self.look();
         self.serve();
+        self.look_at_timers();
+        if self.parting.is_none() && self.shared.pace.has_end_begun() {
+            self.part_with_all();
+        }
+    }
+
+    // Begins to part with all clients: each has a turn in which it hears what may leave yet.
+    fn part_with_all(&mut self) {
+        self.parting = Some(self.now);
+        for number in 0..self.clients.reach() {
+            self.clients.wake(number);
+        }
+        self.post.bell().ring();
     }
 
     // Waits for its sockets and its bell, unless a client is ready.
@@ -86,7 +146,8 @@ impl<'a, R: Wait + Clock + Drop> Shift<'a, R> {
         if awaits_mark {
             self.shared.pace.end_to_wait(&self.post);
         }
-        self.now = self.shared.moment();
+        self.watch.go_on(self.shared.moment(), longest);
+        self.now = self.watch.now();
     }
 
     // For how many milliseconds it may wait. Whoever has something for it from then on, wakes it.
@@ -99,7 +160,12 @@ impl<'a, R: Wait + Clock + Drop> Shift<'a, R> {
             return 0;
         }
         let until = self.clients.until();
-        LONGEST_SLEEP.min(until.saturating_sub(self.now).saturating_add(1))
+        let longest = if self.parting.is_some() {
+            LONGEST_LOOK
+        } else {
+            LONGEST_SLEEP
+        };
+        longest.min(until.saturating_sub(self.now).saturating_add(1))
     }
 
     // Finds out which of its clients are ready.
@@ -109,7 +175,6 @@ impl<'a, R: Wait + Clock + Drop> Shift<'a, R> {
             self.hear_calls();
         }
         self.clients.retry(self.now);
-        self.look_at_timers();
     }
 
     // Finds out for whom the bell was rung: new clients, or those that it has.
@@ -144,6 +209,11 @@ impl<'a, R: Wait + Clock + Drop> Shift<'a, R> {
 
     // Takes a client in. Where there is no room for it, or the system refuses what it is waited for by, its socket is closed.
     fn admit(&mut self, arrival: Arrival) {
+        if self.parting.is_some() {
+            drop(arrival);
+            self.post.leaves();
+            return;
+        }
         if self.begin(arrival).is_err() {
             self.post.leaves();
         }
@@ -162,14 +232,14 @@ impl<'a, R: Wait + Clock + Drop> Shift<'a, R> {
         self.poll
             .registry()
             .register(&mut stream, Token(number), interests)?;
-        let (stream, rest) = Portions::new(self.alloc, stream)?;
-        let origins = self.shared.door.origins.clone()?;
+        let stream = Portions::new(stream);
+        let origins = self.shared.origins.clone()?;
         let greeting = if is_full {
             Greeting::full(self.alloc, stream, origins)
         } else {
             Greeting::new(self.alloc, stream, origins)
         };
-        self.clients.admit(greeting, rest, self.now)?;
+        self.clients.admit(greeting, self.now)?;
         Ok(())
     }
 
@@ -195,12 +265,32 @@ impl<'a, R: Wait + Clock + Drop> Shift<'a, R> {
         };
         match (self.clients.come_due(number, phase, self.now), place) {
             (Due::Ping, Some(place)) => self.desk.ping(place),
+            // Its turn writes what waits.
+            (Due::Write, Some(_)) => self.clients.wake(number),
             (Due::GivenUp, Some(place)) => {
+                let kind = self.why_given_up(phase, place);
+                self.shared.pace.log().count(kind);
                 self.desk.lose(place);
                 self.clients.wake(number);
             }
-            (Due::GivenUp, None) => self.leave(number),
+            (Due::GivenUp, None) => {
+                self.shared.pace.log().count(Kind::Unopened);
+                self.leave(number);
+            }
             _ => {}
+        }
+    }
+
+    // Why a client at the desk is given up that has come so far.
+    fn why_given_up(&self, phase: Phase, place: usize) -> Kind {
+        let takes_nothing = match self.desk.link(place) {
+            Some(link) => link.waits(),
+            None => false,
+        };
+        match phase {
+            Phase::Open if takes_nothing => Kind::TakesNothing,
+            Phase::Open => Kind::Silent,
+            Phase::Greeting | Phase::Unopened => Kind::Unopened,
         }
     }
 
@@ -262,22 +352,61 @@ impl<'a, R: Wait + Clock + Drop> Shift<'a, R> {
                 drop(self.desk.dismiss(place));
                 self.leave(number);
             }
-            _ => self.clients.settle(number, turned, self.now),
+            _ => {
+                let flow = self.flow(place);
+                self.clients.settle(number, turned, flow, self.now);
+                if self.parting.is_some() {
+                    self.part(number, place, turned.next);
+                }
+            }
+        }
+    }
+
+    // Parts with a client that has nothing more to do at once: it hears the close.
+    fn part(&mut self, number: usize, place: usize, next: Next) {
+        match next {
+            Next::Go | Next::Write | Next::Close | Next::Over(_) => {}
+            Next::Read | Next::Room(_) | Next::Output(_) | Next::Memory => {
+                self.desk.give_up(place);
+                self.clients.wake(number);
+            }
+        }
+    }
+
+    // What the stream of a client at the desk tells.
+    fn flow(&self, place: usize) -> Flow {
+        match self.desk.link(place) {
+            Some(link) => link.stream().flow(),
+            None => Flow {
+                taken: 0,
+                has_rest: false,
+            },
         }
     }
 
     // Goes on with a client's handshake. Once it has its WebSocket, it sits at the desk.
     fn greet(&mut self, number: usize, greeting: Greeting<Portions<TcpStream>>) {
         match greeting.greet(self.alloc) {
-            Greeted::Waits(greeting) => self.clients.stand(number, Standing::Greeting(greeting)),
+            Greeted::Waits(greeting) if self.parting.is_some() => {
+                drop(greeting);
+                self.leave(number);
+            }
+            Greeted::Waits(greeting) => {
+                let has_rest = greeting.stream().flow().has_rest;
+                self.clients
+                    .stand(number, Standing::Greeting(greeting), has_rest);
+            }
             Greeted::Accepted(link) => match self.desk.admit(self.alloc, link) {
                 Ok(place) => {
-                    self.clients.stand(number, Standing::Seated(place));
-                    self.clients.wake(number);
+                    self.clients.stand(number, Standing::Seated(place), true);
                 }
                 Err(_) => self.leave(number),
             },
-            Greeted::Refused(_) | Greeted::Failed(_) => self.leave(number),
+            Greeted::Refused(refusal) => {
+                self.shared.pace.log().count(kind_of(refusal));
+                self.leave(number);
+            }
+            Greeted::Failed(_) => self.leave(number),
         }
     }
 
@@ -285,5 +414,19 @@ impl<'a, R: Wait + Clock + Drop> Shift<'a, R> {
     fn leave(&mut self, number: usize) {
         self.clients.remove(number);
         self.post.leaves();
+    }
+}
+
+// What is counted of a refusal.
+fn kind_of(refusal: Refusal) -> Kind {
+    match refusal {
+        Refusal::Malformed => Kind::Malformed,
+        Refusal::OtherProtocol => Kind::OtherProtocol,
+        Refusal::Foreign => Kind::Foreign,
+        Refusal::Method => Kind::Method,
+        Refusal::NoUpgrade => Kind::NoUpgrade,
+        Refusal::Version => Kind::Version,
+        Refusal::TooLarge => Kind::TooLarge,
+        Refusal::Full => Kind::Full,
     }
 }

@@ -1,14 +1,18 @@
 //! The workers of a server.
 
-ghost use Rattle.std.specs.Prelude.{◌≡◌};
+ghost use Rattle.std.specs.Prelude.{◌≡◌, IfErr, IfOk};
+ghost use Rattle.serve_faults.specs.Faults.{IsNotStarted};
 
 use crate::shared::{ServerSeat, Shared};
 use crate::shift::Shift;
 use crate::station::{Room, Station};
+use serve_faults::ServeFault;
 use std::alloc::Global;
 use std::marker::Model;
+use std::snapshot::Snapshot;
 use std::sync::{Arc, Wait};
 use std::thread;
+use std::thread::{Promise, PromisedHandle, Threads};
 use std::time::{Clock, Duration};
 
 /// For how many milliseconds a worker rests to which memory was refused for its clients, before it tries again.
@@ -16,7 +20,7 @@ const SHORTAGE: u64 = 20;
 
 /// A worker of a server, which serves many clients at one desk, with a seat of its own.
 #[derive(Drop)]
-pub struct Worker<R: Drop> {
+pub(crate) struct Worker<R: Drop> {
     pub(crate) shared: Arc<Shared<R>>,
     pub(crate) seat: ServerSeat,
     pub(crate) station: Station,
@@ -35,8 +39,10 @@ impl<R: Drop> Model for Worker<R> {
 }
 
 impl<R: Wait + Clock + Drop> Worker<R> {
-    /// Serves the clients that are handed to it. It does not return.
-    pub fn run(self, alloc: Global) {
+    /// Serves the clients that are handed to it, until the server ends: then it parts with them, and its seat comes back.
+    pub(crate) fn run(self, alloc: Global) -> ServerSeat
+        ensures { result.ring ≡ self.seat.ring }
+    {
         let Worker {
             shared,
             seat,
@@ -45,7 +51,45 @@ impl<R: Wait + Clock + Drop> Worker<R> {
         let room = room_for(alloc, &shared.rt);
         let mut shift = Shift::new(alloc, &shared, seat, station, room);
         for _round in shared.rt.forever() {
+            if shift.is_over() {
+                break;
+            }
             shift.round();
+        }
+        shift.into_seat()
+    }
+}
+
+/// What is known of the seat that comes back from a worker: it is of the same ring.
+#[derive(Drop)]
+pub(crate) struct SeatBack {
+    before: Snapshot<ServerSeat>,
+}
+
+impl Promise<ServerSeat> for SeatBack {
+    ghost use Rattle.std.specs.Prelude.{◌≡◌};
+
+    ghost kept_by = { λ promise seat. seat.ring ≡ promise.before.value.ring };
+}
+
+/// The thread of a worker.
+pub(crate) type WorkerThread = PromisedHandle<ServerSeat, SeatBack>;
+
+/// Starts a worker in a thread of its own. `Threads` if the system starts no more: its seat is lost then.
+pub(crate) fn start<R>(rt: &R, alloc: Global, worker: Worker<R>) -> Result<WorkerThread, ServeFault>
+where
+    R: Threads + Wait + Clock + Drop + Send + Sync + 'static,
+    ensures ok { IfOk result (λ thread. thread.promise.before.value.ring ≡ worker.ring) }
+    ensures refused { IfErr result IsNotStarted }
+{
+    let promise = SeatBack {
+        before: Snapshot::of(&worker.seat),
+    };
+    match thread::spawn_with(rt, promise, move || worker.run(alloc)) {
+        Ok(thread) => Ok(thread),
+        Err(refused) => {
+            drop(refused);
+            Err(ServeFault::Threads)
         }
     }
 }

@@ -42,7 +42,11 @@ fn serve_crowd<R: Threads + Wait + Clock + Drop + Sync>(
     server: Server<R>,
     written: &mut Buffered,
 ) -> (usize, bool) {
-    thread::join(rt, || crowd(host, alloc), || serve(alloc, server, written))
+    thread::join(
+        rt,
+        || crowd(host, alloc),
+        || serve(rt, alloc, server, written),
+    )
 }
 
 fn run<R>(rt: &R, host: &HostRuntime, alloc: Global) -> Option<(usize, bool)>

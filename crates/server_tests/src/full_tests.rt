@@ -64,7 +64,11 @@ fn serve_crowd<R: Threads + Wait + Clock + Drop + Sync>(
     server: Server<R>,
     written: &mut Buffered,
 ) -> (Option<(bool, bool, bool)>, bool) {
-    thread::join(rt, || crowd(host, alloc), || serve(alloc, server, written))
+    thread::join(
+        rt,
+        || crowd(host, alloc),
+        || serve(rt, alloc, server, written),
+    )
 }
 
 fn run<R>(rt: &R, host: &HostRuntime, alloc: Global) -> Option<(Option<(bool, bool, bool)>, bool)>

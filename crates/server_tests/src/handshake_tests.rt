@@ -1,6 +1,6 @@
 use crate::journals::make_journal;
 use crate::writers::Failing;
-use server_core::{ServeFault, Server};
+use server_core::{ServeEnd, ServeFault, Server};
 use std::alloc::Global;
 use std::fs::{File, Files};
 use std::io::{Read, Write};
@@ -91,7 +91,10 @@ where
     match Server::open(alloc, rt, path, PORT, Vec::new(alloc)) {
         Ok(mut server) => {
             let started = server.start_workers(rt, alloc).is_ok();
-            let ended = matches!(server.run(alloc, &mut Failing), ServeFault::Output);
+            let ended = matches!(
+                server.run(alloc, &mut Failing),
+                ServeEnd::Fault(ServeFault::Output)
+            );
             let taken = started && shake(host, alloc);
             drop(server);
             Some((ended, taken))

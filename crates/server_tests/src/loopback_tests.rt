@@ -79,7 +79,7 @@ fn serve_both<R: Threads + Wait + Clock + Drop + Sync>(
     thread::join(
         rt,
         || speak(rt, host, alloc),
-        || serve(alloc, server, written),
+        || serve(rt, alloc, server, written),
     )
 }
 

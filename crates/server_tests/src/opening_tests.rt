@@ -1,7 +1,7 @@
 use crate::journals::make_journal;
 use disk_core::OpenError;
 use recover_core::OpenFault;
-use server_core::{ServeFault, Server};
+use server_core::{ServeFault, Server, Unopened};
 use std::alloc::Global;
 use std::fs;
 use std::fs::File;
@@ -87,7 +87,7 @@ fn a_server_wants_a_port_at_which_nobody_listens(rt: HostRuntime) -> Result<(), 
     let fault = fault_of(&rt, rt.alloc(), path);
     drop(other);
     let _ = fs::remove_file(&rt, path);
-    assert!(rt; matches!(fault, Some(ServeFault::Port)));
+    assert!(rt; matches!(fault, Some(ServeFault::Port(Unopened::InUse))));
     Ok(())
 }
 

@@ -51,7 +51,7 @@ fn serve_quiet<R: Threads + Wait + Clock + Drop + Sync>(
     thread::join(
         rt,
         || wait_quietly(host, alloc),
-        || serve(alloc, server, written),
+        || serve(rt, alloc, server, written),
     )
 }
 

@@ -4,11 +4,12 @@ use crate::client::Client;
 use crate::journals::{SMALLEST, make_journal_of};
 use crate::writers::Buffered;
 use flush_core::FlushFault;
-use server_core::{ServeFault, Server};
+use server_core::{ServeEnd, ServeFault, Server};
 use std::alloc::Global;
 use std::fs::{File, Files};
 use std::net::{Net, TcpListener, TcpStream};
 use std::sync::Wait;
+use std::thread::Threads;
 use std::time::Clock;
 
 pub const CONNECT: &str = "CONNECT\naccept-version:1.2\nhost:a\n\n\0";
@@ -74,16 +75,17 @@ pub fn greet(
     wanted
 }
 
-/// Runs the server until the journal is full, and ends it. Whether it was that.
-pub fn serve<R: Wait + Clock + Drop>(
+/// Runs the server until the journal is full, and closes it with its workers' seats. Whether it was that.
+pub fn serve<R: Threads + Wait + Clock + Drop>(
+    rt: &R,
     alloc: Global,
     server: Server<R>,
     written: &mut Buffered,
 ) -> bool {
     let mut server = server;
-    let fault = server.run(alloc, written);
-    server.close();
-    matches!(fault, ServeFault::Flushing(FlushFault::Full))
+    let end = server.run(alloc, written);
+    let closed = server.close(rt);
+    closed.is_some() && matches!(end, ServeEnd::Fault(ServeFault::Flushing(FlushFault::Full)))
 }
 
 /// Sends to a queue until the journal is full, which it is before the queue where its areas are small: the server ends then.

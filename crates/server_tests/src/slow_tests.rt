@@ -79,7 +79,11 @@ fn serve_both<R: Threads + Wait + Clock + Drop + Sync>(
     server: Server<R>,
     written: &mut Buffered,
 ) -> (Option<(u32, bool)>, bool) {
-    thread::join(rt, || flood(host, alloc), || serve(alloc, server, written))
+    thread::join(
+        rt,
+        || flood(host, alloc),
+        || serve(rt, alloc, server, written),
+    )
 }
 
 fn run<R>(rt: &R, host: &HostRuntime, alloc: Global) -> Option<(Option<(u32, bool)>, bool)>

@@ -3,35 +3,65 @@
 #![tactic(auto)]
 
 use engine_core::ScriptFault;
-use server_core::{ServeFault, Server};
+use server_core::{Ender, ServeEnd, ServeFault, Server, Unopened};
 use std::alloc::{AllocError, Global};
-use std::fs::{File, Files};
-use std::io::{ErrorKind, Lock, Write};
+use std::fs::{File, Files, OpenOptions};
+use std::io::{ErrorKind, Lock, Read, Write};
 use std::net::{Net, TcpListener, TcpStream};
 use std::process::ExitCode;
 use std::sync::Wait;
 use std::thread::Threads;
 use std::time::Clock;
-use std::{env, io};
-use tool_core::{BAD_COMMAND_LINE, Failure, end_by, tool};
+use std::{env, io, thread};
+use tool_core::{BAD_COMMAND_LINE, DONE, Failure, end_by, tool};
 use words_core::{Subcommand, subcommand_of};
 
 /// Runs the program on its arguments, standard input, standard output and standard error.
 fn main(rt: HostRuntime) -> ExitCode {
-    let words = match words_of(&rt) {
-        Ok(words) => words,
-        Err(status) => return ExitCode::from(status),
+    let streams = match standard_streams(&rt) {
+        Ok(streams) => streams,
+        Err(error) => {
+            let failure = Failure::Streams(Unopened::by(error.kind()));
+            return ExitCode::from(told(&rt, &failure));
+        }
     };
-    let status = match served(rt.alloc(), words.as_slice()) {
+    let status = status(&rt);
+    drop(streams);
+    ExitCode::from(status)
+}
+
+/// Opens `/dev/null` as often as there are standard streams. A file gets the least number that is free, so whichever of the three
+/// streams are closed, these files have their numbers from now on, and nothing that is opened later gets them: what the program
+/// writes to a closed stream is lost, and in no file.
+fn standard_streams(rt: &HostRuntime) -> io::Result<[File; 3]> {
+    Ok([null(rt)?, null(rt)?, null(rt)?])
+}
+
+fn null(rt: &HostRuntime) -> io::Result<File> {
+    OpenOptions::new()
+        .read(true)
+        .write(true)
+        .open(rt, "/dev/null")
+}
+
+/// Does what the arguments ask for, and answers the status.
+fn status(rt: &HostRuntime) -> u8 {
+    let words = match words_of(rt) {
+        Ok(words) => words,
+        Err(status) => return status,
+    };
+    match served(rt.alloc(), words.as_slice()) {
         Some(asked) => {
             let errors = rt.stderr().lock();
             let mut writer = rt.stdout().lock();
-            let fault = serve(&rt, rt.alloc(), asked, errors, &mut writer);
-            told(&rt, &Failure::Server(fault))
+            let input = rt.stdin().lock();
+            match serve(rt, rt.alloc(), asked, input, errors, &mut writer) {
+                ServeEnd::Asked => DONE,
+                ServeEnd::Fault(fault) => told(rt, &Failure::Server(fault)),
+            }
         }
-        None => run_tool(&rt, words.as_slice()),
-    };
-    ExitCode::from(status)
+        None => run_tool(rt, words.as_slice()),
+    }
 }
 
 /// What is asked of a server.
@@ -42,27 +72,42 @@ struct Asked<'a> {
     port: u16,
     /// The origins whose pages are served; where there are none, all are.
     origins: Vec<&'a [u8]>,
+    /// Whether it ends in good order once its input ends.
+    until_eof: bool,
 }
 
-/// Serves what is asked for until the server ends, and answers why it did, or why it did not start. Compactions are told to
-/// the one writer, and that it listens to the other.
-fn serve<R, E, W: Write>(
+/// Serves what is asked for until the server ends, and answers why it did, or why it did not start. What an operator is told is
+/// written to `errors`, and that it listens to `writer`.
+fn serve<R, I, E, W: Write>(
     rt: &R,
     alloc: Global,
     asked: Asked<'_>,
+    input: I,
     errors: E,
     writer: &mut W,
-) -> ServeFault
+) -> ServeEnd
 where
     R: Files<File = File> + Net<Listener = TcpListener, Stream = TcpStream>,
     R: Threads + Wait + Clock + Clone + Drop + Send + Sync + 'static,
+    I: Read + Drop + Send + 'static,
     E: Write + Drop + Send + 'static,
 {
+    let until_eof = asked.until_eof;
     match opened(rt, alloc, asked) {
-        Ok(server) => run_server(rt, alloc, server, errors, writer),
+        Ok(server) => {
+            let mut server = server;
+            match start(rt, alloc, &mut server, until_eof, input, errors) {
+                Ok(()) => run_server(rt, alloc, server, writer),
+                Err(fault) => {
+                    drop(server);
+                    ServeEnd::Fault(fault)
+                }
+            }
+        }
         Err(fault) => {
+            drop(input);
             drop(errors);
-            fault
+            ServeEnd::Fault(fault)
         }
     }
 }
@@ -104,11 +149,13 @@ fn served(alloc: Global, words: &[String]) -> Option<Asked<'_>> {
                 file,
                 port,
                 origins,
+                until_eof,
             },
         ) => Some(Asked {
             file,
             port,
             origins,
+            until_eof,
         }),
         _ => None,
     }
@@ -141,43 +188,81 @@ fn run_tool(rt: &HostRuntime, words: &[String]) -> u8 {
     .status
 }
 
-/// Starts the threads of a server and runs it to its end; answers why that came.
-fn run_server<R, E, W: Write>(
-    rt: &R,
-    alloc: Global,
-    server: Server<R>,
-    errors: E,
-    writer: &mut W,
-) -> ServeFault
+/// Runs a server whose threads were started to its end; answers why that came.
+fn run_server<R, W: Write>(rt: &R, alloc: Global, server: Server<R>, writer: &mut W) -> ServeEnd
 where
     R: Threads + Wait + Clock + Clone + Drop + Send + Sync + 'static,
-    E: Write + Drop + Send + 'static,
 {
     let mut server = server;
-    match start(rt, alloc, &mut server, errors) {
-        Ok(()) => {
-            let fault = server.run(alloc, writer);
-            server.close();
-            fault
-        }
+    let end = server.run(alloc, writer);
+    drop(server.close(rt));
+    end
+}
+
+/// Starts the workers of a server, the thread that tells the operator, and, if it is to end with its input, the one that reads that.
+fn start<R, I, E>(
+    rt: &R,
+    alloc: Global,
+    server: &mut Server<R>,
+    until_eof: bool,
+    input: I,
+    errors: E,
+) -> Result<(), ServeFault>
+where
+    R: Threads + Wait + Clock + Clone + Drop + Send + Sync + 'static,
+    I: Read + Drop + Send + 'static,
+    E: Write + Drop + Send + 'static,
+{
+    match server.start_workers(rt, alloc) {
+        Ok(()) => {}
         Err(fault) => {
-            drop(server);
-            fault
+            drop(input);
+            drop(errors);
+            return Err(fault);
+        }
+    }
+    match server.start_teller(rt, alloc, errors) {
+        Ok(()) if until_eof => end_with(rt, server.ender(), input),
+        started => {
+            drop(input);
+            started
         }
     }
 }
 
-/// Starts the workers of a server, and the thread that tells of compactions there.
-fn start<R, E>(rt: &R, alloc: Global, server: &mut Server<R>, errors: E) -> Result<(), ServeFault>
+/// Starts a thread that reads the input to its end, and asks the server to end then.
+fn end_with<R, I>(rt: &R, ender: Result<Ender, ServeFault>, input: I) -> Result<(), ServeFault>
 where
-    R: Threads + Wait + Clock + Clone + Drop + Send + Sync + 'static,
-    E: Write + Drop + Send + 'static,
+    R: Threads,
+    I: Read + Drop + Send + 'static,
 {
-    match server.start_workers(rt, alloc) {
-        Ok(()) => server.start_teller(rt, errors),
+    let ender = match ender {
+        Ok(ender) => ender,
         Err(fault) => {
-            drop(errors);
-            Err(fault)
+            drop(input);
+            return Err(fault);
+        }
+    };
+    let mut input = input;
+    let watch = move || {
+        read_to_end(&mut input);
+        ender.ask();
+    };
+    match thread::spawn(rt, watch) {
+        Ok(_) => Ok(()),
+        Err(_) => Err(ServeFault::Threads),
+    }
+}
+
+/// Reads until there is nothing more, or a read fails.
+fn read_to_end<I: Read>(input: &mut I) {
+    let mut bytes = [0; 512];
+    for _read in 0..u64::MAX {
+        match input.read(&mut bytes) {
+            Ok(0) => return,
+            Ok(_) => {}
+            Err(error) if error.kind() == ErrorKind::Interrupted => {}
+            Err(_) => return,
         }
     }
 }

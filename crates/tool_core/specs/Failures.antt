@@ -6,7 +6,7 @@ use Rattle.clap.specs.declared.error.kind.ErrorKind.TheVariants.{OutOfMemory}
 use Rattle.engine_core.specs.Scripts.{IsScript}
 use Rattle.area_core.specs.declared.faults.FormatFault.TheVariants as formats
 use Rattle.area_core.specs.Texts.{format_text}
-use Rattle.disk_core.specs.File.{open_error_text}
+use Rattle.serve_faults.specs.Unopened.{file_text as unopened_text, reason_text}
 use Rattle.engine_core.specs.FaultTexts.{fault_text}
 use Rattle.journal_files.specs.JournalFiles.{Shows, show_text}
 use Rattle.serve_faults.specs.Faults.{serve_text}
@@ -24,7 +24,7 @@ use Rattle.words_core.specs.declared.command_line.Subcommand.TheVariants as asks
 use Rattle.tool_core.specs.declared.program.FileFault.{FileFault}
 use Rattle.tool_core.specs.declared.program.FileFault.TheVariants as files
 use Rattle.tool_core.specs.declared.program.Failure.{Failure}
-use Rattle.tool_core.specs.declared.program.Failure.TheVariants.{CommandLine, Number, Script, Format, File, Server}
+use Rattle.tool_core.specs.declared.program.Failure.TheVariants.{CommandLine, Number, Origin, Streams, Script, Format, File, Server}
 
 -- a script was read to its end, and what was written is what it prints from an empty journal on, on some disk
 pub record RunsToEnd (unread left before after : Option (List ℕ)) : Type 0 where
@@ -52,7 +52,7 @@ IsDoneAs asks.Version unread left before after = (left ≡ unread) × Appends be
 IsDoneAs (asks.Format file bytes is_sparse) unread left before after = (8224 ≤ bytes) × Untouched unread left before after
 IsDoneAs (asks.Show file) unread left before after = (left ≡ unread) × Shows before after
 IsDoneAs (asks.Held file) unread left before after = (left ≡ unread) × ShowsHeld before after
-IsDoneAs (asks.Serve file port origins) unread left before after = ⊥
+IsDoneAs (asks.Serve file port origins until_eof) unread left before after = ⊥
 
 -- what the words ask for is done
 abbrev pub IsDone : List (List ℕ) → Option (List ℕ) → Option (List ℕ) → Option (List ℕ) → Option (List ℕ) → Type 0
@@ -66,6 +66,8 @@ status_of (Format fault) = 1
 status_of (File fault) = 1
 status_of (Server fault) = 1
 status_of Number = 2
+status_of Origin = 2
+status_of (Streams why) = 1
 
 -- memory was refused, or the disk was not opened, before the script was read
 abbrev pub IsAtOnce : ScriptFault → Type 0
@@ -82,6 +84,8 @@ IsBeforehand (Format fault) = Unit {0}
 IsBeforehand (File fault) = ⊥
 IsBeforehand (Server fault) = ⊥
 IsBeforehand Number = ⊥
+IsBeforehand Origin = ⊥
+IsBeforehand (Streams why) = ⊥
 
 -- the failure is that of a script, or its disk was not formatted
 abbrev pub IsOfScript : Failure → Type 0
@@ -91,6 +95,8 @@ IsOfScript (Format fault) = Unit {0}
 IsOfScript (File fault) = ⊥
 IsOfScript (Server fault) = ⊥
 IsOfScript Number = ⊥
+IsOfScript Origin = ⊥
+IsOfScript (Streams why) = ⊥
 
 -- a fault stops a script that began with an empty journal, on some disk
 pub record StopsOnDisk (fault : ScriptFault) (unread left before after : Option (List ℕ)) : Type 0 where
@@ -107,6 +113,8 @@ StopsBy (Format fault) unread left before after = Untouched unread left before a
 StopsBy (File fault) unread left before after = (left ≡ unread) × (fault ≢ files.Show shows.Output → after ≡ before)
 StopsBy (Server fault) unread left before after = Untouched unread left before after
 StopsBy Number unread left before after = Untouched unread left before after
+StopsBy Origin unread left before after = Untouched unread left before after
+StopsBy (Streams why) unread left before after = Untouched unread left before after
 
 -- it is told that the bytes are too few for a journal
 abbrev pub IsTooShort : {T : Type 0} → Result T FileFault → Type 0
@@ -115,7 +123,7 @@ IsTooShort _ = ⊥
 
 -- what is told of a journal file that was not made, or not shown
 abbrev pub file_text : FileFault → List ℕ
-file_text (files.Open error) = open_error_text error
+file_text (files.Open error) = unopened_text error
 file_text files.NoSpace = codes "no space left for the file"
 file_text (files.Format fault) = format_text fault
 file_text (files.Show fault) = show_text fault
@@ -124,10 +132,19 @@ file_text (files.Show fault) = show_text fault
 abbrev pub line_of : List ℕ → List ℕ
 line_of text = codes "stompd: " ++ text ++ 10 ∷ []
 
--- a fault is told in one line; of a number that is none there is no text, and that of a command line is clap's
+-- what is told of a number that is none, and of an origin
+abbrev pub number_text : List ℕ
+number_text = codes "BYTES is a decimal number under 2^64, and PORT one from 1 to 65535"
+
+abbrev pub origin_text : List ℕ
+origin_text = codes "an ORIGIN is what a browser sends: SCHEME://HOST or SCHEME://HOST:PORT in small letters, with nothing after it"
+
+-- a fault is told in one line; the text of a command line is clap's
 abbrev pub IsTold : Failure → Option (List ℕ) → Option (List ℕ) → Type 0
 IsTold (CommandLine error) before after = Unit {0}
-IsTold Number before after = after ≡ before
+IsTold Number before after = Appends before after (line_of number_text)
+IsTold Origin before after = Appends before after (line_of origin_text)
+IsTold (Streams why) before after = Appends before after (line_of (codes "cannot open: /dev/null: " ++ reason_text why))
 IsTold (Script fault) before after = Appends before after (line_of (fault_text fault))
 IsTold (Format fault) before after = Appends before after (line_of (format_text fault))
 IsTold (File fault) before after = Appends before after (line_of (file_text fault))
@@ -142,3 +159,5 @@ Tells error (Format fault) = ⊥
 Tells error (File fault) = ⊥
 Tells error (Server fault) = ⊥
 Tells error Number = ⊥
+Tells error Origin = ⊥
+Tells error (Streams why) = ⊥

@@ -5,6 +5,8 @@
 mod making;
 mod program;
 mod telling;
+mod viewing;
 
 pub use program::{BAD_COMMAND_LINE, DONE, Ended, FAILED, Failure, FileFault, run, tool};
 pub use telling::end_by;
+pub use viewing::FileView;

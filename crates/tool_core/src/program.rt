@@ -11,12 +11,13 @@ ghost use Rattle.tool_core.specs.Failures.{IsDone, RunsToEnd, StopsBy, IsBeforeh
 
 use crate::making::make_journal;
 use crate::telling::end_by;
+use crate::viewing::FileView;
 use area_core::{FormatFault, format};
 use clap::error::ErrorKind;
-use disk_core::{FileDisk, MemDisk, OpenError};
+use disk_core::{MemDisk, OpenError};
 use engine_core::{ScriptFault, run_script};
 use journal_files::{ShowFault, show, show_held};
-use serve_faults::ServeFault;
+use serve_faults::{ServeFault, Unopened};
 use std::alloc::{AllocError, Global};
 use std::convert::AsStr;
 use std::fs::File;
@@ -63,7 +64,11 @@ impl fmt::Display for FileFault {
 
     fn fmt<W: fmt::Write>(&self, f: &mut fmt::Formatter<W>) -> fmt::Result {
         match self {
-            FileFault::Open(error) => write!(f, "{error}"),
+            FileFault::Open(error) => write!(
+                f,
+                "cannot open: FILE: {}",
+                Unopened::of(error).text()
+            ),
             FileFault::NoSpace => f.write_str("no space left for the file"),
             FileFault::Format(fault) => write!(f, "{fault}"),
             FileFault::Show(fault) => write!(f, "{fault}"),
@@ -76,8 +81,13 @@ impl fmt::Display for FileFault {
 pub enum Failure {
     /// The words ask for nothing that the program does, or for help; the error holds the text for the user.
     CommandLine(clap::Error),
-    /// A number in the words is none. There is no text for the user.
+    /// A number in the words is none.
     Number,
+    /// An origin in the words is none that a browser sends.
+    Origin,
+    /// The standard streams that were closed could not be opened at `/dev/null`, which keeps their numbers from files. Nothing else
+    /// was opened then.
+    Streams(Unopened),
     /// The script did not run to its end, or memory was refused before it began.
     Script(ScriptFault),
     /// The script's disk was not formatted.
@@ -94,9 +104,12 @@ impl Failure {
         ensures { result ≡ status_of self.now }
     {
         match self {
-            Failure::CommandLine(_) | Failure::Number => BAD_COMMAND_LINE,
-            Failure::Script(_) | Failure::Format(_) | Failure::File(_) | Failure::Server(_) =>
-                FAILED,
+            Failure::CommandLine(_) | Failure::Number | Failure::Origin => BAD_COMMAND_LINE,
+            Failure::Script(_)
+            | Failure::Format(_)
+            | Failure::File(_)
+            | Failure::Server(_)
+            | Failure::Streams(_) => FAILED,
         }
     }
 }
@@ -191,6 +204,7 @@ pub fn run<T: Files<File = File> + Clock, S: AsStr, R: Read, W: Write, P: Write>
         Ok(Subcommand::Serve { .. }) => Err(Failure::Server(ServeFault::Threads)),
         Err(Refused::Words(error)) => Err(refusal(error)),
         Err(Refused::Number) => Err(Failure::Number),
+        Err(Refused::Origin) => Err(Failure::Origin),
     }
 }
 
@@ -205,7 +219,7 @@ fn version<W: Write>(writer: &mut W) -> Result<(), Failure>
     }
 }
 
-// Writes what the journal in a file shows of itself. The file stays as it is.
+// Writes what the journal in a file shows of itself. The file is opened for reading alone, so it stays as it is.
 fn show_file<R: Files<File = File>, W: Write>(
     alloc: Global,
     rt: &R,
@@ -215,7 +229,7 @@ fn show_file<R: Files<File = File>, W: Write>(
     ensures ok { OnOk result (Shows (W.contents writer.old) (W.contents writer.new)) }
     ensures err { IfErr result (λ fault. fault ≢ FileFault.Show ShowFault.Output → writer.new ≡ writer.old) }
 {
-    let mut disk = match FileDisk::open(rt, path) {
+    let mut disk = match FileView::open(rt, path) {
         Ok(disk) => disk,
         Err(error) => return Err(FileFault::Open(error)),
     };
@@ -225,7 +239,7 @@ fn show_file<R: Files<File = File>, W: Write>(
     }
 }
 
-// Writes which queues and durable names of the journal in a file hold messages. The file stays as it is.
+// Writes which queues and durable names of the journal in a file hold messages. The file is opened for reading alone.
 fn held_file<R: Files<File = File>, W: Write>(
     alloc: Global,
     rt: &R,
@@ -235,7 +249,7 @@ fn held_file<R: Files<File = File>, W: Write>(
     ensures ok { OnOk result (ShowsHeld (W.contents writer.old) (W.contents writer.new)) }
     ensures err { IfErr result (λ fault. fault ≢ FileFault.Show ShowFault.Output → writer.new ≡ writer.old) }
 {
-    let mut disk = match FileDisk::open(rt, path) {
+    let mut disk = match FileView::open(rt, path) {
         Ok(disk) => disk,
         Err(error) => return Err(FileFault::Open(error)),
     };

@@ -26,10 +26,18 @@ fn tell<E: Write>(failure: &Failure, errors: &mut E) -> io::Result<()>
 {
     match failure {
         Failure::CommandLine(error) => write!(errors, "{error}"),
-        Failure::Number => Ok(()),
+        Failure::Number => writeln!(
+            errors,
+            "stompd: BYTES is a decimal number under 2^64, and PORT one from 1 to 65535"
+        ),
+        Failure::Origin => writeln!(
+            errors,
+            "stompd: an ORIGIN is what a browser sends: SCHEME://HOST or SCHEME://HOST:PORT in small letters, with nothing after it"
+        ),
         Failure::Script(fault) => writeln!(errors, "stompd: {fault}"),
         Failure::Format(fault) => writeln!(errors, "stompd: {fault}"),
         Failure::File(fault) => writeln!(errors, "stompd: {fault}"),
         Failure::Server(fault) => writeln!(errors, "stompd: {fault}"),
+        Failure::Streams(why) => writeln!(errors, "stompd: cannot open: /dev/null: {}", why.text()),
     }
 }

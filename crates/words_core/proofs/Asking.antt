@@ -1,7 +1,6 @@
 -- Words that ask for nothing that the program does.
-use Rattle.std.proofs.Common.{◌≡◌, ◌≢◌, ◌∙◌, ◌≤◌, ◌<◌, ◌^◌, List, [], ◌∷◌, ℕ, ap, arith, bytes_eq, codes, false, length, refl, subst, sym, true}
-use Rattle.words_core.specs.CommandLines.{AreFileAndNumber, AskFor, AskForNothing, AskNothingWith, AskWith, IsNumber, Words, given_by}
-use Rattle.words_core.specs.declared.command_line.Subcommand.{Subcommand}
+use Rattle.std.proofs.Common.{◌≡◌, ◌≢◌, ◌∙◌, ◌<◌, ◌^◌, List, [], ◌∷◌, ℕ, ap, arith, bytes_eq, codes, false, length, refl, subst, sym, true}
+use Rattle.words_core.specs.CommandLines.{AreFileAndNumber, AskForNothing, AskNothingWith, AskWith, IsNumber, Words, given_by}
 use Rattle.words_core.specs.declared.command_line.Subcommand.TheVariants.{Script, Version, Format, Show, Held, Serve}
 
 same_test : (a b : List ℕ) → a ≡ b → bytes_eq a b ≡ bytes_eq b b
@@ -21,7 +20,7 @@ no_script given some Version asked = apart (codes "script") (codes "--version") 
 no_script given some (Format file bytes is_sparse) asked = apart (codes "script") (codes "format") refl refl asked.0
 no_script given some (Show file) asked = apart (codes "script") (codes "show") refl refl asked.0
 no_script given some (Held file) asked = apart (codes "script") (codes "held") refl refl asked.0
-no_script given some (Serve file port origins) asked = apart (codes "script") (codes "serve") refl refl asked.0
+no_script given some (Serve file port origins until_eof) asked = apart (codes "script") (codes "serve") refl refl asked.0
 
 pub no_version : (given : Words) → given.arguments ≢ [] → AskNothingWith (codes "--version") given
 no_version given some Script asked = apart (codes "--version") (codes "script") refl refl asked.0
@@ -29,7 +28,7 @@ no_version given some Version asked = some asked.1
 no_version given some (Format file bytes is_sparse) asked = apart (codes "--version") (codes "format") refl refl asked.0
 no_version given some (Show file) asked = apart (codes "--version") (codes "show") refl refl asked.0
 no_version given some (Held file) asked = apart (codes "--version") (codes "held") refl refl asked.0
-no_version given some (Serve file port origins) asked = apart (codes "--version") (codes "serve") refl refl asked.0
+no_version given some (Serve file port origins until_eof) asked = apart (codes "--version") (codes "serve") refl refl asked.0
 
 pub no_format : (given : Words) → NoNumber (λ n. n < 2 ^ 64) given.arguments → AskNothingWith (codes "format") given
 no_format given none Script asked = apart (codes "format") (codes "script") refl refl asked.0
@@ -37,7 +36,7 @@ no_format given none Version asked = apart (codes "format") (codes "--version") 
 no_format given none (Format file bytes is_sparse) asked = none file.now bytes asked.1 asked.2
 no_format given none (Show file) asked = apart (codes "format") (codes "show") refl refl asked.0
 no_format given none (Held file) asked = apart (codes "format") (codes "held") refl refl asked.0
-no_format given none (Serve file port origins) asked = apart (codes "format") (codes "serve") refl refl asked.0
+no_format given none (Serve file port origins until_eof) asked = apart (codes "format") (codes "serve") refl refl asked.0
 
 not_one : (arguments : List (List ℕ)) (file : List ℕ) → length arguments ≢ 1 → arguments ≡ file ∷ [] → ⊥
 not_one arguments file other is = other (ap length is)
@@ -48,7 +47,7 @@ no_show given other Version asked = apart (codes "show") (codes "--version") ref
 no_show given other (Format file bytes is_sparse) asked = apart (codes "show") (codes "format") refl refl asked.0
 no_show given other (Show file) asked = not_one given.arguments file.now other asked.1
 no_show given other (Held file) asked = apart (codes "show") (codes "held") refl refl asked.0
-no_show given other (Serve file port origins) asked = apart (codes "show") (codes "serve") refl refl asked.0
+no_show given other (Serve file port origins until_eof) asked = apart (codes "show") (codes "serve") refl refl asked.0
 
 pub no_held : (given : Words) → length given.arguments ≢ 1 → AskNothingWith (codes "held") given
 no_held given other Script asked = apart (codes "held") (codes "script") refl refl asked.0
@@ -56,7 +55,7 @@ no_held given other Version asked = apart (codes "held") (codes "--version") ref
 no_held given other (Format file bytes is_sparse) asked = apart (codes "held") (codes "format") refl refl asked.0
 no_held given other (Show file) asked = apart (codes "held") (codes "show") refl refl asked.0
 no_held given other (Held file) asked = not_one given.arguments file.now other asked.1
-no_held given other (Serve file port origins) asked = apart (codes "held") (codes "serve") refl refl asked.0
+no_held given other (Serve file port origins until_eof) asked = apart (codes "held") (codes "serve") refl refl asked.0
 
 pub no_serve : (given : Words) → ((file : List ℕ) (port : ℕ) → AreFileAndNumber given.arguments file port → 0 < port → port < 2 ^ 16 → ⊥) → AskNothingWith (codes "serve") given
 no_serve given none Script asked = apart (codes "serve") (codes "script") refl refl asked.0
@@ -64,7 +63,7 @@ no_serve given none Version asked = apart (codes "serve") (codes "--version") re
 no_serve given none (Format file bytes is_sparse) asked = apart (codes "serve") (codes "format") refl refl asked.0
 no_serve given none (Show file) asked = apart (codes "serve") (codes "show") refl refl asked.0
 no_serve given none (Held file) asked = apart (codes "serve") (codes "held") refl refl asked.0
-no_serve given none (Serve file port origins) asked = none file.now port asked.1 asked.2 asked.3
+no_serve given none (Serve file port origins until_eof) asked = none file.now port asked.1 asked.2 asked.3
 
 -- a word that names no subcommand asks for nothing
 pub no_name : (name : List ℕ) (given : Words) → name ≢ codes "script" → name ≢ codes "--version" → name ≢ codes "format" → name ≢ codes "show" → name ≢ codes "held" → name ≢ codes "serve" → AskNothingWith name given
@@ -73,7 +72,7 @@ no_name name given s v f w h p Version asked = v asked.0
 no_name name given s v f w h p (Format file bytes is_sparse) asked = f asked.0
 no_name name given s v f w h p (Show file) asked = w asked.0
 no_name name given s v f w h p (Held file) asked = h asked.0
-no_name name given s v f w h p (Serve file port origins) asked = p asked.0
+no_name name given s v f w h p (Serve file port origins until_eof) asked = p asked.0
 
 -- nothing is asked for by words of which that is so behind the program's name
 pub nothing_named : (words rest : List (List ℕ)) (program name : List ℕ) → words ≡ program ∷ name ∷ rest → AskNothingWith name (given_by rest) → AskForNothing words

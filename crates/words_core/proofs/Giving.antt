@@ -1,5 +1,5 @@
 -- What words give, one after another.
-use Rattle.std.proofs.Common.{◌≡◌, ◌++◌, ◌||◌, List, [], ◌∷◌, ap, map, refl}
+use Rattle.std.proofs.Common.{◌≡◌, ◌++◌, List, [], ◌∷◌, ap, map, refl}
 
 module _ {A B : Type 0} (f : A → B) where
   -- one more at the end of some, and one at the front of the rest

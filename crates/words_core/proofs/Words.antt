@@ -1,5 +1,5 @@
 -- The first words of a command line.
-use Rattle.std.proofs.Common.{◌≡◌, ◌≤◌, ◌+◌, ◌-◌, List, [], ◌∷◌, ℕ, ap, arith, drop, length, map, slice_index_or, sym, take}
+use Rattle.std.proofs.Common.{◌≡◌, ◌≤◌, ◌-◌, List, [], ◌∷◌, ℕ, ap, arith, drop, length, map, slice_index_or, sym, take}
 use Rattle.std.proofs.lemmas.List.{take_all}
 
 module _ {A : Type 0} (text : A → List ℕ) where

@@ -1,10 +1,13 @@
 //! What the words of a command line ask for.
 
 ghost use Rattle.std.specs.Prelude.{◌≡◌, ◌≢◌, ◌<◌, ◌≤◌, ◌^◌, ◌∷◌, ◌↔◌, [], List, ℕ, IfNone, IfOk, IfSome, IsErrOf, IsNone, IsTrue, codes, length, true, map, Ok};
-ghost use Rattle.words_core.specs.CommandLines.{AreFileAndNumber, AskFor, AskForAlone, AskForNothing, AskNothingWith, AskWith, AsksForScript, IsNumber, words_of};
+ghost use Rattle.words_core.specs.CommandLines.{AreFileAndNumber, AskFor, AskForAlone, AskForNothing, AskNothingWith, AskWith, AsksForScript, HasOtherOrigin, HaveOtherOrigin, IsNumber, words_of};
+ghost use Rattle.std.specs.List.{list_all};
+ghost use Rattle.words_core.specs.Origins.{is_origin};
 ghost use Rattle.words_core.specs.declared.command_line.Subcommand.TheVariants.{Script, Version};
 
 use crate::given::{Given, given_by};
+use crate::origins::is_origin;
 use clap::{Arg, ArgAction, ArgMatches, Command, Error};
 use std::alloc::{AllocError, Global};
 use std::convert::AsStr;
@@ -30,11 +33,13 @@ pub enum Subcommand<'a> {
     Held {
         file: &'a str,
     },
-    /// Serves the broker of the journal in a file at a port, to pages of these origins, or of all where none is named.
+    /// Serves the broker of the journal in a file at a port, to pages of these origins, or of all if none is named; on request until
+    /// standard input ends.
     Serve {
         file: &'a str,
         port: u16,
         origins: Vec<&'a [u8]>,
+        until_eof: bool,
     },
 }
 
@@ -46,15 +51,18 @@ pub enum Refused {
     /// A number that is none: it has other than decimal digits, or is too large; a port may not be 0 either. Nor have the words
     /// then another of the program's forms.
     Number,
+    /// An origin that no browser sends: no page would be served.
+    Origin,
 }
 
 /// The subcommand that the words ask for, of which the first is the program's name. Where `clap` refuses the words, its error
 /// is the answer; what it takes has one of the program's forms, and is refused as a number that is none where it hasn't.
-/// Words that are refused for a number ask for nothing that the program does.
+/// Words that are refused for a number or an origin ask for nothing that the program does.
 pub fn subcommand_of<'a, S: AsStr>(alloc: Global, words: &'a [S]) -> Result<Subcommand<'a>, Refused>
     ensures script { AsksForScript (map S.text words.now) → result ≡ Ok Script }
     ensures ok { IfOk result (AskFor (map S.text words.now)) }
     ensures number { IsErrOf result Refused.Number → (asked : Subcommand) → AskFor (map S.text words.now) asked → ⊥ }
+    ensures origin { IsErrOf result Refused.Origin → HaveOtherOrigin (map S.text words.now) }
 {
     // These words have nothing to parse, and take no memory.
     if is_alone(words, "script") {
@@ -165,26 +173,29 @@ fn serve_command<'a>(alloc: Global) -> Result<Command<'a>, AllocError> {
             "Serves pages of this origin, as http://localhost:8000, and of no other that is not named too",
         )
         .action(ArgAction::Append);
+    let until_eof = Arg::new(alloc, "until-eof")
+        .long("until-eof")
+        .help("Ends in good order once standard input ends: clients hear it, and the status is 0")
+        .action(ArgAction::SetTrue);
     Command::new(alloc, "serve")
         .about("Serves a journal at ws://127.0.0.1:PORT")
         .arg(file_argument(alloc))?
         .arg(port)?
-        .arg(origin)
+        .arg(origin)?
+        .arg(until_eof)
 }
 
 /// The subcommand that words ask for which `clap` takes.
 fn asked_of<'a, S: AsStr>(alloc: Global, words: &'a [S]) -> Result<Subcommand<'a>, Refused>
     ensures ok { IfOk result (AskFor (map S.text words.now)) }
     ensures number { IsErrOf result Refused.Number → AskForNothing (map S.text words.now) }
+    ensures origin { IsErrOf result Refused.Origin → HaveOtherOrigin (map S.text words.now) }
 {
     let Some((name, rest)) = named(words) else {
         return Err(Refused::Number);
     };
     match given_by(alloc, rest) {
-        Ok(given) => match asked_with(name, given) {
-            Some(asked) => Ok(asked),
-            None => Err(Refused::Number),
-        },
+        Ok(given) => asked_with(name, given),
         Err(refused) => Err(Refused::Words(Error::from(refused))),
     }
 }
@@ -201,23 +212,36 @@ fn named<'a, S: AsStr>(words: &'a [S]) -> Option<(&'a str, &'a [S])>
 }
 
 /// What this word and what those behind it give ask for.
-fn asked_with<'a>(name: &str, given: Given<'a>) -> Option<Subcommand<'a>>
-    ensures some { IfSome result (AskWith name.now (words_of given.entry)) }
-    ensures none { IsNone result → AskNothingWith name.now (words_of given.entry) }
+fn asked_with<'a>(name: &str, given: Given<'a>) -> Result<Subcommand<'a>, Refused>
+    ensures ok { IfOk result (AskWith name.now (words_of given.entry)) }
+    ensures number { IsErrOf result Refused.Number → AskNothingWith name.now (words_of given.entry) }
+    ensures origin { IsErrOf result Refused.Origin → (name.now ≡ codes "serve") × HasOtherOrigin (words_of given.entry) }
 {
     if name == "serve" {
         return serve_asked(given);
     }
-    let asked = match name {
-        "script" => asked_alone(&given, Subcommand::Script),
-        "--version" => asked_alone(&given, Subcommand::Version),
-        "format" => format_asked(&given),
-        "show" => show_asked(&given),
-        "held" => held_asked(&given),
-        _ => None,
-    };
+    let asked = other_asked(name, &given);
     drop(given);
-    asked
+    match asked {
+        Some(asked) => Ok(asked),
+        None => Err(Refused::Number),
+    }
+}
+
+/// The same of a word that is not `serve`.
+fn other_asked<'a>(name: &str, given: &Given<'a>) -> Option<Subcommand<'a>>
+    requires { name.now ≢ codes "serve" }
+    ensures some { IfSome result (AskWith name.now (words_of given.now)) }
+    ensures none { IsNone result → AskNothingWith name.now (words_of given.now) }
+{
+    match name {
+        "script" => asked_alone(given, Subcommand::Script),
+        "--version" => asked_alone(given, Subcommand::Version),
+        "format" => format_asked(given),
+        "show" => show_asked(given),
+        "held" => held_asked(given),
+        _ => None,
+    }
 }
 
 /// What a word alone asks for, behind which no argument may stand.
@@ -261,29 +285,48 @@ fn held_asked<'a>(given: &Given<'a>) -> Option<Subcommand<'a>>
     Some(Subcommand::Held { file })
 }
 
-fn serve_asked<'a>(given: Given<'a>) -> Option<Subcommand<'a>>
-    ensures some { IfSome result (AskWith (codes "serve") (words_of given.entry)) }
-    ensures none { IsNone result → AskNothingWith (codes "serve") (words_of given.entry) }
+fn serve_asked<'a>(given: Given<'a>) -> Result<Subcommand<'a>, Refused>
+    ensures ok { IfOk result (AskWith (codes "serve") (words_of given.entry)) }
+    ensures number { IsErrOf result Refused.Number → AskNothingWith (codes "serve") (words_of given.entry) }
+    ensures origin { IsErrOf result Refused.Origin → HasOtherOrigin (words_of given.entry) }
 {
+    let are_served = are_origins(&given.origins);
     match file_and_port(&given.arguments) {
-        Some((file, port)) => {
+        Some((file, port)) if are_served => {
             let Given {
                 arguments,
                 origins,
                 is_sparse: _,
+                until_eof,
             } = given;
             drop(arguments);
-            Some(Subcommand::Serve {
+            Ok(Subcommand::Serve {
                 file,
                 port,
                 origins,
+                until_eof,
             })
+        }
+        Some(_) => {
+            drop(given);
+            Err(Refused::Origin)
         }
         None => {
             drop(given);
-            None
+            Err(Refused::Number)
         }
     }
+}
+
+fn are_origins(origins: &[&[u8]]) -> bool
+    ensures { result ≡ list_all is_origin (map (λ origin. origin.now) origins.now) }
+{
+    for origin in origins {
+        if !is_origin(origin) {
+            return false;
+        }
+    }
+    true
 }
 
 fn file_and_port<'a>(arguments: &[&'a str]) -> Option<(&'a str, u16)>

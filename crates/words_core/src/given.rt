@@ -2,7 +2,7 @@
 
 ghost use Rattle.std.specs.Prelude.{◌≡◌, ◌∷◌, [], List, ℕ, IfOk, IfSome, IsNone, OnOk, bytes_eq, codes, drop, false, map, nat_eq, true};
 ghost use Rattle.std.specs.List.{starts_with};
-ghost use Rattle.words_core.specs.CommandLines.{given_by, given_from, joined, words_of};
+ghost use Rattle.words_core.specs.CommandLines.{given_by, given_from, is_flag, joined, words_of};
 
 use std::alloc::{AllocError, Global};
 use std::convert::AsStr;
@@ -18,12 +18,13 @@ pub enum Place {
     Behind,
 }
 
-/// The arguments, the origins, and whether a file is to be sparse.
+/// The arguments, the origins, whether a file is to be sparse, and whether a server ends with standard input.
 #[derive(Drop)]
 pub struct Given<'a> {
     pub arguments: Vec<&'a str>,
     pub origins: Vec<&'a [u8]>,
     pub is_sparse: bool,
+    pub until_eof: bool,
 }
 
 /// What these words give.
@@ -34,6 +35,7 @@ pub fn given_by<'a, S: AsStr>(alloc: Global, words: &'a [S]) -> Result<Given<'a>
         arguments: Vec::new(alloc),
         origins: Vec::new(alloc),
         is_sparse: false,
+        until_eof: false,
     };
     match given.take_all(words) {
         Ok(()) => Ok(given),
@@ -75,21 +77,36 @@ impl<'a> Given<'a> {
     fn take_free(&mut self, word: &'a str) -> Result<Place, AllocError>
         ensures { IfOk result (λ next. (words : List (List ℕ)) → joined (words_of self.new) (given_from next words) ≡ joined (words_of self.old) (given_from Place.Free (word.now ∷ words))) }
     {
+        if self.take_flag(word) {
+            return Ok(Place::Free);
+        }
         if is_same(word, "--") {
             return Ok(Place::Behind);
         }
         if is_same(word, "--origin") {
             return Ok(Place::Value);
         }
-        if is_same(word, "--sparse") {
-            self.is_sparse = true;
-            return Ok(Place::Free);
-        }
         match origin_in(word) {
             Some(origin) => self.origins.push(origin)?,
             None => self.arguments.push(word)?,
         }
         Ok(Place::Free)
+    }
+
+    // Takes a word that is an option without a value; answers whether it is one.
+    fn take_flag(&mut self, word: &str) -> bool
+        ensures yes { result ≡ true → (words : List (List ℕ)) → joined (words_of self.new) (given_from Place.Free words) ≡ joined (words_of self.old) (given_from Place.Free (word.now ∷ words)) }
+        ensures no { result ≡ false → (self.new ≡ self.old) × (is_flag word.now ≡ false) }
+    {
+        if is_same(word, "--sparse") {
+            self.is_sparse = true;
+            return true;
+        }
+        if is_same(word, "--until-eof") {
+            self.until_eof = true;
+            return true;
+        }
+        false
     }
 }
 

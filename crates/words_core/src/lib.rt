@@ -4,5 +4,6 @@
 
 mod command_line;
 mod given;
+mod origins;
 
 pub use command_line::{Refused, Subcommand, subcommand_of};

@@ -14,7 +14,7 @@ use Rattle.ws_core.specs.declared.answer.Answer.TheVariants.{Accept, Refuse}
 use Rattle.ws_core.specs.declared.offers.Choice.{Choice}
 use Rattle.ws_core.specs.declared.offers.Choice.TheVariants as choices
 use Rattle.ws_core.specs.declared.refusal.Refusal.{Refusal}
-use Rattle.ws_core.specs.declared.refusal.Refusal.TheVariants.{Malformed, Foreign, Method, NoUpgrade, Version, TooLarge, Full}
+use Rattle.ws_core.specs.declared.refusal.Refusal.TheVariants.{Malformed, OtherProtocol, Foreign, Method, NoUpgrade, Version, TooLarge, Full}
 use Rattle.ws_core.specs.Fields.{values}
 use Rattle.ws_core.specs.Offers.{choice_of}
 
@@ -41,7 +41,7 @@ refusal_of _ = Malformed
 abbrev pub admitted : List ℕ → Choice → Answer
 admitted accept_key choices.Stomp = Accept accept_key true
 admitted accept_key choices.Nothing = Accept accept_key false
-admitted accept_key choices.Refuse = Refuse Malformed
+admitted accept_key choices.Refuse = Refuse OtherProtocol
 
 -- the answer where the request's key is answered so, or lacks that
 abbrev pub answer_by : List (List ℕ) → Fields → Result (List ℕ) HandshakeError → Answer
@@ -87,6 +87,7 @@ as_full (Refuse refusal) = Refuse refusal
 -- the status of a refusal, and its reason (RFC 9110, sections 15.5 and 15.6.4; RFC 6585, section 5)
 abbrev pub status_line : Refusal → List ℕ
 status_line Malformed = codes "400 Bad Request"
+status_line OtherProtocol = codes "400 Bad Request"
 status_line Foreign = codes "403 Forbidden"
 status_line Method = codes "405 Method Not Allowed"
 status_line NoUpgrade = codes "426 Upgrade Required"
@@ -98,6 +99,7 @@ status_line Full = codes "503 Service Unavailable"
 -- to ask again (RFC 9110, sections 15.5.6, 15.5.22 and 10.2.3; RFC 6455, section 4.4). The connection is closed behind it.
 abbrev pub further_fields : Refusal → List ℕ
 further_fields Malformed = codes "Connection: close\r\n"
+further_fields OtherProtocol = codes "Connection: close\r\n"
 further_fields Foreign = codes "Connection: close\r\n"
 further_fields Method = codes "Connection: close\r\nAllow: GET\r\n"
 further_fields NoUpgrade = codes "Connection: close, Upgrade\r\nUpgrade: websocket\r\nSec-WebSocket-Version: 13\r\n"
@@ -108,6 +110,7 @@ further_fields Full = codes "Connection: close\r\nRetry-After: 10\r\n"
 -- its text
 abbrev pub body_of : Refusal → List ℕ
 body_of Malformed = codes "This is no request for a WebSocket as it should be.\n"
+body_of OtherProtocol = codes "This server speaks STOMP 1.2 alone: offer the subprotocol v12.stomp.\n"
 body_of Foreign = codes "This server does not serve pages of your origin.\n"
 body_of Method = codes "A WebSocket is asked for by GET.\n"
 body_of NoUpgrade = codes "This is a server for WebSockets alone: connect with ws:// in place of http://.\n"

@@ -1,41 +1,56 @@
 -- What a link holds.
-use Rattle.std.specs.Prelude.{◌≡◌, ◌≢◌, ◌==◌, ℕ, Bool, false, Option, Some, List, [], cond, refl}
+use Rattle.std.specs.Prelude.{◌≡◌, ◌⊎◌, ◌==◌, ℕ, Bool, false, Option, Some, List, [], cond, refl, ⊤}
 use Rattle.std.specs.Coded.{Coded, code_by, coded×, coded_bool, coded_ℕ}
 use Rattle.websocket.specs.declared.protocol.config.Role.TheVariants.{Server}
 use Rattle.tungstenite.specs.Connection.{close_step}
 use Rattle.tungstenite.specs.Socket.{Socket, socket_code, IsFresh, Writes}
 use Rattle.ws_core.specs.declared.closing.CloseReason.{CloseReason}
 use Rattle.ws_core.specs.declared.phase.Phase.{Phase}
-use Rattle.ws_core.specs.declared.phase.Phase.TheVariants.{Open, Closing, Over}
+use Rattle.ws_core.specs.declared.phase.Phase.TheVariants.{Open, Closing, Failed, Shut, Over}
 use Rattle.ws_core.specs.Closing.{close_of}
 
--- A WebSocket, how far the link has come, and whether the stream has not taken all that it was last offered.
+-- A WebSocket, how far the link has come, whether the stream has not taken all that it was last offered, and how many bytes were
+-- dropped behind the close.
 pub record Linked (S : Type 0) : Type 0 where
   pub socket : Socket S
   pub phase : Phase
   pub held_up : Bool
+  pub dropped : ℕ
 
 abbrev phase_number : Phase → ℕ
 phase_number Open = 0
 phase_number Closing = 1
 phase_number Over = 2
+phase_number Failed = 3
+phase_number Shut = 4
 
 abbrev phase_of : ℕ → Phase
-phase_of n = cond (n == 0) Open (cond (n == 1) Closing Over)
+phase_of n = cond (n == 0) Open (cond (n == 1) Closing (cond (n == 2) Over (cond (n == 3) Failed Shut)))
 
 pub phase_back : (phase : Phase) → phase_of (phase_number phase) ≡ phase
 phase_back Open = refl
 phase_back Closing = refl
 phase_back Over = refl
+phase_back Failed = refl
+phase_back Shut = refl
 
 abbrev phase_code : Coded Phase
 phase_code = code_by ℕ coded_ℕ phase_number phase_of phase_back
 
+-- it says nothing more, and drops what comes
+abbrev pub HasFailed : Phase → Type 0
+HasFailed Failed = ⊤
+HasFailed Shut = ⊤
+HasFailed Open = ⊥
+HasFailed Closing = ⊥
+HasFailed Over = ⊥
+
 module _ {S : Type 0} where
   abbrev pub linked_code : Coded S → Coded (Linked S)
   linked_code stream =
-      code_by (Socket S × (Phase × Bool)) (coded× (socket_code stream) (coded× phase_code coded_bool))
-      (λ l. (l.socket, (l.phase, l.held_up))) (λ p. record { socket = p.0; phase = p.1.0; held_up = p.1.1 }) (λ _. refl)
+      code_by (Socket S × (Phase × (Bool × ℕ))) (coded× (socket_code stream) (coded× phase_code (coded× coded_bool coded_ℕ)))
+      (λ l. (l.socket, (l.phase, (l.held_up, l.dropped))))
+      (λ p. record { socket = p.0; phase = p.1.0; held_up = p.1.1.0; dropped = p.1.1.1 }) (λ _. refl)
 
   -- A link whose handshake has just been done: nothing is read or waits to be sent, a message and a frame of it may have
   -- 131,072 bytes, and the peer's frames are masked (RFC 6455, section 5.1).
@@ -43,6 +58,7 @@ module _ {S : Type 0} where
     pub is_fresh : (stream : S) × IsFresh l.socket stream Server
     pub goes_on : l.phase ≡ Open
     pub free : l.held_up ≡ false
+    pub none_dropped : l.dropped ≡ 0
     pub message : l.socket.conn.config.max_message_size ≡ Some 131072
     pub frame : l.socket.conn.config.max_frame_size ≡ Some 131072
     pub masked : l.socket.conn.config.accept_unmasked_frames ≡ false
@@ -54,3 +70,7 @@ module _ {S : Type 0} where
     pub rest : new.held_up ≡ false → new.socket.output ≡ []
     pub before : old.phase ≡ Open
     pub after : new.phase ≡ Closing
+
+  -- An end that is Ok: the close was said; or the link had said its last before, and stays as it is.
+  abbrev pub IsEnded : (S → Option (List ℕ)) → CloseReason → Linked S → Linked S → Type 0
+  IsEnded contents reason old new = Ends contents reason old new ⊎ (HasFailed old.phase × (new ≡ old))

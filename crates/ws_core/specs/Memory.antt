@@ -3,7 +3,7 @@ use Rattle.std.specs.Prelude.{◌≡◌, ℕ, List, [], ◌∷◌, ◌++◌, ◌
 use Rattle.ws_core.specs.declared.fault.LinkFault.{LinkFault}
 use Rattle.ws_core.specs.declared.fault.LinkFault.TheVariants as faults
 use Rattle.ws_core.specs.declared.link.Received.{Received}
-use Rattle.ws_core.specs.declared.link.Received.TheVariants.{Bytes, Skipped, Nothing, Closed}
+use Rattle.ws_core.specs.declared.link.Received.TheVariants.{Bytes, Skipped, Nothing, Failed, Closed}
 
 -- The messages that are still to be received, those that were sent, the bytes of those that were received, and whether the link
 -- is over.
@@ -29,6 +29,7 @@ abbrev pub Recalls : Remembered → Remembered → Received → Type 0
 Recalls old new (Bytes v) =
     (old.over ≡ false) × (old.coming ≡ v.items ∷ new.coming) × (new ≡ remembered new.coming old.sent (old.received ++ v.items) false)
 Recalls old new Skipped = ⊥
+Recalls old new Failed = ⊥
 Recalls old new Nothing = (old.over ≡ false) × (old.coming ≡ []) × (new ≡ old)
 Recalls old new Closed = (old.over ≡ true) × (new ≡ old)
 

@@ -1,19 +1,26 @@
 -- What one read of a link gives.
-use Rattle.std.specs.Prelude.{◌≡◌, ◌⊎◌, ◌++◌, ℕ, List, [], Option, option_map, ⊤}
+use Rattle.std.specs.Prelude.{◌≡◌, ◌≢◌, ◌⊎◌, ◌++◌, ◌<◌, ◌≤◌, ℕ, List, [], Bool, false, Option, Some, Err, cond, option_map, ⊤}
 use Rattle.std.specs.Io.KnownBytes.{Consumes}
-use Rattle.tungstenite.specs.Content.{text, binary, ping, pong}
-use Rattle.tungstenite.specs.Socket.{Socket, Run, Runs, EndsWith, Quiet}
+use Rattle.tungstenite.specs.CloseCode.{close_code_of}
+use Rattle.tungstenite.specs.Connection.{Connection, close_step, read_step}
+use Rattle.tungstenite.specs.Content.{Content, text, binary, ping, pong, close}
+use Rattle.tungstenite.specs.Failure.{of_frame}
+use Rattle.tungstenite.specs.Socket.{Socket, Run, Runs, EndsWith, Flushed, Quiet, Writes}
+use Rattle.websocket.specs.declared.error.Error.{Error}
+use Rattle.websocket.specs.declared.protocol.frame.coding.CloseCode.{CloseCode}
+use Rattle.ws_core.specs.Closing.{breach_code}
 use Rattle.ws_core.specs.declared.link.Received.{Received}
-use Rattle.ws_core.specs.declared.link.Received.TheVariants.{Bytes, Skipped, Nothing, Closed}
+use Rattle.ws_core.specs.declared.link.Received.TheVariants.{Bytes, Skipped, Nothing, Failed, Closed}
 use Rattle.ws_core.specs.declared.phase.Phase.{Phase}
 use Rattle.ws_core.specs.declared.phase.Phase.TheVariants as phases
-use Rattle.ws_core.specs.Links.{Linked}
+use Rattle.ws_core.specs.Links.{HasFailed, Linked}
 
 -- the bytes that a read gave
 abbrev pub given : Received → List ℕ
 given (Bytes v) = v.items
 given Skipped = []
 given Nothing = []
+given Failed = []
 given Closed = []
 
 -- so many bytes more were received, where the link tells them
@@ -34,6 +41,7 @@ abbrev pub Holds : Received → List ℕ → Type 0
 Holds (Bytes v) bytes = v.items ≡ bytes
 Holds Skipped bytes = ⊥
 Holds Nothing bytes = ⊥
+Holds Failed bytes = ⊥
 Holds Closed bytes = ⊤
 
 -- how far the link has come when it has given this
@@ -41,7 +49,16 @@ abbrev pub after : Phase → Received → Phase
 after phase (Bytes v) = phase
 after phase Skipped = phase
 after phase Nothing = phase
+after phase Failed = phases.Failed
 after phase Closed = phases.Over
+
+-- What came behind a close was dropped, and how much that was in all: 16,777,216 bytes at most, or the link is over.
+abbrev pub Counts : ℕ → ℕ → Received → Type 0
+Counts old new (Bytes v) = ⊥
+Counts old new Skipped = (old < new) × (new ≤ 16777216)
+Counts old new Nothing = new ≡ old
+Counts old new Failed = ⊥
+Counts old new Closed = ⊤
 
 module _ {S : Type 0} where
   -- These frames were read, one behind the other, off the bytes that were there and those that the stream gave, and no
@@ -51,24 +68,62 @@ module _ {S : Type 0} where
     pub run : Runs old.conn (old.input ++ got) frames new.conn new.input
     pub stated : old.output ≡ [] → Consumes (remaining old.stream) (remaining new.stream) got
 
+  -- The next frame breaks the protocol or a limit, behind others that end no message: the read of it failed, and left a socket on
+  -- which the close of that code was said (section 7.1.7), and nothing else.
+  pub record Breaks (contents : S → Option (List ℕ)) (old new : Socket S) : Type 0 where
+    pub got : List ℕ
+    pub frames : Run
+    pub conn : Connection
+    pub input : List ℕ
+    pub run : Runs old.conn (old.input ++ got) frames conn input
+    pub quiet : Quiet frames
+    pub fault : Error
+    pub next : read_step conn input ≡ Err fault
+    pub code : ℕ
+    pub code_is : breach_code (of_frame fault) ≡ Some code
+    pub read : Socket S
+    pub said : Writes contents read new (close_step read.conn (Some (close_code_of code, [])))
+
+  -- The peer's close was read. Its answer (section 5.5.1) is in the socket then, and went to the stream as far as that takes it.
+  pub record Answers (remaining contents : S → Option (List ℕ)) (old new : Socket S) : Type 0 where
+    pub frames : Run
+    pub frame : Option (CloseCode × List ℕ)
+    pub read : Socket S
+    pub reads : Reads remaining old read frames
+    pub ends : EndsWith frames (close frame)
+    pub written : Flushed contents read new
+
   -- what a read of the socket gave
-  abbrev pub Hears : (S → Option (List ℕ)) → Socket S → Socket S → Received → Type 0
-  Hears remaining old new (Bytes v) = (frames : Run) × Reads remaining old new frames × Carries frames v.items
-  Hears remaining old new Skipped = (frames : Run) × Reads remaining old new frames × CarriesNothing frames
-  Hears remaining old new Nothing = (frames : Run) × Reads remaining old new frames × Quiet frames
-  Hears remaining old new Closed = ⊤
+  abbrev pub Hears : (S → Option (List ℕ)) → (S → Option (List ℕ)) → Socket S → Socket S → Received → Type 0
+  Hears remaining contents old new (Bytes v) = (frames : Run) × Reads remaining old new frames × Carries frames v.items
+  Hears remaining contents old new Skipped = (frames : Run) × Reads remaining old new frames × CarriesNothing frames
+  Hears remaining contents old new Nothing = (frames : Run) × Reads remaining old new frames × Quiet frames
+  Hears remaining contents old new Failed = Breaks contents old new ⊎ Answers remaining contents old new
+  Hears remaining contents old new Closed = ⊤
 
   -- what a read of the socket gave once the link was ended: no message's bytes
   abbrev pub Drops : (S → Option (List ℕ)) → Socket S → Socket S → Received → Type 0
   Drops remaining old new (Bytes v) = ⊥
   Drops remaining old new Skipped = (frames : Run) × Reads remaining old new frames
   Drops remaining old new Nothing = (frames : Run) × Reads remaining old new frames × Quiet frames
+  Drops remaining old new Failed = ⊤
   Drops remaining old new Closed = ⊤
 
+  -- What a read of a link does that has said its last: some of that went to the stream, which was shut once nothing waited any more;
+  -- what came was dropped without a look at it.
+  pub record Leaves (contents : S → Option (List ℕ)) (old new : Linked S) (got : Received) : Type 0 where
+    pub flushed : got ≢ Closed → Flushed contents old.socket new.socket
+    pub counts : Counts old.dropped new.dropped got
+    pub phase : got ≢ Closed → new.phase ≡ cond new.held_up phases.Failed phases.Shut
+    pub over : got ≡ Closed → new.phase ≡ phases.Over
+
   -- One read of a link. One that is over says so and stays as it is.
-  pub record Receives (remaining : S → Option (List ℕ)) (old new : Linked S) (got : Received) : Type 0 where
-    pub hears : old.phase ≡ phases.Open → Hears remaining old.socket new.socket got
+  pub record Receives (remaining contents : S → Option (List ℕ)) (old new : Linked S) (got : Received) : Type 0 where
+    pub hears : old.phase ≡ phases.Open → Hears remaining contents old.socket new.socket got
     pub drops : old.phase ≡ phases.Closing → Drops remaining old.socket new.socket got
-    pub phase : new.phase ≡ after old.phase got
-    pub held_up : new.held_up ≡ old.held_up
+    pub leaves : HasFailed old.phase → Leaves contents old new got
+    pub phase : (HasFailed old.phase → ⊥) → new.phase ≡ after old.phase got
+    pub dropped : (HasFailed old.phase → ⊥) → new.dropped ≡ old.dropped
+    pub held_up : (HasFailed old.phase → ⊥) → got ≢ Failed → new.held_up ≡ old.held_up
+    pub rest : old.phase ≡ phases.Open → got ≡ Failed → new.held_up ≡ false → new.socket.output ≡ []
     pub stays : old.phase ≡ phases.Over → (got ≡ Closed) × (new ≡ old)

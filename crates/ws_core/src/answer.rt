@@ -93,6 +93,6 @@ fn answer_by(
     match choose(head, fields) {
         Choice::Stomp => Answer::Accept(accept_key, true),
         Choice::Nothing => Answer::Accept(accept_key, false),
-        Choice::Refuse => Answer::Refuse(Refusal::Malformed),
+        Choice::Refuse => Answer::Refuse(Refusal::OtherProtocol),
     }
 }

@@ -112,6 +112,11 @@ impl<S: Read + Write + Drop> Greeting<S> {
         }
     }
 
+    /// The stream.
+    pub fn stream(&self) -> &S {
+        &self.stream
+    }
+
     // Hears the request, unless it has its answer.
     fn hear(self, alloc: Global) -> Result<Greeting<S>, Greeted<S>>
         ensures same { IfOk result (λ greeting. greeting ≡ self) }

@@ -15,6 +15,7 @@ mod offers;
 mod phase;
 mod refusal;
 mod saying;
+mod stream;
 mod ws_link;
 
 pub use answer::{Answer, answer_to};
@@ -25,4 +26,5 @@ pub use link::{Link, Outgoing, Received};
 pub use mem_link::MemLink;
 pub use phase::Phase;
 pub use refusal::Refusal;
+pub use stream::Ending;
 pub use ws_link::WsLink;

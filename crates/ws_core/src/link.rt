@@ -21,6 +21,9 @@ pub enum Received {
     Skipped,
     /// The stream has nothing to give now. There may be more once it can be read again, or takes bytes again where some wait.
     Nothing,
+    /// The peer broke the protocol and was told its close code, or it has closed and was answered. The link is ended: it says nothing
+    /// more, and drops what comes until the stream's end. Then it is `Closed`.
+    Failed,
     /// The peer has closed, or the link has failed, for want of memory too. It is over for good.
     Closed,
 }
@@ -75,8 +78,8 @@ pub trait Outgoing {
 
 /// A connection to one client, which carries one STOMP stream each way.
 pub trait Link: Outgoing {
-    /// Reads one message, or as much of it as there is. A link that was ended drops what comes, until the peer's close or the
-    /// stream's end. One that is over answers `Closed`.
+    /// Reads one message, or as much of it as there is. A link that was ended drops what comes, until the stream's end. One that is
+    /// over answers `Closed`.
     fn receive(&mut self, alloc: Global) -> Received
         ensures told { Self.sent self.new ≡ Self.sent self.old }
         ensures read { Self.received self.new ≡ with_received result (Self.received self.old) };
@@ -97,8 +100,9 @@ pub trait Link: Outgoing {
         ensures memory { IfErr result (λ fault. fault ≡ LinkFault.Memory → self.new ≡ self.old) };
 
     /// Says the close with that reason, behind all that was sent, as far as the stream takes it; the rest leaves by later calls.
-    /// From then on the link sends nothing, and `receive` hears the peer's close. `Memory` leaves it as it was; `Gone` says that
-    /// it was ended or over, or that its stream failed.
+    /// From then on the link sends nothing, and `receive` hears the peer's close. One that has answered `Failed` says nothing more
+    /// and stays as it is: it is Ok. `Memory` leaves the link as it was; `Gone` says that it was ended or over, or that its stream
+    /// failed.
     fn end(&mut self, reason: CloseReason) -> Result<(), LinkFault>
         ensures told { Self.sent self.new ≡ Self.sent self.old }
         ensures unread { Self.received self.new ≡ Self.received self.old }

@@ -1,43 +1,67 @@
 //! The messages that carry a STOMP stream, and the frames that close it.
 
-ghost use Rattle.std.specs.Prelude.{◌≡◌, IfOk, IfErr, OnOk, IsTrue, [], false, true, ◌⊎◌};
+ghost use Rattle.std.specs.Prelude.{◌≡◌, ◌≢◌, ◌<◌, ◌≤◌, IfOk, IfErr, OnOk, IsTrue, [], false, true, ◌⊎◌, Some, OnErr, not};
 ghost use Rattle.tungstenite.specs.Failure.{IsIo};
 ghost use Rattle.tungstenite.specs.declared.error.Error.TheVariants.{OutOfMemory};
 ghost use Rattle.tungstenite.specs.Socket.{content_of, Flushed, Writes};
 ghost use Rattle.tungstenite.specs.Connection.{close_step, write_step};
-ghost use Rattle.ws_core.specs.Closing.{close_of};
-ghost use Rattle.ws_core.specs.Receiving.{Drops, Hears, Holds};
+ghost use Rattle.tungstenite.specs.CloseCode.{close_code_of};
+ghost use Rattle.ws_core.specs.Closing.{breach_code, close_of};
+ghost use Rattle.ws_core.specs.Receiving.{Counts, Drops, Hears, Holds};
 ghost use Rattle.ws_core.specs.Sending.{IsMessageOf};
 
 use crate::closing::CloseReason;
 use crate::fault::LinkFault;
 use crate::link::Received;
 use std::alloc::Global;
+use std::io;
 use std::io::{ErrorKind, Read, Write};
 use tungstenite::{Bytes, CloseCode, CloseFrame, Error, Message, NoMask, Utf8Bytes, WebSocket};
 use websocket::error::ProtocolError;
 
-// Reads once, and says what came for the STOMP stream. Where the connection fails, the peer is told why (RFC 6455,
-// section 7.1.7), if it still listens.
-pub fn hear<S: Read + Write + Drop>(alloc: Global, socket: &mut WebSocket<S, NoMask>) -> Received
-    ensures { Hears S.remaining socket.old socket.new result }
+// How many bytes are dropped at most that come behind a close.
+const DROPPED_BYTES: u64 = 16_777_216;
+
+// Reads once, and says what came for the STOMP stream. A peer that closes is answered, and one that breaks the protocol is told why
+// (RFC 6455, section 7.1.7). Then it is said too whether the stream has taken all of that.
+pub fn hear<S: Read + Write + Drop>(
+    alloc: Global,
+    socket: &mut WebSocket<S, NoMask>,
+    held_up: &mut bool,
+) -> Received
+    ensures hears { Hears S.remaining S.contents socket.old socket.new result }
+    ensures same { result ≢ Received.Failed → held_up.new ≡ held_up.old }
+    ensures rest { result ≡ Received.Failed → held_up.new ≡ false → socket.new.output ≡ [] }
 {
     match socket.read() {
         Ok(Message::Text(text)) => bytes_of(alloc, text.as_str().as_bytes()),
         Ok(Message::Binary(bytes)) => bytes_of(alloc, bytes.as_slice()),
         Ok(Message::Ping(_)) | Ok(Message::Pong(_)) => Received::Skipped,
-        Ok(Message::Close(_)) => {
-            // The answer to it waits in the socket.
-            let _ = socket.flush();
-            Received::Closed
-        }
+        // The answer to it waits in the socket.
+        Ok(Message::Close(_)) => said(flush(socket), held_up),
         Err(error) => {
             if is_wait(&error) {
                 return nothing(&error);
             }
-            tell_failure(socket, &error);
-            Received::Closed
+            match failure_code(&error) {
+                Some(code) => said(say_failure(socket, code), held_up),
+                None => Received::Closed,
+            }
         }
+    }
+}
+
+// A link that has said its last, as far as the stream takes it.
+fn said(all: Result<bool, Error>, held_up: &mut bool) -> Received
+    ensures ok { IfOk all (λ all. (result ≡ Received.Failed) × (held_up.new ≡ not all)) }
+    ensures err { OnErr all ((result ≡ Received.Closed) × (held_up.new ≡ held_up.old)) }
+{
+    match all {
+        Ok(all) => {
+            *held_up = !all;
+            Received::Failed
+        }
+        Err(_) => Received::Closed,
     }
 }
 
@@ -47,14 +71,38 @@ pub fn hear_close<S: Read + Write + Drop>(socket: &mut WebSocket<S, NoMask>) -> 
     ensures { Drops S.remaining socket.old socket.new result }
 {
     match socket.read() {
-        Ok(Message::Close(_)) => Received::Closed,
+        Ok(Message::Close(_)) => Received::Failed,
         Ok(_) => Received::Skipped,
         Err(error) => {
             if is_wait(&error) {
                 return nothing(&error);
             }
-            Received::Closed
+            match failure_code(&error) {
+                Some(_) => Received::Failed,
+                None => Received::Closed,
+            }
         }
+    }
+}
+
+// What a read came to whose bytes are dropped. Behind so many of them the link is over. A read that was interrupted counts as a byte.
+pub fn count_dropped(read: io::Result<usize>, dropped: &mut u64) -> Received
+    ensures { Counts dropped.old dropped.new result }
+{
+    let count = match read {
+        Ok(0) => return Received::Closed,
+        Ok(count) => count as u64,
+        Err(error) => match error.kind() {
+            ErrorKind::WouldBlock => return Received::Nothing,
+            ErrorKind::Interrupted => 1,
+            _ => return Received::Closed,
+        },
+    };
+    *dropped = dropped.saturating_add(count);
+    if *dropped <= DROPPED_BYTES {
+        Received::Skipped
+    } else {
+        Received::Closed
     }
 }
 
@@ -68,13 +116,21 @@ fn nothing(error: &Error) -> Received
     }
 }
 
-// Tells the peer what it did wrong.
-fn tell_failure<S: Read + Write + Drop>(socket: &mut WebSocket<S, NoMask>, error: &Error) {
-    if let Some(code) = failure_code(error) {
-        let _ = socket.close(Some(CloseFrame {
-            code,
-            reason: Utf8Bytes::new(),
-        }));
+// Tells the peer by that code what it did wrong, and answers whether the stream has taken all.
+fn say_failure<S: Read + Write + Drop>(
+    socket: &mut WebSocket<S, NoMask>,
+    code: u16,
+) -> Result<bool, Error>
+    ensures wrote { OnOk result (Writes S.contents socket.old socket.new (close_step socket.old.conn (Some (close_code_of code, [])))) }
+    ensures rest { IfOk result (λ all. all ≡ true → socket.new.output ≡ []) }
+{
+    let frame = CloseFrame {
+        code: CloseCode::from(code),
+        reason: Utf8Bytes::new(),
+    };
+    match socket.close(Some(frame)) {
+        Ok(()) => Ok(true),
+        Err(error) => held_up(error),
     }
 }
 
@@ -100,13 +156,15 @@ fn is_wait(error: &Error) -> bool
     }
 }
 
-// What the peer did wrong (RFC 6455, section 7.4.1), where it did.
-fn failure_code(error: &Error) -> Option<CloseCode> {
+// The code of what the peer did wrong (RFC 6455, section 7.4.1), where it did.
+fn failure_code(error: &Error) -> Option<u16>
+    ensures { result ≡ breach_code error.now }
+{
     match error {
         Error::Protocol(ProtocolError::ResetWithoutClosingHandshake) => None,
-        Error::Protocol(_) => Some(CloseCode::Protocol),
-        Error::Utf8 => Some(CloseCode::Invalid),
-        Error::Capacity(_) => Some(CloseCode::Size),
+        Error::Protocol(_) => Some(1002),
+        Error::Utf8 => Some(1007),
+        Error::Capacity(_) => Some(1009),
         _ => None,
     }
 }

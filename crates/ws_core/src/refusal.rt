@@ -9,9 +9,10 @@ use websocket::handshake::HandshakeError;
 /// Why a client is refused that asks for a WebSocket, or for something else.
 #[derive(Clone, Copy)]
 pub enum Refusal {
-    /// 400: its head is none, it has no Host or two, no key or none of 16 bytes, it says that a body follows in pieces, or it
-    /// offers other subprotocols alone.
+    /// 400: its head is none, it has no Host or two, no key or none of 16 bytes, or it says that a body follows in pieces.
     Malformed,
+    /// 400: it offers other subprotocols alone, as `v10.stomp` and `v11.stomp`.
+    OtherProtocol,
     /// 403: it comes from a page of an origin that is not served.
     Foreign,
     /// 405: it asks by another method than GET.
@@ -43,6 +44,7 @@ impl Refusal {
     {
         match self {
             Refusal::Malformed => "400 Bad Request",
+            Refusal::OtherProtocol => "400 Bad Request",
             Refusal::Foreign => "403 Forbidden",
             Refusal::Method => "405 Method Not Allowed",
             Refusal::NoUpgrade => "426 Upgrade Required",
@@ -58,6 +60,7 @@ impl Refusal {
     {
         match self {
             Refusal::Malformed => "Connection: close\r\n",
+            Refusal::OtherProtocol => "Connection: close\r\n",
             Refusal::Foreign => "Connection: close\r\n",
             Refusal::Method => "Connection: close\r\nAllow: GET\r\n",
             Refusal::NoUpgrade => {
@@ -76,6 +79,9 @@ impl Refusal {
     {
         match self {
             Refusal::Malformed => "This is no request for a WebSocket as it should be.\n",
+            Refusal::OtherProtocol => {
+                "This server speaks STOMP 1.2 alone: offer the subprotocol v12.stomp.\n"
+            }
             Refusal::Foreign => "This server does not serve pages of your origin.\n",
             Refusal::Method => "A WebSocket is asked for by GET.\n",
             Refusal::NoUpgrade => {

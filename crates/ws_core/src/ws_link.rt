@@ -6,8 +6,9 @@ ghost use Rattle.ws_core.specs.Limits.{HasOurLimits};
 use crate::closing::CloseReason;
 use crate::fault::LinkFault;
 use crate::link::{Link, Outgoing, Received};
-use crate::messages::{flush, hear, hear_close, message_of, put, say_close};
+use crate::messages::{count_dropped, flush, hear, hear_close, message_of, put, say_close};
 use crate::phase::Phase;
+use crate::stream::Ending;
 use claim_core::Released;
 use frame_core::{Frame, Verb, write_frame};
 use std::alloc::Global;
@@ -25,8 +26,12 @@ const WRITING_BYTES: usize = 65_536;
 const READ_BYTES: usize = 16_384;
 
 /// A WebSocket over a stream, after its handshake. Of a stream that has nothing to give, or takes nothing, a read or a write fails
-/// with `WouldBlock`; any other failure but `Interrupted` ends the link. Contracts see the socket, how far the link has come, and
-/// whether the stream has not taken all that it was last offered.
+/// with `WouldBlock`; any other failure but `Interrupted` ends the link. Contracts see the socket, how far the link has come, whether
+/// the stream has not taken all that it was last offered, and how many bytes were dropped behind the close.
+///
+/// Behind the peer's close, and behind the close by which a peer is told that it broke the protocol, the stream's writing side is shut
+/// once all is written, and what comes is dropped up to the stream's end, but no more than 16,777,216 bytes (RFC 6455, section 7.1.1):
+/// a system resets a connection that is closed before all was read, and then the peer may never hear why.
 ///
 /// A message may have 131,072 bytes, and so may a frame of it. A link is `Gone` where a message would make over 1,048,576 bytes
 /// wait to be sent; from 65,536 on a send offers them to the stream, so that many messages may be sent before a flush.
@@ -35,6 +40,7 @@ pub struct WsLink<S> {
     socket: WebSocket<S, NoMask>,
     phase: Phase,
     held_up: bool,
+    dropped: u64,
 }
 
 impl<S> Model for WsLink<S> {
@@ -44,7 +50,7 @@ impl<S> Model for WsLink<S> {
 
     ghost coded = { linked_code S.code };
 
-    ghost view = { λ a. record { socket = a.socket; phase = a.phase; held_up = a.held_up } };
+    ghost view = { λ a. record { socket = a.socket; phase = a.phase; held_up = a.held_up; dropped = a.dropped } };
 }
 
 fn limits() -> WebSocketConfig
@@ -79,7 +85,15 @@ impl<S: Read + Write + Drop> WsLink<S> {
             socket,
             phase: Phase::Open,
             held_up: false,
+            dropped: 0,
         }
+    }
+
+    /// The stream.
+    pub fn stream(&self) -> &S
+        ensures { result.now ≡ self.now.socket.stream }
+    {
+        self.socket.get_ref()
     }
 
     // Sends a frame as one message.
@@ -167,24 +181,27 @@ impl<S: Read + Write + Drop> Outgoing for WsLink<S> {
     }
 }
 
-impl<S: Read + Write + Drop> Link for WsLink<S> {
+impl<S: Read + Write + Ending + Drop> Link for WsLink<S> {
     ghost use Rattle.std.specs.Prelude.{◌≡◌, OnOk, IfErr};
     ghost use Rattle.frame_core.specs.Writable.{Writable};
     ghost use Rattle.frame_core.specs.Written.{written};
-    ghost use Rattle.ws_core.specs.Links.{Ends};
+    ghost use Rattle.ws_core.specs.Links.{IsEnded};
     ghost use Rattle.ws_core.specs.Receiving.{Receives};
     ghost use Rattle.ws_core.specs.Sending.{Pings, Sends, Refuses};
 
     fn receive(&mut self, alloc: Global) -> Received
-        ensures { Receives S.remaining self.old self.new result }
+        ensures { Receives S.remaining S.contents self.old self.new result }
     {
         let received = match self.phase {
-            Phase::Open => hear(alloc, &mut self.socket),
+            Phase::Open => hear(alloc, &mut self.socket, &mut self.held_up),
             Phase::Closing => hear_close(&mut self.socket),
+            Phase::Failed | Phase::Shut => return self.leave(),
             Phase::Over => return Received::Closed,
         };
-        if matches!(received, Received::Closed) {
-            self.phase = Phase::Over;
+        match received {
+            Received::Failed => self.phase = Phase::Failed,
+            Received::Closed => self.phase = Phase::Over,
+            Received::Bytes(_) | Received::Skipped | Received::Nothing => {}
         }
         received
     }
@@ -209,11 +226,13 @@ impl<S: Read + Write + Drop> Link for WsLink<S> {
     }
 
     fn end(&mut self, reason: CloseReason) -> Result<(), LinkFault>
-        ensures ends { OnOk result (Ends S.contents reason self.old self.new) }
+        ensures ends { OnOk result (IsEnded S.contents reason self.old self.new) }
         ensures refuses { IfErr result (Refuses self.old self.new) }
     {
-        if self.phase != Phase::Open {
-            return Err(LinkFault::Gone);
+        match self.phase {
+            Phase::Open => {}
+            Phase::Failed | Phase::Shut => return Ok(()),
+            Phase::Closing | Phase::Over => return Err(LinkFault::Gone),
         }
         match say_close(&mut self.socket, reason) {
             Ok(all) => {
@@ -223,5 +242,41 @@ impl<S: Read + Write + Drop> Link for WsLink<S> {
             }
             Err(error) => Err(self.refuse(&error)),
         }
+    }
+}
+
+impl<S: Read + Write + Ending + Drop> WsLink<S> {
+    ghost use Rattle.std.specs.Prelude.{◌≡◌, cond, not};
+    ghost use Rattle.ws_core.specs.Links.{HasFailed};
+    ghost use Rattle.ws_core.specs.Receiving.{Leaves};
+    ghost use Rattle.ws_core.specs.declared.phase.Phase.TheVariants.{Failed, Shut};
+
+    // Has what was said go to the stream, shuts that once nothing waits any more, and drops what comes.
+    fn leave(&mut self) -> Received
+        requires { HasFailed self.old.phase }
+        ensures { Leaves S.contents self.old self.new result }
+    {
+        let received = match flush(&mut self.socket) {
+            Ok(all) => {
+                self.shut(all);
+                count_dropped(self.socket.get_ref().drop_some(), &mut self.dropped)
+            }
+            Err(_) => Received::Closed,
+        };
+        if matches!(received, Received::Closed) {
+            self.phase = Phase::Over;
+        }
+        received
+    }
+
+    // Shuts the stream's writing side where all was written, unless it is shut.
+    fn shut(&mut self, all: bool)
+        ensures { self.new ≡ record self.old { phase = cond all Shut Failed; held_up = not all } }
+    {
+        if all && self.phase != Phase::Shut {
+            let _ = self.socket.get_ref().shut_down();
+        }
+        self.phase = if all { Phase::Shut } else { Phase::Failed };
+        self.held_up = !all;
     }
 }

@@ -44,6 +44,7 @@ fn put_received(shown: &mut Vec<u8>, received: &Received) -> Result<(), AllocErr
         }
         Received::Skipped => shown.push(b'-')?,
         Received::Nothing => shown.push(b'.')?,
+        Received::Failed => shown.push(b'x')?,
         Received::Closed => shown.push(b'!')?,
     }
     Ok(())
@@ -162,8 +163,9 @@ pub fn accepted(alloc: Global, wire: &Wire) -> Result<WsLink<&Wire>, Fail> {
 }
 
 /// What these acts show of a link whose handshake is done. A read shows bytes between < and >, a dash for what is skipped, a point
-/// for nothing and ! for a closed link; a send, a ping and an end show k, or w where a send finds that the stream doesn't take all,
-/// or m and g for their faults; a flush shows t where nothing waits any more, and else f. Behind it stands what was written.
+/// for nothing, x for a link that has failed and ! for a closed one; a send, a ping and an end show k, or w where a send finds that the stream doesn't take all,
+/// or m and g for their faults; a flush shows t where nothing waits any more, and else f. Behind it stands what was written, and
+/// | where the stream's writing side was shut.
 pub fn run(alloc: Global, wire: &Wire, acts: &[Do]) -> Result<Vec<u8>, Fail> {
     let mut link = accepted(alloc, wire)?;
     let mut response = Vec::new(alloc);

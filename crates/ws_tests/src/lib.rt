@@ -6,6 +6,8 @@
 #[cfg(test)]
 mod driver;
 #[cfg(test)]
+mod failing_tests;
+#[cfg(test)]
 mod frames;
 #[cfg(test)]
 mod handshake_tests;

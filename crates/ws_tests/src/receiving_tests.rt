@@ -32,53 +32,45 @@ const MESSAGES: &[Row] = &[
     (&[(0x8a, b"Hello"), (0x82, b"a")], TWICE, b"-<a>"),
     (
         &[(0x88, b"\x03\xe8"), (0x82, b"a")],
-        TWICE,
-        b"!\x88\x02\x03\xe8!",
+        ONCE,
+        b"x\x88\x02\x03\xe8",
     ),
-    (&[(0x88, b"")], TWICE, b"!\x88\x00!"),
+    (&[(0x88, b"")], TWICE, b"x\x88\x00!|"),
 ];
 
 const LONG_PING: &[u8] = &[0; 126];
 
-// Each closes the link, with the code 1002 (RFC 6455, section 7.4.1), or the last with 1007.
+// Each fails the link, with the code 1002 (RFC 6455, section 7.4.1), or the last with 1007.
 const BREACHES: &[Row] = &[
     (
         &[(0xc1, b"Hello"), (0x82, b"a")],
-        TWICE,
-        b"!\x88\x02\x03\xea!",
+        ONCE,
+        b"x\x88\x02\x03\xea",
     ),
     (
         &[(0xa1, b"Hello"), (0x82, b"a")],
-        TWICE,
-        b"!\x88\x02\x03\xea!",
+        ONCE,
+        b"x\x88\x02\x03\xea",
     ),
     (
         &[(0x91, b"Hello"), (0x82, b"a")],
-        TWICE,
-        b"!\x88\x02\x03\xea!",
+        ONCE,
+        b"x\x88\x02\x03\xea",
     ),
     (
         &[(0x83, b"Hello"), (0x82, b"a")],
-        TWICE,
-        b"!\x88\x02\x03\xea!",
+        ONCE,
+        b"x\x88\x02\x03\xea",
     ),
-    (&[(0x80, b"lo"), (0x82, b"a")], TWICE, b"!\x88\x02\x03\xea!"),
-    (
-        &[(0x01, b"Hel"), (0x81, b"lo")],
-        TWICE,
-        b"!\x88\x02\x03\xea!",
-    ),
-    (&[(0x09, b""), (0x82, b"a")], TWICE, b"!\x88\x02\x03\xea!"),
+    (&[(0x80, b"lo"), (0x82, b"a")], ONCE, b"x\x88\x02\x03\xea"),
+    (&[(0x01, b"Hel"), (0x81, b"lo")], ONCE, b"x\x88\x02\x03\xea"),
+    (&[(0x09, b""), (0x82, b"a")], ONCE, b"x\x88\x02\x03\xea"),
     (
         &[(0x89, LONG_PING), (0x82, b"a")],
-        TWICE,
-        b"!\x88\x02\x03\xea!",
+        ONCE,
+        b"x\x88\x02\x03\xea",
     ),
-    (
-        &[(0x81, b"\xff"), (0x82, b"a")],
-        TWICE,
-        b"!\x88\x02\x03\xef!",
-    ),
+    (&[(0x81, b"\xff"), (0x82, b"a")], ONCE, b"x\x88\x02\x03\xef"),
 ];
 
 #[test]
@@ -88,7 +80,7 @@ fn bytes_come_out_of_messages_however_they_are_cut(rt: HostRuntime) -> Result<()
 }
 
 #[test]
-fn what_breaks_the_protocol_closes_the_link(rt: HostRuntime) -> Result<(), Fail> {
+fn what_breaks_the_protocol_fails_the_link(rt: HostRuntime) -> Result<(), Fail> {
     assert_eq!(rt; first_wrong(rt.alloc(), BREACHES)?, None);
     Ok(())
 }
@@ -127,7 +119,7 @@ fn a_text_comes_masked_and_whole_or_nothing_comes_yet(rt: HostRuntime) -> Result
     let alloc = rt.alloc();
     let rows: [(&[u8], &[Do], &[u8]); 4] = [
         (MASKED_HELLO, ONCE, b"<Hello>"),
-        (UNMASKED_HELLO, TWICE, b"!\x88\x02\x03\xea!"),
+        (UNMASKED_HELLO, ONCE, b"x\x88\x02\x03\xea"),
         (&MASKED_HELLO[..8], TWICE, b"!!"),
         (MASKED_HELLO, IN_TWO, b"...<Hello>"),
     ];
@@ -168,7 +160,7 @@ fn shown_of_head(alloc: Global, length: u64) -> Result<Vec<u8>, Fail> {
 }
 
 // The code 1009.
-const TOO_BIG: &[u8] = b"!\x88\x02\x03\xf1";
+const TOO_BIG: &[u8] = b"x\x88\x02\x03\xf1";
 
 #[test]
 fn a_message_may_have_131072_bytes_and_no_more(rt: HostRuntime) -> Result<(), Fail> {

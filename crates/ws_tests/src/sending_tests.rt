@@ -53,7 +53,7 @@ const CLOSED: &[Row] = &[
             Do::Hear,
             Do::Hear,
         ],
-        b"k\x88\x02\x03\xe8-ggg-!!",
+        b"k\x88\x02\x03\xe8-ggg-x!|",
     ),
     (
         &[],
@@ -90,7 +90,7 @@ const CLOSED: &[Row] = &[
             Do::Open(8),
             Do::Hear,
         ],
-        b"k.ft\x88\x02\x03\xe8.!",
+        b"k.ft\x88\x02\x03\xe8.x",
     ),
 ];
 

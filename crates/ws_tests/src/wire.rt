@@ -4,6 +4,7 @@ use std::alloc::{AllocError, Global};
 use std::cell::{Cell, RefCell};
 use std::io;
 use std::io::{ErrorKind, Read, Write};
+use ws_core::Ending;
 
 /// Gives what is open of its input, and keeps what is written.
 #[derive(Drop)]
@@ -144,5 +145,28 @@ impl Write for &Wire {
 
     fn flush(&mut self) -> io::Result<()> {
         Ok(())
+    }
+}
+
+// All that is open is dropped at once. A stream that is shut shows |.
+impl Ending for &Wire {
+    fn drop_some(&self) -> io::Result<usize> {
+        let at = self.at.get();
+        let end = self.open.get().min(self.input.len());
+        if at >= end && end < self.input.len() {
+            return Err(io::Error::from(self.refusal));
+        }
+        self.at.set(end.max(at));
+        Ok(end.saturating_sub(at))
+    }
+
+    fn shut_down(&self) -> io::Result<()> {
+        match self.output.try_borrow_mut() {
+            Ok(mut output) => match output.push(b'|') {
+                Ok(()) => Ok(()),
+                Err(_) => Err(io::Error::from(ErrorKind::OutOfMemory)),
+            },
+            Err(_) => Err(io::Error::from(ErrorKind::Other)),
+        }
     }
 }

@@ -2,4 +2,4 @@ use Rattle.desk_core.proofs.Standing.{unserved_some}
 use Rattle.desk_core.proofs.placing.lose_at.Goals as goal
 
 pub returns-in-Some : goal.returns-in-Some
-returns-in-Some g c = unserved_some g.L.Outgoing.sent _ c.in-Some.seated _ c.in-Some.is c.lose.ensures
+returns-in-Some g c = unserved_some g.L.Outgoing.sent g.L.Outgoing.received _ c.in-Some.seated _ c.in-Some.is c.lose.ensures.unserved c.lose.ensures.lives

@@ -1,5 +1,3 @@
-use Rattle.std.proofs.Common.{subst, sym}
-use Rattle.connection_core.specs.Lives.{HasHeard}
 use Rattle.connection_core.proofs.Living.{begins_as}
 use Rattle.connection_core.proofs.connection.Connection.new.Goals as goal
 

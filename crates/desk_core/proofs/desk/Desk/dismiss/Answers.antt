@@ -1,18 +1,32 @@
-use Rattle.std.proofs.Common.{◌∙◌, arith, sym}
-use Rattle.desk_core.proofs.Standing.{leaves_at, vacated}
+use Rattle.std.proofs.Common.{◌≡◌, ap, arith, refl, subst, sym, true}
+use Rattle.std.specs.Prelude.{IsSome}
+use Rattle.desk_core.specs.Places.{is_over_at, progress_at}
+use Rattle.desk_core.proofs.Standing.{leaves_at, same_desk, sits_there, unmoved, vacated}
 use Rattle.desk_core.proofs.desk.Desk.dismiss.Goals as goal
 
 pub invariant_of-self : goal.invariant_of-self
 invariant_of-self g c =
-    vacated c.self.inside.before.value c.self.inside.seat c.self.inside.places.items c.args.at c.index_mut.result.now c.vacate.new.place
-    (omega (arith, c.if-at-len.false, c.len.ensures)) c.index_mut.ensures.value c.vacate.ensures.1 c.self.invariant
+    unmoved c.self.inside.before.value c.self.inside.seat c.self.inside.places.items c.args.at c.index_mut.result.now c.vacate.new.place
+    (omega (arith, c.if-at-len.false, c.len.ensures)) c.index_mut.ensures.value (ap progress_at (c.in_err-slot.ensures.left refl)) c.self.invariant
 
 pub invariant_of-self-2 : goal.invariant_of-self-2
 invariant_of-self-2 g c =
     vacated c.self.inside.before.value c.self.inside.seat c.self.inside.places.items c.args.at c.index_mut.result.now c.vacate.new.place
-    (omega (arith, c.if-at-len.false, c.len.ensures)) c.index_mut.ensures.value c.vacate.ensures.1 c.self.invariant
+    (omega (arith, c.if-at-len.false, c.len.ensures)) c.index_mut.ensures.value (c.in_ok-slot.ensures.taken refl).1 c.self.invariant
 
 pub returns-clause-left : goal.returns-clause-left
 returns-clause-left g c =
+    let taken = c.in_ok-slot.ensures.taken refl in
     leaves_at c.args.self.now c.self.inside.before.value c.self.inside.seat c.self.inside.places.items c.args.at c.index_mut.result.now c.vacate.new.place c.in_ok-slot.field-0
-    c.self.view_is (omega (arith, c.if-at-len.false, c.len.ensures)) c.index_mut.ensures.value (sym c.vacate.ensures.0 ∙ c.in_ok-slot.was) c.vacate.ensures.1
+    c.self.view_is (omega (arith, c.if-at-len.false, c.len.ensures)) c.index_mut.ensures.value (sym taken.0) taken.1 taken.2
+
+pub returns-in_err-slot-clause-none : goal.returns-in_err-slot-clause-none
+returns-in_err-slot-clause-none g c = λ none.
+    same_desk c.args.self.now c.self.inside.before.value c.self.inside.seat c.self.inside.seat c.self.inside.places.items c.args.at c.index_mut.result.now c.vacate.new.place
+    c.self.view_is c.index_mut.ensures.value (c.in_err-slot.ensures.left refl) refl
+
+pub returns-in_err-slot-clause-some : goal.returns-in_err-slot-clause-some
+returns-in_err-slot-clause-some g c = λ over.
+    subst (λ o. IsSome o) (sym c.from_residual.ensures) (c.in_err-slot.ensures.over
+    (subst (λ o. is_over_at o ≡ true) (sits_there c.args.self.now c.self.inside.before.value c.self.inside.seat c.self.inside.places.items c.args.at c.index_mut.result.now
+    c.self.view_is (omega (arith, c.if-at-len.false, c.len.ensures)) c.index_mut.ensures.value) over))

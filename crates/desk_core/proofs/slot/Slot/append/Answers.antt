@@ -23,7 +23,7 @@ pub returns-in-Err-clause-lives : goal.returns-in-Err-clause-lives
 returns-in-Err-clause-lives g c = λ executes.
     let back = c.in-Err.ensures.back in
     refused_so _ c.in-Err.refused c.args.self.now.connection c.speak.new.connection c.hold.new.self.connection c.hold.new.self.pending c.args.seat.now c.speak.new.seat c.args.pending.entry.command c.in-Err.entry.command
-    back.1 back.2 (ap (λ (e : EntryValue _). e.command) back.0) (c.hold.ensures.lives c.requires.nothing)
+    back.1 back.2 (ap (λ (e : EntryValue _). e.command) back.0) c.hold.ensures.halts (c.hold.ensures.lives c.requires.nothing)
 
 pub returns-in-Err-clause-grows : goal.returns-in-Err-clause-grows
 returns-in-Err-clause-grows g c = held_grows c.in-Err.refused _ c.hold.new.self.pending c.hold.result c.args.seat.now c.speak.new.seat c.in-Err.ensures.back.1 c.hold.ensures.holds

@@ -13,6 +13,9 @@ returns-in-Nothing-clause-lives g c = heeds_silence g.L.Outgoing.received _ _ _ 
 pub returns-in-Skipped-clause-lives : goal.returns-in-Skipped-clause-lives
 returns-in-Skipped-clause-lives g c = heeds_silence g.L.Outgoing.received _ _ _ _ c.in-Skipped.ensures.read (same_stage _ _ refl) refl
 
+pub returns-in-Failed-clause-lives : goal.returns-in-Failed-clause-lives
+returns-in-Failed-clause-lives g c = heeds_silence g.L.Outgoing.received _ _ _ _ c.in-Failed.ensures.read (same_stage _ _ refl) refl
+
 pub returns-in-Bytes-clause-lives : goal.returns-in-Bytes-clause-lives
 returns-in-Bytes-clause-lives g c = heeds_unheard g.L.Outgoing.received c.args.self.now _ _ _ c.in-Bytes.bytes.items c.in-Bytes.ensures.read c.requires (same_stage _ _ refl) refl
 

@@ -1,6 +1,7 @@
 use Rattle.std.proofs.Common.{inl, inr, ap, refl, sym, subst}
 use Rattle.connection_core.specs.Connections.{ConnectionValue}
 use Rattle.desk_core.specs.declared.appending.Step.TheVariants.{Rest}
+use Rattle.desk_core.specs.Halting.{IsFinal}
 use Rattle.desk_core.specs.Holding.{Holds}
 use Rattle.desk_core.proofs.Going.{stopped_so}
 use Rattle.desk_core.proofs.slot.Slot.hold.Goals as goal
@@ -13,5 +14,6 @@ returns-in-Stopped g c = record {
     | inl is ↦ subst (λ r. Holds c.args.pending r c.args.self.now.pending Rest) (sym is) refl
     | inr is ↦ subst (λ r. Holds c.args.pending r c.args.self.now.pending Rest) (sym is) refl
   ];
-  lives = λ none. stopped_so c.args.self.now.connection c.stop.new.self c.args.self.now.pending _ c.stop.ensures none;
+  halts = λ h. inr (elim c.in-Stopped.is [ inl is ↦ subst IsFinal (sym is) tt | inr is ↦ subst IsFinal (sym is) tt ]);
+  lives = λ none. stopped_so c.args.self.now.connection c.stop.new.self c.args.self.now.pending _ _ c.stop.ensures none;
 }

@@ -3,7 +3,7 @@ use Rattle.std.specs.Prelude.{OnOk}
 use Rattle.connection_core.specs.Connections.{HearsBytes}
 use Rattle.desk_core.proofs.Answering.{no_more}
 use Rattle.desk_core.proofs.Going.{heeds_bytes, heeds_silence}
-use Rattle.desk_core.proofs.Living.{loses, same_stage}
+use Rattle.desk_core.proofs.Living.{gives_up, loses, same_stage}
 use Rattle.desk_core.proofs.slot.Slot.listen.Goals as goal
 
 pub returns-in-Bytes-clause-lives : goal.returns-in-Bytes-clause-lives
@@ -16,6 +16,9 @@ returns-in-Skipped-clause-lives g c = heeds_silence g.L.Outgoing.received _ _ _ 
 
 pub returns-in-Nothing-clause-lives : goal.returns-in-Nothing-clause-lives
 returns-in-Nothing-clause-lives g c = heeds_silence g.L.Outgoing.received _ _ _ _ c.in-Nothing.ensures.read (same_stage _ _ refl) refl
+
+pub returns-in-Failed-clause-lives : goal.returns-in-Failed-clause-lives
+returns-in-Failed-clause-lives g c = heeds_silence g.L.Outgoing.received _ _ _ _ c.in-Failed.ensures.read (gives_up _ _ c.give_up.ensures) refl
 
 pub returns-in-Closed-clause-lives : goal.returns-in-Closed-clause-lives
 returns-in-Closed-clause-lives g c = heeds_silence g.L.Outgoing.received _ _ _ _ c.in-Closed.ensures.read (loses _ _ c.lose.ensures) refl

@@ -1,12 +1,29 @@
-use Rattle.std.proofs.Common.{◌∷◌, [], ap, refl, sym}
+use Rattle.std.proofs.Common.{◌≡◌, ◌<◌, ◌≤◌, ◌∷◌, ◌∙◌, Some, [], ap, inl, refl, subst, sym}
 use Rattle.command_core.specs.Commands.{CommandValue}
+use Rattle.command_core.specs.declared.command.Op.{Op}
 use Rattle.session_core.specs.declared.act.Act.TheVariants.{Do}
+use Rattle.connection_core.specs.Connections.{ConnectionValue}
+use Rattle.connection_core.specs.Footprints.{charged, total}
+use Rattle.connection_core.specs.declared.footprint.TheConstants.{SESSION_BYTES}
 use Rattle.connection_core.specs.declared.said.Wanted.TheVariants.{Append}
-use Rattle.desk_core.proofs.Going.{again_so, nothing_wanted}
+use Rattle.desk_core.specs.Halting.{HasHalted}
+use Rattle.desk_core.proofs.Going.{again_so, charged_so, cut_so, nothing_wanted}
 use Rattle.desk_core.proofs.slot.Slot.prepare.Goals as goal
+
+pub returns-then-not-affords-clause-lives : goal.returns-then-not-affords-clause-lives
+returns-then-not-affords-clause-lives g c = λ executes.
+    cut_so c.args.self.now.connection c.cut_off.new.self c.args.self.now.pending c.args.seat.now c.args.command executes
+    (subst (λ (op : Op). SESSION_BYTES < total (charged c.args.self.now.connection.footprint op)) c.op.ensures.value (c.affords.ensures.no c.if-not-affords.true)) c.cut_off.ensures c.requires.nothing
+
+pub returns-in-Ok-clause-lives : goal.returns-in-Ok-clause-lives
+returns-in-Ok-clause-lives g c = λ executes.
+    charged_so c.args.self.now.connection c.charge.new.connection c.append.new.self.connection c.append.new.self.pending c.args.seat.now c.append.new.seat c.args.command c.in-Ok.pending.entry.command executes
+    (subst (λ (op : Op). total (charged c.args.self.now.connection.footprint op) ≤ SESSION_BYTES) c.op.ensures.value (c.affords.ensures.yes c.if-not-affords.false)) c.in-Ok.ensures.ok.1 c.in-Ok.ensures.ok.0 c.append.ensures.lives
 
 pub returns-in-Err-clause-lives : goal.returns-in-Err-clause-lives
 returns-in-Err-clause-lives g c = λ executes.
-    nothing_wanted (Append c.args.command) c.args.self.now.connection c.retry.new.self c.args.self.now.pending c.args.seat.now c.args.seat.now refl
+    nothing_wanted (Append c.args.command) c.args.self.now.connection c.retry.new.self c.args.self.now.pending [] c.args.seat.now c.args.seat.now refl
+    (λ h. inl (subst HasHalted (ap (λ (x : ConnectionValue). x.stage) c.retry.ensures ∙ ap (λ (x : ConnectionValue). x.stage) c.in-Err.ensures.back.1) h))
     (again_so c.args.self.now.connection c.retry.new.self c.args.self.now.pending (Append c.args.command) (Do c.in-Err.command.op c.in-Err.command.receipt) executes c.requires.first
-    (ap (λ (x : CommandValue). Do x.op x.receipt ∷ []) (sym c.in-Err.ensures.back)) c.retry.ensures c.requires.nothing)
+    (ap (λ (x : CommandValue). Do x.op x.receipt ∷ []) (sym c.in-Err.ensures.back.0))
+    (subst (λ (x : ConnectionValue). c.retry.new.self ≡ record x { acts = record x.acts { again = Some (Do c.in-Err.command.op c.in-Err.command.receipt) } }) c.in-Err.ensures.back.1 c.retry.ensures) c.requires.nothing)

@@ -10,14 +10,15 @@ returns-then-not-executes-clause-goes g c = goes_none g.L.Outgoing.sent g.L.Outg
 
 pub returns-in-Some-clause-goes : goal.returns-in-Some-clause-goes
 returns-in-Some-clause-goes g c =
-    goes_pending g.L.Outgoing.sent g.L.Outgoing.received c.args.self.now _ c.append.new.self c.args.seat.now c.append.new.seat c.args.link.now c.in-Some.pending (sym c.take.ensures.value ∙ c.in-Some.is)
+    goes_pending g.L.Outgoing.sent g.L.Outgoing.received c.args.self.now _ c.append.new.self c.args.seat.now c.append.new.seat c.args.link.now c.in-Some.pending (subst Executes c.stage.ensures (c.executes.ensures.yes c.if-not-executes.false)) (sym c.take.ensures.value ∙ c.in-Some.is)
     refl refl refl c.append.ensures.continues c.append.ensures.stays (c.append.ensures.lives (subst Executes c.stage.ensures (c.executes.ensures.yes c.if-not-executes.false)))
 
 pub returns-in-Append-clause-goes : goal.returns-in-Append-clause-goes
 returns-in-Append-clause-goes g c =
     let executes = subst Executes c.stage.ensures (c.executes.ensures.yes c.if-not-executes.false) in
     goes_wanted g.L.Outgoing.sent g.L.Outgoing.received c.args.self.now _ c.prepare.new.self c.args.seat.now c.prepare.new.seat c.args.link.now (Append c.in-Append.command)
-    executes (sym c.take.ensures.value ∙ not_some c.take.result c.in_default.not-Some) c.in-Append.ensures.wants refl refl c.prepare.ensures.continues c.prepare.ensures.stays
+    executes (still_executes c.args.self.now.connection c.next.new.self (Append c.in-Append.command) executes c.in-Append.ensures.wants tt)
+    (sym c.take.ensures.value ∙ not_some c.take.result c.in_default.not-Some) c.in-Append.ensures.wants refl refl c.prepare.ensures.continues c.prepare.ensures.stays
     (c.prepare.ensures.lives (still_executes c.args.self.now.connection c.next.new.self (Append c.in-Append.command) executes c.in-Append.ensures.wants tt))
 
 pub returns-in-Tell-clause-goes : goal.returns-in-Tell-clause-goes
@@ -25,7 +26,7 @@ returns-in-Tell-clause-goes g c =
     let executes = subst Executes c.stage.ensures (c.executes.ensures.yes c.if-not-executes.false) in
     goes_telling g.L.Outgoing.sent g.L.Outgoing.received c.args.self.now _ c.tell.new.self c.args.seat.now c.args.link.now c.tell.new.link c.in-Tell.notice
     executes (still_executes c.args.self.now.connection c.next.new.self (Tell c.in-Tell.notice) executes c.in-Tell.ensures.wants tt)
-    (sym c.take.ensures.value ∙ not_some c.take.result c.in_default.not-Some) c.in-Tell.ensures.wants refl refl c.tell.ensures.unread c.tell.ensures.same c.tell.ensures.tells
+    (sym c.take.ensures.value ∙ not_some c.take.result c.in_default.not-Some) c.in-Tell.ensures.wants refl refl c.tell.ensures.unread c.tell.ensures.ends c.tell.ensures.tells
 
 pub returns-in-Done-clause-goes : goal.returns-in-Done-clause-goes
 returns-in-Done-clause-goes g c =

@@ -1,14 +1,14 @@
-use Rattle.std.proofs.Common.{◌∙◌, refl, subst, sym, ap}
+use Rattle.std.proofs.Common.{◌∙◌, inr, refl, subst, sym, ap}
 use Rattle.frame_core.specs.declared.frame.Frame.{Frame}
 use Rattle.frame_core.specs.Written.{written}
 use Rattle.ws_core.specs.Sending.{with_message}
 use Rattle.connection_core.specs.Connections.{ConnectionValue}
-use Rattle.connection_core.specs.declared.ended.Ended.TheVariants.{Bad}
 use Rattle.connection_core.specs.declared.said.Wanted.TheVariants.{Tell}
 use Rattle.session_core.specs.declared.act.Act.TheVariants.{Direct}
+use Rattle.desk_core.specs.Halting.{HasHalted}
 use Rattle.desk_core.specs.Lives.{HasTold}
 use Rattle.desk_core.proofs.Going.{again_so, tells_later, tells_nobody, tells_told}
-use Rattle.desk_core.proofs.Living.{closes_so, loses, none_told_leaving, none_told_lost, same_stage, told_where}
+use Rattle.desk_core.proofs.Living.{closes_over, loses, none_told_leaving, none_told_lost, same_stage, told_where}
 use Rattle.desk_core.proofs.Messages.{quiet, still, told_one}
 use Rattle.desk_core.proofs.slot.Slot.tell.Goals as goal
 
@@ -20,8 +20,8 @@ returns-then-is_cut_off-clause-tells g c =
 pub returns-in-Ok-clause-tells : goal.returns-in-Ok-clause-tells
 returns-in-Ok-clause-tells g c =
     tells_told g.L.Outgoing.sent c.args.notice c.args.self.now _ _ _ c.requires.nothing refl
-    (λ executes. closes_so _ _ c.args.self.now.connection.progress Bad (λ bad. told_where c.args.self.now.connection.stage executes (λ leaving. c.is_cut_off.ensures.no c.if-is_cut_off.false (c.stage.ensures ∙ leaving))) c.told.ensures)
-    (told_one g.L.Outgoing.sent _ _ _ _ c.args.notice c.frame.ensures.error (ap (λ (x : ConnectionValue). x.progress) c.told.ensures) refl refl
+    (λ executes. closes_over _ _ (told_where c.args.self.now.connection.stage executes (λ leaving. c.is_cut_off.ensures.no c.if-is_cut_off.false (c.stage.ensures ∙ leaving))) c.told.ensures)
+    (told_one g.L.Outgoing.sent _ _ _ _ c.args.notice c.frame.ensures.error (inr (ap (λ (x : ConnectionValue). x.progress) c.told.ensures)) refl refl
     (c.in-Ok.ensures.told ∙ ap (λ (f : Frame). with_message (written f) (g.L.Outgoing.sent c.args.link.now)) c.frame.ensures.value))
 
 pub returns-in-Err-Gone-clause-tells : goal.returns-in-Err-Gone-clause-tells
@@ -34,4 +34,5 @@ pub returns-in-Err-Memory-clause-tells : goal.returns-in-Err-Memory-clause-tells
 returns-in-Err-Memory-clause-tells g c =
     tells_later g.L.Outgoing.sent c.args.notice c.args.self.now _ _ _
     (quiet g.L.Outgoing.sent _ _ _ _ (still _ _ (ap (λ (x : ConnectionValue). x.progress) c.retry_telling.ensures) refl refl) c.in-Err-Memory.ensures.untold)
+    (λ h. subst HasHalted (ap (λ (x : ConnectionValue). x.stage) c.retry_telling.ensures) h)
     (λ executes. again_so c.args.self.now.connection c.retry_telling.new.self c.args.self.now.pending (Tell c.args.notice) (Direct c.args.notice) executes c.requires.first refl c.retry_telling.ensures c.requires.nothing)

@@ -1,0 +1,53 @@
+-- What a session adds to each snapshot of the broker, beside the messages that are held.
+use Rattle.std.specs.Prelude.{◌≤◌, ◌+◌, ℕ, List, [], ◌∷◌, ◌++◌, Bool, false, Option, Some, None, filter, not, take}
+use Rattle.std.specs.List.{list_any, sum_by}
+use Rattle.std.specs.Str.{bytes_eq}
+use Rattle.command_core.specs.declared.command.Op.{Op}
+use Rattle.command_core.specs.declared.command.Op.TheVariants as ops
+use Rattle.record_core.specs.Sizes.{option_size, text_size}
+use Rattle.connection_core.specs.declared.footprint.Part.{Part}
+use Rattle.connection_core.specs.declared.footprint.TheConstants.{SESSION_BYTES}
+
+abbrev pub part : Option (List ℕ) → ℕ → Part
+part id bytes = record { id = id; bytes = bytes }
+
+-- What a command adds, as a snapshot spells it. An Open adds its session: a number of 8 bytes, and the client's name. A SUBSCRIBE adds
+-- its subscription: the session's number, its id, its destination, a byte for its mode, its durable name, and two counts of messages, of 4 bytes.
+abbrev pub parts_of : Op → List Part
+parts_of (ops.Open client_id) = part None (8 + option_size client_id) ∷ []
+parts_of (ops.Subscribe id destination mode durable) = part (Some id) (17 + text_size id + text_size destination + option_size durable) ∷ []
+parts_of _ = []
+
+-- a subscription of that id
+abbrev pub has_id : Option (List ℕ) → Option (List ℕ) → Bool
+has_id None id = false
+has_id (Some own) None = false
+has_id (Some own) (Some id) = bytes_eq own id
+
+-- an UNSUBSCRIBE of its id ends a subscription
+abbrev pub is_ended_by : Op → Part → Bool
+is_ended_by (ops.Unsubscribe id durable) one = has_id one.id id
+is_ended_by _ one = false
+
+-- what stands of a session's commands: what each of them adds, unless a later one ends it
+abbrev pub standing : List Op → List Part
+standing [] = []
+standing (op ∷ later) = filter (λ one. not (list_any (λ op. is_ended_by op one) later)) (parts_of op) ++ standing later
+
+abbrev pub total : List Part → ℕ
+total parts = sum_by (λ (one : Part). one.bytes) parts
+
+-- how many bytes a session has in a snapshot by these commands, which it has said
+abbrev pub footprint : List Op → ℕ
+footprint ops = total (standing ops)
+
+-- behind each of these commands the session keeps within its bytes
+abbrev pub IsWithin : List Op → Type 0
+IsWithin ops = (k : ℕ) → footprint (take k ops) ≤ SESSION_BYTES
+
+-- what stands behind one command more
+abbrev pub charged : List Part → Op → List Part
+charged parts (ops.Open client_id) = parts ++ parts_of (ops.Open client_id)
+charged parts (ops.Subscribe id destination mode durable) = parts ++ parts_of (ops.Subscribe id destination mode durable)
+charged parts (ops.Unsubscribe id durable) = filter (λ one. not (has_id one.id id)) parts
+charged parts _ = parts

@@ -1,0 +1,42 @@
+-- How a connection at a seat keeps within its session's bytes, and where it is cut off.
+use Rattle.std.specs.Prelude.{◌≡◌, ◌⊎◌, ◌<◌, ◌∷◌, ◌++◌, ℕ, List, [], Option, Some, None, map}
+use Rattle.command_core.specs.declared.command.Op.{Op}
+use Rattle.claim_core.specs.Counts.{Pair}
+use Rattle.session_core.specs.declared.act.Act.{Act}
+use Rattle.session_core.specs.declared.act.Act.TheVariants.{Do}
+use Rattle.connection_core.specs.Connections.{ConnectionValue}
+use Rattle.connection_core.specs.Footprints.{IsWithin, footprint, standing}
+use Rattle.connection_core.specs.Stages.{Executes}
+use Rattle.connection_core.specs.declared.footprint.TheConstants.{SESSION_BYTES}
+use Rattle.desk_core.specs.Deeds.{Deed, commands_of}
+use Rattle.desk_core.specs.declared.pending.Pending.{Pending}
+
+-- what commands ask for
+abbrev pub ops_of : List Pair → List Op
+ops_of said = map (λ (p : Pair). p.1.op) said
+
+-- what an entry asks for that waits for room
+abbrev pub waiting_of : {B : Type 0} → Option (Pending B) → List Op
+waiting_of None = []
+waiting_of (Some pending) = pending.entry.command.op ∷ []
+
+-- Behind each of the commands that were appended the session keeps within its bytes, and behind what waits. What is counted is what
+-- stands by these, for as long as more may be appended.
+pub record Spends (deeds : List Deed) (c : ConnectionValue) (waiting : List Op) : Type 0 where
+  pub within : IsWithin (ops_of (commands_of deeds) ++ waiting)
+  pub counted : Executes c.stage → c.footprint ≡ standing (ops_of (commands_of deeds) ++ waiting)
+
+-- The acts are cut off from a command on: with all commands that were appended it would have had its session pass its bytes. All
+-- acts before it are done.
+pub record Cuts (asked cut done : List Act) (said : List Pair) : Type 0 where
+  pub op : Op
+  pub receipt : Option (List ℕ)
+  pub others : List Act
+  pub first : cut ≡ Do op receipt ∷ others
+  pub more : List Act
+  pub before : done ≡ asked ++ more
+  pub passes : SESSION_BYTES < footprint (ops_of said ++ op ∷ [])
+
+-- none are cut off, or from such a command on
+abbrev pub IsCut : List Act → List Act → List Act → List Pair → Type 0
+IsCut asked cut done said = (cut ≡ []) ⊎ Cuts asked cut done said

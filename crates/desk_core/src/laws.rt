@@ -1,0 +1,17 @@
+//! A law of desks.
+
+ghost use Rattle.std.specs.Prelude.{ℕ, List};
+ghost use Rattle.desk_core.specs.Chains.{AreTaken, Chain, Lived, deeds_at, last_of};
+ghost use Rattle.desk_core.specs.Desks.{Admits, DeskValue, SitsAt};
+ghost use Rattle.desk_core.specs.declared.place.Seated.{Seated};
+
+use outbox_core::Bell;
+use ws_core::Link;
+
+/// Whoever is let in at a place of a desk, and sits there through whatever calls for whatever places, lives one life: what the turns
+/// at that place have done, one after another, is what its bytes ask for, from the first on and with none left out, as `Desk::turn` says
+/// of one turn. Pings and losses between them drop nothing and add nothing, and no more do the calls for other places.
+pub fn a_connection_at_a_desk_lives_one_life<B: Bell, L: Link>()
+    ensures { (old first : DeskValue B L) (link : L) (place : ℕ) (others : List (DeskValue B L)) (chain : Chain L.sent L.received first others) → Admits old first link place
+        → AreTaken place others → (is : Seated B L) → SitsAt (last_of first others).places place is → Lived L.received link is.link (deeds_at L.sent L.received place first others chain) }
+{}

@@ -1,0 +1,21 @@
+//! What a desk lends.
+
+ghost use Rattle.std.specs.Prelude.{◌≡◌, option_map};
+ghost use Rattle.std.specs.Option.{option_copied};
+ghost use Rattle.desk_core.specs.Desks.{seated_at};
+
+use crate::desk::Desk;
+use outbox_core::Bell;
+use ws_core::Link;
+
+impl<B: Bell, L: Link + Drop> Desk<B, L> {
+    /// The link of the connection at that place; `None` where there is none.
+    pub fn link(&self, at: usize) -> Option<&L>
+        ensures { option_copied result ≡ option_map (λ seated. seated.link) (seated_at self.now.places at) }
+    {
+        match self.places.get(at) {
+            Some(Some(seated)) => Some(&seated.link),
+            _ => None,
+        }
+    }
+}

@@ -1,0 +1,26 @@
+-- When what was counted is told, and how a server does. Moments are in milliseconds.
+use Rattle.std.specs.Prelude.{ℕ, Bool, ◌+◌, ◌-◌, ◌^◌, cond, min, nat_lt, not}
+use Rattle.event_log.specs.declared.rhythm.Rhythm.{Rhythm}
+use Rattle.event_log.specs.declared.rhythm.TheConstants.{COUNTS, DOING}
+
+-- so many milliseconds later, or the last moment that there is
+abbrev pub later : ℕ → ℕ → ℕ
+later now millis = min (now + millis) (2 ^ 64 - 1)
+
+-- a server has started now
+abbrev pub begun : ℕ → Rhythm
+begun now = record { counts = now; doing = later now DOING }
+
+-- what was counted may be told, since it was told a second ago or before
+abbrev pub counts_due : ℕ → Rhythm → Bool
+counts_due now r = not (nat_lt now r.counts)
+
+abbrev pub with_counts : ℕ → Rhythm → Rhythm
+with_counts now r = cond (counts_due now r) (record r { counts = later now COUNTS }) r
+
+-- how the server does may be told, since that was told a minute ago or before
+abbrev pub doing_due : ℕ → Rhythm → Bool
+doing_due now r = not (nat_lt now r.doing)
+
+abbrev pub with_doing : ℕ → Rhythm → Rhythm
+with_doing now r = cond (doing_due now r) (record r { doing = later now DOING }) r

@@ -1,0 +1,110 @@
+//! What happens that an operator is told of.
+
+use crate::kind::Kind;
+use std::fmt;
+
+/// With what a server starts.
+#[derive(Clone, Copy)]
+pub struct Start {
+    /// How many bytes each of the journal's two areas has.
+    pub area: u64,
+    /// How many messages are held.
+    pub messages: u64,
+    /// How many clients it takes.
+    pub clients: u64,
+}
+
+/// How a server does.
+#[derive(Clone, Copy)]
+pub struct Figures {
+    /// How many clients are there.
+    pub connections: u64,
+    /// How many commands the journal counts.
+    pub commands: u64,
+    /// How many frames were published since the server started.
+    pub frames: u64,
+    /// How many bytes of messages are held.
+    pub held: u64,
+    /// How many bytes of the live area are used.
+    pub used: u64,
+}
+
+/// What happens that an operator is told of.
+#[derive(Clone, Copy)]
+pub enum Event {
+    /// The server listens.
+    Started(Start),
+    /// An area has fewer bytes than it takes for all that may be held and as many clients: it may be full before there are so many.
+    Small { area: u64, needed: u64 },
+    /// The journal was compacted: so many bytes of the live area were won, by a turn of the flusher that took so many milliseconds.
+    /// So long receipts waited for it.
+    Compacted { won: u64, millis: u64 },
+    /// More than three quarters of the area are used by what is held, once the journal is compacted: it will be full.
+    NearlyFull { used: u64, area: u64 },
+    /// How the server does, once a minute in which it did something.
+    Doing(Figures),
+    /// This came so often since it was told last.
+    Counted { kind: Kind, count: u64 },
+    /// The server was asked to end.
+    Ending,
+}
+
+/// The words of its line.
+impl fmt::Display for Event {
+    ghost use Rattle.std.specs.Prelude.{Some};
+    ghost use Rattle.event_log.specs.Events.{event_text};
+
+    ghost output = { λ event. Some (event_text event) };
+
+    fn fmt<W: fmt::Write>(&self, f: &mut fmt::Formatter<W>) -> fmt::Result {
+        match self {
+            Event::Started(start) => write!(f, "{start}"),
+            Event::Small { area, needed } => write!(
+                f,
+                "journal small: areas of {area} bytes, {needed} are wanted (J4 is possible)"
+            ),
+            Event::Compacted { won, millis } => {
+                write!(f, "compacted: {won} bytes won in {millis} ms")
+            }
+            Event::NearlyFull { used, area } => write!(
+                f,
+                "journal nearly full: {used} of {area} bytes are used after a compaction (J4 is near)"
+            ),
+            Event::Doing(figures) => write!(f, "{figures}"),
+            Event::Counted { kind, count } => {
+                write!(f, "{}{count}{}", kind.before(), kind.behind())
+            }
+            Event::Ending => f.write_str("ending: asked to"),
+        }
+    }
+}
+
+impl fmt::Display for Start {
+    ghost use Rattle.std.specs.Prelude.{Some};
+    ghost use Rattle.event_log.specs.Events.{start_text};
+
+    ghost output = { λ start. Some (start_text start) };
+
+    fn fmt<W: fmt::Write>(&self, f: &mut fmt::Formatter<W>) -> fmt::Result {
+        write!(
+            f,
+            "started: journal of version 2, areas of {} bytes, {} messages held, {} clients allowed",
+            self.area, self.messages, self.clients
+        )
+    }
+}
+
+impl fmt::Display for Figures {
+    ghost use Rattle.std.specs.Prelude.{Some};
+    ghost use Rattle.event_log.specs.Events.{figures_text};
+
+    ghost output = { λ figures. Some (figures_text figures) };
+
+    fn fmt<W: fmt::Write>(&self, f: &mut fmt::Formatter<W>) -> fmt::Result {
+        write!(
+            f,
+            "doing: {} connections, {} commands, {} frames out, {} bytes held, {} bytes used",
+            self.connections, self.commands, self.frames, self.held, self.used
+        )
+    }
+}

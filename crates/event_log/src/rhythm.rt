@@ -1,0 +1,53 @@
+//! When what was counted is told, and how a server does.
+
+ghost use Rattle.std.specs.Prelude.{◌≡◌};
+ghost use Rattle.event_log.specs.Rhythms.{begun, counts_due, doing_due, with_counts, with_doing};
+
+/// For how many milliseconds after a telling nothing more is told of what was counted.
+const COUNTS: u64 = 1_000;
+
+/// After how many milliseconds it is told again how a server does.
+const DOING: u64 = 60_000;
+
+/// When what was counted may be told next, and how the server does. Moments are in milliseconds.
+#[derive(Clone, Copy)]
+pub struct Rhythm {
+    counts: u64,
+    doing: u64,
+}
+
+impl Rhythm {
+    /// That of a server that starts now: its counts may be told at once, how it does in a minute.
+    pub fn new(now: u64) -> Rhythm
+        ensures { result ≡ begun now }
+    {
+        Rhythm {
+            counts: now,
+            doing: now.saturating_add(DOING),
+        }
+    }
+
+    /// Whether what was counted is told now: at most once in a second.
+    pub fn tells_counts(&mut self, now: u64) -> bool
+        ensures due { result ≡ counts_due now self.old }
+        ensures next { self.new ≡ with_counts now self.old }
+    {
+        if now < self.counts {
+            return false;
+        }
+        self.counts = now.saturating_add(COUNTS);
+        true
+    }
+
+    /// Whether it is told now how the server does: at most once in a minute.
+    pub fn tells_doing(&mut self, now: u64) -> bool
+        ensures due { result ≡ doing_due now self.old }
+        ensures next { self.new ≡ with_doing now self.old }
+    {
+        if now < self.doing {
+            return false;
+        }
+        self.doing = now.saturating_add(DOING);
+        true
+    }
+}

@@ -1,0 +1,21 @@
+//! Stopping the ring in good order.
+
+ghost use Rattle.std.specs.Prelude.{◌≡◌};
+ghost use Rattle.claim_core.specs.Seats.{when_stopped};
+
+use crate::flusher::Flusher;
+use crate::width::Width;
+use claim_core::BrokerRing;
+use disk_core::Disk;
+use outbox_core::{Bell, OutSender};
+
+impl<D: Disk, B: Bell, W: Width> Flusher<D, B, W> {
+    /// From now on the ring takes no command, for good. What it took can still be made durable and published, and nothing else
+    /// has changed.
+    pub fn stop(&mut self, ring: &BrokerRing<OutSender<B>>)
+        requires { self.old.seat.ring ≡ ring.now }
+        ensures { self.new ≡ record self.old { seat = when_stopped self.old.seat } }
+    {
+        ring.stop(&mut self.seat);
+    }
+}

@@ -1,0 +1,42 @@
+//! What was published so far.
+
+use command_core::Out;
+use frame_core::{Verb, first};
+
+/// How many outputs were published since the flusher was made, for whoever tells an operator how it does. No clause speaks of these
+/// numbers.
+#[derive(Clone, Copy)]
+pub struct Tally {
+    /// All of them: a frame each.
+    pub frames: u64,
+    /// Those that say that there is no room for a message (E12).
+    pub no_room: u64,
+}
+
+impl Tally {
+    // Nothing was published.
+    pub(crate) fn none() -> Tally {
+        Tally {
+            frames: 0,
+            no_room: 0,
+        }
+    }
+
+    // These are published.
+    pub(crate) fn add(&mut self, outs: &[Out]) {
+        for out in outs {
+            self.frames = self.frames.saturating_add(1);
+            if says_no_room(out) {
+                self.no_room = self.no_room.saturating_add(1);
+            }
+        }
+    }
+}
+
+fn says_no_room(out: &Out) -> bool {
+    let frame = out.frame();
+    match first(frame, "message") {
+        Some(message) => frame.verb == Verb::Error && message.starts_with("E12 "),
+        None => false,
+    }
+}

@@ -1,0 +1,28 @@
+//! How many descriptors the system allows.
+
+use std::alloc::Global;
+use std::fs::{File, Files};
+use std::io;
+
+/// How many descriptors a server has besides those of its clients: two for each of its workers, its file, its port, the standard
+/// streams, and some to spare.
+const OWN: u64 = 160;
+
+/// How many clients the descriptors allow that a process may have; `None` if the system does not say.
+pub(crate) fn clients_allowed<R: Files<File = File>>(alloc: Global, rt: &R) -> Option<u64> {
+    let file = File::open(rt, "/proc/self/limits").ok()?;
+    let text = io::read_to_string(alloc, file).ok()?;
+    let limit = soft_limit(text.as_str());
+    drop(text);
+    Some(limit?.saturating_sub(OWN).max(1))
+}
+
+// The limit that holds now: the first number of the line `Max open files`.
+fn soft_limit(limits: &str) -> Option<u64> {
+    for line in limits.lines() {
+        if let Some(rest) = line.strip_prefix("Max open files") {
+            return rest.split_whitespace().next()?.parse::<u64>().ok();
+        }
+    }
+    None
+}
