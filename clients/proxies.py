@@ -40,6 +40,7 @@ CROWD, IDLE_SECONDS, MOST_OF_AN_ADDRESS = 200, 90, 250
 PAGE, FOREIGN = "https://chat.example", "https://elsewhere.example"
 # The address of a client, and another one of the same machine.
 HERE, THERE = "127.0.0.1", "127.0.0.2"
+ENDED = "ended"
 
 
 def login(name="alice", password="secret"):
@@ -249,8 +250,8 @@ def try_limits(lane, clients):
         client.close()
 
 
-def stay_quiet(lane, clients, seconds):
-    """They only answer pings; how many pings each was sent."""
+def pings_of(clients, seconds):
+    """They only answer pings for so long; how many pings each was sent, or that it was ended."""
     pings, end = dict.fromkeys(clients, 0), time.monotonic() + seconds
     with selectors.DefaultSelector() as selector:
         for client in clients:
@@ -264,12 +265,16 @@ def stay_quiet(lane, clients, seconds):
                     kind, piece = None, b""
                 if kind != PING:
                     selector.unregister(client.socket)
-                    pings[client] = f"ended after {seconds - left:.0f} s"
+                    pings[client] = ENDED
                     continue
                 pings[client] += 1
                 client.send_message(PONG, piece)
-    counts = sorted({str(it) for it in pings.values()})
-    lane.check(f"{len(clients)} clients say nothing for {seconds} s, and each is sent four pings", counts == ["4"], counts)
+    return list(pings.values())
+
+
+def try_quiet(lane, clients):
+    counts = set(pings_of(clients, IDLE_SECONDS))
+    lane.check(f"{len(clients)} clients say nothing for {IDLE_SECONDS} s, and each is sent four pings", counts == {4}, counts)
 
 
 def try_restart(lane, clients):
@@ -310,7 +315,7 @@ def try_proxy(lane, start, has_limits, instead):
     try_order(lane)
     if has_limits:
         try_limits(lane, clients)
-    stay_quiet(lane, clients, IDLE_SECONDS)
+    try_quiet(lane, clients)
     hear(lane, clients, "still here")
     try_restart(lane, clients)
     try_log(lane)
@@ -376,8 +381,8 @@ def held(lane, broker):
 ROOMS = [f"room-{number}" for number in range(1000)]
 
 
-def send_to_all(lane):
-    for room in ROOMS:
+def send_to_all(lane, rooms=ROOMS):
+    for room in rooms:
         client = SecureClient(lane.port, [("Origin", PAGE)], f"/rooms/{room}").connect()
         client.publish(f"/queue/{room}", "held")
         client.close()
@@ -401,8 +406,9 @@ def try_rooms(lane, instead):
     brokers = [lane.add_broker() for _ in range(5)]
     places = [(f"127.0.0.1:{8081 + number}", f"{HERE}:{broker.port}") for number, broker in enumerate(brokers[:4])]
     process = start_nginx(lane, "rooms.conf", instead, places)
-    for _ in range(2):
-        send_to_all(lane)
+    send_to_all(lane)
+    # In another order, so that brokers in turn are found out.
+    send_to_all(lane, ROOMS[::-1])
     of_four = [held(lane, it) for it in brokers]
     lane.check("each of 1,000 rooms has one broker, also the second time", sorted(room for it in of_four for room in it) == sorted(f"/queue/{it}" for it in ROOMS))
     lane.same("and all that was sent to it", {count for it in of_four for count in it.values()}, {2})
@@ -420,9 +426,7 @@ def try_rooms(lane, instead):
     fifth = (f"server {HERE}:{brokers[3].port} max_fails=0;", f"server {HERE}:{brokers[3].port} max_fails=0; server {HERE}:{brokers[4].port} max_fails=0;")
     lane.recipe("rooms.conf", [*places, *nginx_places(lane), *instead, fifth])
     process.send_signal(signal.SIGHUP)
-    since = time.monotonic()
-    stays.to_the_end()
-    lane.check("after a reload a connection ends within 15 s, so that nobody stays at a broker that has the room no more", time.monotonic() - since < 15)
+    lane.same("after a reload a connection ends within 15 s, so that nobody stays at a broker that has the room no more", pings_of([stays], 15), [ENDED])
     send_to_all(lane)
     of_five = [held(lane, it) for it in brokers]
     moved = list(of_five[4])
