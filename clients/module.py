@@ -110,6 +110,7 @@ def what_promises_say(engine, broker, checks):
     checks.same("one with too long a header too, and those before it resolve", run(order), ["resolved", "resolved", "resolved", "refused"])
     checks.same("a subscription that is refused is told so", run("return outcome(one.subscribe('/topic/room', () => {}, { durable: 'd' }).ready)"), "refused")
     checks.check("and does not come back", run("await one.send('/topic/room', 'on'); const many = one.states.length; await soon(() => false, 1.5); return one.state == 'open' && one.states.length == many"))
+    checks.same("one without a receipt is heard", run("const told = one.tell('/topic/room', 'told'); return [told, await soon(() => heard.at(-1).body == 'told')]"), [True, True])
     checks.same("after the end a SEND is unsent", run("const other = open(); await other.close(); return [other.state, await outcome(other.send('/topic/room', 'x'))]"), ["closed", "unsent"])
 
 
@@ -158,7 +159,8 @@ def a_lost_one_is_unknown(engine, broker, checks):
     time.sleep(0.2)
     broker.kill()
     checks.same("it is told apart from one that is refused", run("return Promise.all(doubt)"), ["unknown", "unknown"])
-    run("await soon(() => one.state != 'open'); globalThis.late = one.send('/queue/late', 'late')")
+    checks.same("without a connection nothing is told", run("await soon(() => one.state != 'open'); return one.tell('/topic/room', 'x')"), False)
+    run("globalThis.late = one.send('/queue/late', 'late')")
     time.sleep(8)
     pauses = [pause for state, pause, _ in run("return one.states") if state == "lost"]
     expected = [500 * 2**number for number in range(len(pauses))]

@@ -366,10 +366,12 @@ def try_cookie(lane, instead):
         ("what nginx asks the login is no page: 404", bob, "/may", "404"),
     ]:
         lane.same(what, answer(lane.port, headers, path), expected)
-    client = SecureClient(lane.port, alice, "/rooms/red").connect()
-    client.publish("/queue/jobs", "of red")
-    client.disconnect()
-    lane.same("what a group holds is in its own journal alone", [held(lane, it) for it in (red, blue)], [{"/queue/jobs": 1}, {}])
+    for headers, path, texts in [(alice, "/rooms/red", ["of red"]), (bob, "/rooms/blue", ["of blue", "another"])]:
+        client = SecureClient(lane.port, headers, path).connect()
+        for text in texts:
+            client.publish("/queue/jobs", text)
+        client.disconnect()
+    lane.same("what a group holds is in its own journal alone", [held(lane, it) for it in (red, blue)], [{"/queue/jobs": 1}, {"/queue/jobs": 2}])
 
 
 def held(lane, broker):

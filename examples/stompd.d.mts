@@ -74,6 +74,8 @@ export interface Client {
   readonly session: string | null;
   /** Resolves at the receipt: the message is in the journal. Without a connection it waits for one. It is never sent twice by itself. */
   send(destination: string, body: string, headers?: Headers): Promise<void>;
+  /** Sends without a receipt, for what is worth nothing later. Without a connection it does nothing. Answers whether it was sent. */
+  tell(destination: string, body: string, headers?: Headers): boolean;
   subscribe(destination: string, heard: (message: Message) => void, options?: SubscribeOptions): Subscription;
   /** Carries out all that `work` puts into the transaction, or nothing. Resolves at the receipt of its COMMIT. */
   transaction(work: (tx: Transaction) => void | Promise<void>): Promise<void>;

@@ -98,6 +98,12 @@ class Client {
   /* Resolves at the receipt. Without a connection it waits for one. */
   send(destination, body, headers = {}) { return this.ask(() => [["SEND", { ...headers, destination }, body]]); }
 
+  /* Sends without a receipt, for what is worth nothing later; without a connection it does nothing. Whether it was sent. */
+  tell(destination, body, headers = {}) {
+    if (this.session) this.#write(["SEND", { ...headers, destination }, body]);
+    return this.session !== null;
+  }
+
   /* Options: ack (auto, client, client-individual), durable (a name; the client needs a clientId then), id, headers. */
   subscribe(destination, heard, { ack = "auto", durable, id = `subscription ${++this.#count}`, headers = {} } = {}) {
     if (this.#subscriptions.has(id)) throw new StompdError("unsent", `there is a subscription ${id}`);
