@@ -13,6 +13,7 @@ import http.server
 import json
 import pathlib
 import random
+import select
 import shutil
 import signal
 import subprocess
@@ -28,10 +29,13 @@ from stomp_client import Client
 
 HERE = pathlib.Path(__file__).resolve().parent
 WS = pathlib.Path("/usr/share/nodejs/ws/index.js")
+# The longest wait for an answer of an engine.
+MOST_SECONDS = 60
 
 # What each trial begins with: how a promise ends, in a word, and a wait for what comes.
 WORDS = """
-globalThis.outcome = promise => promise.then(() => "resolved", error => error.kind ?? error.message);
+const late = () => new Promise(resolve => setTimeout(resolve, 20000, "nothing in 20 s"));
+globalThis.outcome = promise => Promise.race([promise.then(() => "resolved", error => error.kind ?? error.message), late()]);
 globalThis.soon = async (holds, seconds = 15) => {
   for (const end = Date.now() + 1000 * seconds; Date.now() < end && !holds();) await new Promise(resolve => setTimeout(resolve, 10));
   return holds();
@@ -60,13 +64,19 @@ class Node:
     def value(self, code):
         self.process.stdin.write(json.dumps(code) + "\n")
         self.process.stdin.flush()
+        # One line answers each.
+        assert select.select([self.process.stdout], [], [], MOST_SECONDS)[0], f"no answer within {MOST_SECONDS} s"
         answer = json.loads(self.process.stdout.readline())
         assert "error" not in answer, answer["error"]
         return answer["value"]
 
     def close(self):
         self.process.stdin.close()
-        self.process.wait(timeout=20)
+        try:
+            self.process.wait(timeout=20)
+        except subprocess.TimeoutExpired:
+            self.process.kill()
+            self.process.wait()
         self.process.stdout.close()
 
 

@@ -230,8 +230,10 @@ def try_order(lane):
     lane.check("and one of 64,000 bytes, whole", client.receive().body == long)
     lane.same("who says DISCONNECT is told 1000", client.disconnect(), ([], 1000))
     client = SecureClient(lane.port).connect()
-    client.send("SUBSCRIBE", [("id", "long"), ("destination", "/queue/" + "x" * 8000), ("activemq.subscriptionName", "n" * 100)])
-    lane.check("a close code of the broker is passed on", client.to_the_end()[1] not in (0, 1005, 1006))
+    # Two of these are more than a session may have in a snapshot (docs/PROTOCOL.md, "A session's bytes").
+    for name in "ab":
+        client.send("SUBSCRIBE", [("id", name), ("destination", f"/queue/{name * 5000}"), ("ack", "client")])
+    lane.same("the broker's close code is passed on", client.to_the_end(), ([], 1001))
     client.close()
 
 

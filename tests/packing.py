@@ -3,8 +3,8 @@
 
     python3 tests/packing.py [PROGRAM] [--package DEB]
 
-It builds nothing. The package is installed, removed and purged by `dpkg --root` in a temporary folder, for which it has to run as root (or under
-fakeroot); lintian looks at it if it is there. --package tries another package than that of bin/release, as one with an error that has to be found.
+It builds nothing. The package is installed, removed and purged by `dpkg --root` in a temporary folder, for which it has to run as root; lintian
+looks at it if it is there. --package tries another package than that of bin/release, as one with an error that has to be found.
 """
 
 import hashlib
@@ -112,7 +112,7 @@ def main():
     parser.add_argument("--package", type=pathlib.Path, metavar="DEB")
     words = parser.parse_args()
     if shutil.which("dpkg-deb") is None or os.geteuid() != 0:
-        print("packing.py needs dpkg-deb, and root or fakeroot", file=sys.stderr)
+        print("packing.py needs dpkg-deb, and to run as root", file=sys.stderr)
         return 2
     program, checks = pathlib.Path(words.program).resolve(), scenario.Checks()
     with tempfile.TemporaryDirectory(prefix="stompd-packing-") as folder:
