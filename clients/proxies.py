@@ -11,9 +11,6 @@ Needs Debian's packages: apt-get install nginx-light haproxy caddy apache2 opens
 the status is 2. --instead writes NEW for OLD in a recipe first, as a trial of what is checked here: it has to fail with a wrong one.
 """
 
-import argparse
-import base64
-import contextlib
 import os
 import pathlib
 import resource
@@ -21,7 +18,6 @@ import selectors
 import shutil
 import signal
 import socket
-import ssl
 import subprocess
 import sys
 import tempfile
@@ -31,44 +27,14 @@ import traceback
 import urllib.parse
 
 import scenario
-from stomp_client import PING, PONG, Client, Closed, Refused, handshake
+from lanes import HERE, PAGE, Lane, SecureClient, login, make_certificate, nginx_places, start_cookie, start_nginx
+from stomp_client import PING, PONG, Client, Closed, Refused
 
-TOP = pathlib.Path(__file__).resolve().parent.parent
-DEPLOY = TOP / "deploy"
-sys.path.insert(0, str(DEPLOY))
 CROWD, IDLE_SECONDS, MOST_OF_AN_ADDRESS = 200, 90, 250
-PAGE, FOREIGN = "https://chat.example", "https://elsewhere.example"
-# The address of a client, and another one of the same machine.
-HERE, THERE = "127.0.0.1", "127.0.0.2"
+FOREIGN = "https://elsewhere.example"
+# Another address of the same machine.
+THERE = "127.0.0.2"
 ENDED = "ended"
-
-
-def login(name="alice", password="secret"):
-    return ("Authorization", "Basic " + base64.b64encode(f"{name}:{password}".encode()).decode())
-
-
-USUAL = [login(), ("Origin", PAGE)]
-
-
-class SecureClient(Client):
-    """A client over wss, with headers of its own in the handshake, which knows the certificate of the trial."""
-
-    context = None
-
-    def __init__(self, port, headers=USUAL, path="/", address=HERE, timeout=30):
-        plain = socket.create_connection((HERE, port), timeout, (address, 0))
-        plain.setsockopt(socket.IPPROTO_TCP, socket.TCP_NODELAY, 1)
-        self.socket = self.context.wrap_socket(plain, server_hostname="localhost")
-        self.buffer, self.session = bytearray(), None
-        self.write(handshake(port, path, "v12.stomp", headers, "localhost"))
-        self.hear_answer()
-
-    def fill(self):
-        try:
-            super().fill()
-        except ssl.SSLError as error:
-            # The proxy has gone without a farewell of TLS.
-            raise Closed(0) from error
 
 
 def answer(port, *words, **more):
@@ -80,88 +46,6 @@ def answer(port, *words, **more):
         return refused.status
     except Closed:
         return "closed"
-
-
-class OriginBroker(scenario.Broker):
-    """A broker that serves the pages of one origin."""
-
-    more = ("--origin", PAGE)
-
-
-class Lane(scenario.Checks):
-    """The checks of one recipe, each line with its name, and the folder that it has for itself."""
-
-    def __init__(self, name, base, program):
-        super().__init__()
-        self.name, self.folder, self.program, self.port = name, base / name, program, scenario.free_port()
-        self.folder.mkdir(mode=0o755)
-        self.brokers, self.processes = [], []
-
-    def check(self, what, holds, seen=None):
-        super().check(f"{self.name}: {what}", holds, seen)
-
-    def tell(self, what):
-        super().tell(f"{self.name}: {what}")
-
-    def add_broker(self):
-        journal = self.folder / f"{len(self.brokers)}.journal"
-        subprocess.run([self.program, "format", "--sparse", journal, str(scenario.JOURNAL_BYTES)], check=True, stderr=subprocess.DEVNULL)
-        self.brokers.append(OriginBroker(self.program, journal))
-        return self.brokers[-1]
-
-    def recipe(self, file, instead):
-        """Writes a recipe into the folder, with what stands there for the ports and paths of a system in the place of the trial's own."""
-        text = (DEPLOY / file).read_text()
-        for old, new in instead:
-            if old not in text:
-                raise AssertionError(f"{file} has no {old!r}")
-            text = text.replace(old, new)
-        (self.folder / file).write_text(text)
-        return self.folder / file
-
-    def start(self, *words):
-        """Starts a program, and waits until the port answers."""
-        with open(self.folder / "told", "ab") as told:
-            environment = {**os.environ, "HOME": str(self.folder), "XDG_DATA_HOME": str(self.folder)}
-            process = subprocess.Popen(words, cwd=self.folder, stdin=subprocess.DEVNULL, stdout=told, stderr=told, env=environment)
-        self.processes.append(process)
-        return process
-
-    def wait_for(self, port):
-        for _ in range(200):
-            with contextlib.suppress(OSError), socket.create_connection((HERE, port), 1):
-                return
-            time.sleep(0.05)
-        raise AssertionError(f"{self.name} does not listen: {self.told()[-2000:]}")
-
-    def told(self):
-        """All that the proxy has told, in its logs and on its streams."""
-        return "".join(it.read_text(errors="replace") for it in self.folder.iterdir() if it.is_file() and (it.suffix == ".log" or it.name == "told"))
-
-    def end(self):
-        for process in self.processes:
-            process.terminate()
-        for process in self.processes:
-            try:
-                process.wait(timeout=15)
-            except subprocess.TimeoutExpired:
-                process.kill()
-                process.wait()
-        for broker in self.brokers:
-            broker.kill()
-
-
-# What stands in the recipes, and what the trial has in its place.
-def nginx_places(lane):
-    at = f"{lane.folder}/"
-    return [("listen 443 ", f"listen {HERE}:{lane.port} "), ("/etc/stompd/", f"{lane.folder.parent}/"), ("/run/", at), ("/var/log/nginx/", at), ("/var/lib/nginx/", at)]
-
-
-def start_nginx(lane, file, instead, more=()):
-    path = lane.recipe(file, [*more, *nginx_places(lane), *instead])
-    process = lane.start("nginx", "-p", lane.folder, "-c", path, "-g", "daemon off;")
-    lane.wait_for(lane.port)
-    return process
 
 
 def nginx(lane, instead):
@@ -230,10 +114,9 @@ def try_order(lane):
     lane.check("and one of 64,000 bytes, whole", client.receive().body == long)
     lane.same("who says DISCONNECT is told 1000", client.disconnect(), ([], 1000))
     client = SecureClient(lane.port).connect()
-    # Two of these are more than a session may have in a snapshot (docs/PROTOCOL.md, "A session's bytes").
-    for name in "ab":
-        client.send("SUBSCRIBE", [("id", name), ("destination", f"/queue/{name * 5000}"), ("ack", "client")])
-    lane.same("the broker's close code is passed on", client.to_the_end(), ([], 1001))
+    client.send("SEND", [("destination", "nowhere")])
+    heard, code = client.to_the_end()
+    lane.same("an ERROR of the broker and its close code are passed on", ([frame.command for frame in heard], code), (["ERROR"], 1002))
     client.close()
 
 
@@ -339,16 +222,7 @@ def cookie_of(port, name, password):
 
 def try_cookie(lane, instead):
     """A login by cookie, and a broker for each of two groups."""
-    import login as example  # noqa: PLC0415 -- deploy/login.py
-
-    red, blue, port = lane.add_broker(), lane.add_broker(), scenario.free_port()
-    users = [example.line_of("alice", "secret", ["red"]), example.line_of("bob", "hidden", ["red", "blue"])]
-    (lane.folder / "groups").write_text("\n".join(users) + "\n")
-    lane.start(sys.executable, DEPLOY / "login.py", lane.folder / "groups", str(port))
-    lane.wait_for(port)
-    places = [("127.0.0.1:8081", f"{HERE}:{red.port}"), ("127.0.0.1:8082", f"{HERE}:{blue.port}"), ("127.0.0.1:8090", f"{HERE}:{port}")]
-    start_nginx(lane, "nginx-cookie.conf", instead, places)
-
+    red, blue = start_cookie(lane, instead)
     lane.same("a wrong password has no cookie", cookie_of(lane.port, "alice", "hidden"), ("401", ""))
     status, cookie = cookie_of(lane.port, "alice", "secret")
     lane.same("a login is answered with one that no script reads and no other page sends", (status, cookie.split("; ")[-3:]), ("303", ["HttpOnly", "Secure", "SameSite=Strict"]))
@@ -466,16 +340,6 @@ def run_lane(lane, trial, instead):
         print(lane.told()[-3000:], file=sys.stderr)
     finally:
         lane.end()
-
-
-def make_certificate(base):
-    words = ["openssl", "req", "-x509", "-newkey", "ec", "-pkeyopt", "ec_paramgen_curve:P-256", "-nodes", "-days", "2", "-subj", "/CN=localhost"]
-    words += ["-addext", "subjectAltName=DNS:localhost", "-keyout", base / "key.pem", "-out", base / "cert.pem"]
-    subprocess.run(words, check=True, capture_output=True)
-    (base / "both.pem").write_bytes((base / "cert.pem").read_bytes() + (base / "key.pem").read_bytes())
-    sum_ = subprocess.run(["openssl", "passwd", "-apr1", "secret"], check=True, capture_output=True, text=True).stdout
-    (base / "users").write_text(f"alice:{sum_}")
-    SecureClient.context = ssl.create_default_context(cafile=str(base / "cert.pem"))
 
 
 def main():

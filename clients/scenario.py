@@ -26,11 +26,9 @@ def free_port():
 class Broker:
     """The program, serving a journal."""
 
-    # What else it is told on its command line.
-    more = ()
-
-    def __init__(self, program, journal, port=None):
-        self.program, self.journal, self.port = program, journal, port or free_port()
+    def __init__(self, program, journal, port=None, more=()):
+        """With `more` words of its command line."""
+        self.program, self.journal, self.port, self.more = program, journal, port or free_port(), more
         self.serve()
 
     def serve(self):

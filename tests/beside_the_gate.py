@@ -55,6 +55,7 @@ SCRIPTS = [
     "clients/browser.py",
     "clients/module.py",
     "clients/proxies.py",
+    "clients/secure_page.py",
     "clients/standby.py",
     "clients/kills.py",
     "clients/kills_crowd.py",
