@@ -4,6 +4,7 @@ import base64
 import contextlib
 import os
 import pathlib
+import random
 import shutil
 import socket
 import ssl
@@ -30,12 +31,23 @@ def login(name="alice", password="secret"):
 USUAL = [login(), ("Origin", PAGE)]
 
 
+def lasting_port():
+    """A free port below those that the system gives to connections, of which there are many here: so nobody has it while its program is away."""
+    most = int(pathlib.Path("/proc/sys/net/ipv4/ip_local_port_range").read_text().split()[0])
+    while True:
+        port = random.randrange(10_000, most)
+        with contextlib.suppress(OSError), socket.socket() as probe:
+            probe.bind((HERE, port))
+            return port
+
+
 class SecureClient(Client):
-    """A client over wss, with headers of its own in the handshake, which knows the certificate of the trial."""
+    """A client over wss, with headers of its own in the handshake, which knows the certificate of the trial. It waits less long than a broker between
+    two pings, so that no wait goes on for ever."""
 
     context = None
 
-    def __init__(self, port, headers=USUAL, path="/", address=HERE, timeout=30):
+    def __init__(self, port, headers=USUAL, path="/", address=HERE, timeout=15):
         plain = socket.create_connection((HERE, port), timeout, (address, 0))
         plain.setsockopt(socket.IPPROTO_TCP, socket.TCP_NODELAY, 1)
         self.socket = self.context.wrap_socket(plain, server_hostname="localhost")
@@ -56,7 +68,7 @@ class Lane(scenario.Checks):
 
     def __init__(self, name, base, program):
         super().__init__()
-        self.name, self.folder, self.program, self.port = name, base / name, program, scenario.free_port()
+        self.name, self.folder, self.program, self.port = name, base / name, program, lasting_port()
         self.folder.mkdir(mode=0o755)
         self.brokers, self.processes = [], []
 
@@ -70,7 +82,7 @@ class Lane(scenario.Checks):
         """A broker that serves the pages of one origin."""
         journal = self.folder / f"{len(self.brokers)}.journal"
         subprocess.run([self.program, "format", "--sparse", journal, str(scenario.JOURNAL_BYTES)], check=True, stderr=subprocess.DEVNULL)
-        self.brokers.append(scenario.Broker(self.program, journal, more=("--origin", origin)))
+        self.brokers.append(scenario.Broker(self.program, journal, lasting_port(), ("--origin", origin)))
         return self.brokers[-1]
 
     def recipe(self, file, instead):
@@ -130,7 +142,7 @@ def start_nginx(lane, file, instead, more=()):
 
 def start_cookie(lane, instead, origin=PAGE):
     """nginx with the login and two brokers, of the groups red and blue: alice is in red, bob in both."""
-    red, blue, port = lane.add_broker(origin), lane.add_broker(origin), scenario.free_port()
+    red, blue, port = lane.add_broker(origin), lane.add_broker(origin), lasting_port()
     shutil.copytree(TOP / "examples", lane.folder / "chat")
     users = [example.line_of("alice", "secret", ["red"]), example.line_of("bob", "hidden", ["red", "blue"])]
     (lane.folder / "groups").write_text("\n".join(users) + "\n")
