@@ -121,6 +121,7 @@ def what_promises_say(engine, broker, checks):
     checks.same("a subscription that is refused is told so", run("return outcome(one.subscribe('/topic/room', () => {}, { durable: 'd' }).ready)"), "refused")
     checks.check("and does not come back", run("await one.send('/topic/room', 'on'); const many = one.states.length; await soon(() => false, 1.5); return one.state == 'open' && one.states.length == many"))
     checks.same("one without a receipt is heard", run("const told = one.tell('/topic/room', 'told'); return [told, await soon(() => heard.at(-1).body == 'told')]"), [True, True])
+    checks.same("while it connects nothing is told", run("const early = open(), told = early.tell('/topic/room', 'x'); await early.close(); return [told, early.state]"), [False, "closed"])
     checks.same("after the end a SEND is unsent", run("const other = open(); await other.close(); return [other.state, await outcome(other.send('/topic/room', 'x'))]"), ["closed", "unsent"])
 
 
@@ -156,8 +157,9 @@ def durable_ones(engine, broker, checks):
     broker.again()
     checks.same("after a kill it is there by itself", run("await soon(() => kiosk.state == 'open' && one.state == 'open'); await one.send('/topic/news', 'after'); await soon(() => news.length > 1); return news"), ["while away", "after"])
     checks.same("it is given up", run("return outcome(paper.giveUp())"), "resolved")
-    checks.check("and the name is gone", b"kiosk" not in subprocess.run([broker.program, "held", broker.journal], capture_output=True, check=True).stdout)
-    checks.same("and with it what is sent to it", run("await one.send('/topic/news', 'unread'); await kiosk.close(); return [kiosk.state, news.length]"), ["closed", 2])
+    run("await one.send('/topic/news', 'unread')")
+    checks.check("and nothing waits under its name any more", b"kiosk" not in subprocess.run([broker.program, "held", broker.journal], capture_output=True, check=True).stdout)
+    checks.same("nor is anything heard", run("await kiosk.close(); return [kiosk.state, news.length]"), ["closed", 2])
 
 
 def a_lost_one_is_unknown(engine, broker, checks):

@@ -32,8 +32,10 @@ from stomp_client import PING, PONG, Client, Closed, Refused
 
 CROWD, IDLE_SECONDS, MOST_OF_AN_ADDRESS = 200, 90, 250
 FOREIGN = "https://elsewhere.example"
-# Another address of the same machine.
-THERE = "127.0.0.2"
+# Other addresses of the same machine.
+THERE, GUESSER = "127.0.0.2", "127.0.0.3"
+# How many handshakes an address has at once, and how many more a second.
+HANDSHAKES, EACH_SECOND = 400, 20
 ENDED = "ended"
 
 
@@ -135,6 +137,15 @@ def try_limits(lane, clients):
         client.close()
 
 
+def try_guesses(lane):
+    """One that tries passwords is answered 401, and 429 once it has tried too often."""
+    statuses, start = [], time.monotonic()
+    while len(statuses) < 3 * HANDSHAKES and (not statuses or statuses[-1] == "401"):
+        statuses.append(answer(lane.port, [login(password=f"guess {len(statuses)}")], address=GUESSER))
+    most = HANDSHAKES + EACH_SECOND * (time.monotonic() - start) + 2
+    lane.check("who guesses has some 400 handshakes, and then 429", HANDSHAKES <= len(statuses) <= most and statuses[-1] == "429", (len(statuses), most, statuses[-1]))
+
+
 def pings_of(clients, seconds):
     """They only answer pings for so long; how many pings each was sent, or that it was ended."""
     pings, end = dict.fromkeys(clients, 0), time.monotonic() + seconds
@@ -159,7 +170,8 @@ def pings_of(clients, seconds):
 
 def try_quiet(lane, clients):
     counts = set(pings_of(clients, IDLE_SECONDS))
-    lane.check(f"{len(clients)} clients say nothing for {IDLE_SECONDS} s, and each is sent four pings", counts == {4}, counts)
+    # One every 20 seconds; a client that was quiet before has its first one sooner.
+    lane.check(f"{len(clients)} clients say nothing for {IDLE_SECONDS} s, and each is sent four or five pings", counts <= {4, 5}, counts)
 
 
 def try_restart(lane, clients):
@@ -200,6 +212,7 @@ def try_proxy(lane, start, has_limits, instead):
     try_order(lane)
     if has_limits:
         try_limits(lane, clients)
+        try_guesses(lane)
     try_quiet(lane, clients)
     hear(lane, clients, "still here")
     try_restart(lane, clients)

@@ -1,6 +1,6 @@
 /** The types of stompd.mjs: a client of STOMP 1.2 over WebSocket for stompd, which comes back by itself. */
 
-/** `refused` : the broker has answered it with an ERROR, and it is not in the journal. `unknown`: the connection was lost before the receipt, so it
+/** `refused`: the broker has answered it with an ERROR, and it is not in the journal. `unknown`: the connection was lost before the receipt, so it
  *  may be in the journal or not. `unsent`: it never left, so it is not there. */
 export type Kind = "refused" | "unknown" | "unsent";
 
