@@ -1,5 +1,6 @@
 #!/usr/bin/env python3
-"""Tries examples/rooms.html in headless Chromium, over a broker that is killed and started again, and the lines of JavaScript in README.md.
+"""Tries examples/rooms.html in headless Chromium, over a broker that is killed and started again, and the lines of JavaScript in
+README.md and docs/CLIENTS.md.
 
     python3 clients/browser.py [PROGRAM] [--browser CHROMIUM] [--stomp-js PATH]
     python3 clients/browser.py [PROGRAM] --picture docs/rooms.png
@@ -25,7 +26,6 @@ from stomp_client import Client
 
 TOP = pathlib.Path(__file__).resolve().parent.parent
 PAGE = TOP / "examples" / "rooms.html"
-README = TOP / "README.md"
 
 # Where RabbitMQ's examples have stomp.js 2.3.3.
 STOMP_JS = "lib/rabbitmq_server-*/plugins/rabbitmq_web_stomp_examples-*/priv/stomp.js"
@@ -259,10 +259,12 @@ def a_keyboard_is_enough(broker, checks, anna, ben):
 
 
 def an_error_is_shown(broker, checks, anna, ben):
-    anna.value("const row = chat.row('bad', 'anna', 'to nowhere'); stomp.post([['SEND', { destination: '/nowhere' }, 'x']], (state, why) => chat.mark(row, state, why))")
+    anna.value("const row = chat.row('bad', 'anna', 'to nowhere'); post(client => client.send('/nowhere', 'x'), (state, why) => chat.mark(row, state, why))")
     checks.check("what the broker refuses is shown as refused", anna.rows_come("to nowhere", ["sent", "refused"]), anna.states_of("to nowhere"))
     told = anna.value("document.getElementById('chat').textContent.includes('E8 bad destination')")
     checks.check("with the broker's words", told)
+    secure = "addressOf({ protocol: 'https:', hostname: 'chat.example' }, 443, '/rooms/red')"
+    checks.same("a page that came by https takes wss, at its own host", anna.value(secure), "wss://chat.example:443/rooms/red")
     checks.check("and the page comes back", anna.is_in("open"), anna.state())
 
 
@@ -292,36 +294,48 @@ STEPS = [
 ]
 
 
-def lines_of_readme(number):
-    """That one of its blocks of JavaScript, counted from 1."""
-    return README.read_text(encoding="utf-8").split("```js\n")[number].split("```")[0]
+def lines_below(document, heading):
+    """The first block of JavaScript below that heading of a document."""
+    return (TOP / document).read_text(encoding="utf-8").split(f"\n## {heading}\n")[1].split("```js\n")[1].split("```")[0]
 
 
-def the_readme_holds(broker, checks, browser):
-    """Its lines of JavaScript do what they say, in a page of their own."""
-    lines = lines_of_readme(2)
+def lines_with_no_library(broker, checks, browser):
+    """They do what they say, in a page of their own."""
+    lines = lines_below("docs/CLIENTS.md", "With no library")
     page = browser.open("about:blank")
     run = f"var heard = []; console.log = frame => heard.push(frame); (0, eval)({json.dumps(lines.replace(':8080', f':{broker.port}'))}); 0"
     page.value(run)
     page.comes("heard.length == 3")
     heard = page.value("heard.map(frame => frame.split('\\n')[0])")
-    checks.same("the README's lines of JavaScript hear what they say", heard, ["CONNECTED", "MESSAGE", "RECEIPT"])
+    checks.same("the lines with no library hear what they say", heard, ["CONNECTED", "MESSAGE", "RECEIPT"])
     checks.check("and the message that they have sent", page.value("heard[1].endsWith('hello\\0')"), page.value("heard"))
     checks.same("no exception was thrown", page.exceptions, [])
 
 
-def stomp_js_holds(broker, checks, browser, library):
-    """The README's lines for stomp.js do what they say."""
+def lines_with_the_module(broker, checks, browser, server):
+    """They do what they say, in a page of their own beside the module."""
+    lines = lines_below("docs/CLIENTS.md", "With stompd.mjs").replace(":8080", f":{broker.port}")
+    page = browser.open(f"http://127.0.0.1:{server.server_address[1]}/{PAGE.name}")
+    begin = "globalThis.heard = []; console.log = (...words) => heard.push(words.join(' ')); "
+    page.value(begin + f"document.body.append(Object.assign(document.createElement('script'), {{ type: 'module', textContent: {json.dumps(lines)} }})); 0")
+    page.comes("heard.length == 3")
+    checks.same("the lines with the module hear what they say", page.value("heard"), ["somebody said: hello", "it is on disk", "somebody said: done: sweep"])
+    checks.same("no exception was thrown", page.exceptions, [])
+
+
+def lines_with_stomp_js(broker, checks, browser, library):
+    """The README's lines, and those of CLIENTS.md, do what they say."""
     if library is None:
         checks.tell("the lines for stomp.js were not tried: it is not here (Debian has it in rabbitmq-server)")
         return
-    page = browser.open("about:blank")
-    page.value(f"(0, eval)({json.dumps(library.read_text(encoding='utf-8'))}); 0")
-    lines = lines_of_readme(1).replace(":8080", f":{broker.port}")
-    page.value(f"var heard = []; console.log = (...words) => heard.push(words.join(' ')); (0, eval)({json.dumps(lines)}); 0")
-    page.comes("heard.length == 2")
-    checks.same("the README's lines for stomp.js hear what they say", page.value("heard"), ["somebody said: hello", "it is on disk: first"])
-    checks.same("no exception was thrown", page.exceptions, [])
+    for document, heading in (("README.md", "Connect"), ("docs/CLIENTS.md", "With stomp.js")):
+        page = browser.open("about:blank")
+        page.value(f"(0, eval)({json.dumps(library.read_text(encoding='utf-8'))}); 0")
+        lines = lines_below(document, heading).replace(":8080", f":{broker.port}")
+        page.value(f"var heard = []; console.log = (...words) => heard.push(words.join(' ')); (0, eval)({json.dumps(lines)}); 0")
+        page.comes("heard.length == 2")
+        checks.same(f"the lines of {document} for stomp.js hear what they say", page.value("heard"), ["somebody said: hello", "it is on disk: first"])
+        checks.same("no exception was thrown", page.exceptions, [])
 
 
 TALK = [
@@ -398,8 +412,9 @@ def main():
                 draw_a_room(broker, checks, browser, words.picture)
             else:
                 try_page(broker, checks, browser, server, pictures)
-                the_readme_holds(broker, checks, browser)
-                stomp_js_holds(broker, checks, browser, words.stomp_js)
+                lines_with_no_library(broker, checks, browser)
+                lines_with_the_module(broker, checks, browser, server)
+                lines_with_stomp_js(broker, checks, browser, words.stomp_js)
         finally:
             server.shutdown()
             browser.close()

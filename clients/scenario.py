@@ -26,12 +26,13 @@ def free_port():
 class Broker:
     """The program, serving a journal."""
 
-    def __init__(self, program, journal, port=None):
-        self.program, self.journal, self.port = program, journal, port or free_port()
+    def __init__(self, program, journal, port=None, more=()):
+        """With `more` words of its command line."""
+        self.program, self.journal, self.port, self.more = program, journal, port or free_port(), more
         self.serve()
 
     def serve(self):
-        words = [self.program, "serve", self.journal, str(self.port)]
+        words = [self.program, "serve", self.journal, str(self.port), *self.more]
         self.process = subprocess.Popen(words, stdout=subprocess.PIPE, stderr=subprocess.PIPE)
         line = self.process.stdout.readline().decode()
         if line != f"listening {self.port}\n":

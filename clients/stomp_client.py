@@ -72,13 +72,14 @@ def message_bytes(opcode, payload, is_masked=True, is_last=True):
     return head + mask + masked(payload, mask)
 
 
-def handshake(port, path="/", offer=None):
+def handshake(port, path="/", offer=None, headers=(), host="127.0.0.1"):
     """The head of a request that asks for a WebSocket."""
     key = base64.b64encode(os.urandom(16)).decode()
-    lines = [f"GET {path} HTTP/1.1", f"Host: 127.0.0.1:{port}", "Upgrade: websocket", "Connection: Upgrade"]
+    lines = [f"GET {path} HTTP/1.1", f"Host: {host}:{port}", "Upgrade: websocket", "Connection: Upgrade"]
     lines += [f"Sec-WebSocket-Key: {key}", "Sec-WebSocket-Version: 13"]
     if offer:
         lines.append(f"Sec-WebSocket-Protocol: {offer}")
+    lines += [f"{name}: {value}" for name, value in headers]
     return ("\r\n".join(lines) + "\r\n\r\n").encode()
 
 

@@ -5,7 +5,8 @@ memory, traces of its system calls, and the clients. Its last line counts what p
     python3 tests/beside_the_gate.py [PROGRAM] [--light] [--kills N] [--only WORD]
 
 PROGRAM is the built program; without it, bin/stompd builds it where that is needed. Needs Python 3; strace for the traces, `rt` and a C compiler for
-refused memory, Chromium and Debian's python3-stomp and python3-websocket for two of the clients. It takes some twenty-five minutes, and ends with status 0
+refused memory, Chromium and Debian's python3-stomp and python3-websocket for two of the clients, Node for the module, dpkg and root for the package,
+and nginx, HAProxy, Caddy and Apache for the recipes of deploy/. It takes some thirty minutes, and ends with status 0
 only if nothing failed. With --light it runs the part that needs none of these, with fewer kills, in less than ten minutes; those that mostly wait run
 side by side.
 """
@@ -39,6 +40,7 @@ SCRIPTS = [
     "tests/under_attack.py",
     "tests/soak.py",
     "tests/waits.py",
+    "tests/packing.py",
     "clients/rooms.py",
     "clients/crowd.py",
     "clients/crowd_10000.py",
@@ -51,6 +53,10 @@ SCRIPTS = [
     "clients/independent.py",
     "clients/full_journal.py",
     "clients/browser.py",
+    "clients/module.py",
+    "clients/proxies.py",
+    "clients/secure_page.py",
+    "clients/standby.py",
     "clients/kills.py",
     "clients/kills_crowd.py",
     "clients/compactions.py",

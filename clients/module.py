@@ -1,0 +1,273 @@
+#!/usr/bin/env python3
+"""examples/stompd.mjs in Node and in headless Chromium, over a broker that is killed and started again under load.
+
+    python3 clients/module.py [PROGRAM] [--kills N] [--module PATH]
+
+What a promise says is held against what comes: what has resolved is there, what was refused is not, and what is unknown may be. Needs Node 20 with
+Debian's node-ws or Node's own experimental WebSocket, and for the second part Chromium; what is missing is told at the end, with status 2 if there is
+no Node. --module takes another folder for examples/, as one with an error in it that has to be found.
+"""
+
+import functools
+import http.server
+import json
+import pathlib
+import random
+import select
+import shutil
+import signal
+import subprocess
+import sys
+import tempfile
+import threading
+import time
+import traceback
+
+import scenario
+from chromium import BROWSERS, Browser
+from stomp_client import Client
+
+HERE = pathlib.Path(__file__).resolve().parent
+WS = pathlib.Path("/usr/share/nodejs/ws/index.js")
+# The longest wait for an answer of an engine.
+MOST_SECONDS = 60
+
+# What each trial begins with: how a promise ends, in a word, and a wait for what comes.
+WORDS = """
+const late = () => new Promise(resolve => setTimeout(resolve, 20000, "nothing in 20 s"));
+globalThis.outcome = promise => Promise.race([promise.then(() => "resolved", error => error.kind ?? error.message), late()]);
+globalThis.soon = async (holds, seconds = 15) => {
+  for (const end = Date.now() + 1000 * seconds; Date.now() < end && !holds();) await new Promise(resolve => setTimeout(resolve, 10));
+  return holds();
+};
+globalThis.open = (options = {}) => {
+  const states = [];
+  const client = connect(URL_, { onstate: (state, detail) => states.push([state, detail.pause, detail.reason]), ...options });
+  return Object.assign(client, { states });
+};
+"""
+
+
+class Node:
+    """Node with the module, asked by lines."""
+
+    name = "Node"
+
+    def __init__(self, folder):
+        copy = folder / "node"
+        (copy / "clients").mkdir(parents=True)
+        shutil.copytree(folder / "examples", copy / "examples")
+        shutil.copy(HERE / "module.mjs", copy / "clients")
+        words = ["node", copy / "clients" / "module.mjs", WS] if WS.exists() else ["node", "--experimental-websocket", copy / "clients" / "module.mjs"]
+        self.process = subprocess.Popen(words, stdin=subprocess.PIPE, stdout=subprocess.PIPE, text=True)
+
+    def value(self, code):
+        self.process.stdin.write(json.dumps(code) + "\n")
+        self.process.stdin.flush()
+        # One line answers each.
+        assert select.select([self.process.stdout], [], [], MOST_SECONDS)[0], f"no answer within {MOST_SECONDS} s"
+        answer = json.loads(self.process.stdout.readline())
+        assert "error" not in answer, answer["error"]
+        return answer["value"]
+
+    def close(self):
+        self.process.stdin.close()
+        try:
+            self.process.wait(timeout=20)
+        except subprocess.TimeoutExpired:
+            self.process.kill()
+            self.process.wait()
+        self.process.stdout.close()
+
+
+class QuietHandler(http.server.SimpleHTTPRequestHandler):
+    def log_message(self, *_):
+        pass
+
+
+class Chromium:
+    """A page that has imported the module."""
+
+    name = "Chromium"
+
+    def __init__(self, folder):
+        # A page with nothing in it.
+        (folder / "examples" / "nothing.html").write_text("<!doctype html><title>nothing</title>")
+        self.server = http.server.ThreadingHTTPServer(("127.0.0.1", 0), functools.partial(QuietHandler, directory=folder / "examples"))
+        threading.Thread(target=self.server.serve_forever, daemon=True).start()
+        self.browser = Browser(next(filter(None, map(shutil.which, BROWSERS))), str(folder))
+        self.page = self.browser.open(f"http://127.0.0.1:{self.server.server_address[1]}/nothing.html")
+        self.value("Object.assign(globalThis, await import('/stompd.mjs'))")
+
+    def value(self, code):
+        return self.page.value(f"(async () => {{ {code} }})()")
+
+    def close(self):
+        self.server.shutdown()
+        self.browser.close()
+
+
+def what_promises_say(engine, broker, checks):
+    """each promise ends as it should"""
+    run = engine.value
+    run("globalThis.one = open(); globalThis.heard = []; one.subscribe('/topic/room', it => heard.push(it)); ")
+    text = "ö\\0\\n\\nx: \\\\"
+    checks.same("a SEND resolves", run(f"return outcome(one.send('/topic/room', '{text}', {{ 'said:by': 'a\\\\b\\nc' }}))"), "resolved")
+    checks.check("and is heard, body and headers", run(f"return await soon(() => heard.length == 1) && heard[0].body == '{text}' && heard[0].headers['said:by'] == 'a\\\\b\\nc'"))
+    checks.same("one that the broker refuses is rejected as refused", run("return outcome(one.send('nowhere', 'x'))"), "refused")
+    checks.check("the client comes back by itself, and its subscription too", run("await one.send('/topic/room', 'again'); return await soon(() => heard.length == 2)"))
+    order = "const ends = [1, 2, 3].map(it => outcome(one.send('/topic/room', it))); ends.push(outcome(one.send('/topic/room', 'x', { long: 'x'.repeat(9000) }))); return Promise.all(ends)"
+    checks.same("one with too long a header too, and those before it resolve", run(order), ["resolved", "resolved", "resolved", "refused"])
+    checks.same("a subscription that is refused is told so", run("return outcome(one.subscribe('/topic/room', () => {}, { durable: 'd' }).ready)"), "refused")
+    checks.check("and does not come back", run("await one.send('/topic/room', 'on'); const many = one.states.length; await soon(() => false, 1.5); return one.state == 'open' && one.states.length == many"))
+    checks.same("one without a receipt is heard", run("const told = one.tell('/topic/room', 'told'); return [told, await soon(() => heard.at(-1).body == 'told')]"), [True, True])
+    checks.same("while it connects nothing is told", run("const early = open(), told = early.tell('/topic/room', 'x'); await early.close(); return [told, early.state]"), [False, "closed"])
+    checks.same("after the end a SEND is unsent", run("const other = open(); await other.close(); return [other.state, await outcome(other.send('/topic/room', 'x'))]"), ["closed", "unsent"])
+
+
+def work_is_done(engine, broker, checks):
+    """transactions, acknowledgements and refusals"""
+    run = engine.value
+    run("globalThis.jobs = []; globalThis.worker = open(); globalThis.hand = worker.subscribe('/queue/jobs', it => jobs.push(it), { ack: 'client-individual' }); await hand.ready")
+    checks.same("a transaction that throws leaves nothing", run("return outcome(one.transaction(tx => { tx.send('/queue/jobs', 'lost'); throw new Error('no'); }))"), "no")
+    checks.same("one that does not resolves", run("return outcome(one.transaction(async tx => { tx.send('/queue/jobs', 'a'); await null; tx.send('/queue/jobs', 'b'); tx.send('/queue/jobs', 'c'); }))"), "resolved")
+    checks.same("and all of it comes, in order", run("await soon(() => jobs.length >= 3); return jobs.map(it => it.body)"), ["a", "b", "c"])
+    checks.same("a refused transaction is told so", run("return outcome(one.transaction(tx => { tx.send('/queue/jobs', 'd'); tx.send('nowhere', 'x'); }))"), "refused")
+    checks.same("also where only its COMMIT is", run("return outcome(one.transaction(tx => { tx.send('/queue/jobs', 'd'); tx.ack({ frame: () => ['ACK', { id: '9.99' }] }); }))"), "refused")
+    checks.same("an ACK and a NACK resolve", run("return [await outcome(jobs[0].ack()), await outcome(jobs[1].nack())]"), ["resolved", "resolved"])
+    broker.again()
+    checks.same("an ACK of a session that is over is unsent", run("await soon(() => worker.state == 'open' && jobs.length == 4); return outcome(jobs[2].ack())"), "unsent")
+    checks.same("its message has come again, and nothing else", run("return jobs.slice(3).map(it => it.body)"), ["c"])
+    checks.same("in a transaction too, of which nothing is sent", run("return outcome(worker.transaction(tx => { tx.send('/queue/jobs', 'e'); tx.ack(jobs[2]); }))"), "unsent")
+    checks.same("an ACK in a transaction resolves", run("return outcome(worker.transaction(tx => { tx.ack(jobs[3]); }))"), "resolved")
+    checks.same("a subscription that is ended resolves", run("return outcome(hand.end())"), "resolved")
+    reader = Client(broker.port).connect()
+    frames = reader.subscribe("r", "/queue/jobs") + reader.subscribe("d", "/queue/dead")
+    checks.same("what was refused is in /queue/dead, and nothing is left", [frame.body for frame in frames], ["b"])
+    reader.disconnect()
+
+
+def durable_ones(engine, broker, checks):
+    """a durable subscription comes back under its name"""
+    run = engine.value
+    run("globalThis.news = []; globalThis.who = { clientId: 'kiosk' }; globalThis.kiosk = open(who); await kiosk.subscribe('/topic/news', it => news.push(it.body), { durable: 'd' }).ready")
+    run("await kiosk.close(); await one.send('/topic/news', 'while away')")
+    run("globalThis.kiosk = open(who); globalThis.paper = kiosk.subscribe('/topic/news', it => news.push(it.body), { durable: 'd' }); await paper.ready")
+    checks.same("what was sent while it was away comes", run("await soon(() => news.length); return news"), ["while away"])
+    broker.again()
+    checks.same("after a kill it is there by itself", run("await soon(() => kiosk.state == 'open' && one.state == 'open'); await one.send('/topic/news', 'after'); await soon(() => news.length > 1); return news"), ["while away", "after"])
+    checks.same("it is given up", run("return outcome(paper.giveUp())"), "resolved")
+    run("await one.send('/topic/news', 'unread')")
+    checks.check("and nothing waits under its name any more", b"kiosk" not in subprocess.run([broker.program, "held", broker.journal], capture_output=True, check=True).stdout)
+    checks.same("nor is anything heard", run("await kiosk.close(); return [kiosk.state, news.length]"), ["closed", 2])
+
+
+def a_lost_one_is_unknown(engine, broker, checks):
+    """a SEND whose receipt had not come is unknown, and pauses grow"""
+    run = engine.value
+    run("await soon(() => one.state == 'open'); one.states.length = 0")
+    broker.process.send_signal(signal.SIGSTOP)
+    run("globalThis.doubt = [outcome(one.send('/queue/doubt', 'x')), outcome(one.transaction(tx => tx.send('/queue/doubt', 'y')))]")
+    time.sleep(0.2)
+    broker.kill()
+    checks.same("it is told apart from one that is refused", run("return Promise.all(doubt)"), ["unknown", "unknown"])
+    checks.same("without a connection nothing is told", run("await soon(() => one.state != 'open'); return one.tell('/topic/room', 'x')"), False)
+    run("globalThis.late = one.send('/queue/late', 'late')")
+    time.sleep(8)
+    pauses = [pause for state, pause, _ in run("return one.states") if state == "lost"]
+    expected = [500 * 2**number for number in range(len(pauses))]
+    checks.check("the pauses grow twofold", len(pauses) in (4, 5) and all(0.75 * it <= pause <= 1.25 * it for pause, it in zip(pauses, expected)), pauses)
+    checks.check("with jitter", len({round(pause / it, 3) for pause, it in zip(pauses, expected)}) > 1, pauses)
+    broker.serve()
+    checks.same("what was sent meanwhile waited, and resolves", run("return outcome(late)"), "resolved")
+    checks.same("the state says how it went", run("return [...new Set(one.states.map(it => it[0]))].sort()"), ["connecting", "lost", "open"])
+
+
+LOAD = """
+globalThis.going = true;
+globalThis.seen = [];
+globalThis.pairs = [];
+globalThis.ends = { send: {}, pair: {} };
+const receiving = { ack: 'client-individual' };
+globalThis.reader = open({ clientId: 'reader' });
+await reader.subscribe('/topic/load', it => { seen.push(it.body); outcome(it.ack()); }, { ...receiving, durable: 'load' }).ready;
+globalThis.taker = open();
+await taker.subscribe('/queue/pairs', it => { pairs.push(it.body); outcome(it.ack()); }, receiving).ready;
+globalThis.sender = open();
+const loop = async (name, act) => {
+  for (let number = 0; going; number++) ends[name.split(' ')[0]][`${name} ${number}`] = await outcome(act(`${name} ${number}`));
+};
+globalThis.loops = [0, 1, 2, 3].map(it => loop(`send ${it}`, text => sender.send('/topic/load', text)));
+loops.push(loop('pair', text => sender.transaction(tx => { tx.send('/queue/pairs', `${text} a`); tx.send('/queue/pairs', `${text} b`); })));
+"""
+
+
+def kills_under_load(engine, broker, checks, kills):
+    """what a promise said is so, after many kills"""
+    run = engine.value
+    run(LOAD)
+    for _ in range(kills):
+        time.sleep(random.uniform(0.3, 1.2))
+        broker.kill()
+        time.sleep(random.uniform(0, 0.5))
+        broker.serve()
+        run("return soon(() => sender.state == 'open')")
+    time.sleep(0.5)
+    run("going = false; await Promise.all(loops); await sender.send('/topic/load', 'end'); await sender.send('/queue/pairs', 'end')")
+    checks.check("both readers come to the end", run("return soon(() => seen.includes('end') && pairs.includes('end'), 30)"))
+    ends, seen, pairs = run("return [ends, seen, pairs]")
+    by = {kind: {text for text, end in ends["send"].items() if end == kind} for kind in ("resolved", "unknown")}
+    checks.tell(f"{kills} kills: {len(by['resolved'])} SENDs resolved, {len(by['unknown'])} unknown, {len(ends['pair'])} transactions")
+    checks.check("there was a load, and kills within it", len(by["resolved"]) > 50 * kills and by["unknown"], by["unknown"])
+    checks.same("none was told anything else", set(ends["send"].values()) | set(ends["pair"].values()), {"resolved", "unknown"})
+    checks.check("each that has resolved is there", by["resolved"] <= set(seen), len(by["resolved"] - set(seen)))
+    checks.check("and none that was not sent", set(seen) <= {*ends["send"], "end"})
+    whole = {text for text in ends["pair"] if {f"{text} a", f"{text} b"} <= set(pairs)}
+    halves = {text[:-2] for text in pairs if text != "end"} - whole
+    checks.same("each transaction is there wholly or not at all", halves, set())
+    checks.check("and each that has resolved", {text for text, end in ends["pair"].items() if end == "resolved"} <= whole)
+
+
+TRIALS = [what_promises_say, work_is_done, durable_ones, a_lost_one_is_unknown, kills_under_load]
+
+
+def run_trial(trial, engine, broker, checks, kills):
+    """Runs a trial. What it raises is a failed check."""
+    print(f"{engine.name}: {trial.__doc__}", flush=True)
+    try:
+        trial(engine, broker, checks, *([kills] if trial is kills_under_load else []))
+    except Exception as error:
+        traceback.print_exc()
+        checks.check(f"{trial.__name__} runs to its end", False, error)
+    if not broker.is_running():
+        broker.serve()
+
+
+def try_engine(kind, folder, program, kills, checks):
+    engine = kind(folder)
+    try:
+        with scenario.serving(program) as broker:
+            engine.value(f"globalThis.URL_ = 'ws://127.0.0.1:{broker.port}/'; {WORDS}")
+            for trial in TRIALS:
+                run_trial(trial, engine, broker, checks, kills)
+    finally:
+        engine.close()
+
+
+def main():
+    parser = scenario.words_of(__doc__)
+    parser.add_argument("--kills", type=int, default=20)
+    parser.add_argument("--module", type=pathlib.Path, default=HERE.parent / "examples")
+    words = parser.parse_args()
+    engines = [kind for kind, is_there in ((Node, shutil.which("node")), (Chromium, any(map(shutil.which, BROWSERS)))) if is_there]
+    checks = scenario.Checks()
+    for kind in engines:
+        with tempfile.TemporaryDirectory(prefix="stompd-module-", ignore_cleanup_errors=True) as folder:
+            shutil.copytree(words.module, pathlib.Path(folder) / "examples")
+            try_engine(kind, pathlib.Path(folder), words.program, words.kills, checks)
+    print(f"{len(engines)} of 2 were there: {', '.join(kind.name for kind in engines)}")
+    return 1 if checks.failed else 0 if Node in engines else 2
+
+
+if __name__ == "__main__":
+    sys.exit(main())

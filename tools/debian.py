@@ -1,0 +1,118 @@
+"""Makes the Debian package of bin/release, by plain dpkg-deb: the program, a service with its own user, and the recipes and documents."""
+
+import email.utils
+import gzip
+import hashlib
+import os
+import pathlib
+import subprocess
+import tempfile
+
+TOP = pathlib.Path(__file__).resolve().parent.parent
+DOC = "usr/share/doc/stompd"
+
+CONTROL = """Package: stompd
+Version: {version}
+Architecture: amd64
+Maintainer: {maintainer}
+Installed-Size: {kilobytes}
+Depends: libc6 (>= {libc}), systemd | systemd-standalone-sysusers
+Section: net
+Priority: optional
+Description: message broker for rooms in the browser
+ It speaks STOMP 1.2 over WebSocket, and answers a RECEIPT only once what it
+ is for is in its journal on disk. It listens at 127.0.0.1 alone, with no TLS
+ and no login: recipes for proxies are in /usr/share/doc/stompd/deploy.
+"""
+
+# Nothing is started: systemctl enable --now stompd does that. DPKG_ROOT is the folder of `dpkg --root`, and mostly empty.
+POSTINST = """#!/bin/sh
+set -e
+if [ "$1" = configure ]; then
+    systemd-sysusers --root="$DPKG_ROOT/" stompd.conf
+    chown "$(sed -n 's/^stompd:[^:]*:\\([0-9]*\\):\\([0-9]*\\):.*/\\1:\\2/p' "$DPKG_ROOT/etc/passwd")" "$DPKG_ROOT/var/lib/stompd"
+    chmod 0700 "$DPKG_ROOT/var/lib/stompd"
+    if [ -z "$DPKG_ROOT" ] && [ -d /run/systemd/system ]; then systemctl daemon-reload; fi
+fi
+"""
+PRERM = """#!/bin/sh
+set -e
+if [ "$1" = remove ] && [ -z "$DPKG_ROOT" ] && [ -d /run/systemd/system ]; then systemctl disable --now stompd; fi
+"""
+POSTRM = """#!/bin/sh
+set -e
+if [ "$1" = purge ] && [ -e "$DPKG_ROOT/var/lib/stompd" ]; then
+    echo 'stompd: what is in /var/lib/stompd is kept, the journal and its messages; rm -r /var/lib/stompd removes it'
+fi
+if [ -z "$DPKG_ROOT" ] && [ -d /run/systemd/system ]; then systemctl daemon-reload; fi
+"""
+
+# The program is the one of the archive, byte for byte; and the journal is its owner's alone.
+OVERRIDES = """stompd: unstripped-binary-or-object [usr/lib/stompd/stompd]
+stompd: non-standard-dir-perm 0700 != 0755 [var/lib/stompd/]
+"""
+
+COPYRIGHT = """The sources of this program are in the repository of stompd; FROM names the commit.
+The repository states no licence.
+"""
+
+
+def service():
+    """deploy/stompd.service with the package's paths, and without what it says of an archive."""
+    text = (TOP / "deploy" / "stompd.service").read_text(encoding="utf-8")
+    return text[text.index("[Unit]") :].replace("/opt/stompd/", "/usr/lib/stompd/")
+
+
+def changelog(version, maintainer, moment):
+    when = email.utils.formatdate(moment)
+    return f"stompd ({version}) stable; urgency=medium\n\n  * What came with this version is in CHANGELOG.md.\n\n -- {maintainer}  {when}\n"
+
+
+def files_of(program, serve, told, version, maintainer, moment):
+    """Each file of the package: its name, its bytes and its mode."""
+    yield "usr/lib/stompd/stompd", program, 0o755
+    yield "usr/lib/stompd/serve", serve, 0o755
+    yield "lib/systemd/system/stompd.service", service().encode(), 0o644
+    yield "usr/lib/sysusers.d/stompd.conf", b'u stompd - "stompd, a message broker" /var/lib/stompd\n', 0o644
+    yield "usr/share/lintian/overrides/stompd", OVERRIDES.encode(), 0o644
+    yield f"{DOC}/copyright", COPYRIGHT.encode(), 0o644
+    yield f"{DOC}/changelog.gz", gzip.compress(changelog(version, maintainer, moment).encode(), mtime=0), 0o644
+    for name, data, mode in told:
+        yield f"{DOC}/{name}", data, mode
+
+
+def write(path, data, mode):
+    path.parent.mkdir(parents=True, exist_ok=True)
+    path.write_bytes(data)
+    path.chmod(mode)
+
+
+def package_of(program, serve, told, oldest_libc, maintainer, moment):
+    """The name of the package, and its bytes. The same files, maintainer and moment give the same bytes."""
+    with tempfile.TemporaryDirectory(prefix="stompd-package-") as room:
+        tree = pathlib.Path(room) / "tree"
+        tree.mkdir()
+        asked = pathlib.Path(room) / "stompd"
+        write(asked, program, 0o755)
+        version = subprocess.run([asked, "--version"], check=True, capture_output=True, text=True).stdout.split()[1]
+        files = list(files_of(program, serve, told, version, maintainer, moment))
+        for name, data, mode in files:
+            write(tree / name, data, mode)
+        (tree / "usr" / "bin").mkdir()
+        (tree / "usr" / "bin" / "stompd").symlink_to("../lib/stompd/stompd")
+        (tree / "var" / "lib" / "stompd").mkdir(parents=True)
+        for folder in (it for it in tree.rglob("*") if it.is_dir()):
+            folder.chmod(0o755)
+        (tree / "var" / "lib" / "stompd").chmod(0o700)
+        kilobytes = sum(len(data) for _, data, _ in files) // 1024 + 1
+        control = CONTROL.format(version=version, maintainer=maintainer, kilobytes=kilobytes, libc=".".join(map(str, oldest_libc)))
+        sums = "".join(f"{hashlib.md5(data).hexdigest()}  {name}\n" for name, data, _ in sorted(files))
+        for name, text, mode in [("control", control, 0o644), ("md5sums", sums, 0o644), ("postinst", POSTINST, 0o755), ("prerm", PRERM, 0o755), ("postrm", POSTRM, 0o755)]:
+            write(tree / "DEBIAN" / name, text.encode(), mode)
+        tree.chmod(0o755)
+        (tree / "DEBIAN").chmod(0o755)
+        package = pathlib.Path(room) / f"stompd_{version}_amd64.deb"
+        environment = {**os.environ, "SOURCE_DATE_EPOCH": str(moment)}
+        words = ["dpkg-deb", "--root-owner-group", "--threads-max=1", "-Zxz", "--build", tree, package]
+        subprocess.run(words, check=True, env=environment, stdout=subprocess.DEVNULL)
+        return package.name, package.read_bytes()
