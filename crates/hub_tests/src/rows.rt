@@ -204,6 +204,15 @@ fn run<R: Threads + Wait + Clock + Sync>(
     }
 }
 
+// The mark that the pace hears of last: over all that was appended, or the awaited one if the flusher failed behind it.
+fn last_mark(row: &Row) -> u64 {
+    match (row.appended, row.awaits) {
+        (Some(count), _) => count,
+        (None, Some(awaited)) => awaited.mark,
+        (None, None) => 0,
+    }
+}
+
 /// The place of the first row that comes out otherwise.
 ///
 /// The mark at the end is the number of commands that were appended, since the flusher turns once more when the worker has
@@ -216,7 +225,7 @@ pub fn first_wrong_row<R: Threads + Wait + Clock + Sync>(
 ) -> Option<usize> {
     for (place, row) in rows.iter().enumerate() {
         let ran = run(rt, alloc, row, pace);
-        let heard = (row.heard, row.appended.unwrap_or(0));
+        let heard = (row.heard, last_mark(row));
         let right = ran == Some((Some((row.ended, row.code)), row.appended))
             && pace.heard() == heard
             && pace.was_short() == row.shortage.is_any();

@@ -116,13 +116,19 @@ const ROWS: [Row; 11] = [
         shut: true,
         ..SILENT
     },
-    // The journal is full while the window is.
+    // The journal is full while the window is. Its Open is published before: else the block would be cut behind that.
     Row {
         texts: &[CONNECT, LONG_HEAD, LONG_BODY, LONG_END, TWENTY_SENDS],
         ended: Ended::Stopped,
         code: Some(1001),
+        sent: &[CONNECTED],
         appended: None,
         heard: [true, true, true],
+        awaits: Some(Awaited {
+            turn: 1,
+            mark: 1,
+            holds: true,
+        }),
         ..SILENT
     },
 ];
