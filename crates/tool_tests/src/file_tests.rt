@@ -1,5 +1,5 @@
 use crate::start_tests::HELD;
-use crate::words_tests::expect_of;
+use crate::words_tests::{NO_NUMBER, expect_of};
 use disk_core::FileDisk;
 use std::alloc::{Alloc, Global};
 use std::fs;
@@ -10,6 +10,10 @@ use std::test::Fail;
 use std::time::Clock;
 
 const JOURNAL: &str = "stompd_journal_file";
+
+const MISSING: &str = "stompd: cannot open: FILE: there is no such file\n";
+
+const EXISTS: &str = "stompd: cannot open: FILE: it is there already\n";
 
 fn expect_format(
     rt: &(impl Abort + Files<File = File> + Clock),
@@ -87,16 +91,16 @@ fn a_journal_file_is_made_and_shown(rt: HostRuntime) -> Result<(), Fail> {
     let alloc = rt.alloc();
     let _ = fs::remove_file(&rt, JOURNAL);
     let shown = "version 2\narea 0\nused 41\ncount 0\nheld 0\n";
-    expect_show(&rt, alloc, 1, "", "stompd: cannot open\n")?;
+    expect_show(&rt, alloc, 1, "", MISSING)?;
     expect_format(&rt, alloc, "8223", 1, "stompd: J8 disk too small\n")?;
     expect_format(&rt, alloc, "31", 1, "stompd: J8 disk too small\n")?;
     for bytes in ["", "+8224", "8224 ", "18446744073709551616"] {
-        expect_format(&rt, alloc, bytes, 2, "")?;
+        expect_format(&rt, alloc, bytes, 2, NO_NUMBER)?;
     }
     expect_format(&rt, alloc, "08224", 0, "")?;
     expect_show(&rt, alloc, 0, shown, "")?;
-    expect_format(&rt, alloc, "8224", 1, "stompd: cannot open\n")?;
-    expect_failures(&rt, alloc, &FORMATS, "stompd: cannot open\n")?;
+    expect_format(&rt, alloc, "8224", 1, EXISTS)?;
+    expect_failures(&rt, alloc, &FORMATS, EXISTS)?;
     // The threads of a server are started by `main` alone.
     expect_failures(&rt, alloc, &SERVERS, "stompd: cannot start a thread\n")?;
     expect_show(&rt, alloc, 0, shown, "")?;
@@ -108,7 +112,7 @@ fn a_journal_file_is_made_and_shown(rt: HostRuntime) -> Result<(), Fail> {
         expect_of(&rt, alloc, &words, b"", (0, shown, ""))?;
     }
     let option = ["stompd", "show", "--", "--no-such-file"];
-    expect_of(&rt, alloc, &option, b"", (1, "", "stompd: cannot open\n"))?;
+    expect_of(&rt, alloc, &option, b"", (1, "", MISSING))?;
     fs::write(&rt, JOURNAL, [0; 64].as_slice())?;
     expect_show(&rt, alloc, 1, "", "stompd: J1 not a journal\n")?;
     // This one is of the first version. Used are a snapshot of 32 bytes and a block of 109, each with its length before and its gate behind it: 41 + 118.

@@ -445,7 +445,11 @@ fn words_that_ask_for_nothing_are_refused(rt: HostRuntime) -> Result<(), Fail> {
     expect_of(&rt, rt.alloc(), &["stompd", "relay"], b"", (2, "", unknown))
 }
 
-/// A port is a number from 1 to 65,535, and a size one below 2^64, in decimal digits alone; of another nothing is told.
+/// What is told of a number that is none.
+pub const NO_NUMBER: &str =
+    "stompd: BYTES is a decimal number under 2^64, and PORT one from 1 to 65535\n";
+
+/// A port is a number from 1 to 65,535, and a size one below 2^64, in decimal digits alone.
 #[test]
 fn words_with_a_number_that_is_none_are_refused(rt: HostRuntime) -> Result<(), Fail> {
     let alloc = rt.alloc();
@@ -455,7 +459,7 @@ fn words_with_a_number_that_is_none_are_refused(rt: HostRuntime) -> Result<(), F
             alloc,
             &["stompd", "serve", "file", port],
             b"",
-            (2, "", ""),
+            (2, "", NO_NUMBER),
         )?;
     }
     let large = "18446744073709551616";
@@ -464,6 +468,6 @@ fn words_with_a_number_that_is_none_are_refused(rt: HostRuntime) -> Result<(), F
         alloc,
         &["stompd", "format", "file", large],
         b"",
-        (2, "", ""),
+        (2, "", NO_NUMBER),
     )
 }
