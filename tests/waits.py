@@ -5,15 +5,16 @@ receipt or for a message. Needs Python 3 alone.
     python3 tests/waits.py [PROGRAM] [--minutes N] [--clients N] [--seed N]
 
 A lost ring of a bell shows as a wait until something else wakes the thread, so most clients are silent most of the time. The longest wait stands beside
-the percentiles.
+the percentiles. The journal is in memory (/dev/shm) if that has room: a disk that other programs keep busy may take over a second for a sync.
 """
 
+import pathlib
 import random
 import select
+import shutil
 import sys
+import tempfile
 import time
-
-import pathlib
 
 TOP = pathlib.Path(__file__).resolve().parent.parent
 sys.path.insert(0, str(TOP / "clients"))
@@ -24,6 +25,8 @@ from stomp_client import Client  # noqa: E402
 
 # In seconds: no wait may be longer, and this long a client pauses at most between two SENDs.
 LONGEST_WAIT, LONGEST_PAUSE = 1.0, 4.0
+# Where a journal in memory is, and what has to be free there, in bytes.
+MEMORY, ROOM_FOR_JOURNAL = pathlib.Path("/dev/shm"), 1 << 30
 # A topic's clients: one sends at a time, and all hear it.
 ROOM = 4
 
@@ -85,13 +88,15 @@ def main():
     words = parser.parse_args()
     print(f"seed {words.seed}", flush=True)
     chance, checks = random.Random(words.seed), scenario.Checks()
+    if MEMORY.is_dir() and shutil.disk_usage(MEMORY).free >= ROOM_FOR_JOURNAL:
+        tempfile.tempdir = str(MEMORY)
     with scenario.serving(words.program) as broker:
         talkers = [Talker(broker.port, number, chance) for number in range(words.clients)]
         waits = talk(talkers, 60 * words.minutes)
     least = words.clients * words.minutes * 60 / LONGEST_PAUSE
     checks.check("they talked: each sent as often as its pauses allow", len(waits) >= least, len(waits))
     over = [wait for wait in waits if wait > LONGEST_WAIT]
-    checks.same(f"no wait is over {LONGEST_WAIT} s", over, [])
+    checks.same(f"no wait is over {LONGEST_WAIT} s", len(over), 0)
     half, most = waits[len(waits) // 2], waits[len(waits) * 99 // 100]
     checks.tell(f"{len(waits)} waits: half within {half * 1000:.1f} ms, 99 of 100 within {most * 1000:.1f}, the longest {waits[-1] * 1000:.1f}")
     return 1 if checks.failed else 0
