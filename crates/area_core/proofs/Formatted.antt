@@ -8,7 +8,7 @@ use Rattle.command_core.specs.Commands.{CommandValue}
 use Rattle.area_core.specs.declared.version.Version.{Version}
 use Rattle.area_core.specs.declared.version.Version.TheVariants.{One, Two}
 use Rattle.area_core.specs.Areas.{closed_snapshot, first_snapshot, front, headed, IsBlock}
-use Rattle.area_core.specs.Journals.{header, Reads}
+use Rattle.area_core.specs.Journals.{header, new_header, Reads}
 use Rattle.area_core.proofs.Ranges.{patched_front, patched_start}
 
 length-header : (named : Version) (size : ℕ) → length (header named size) ≡ 16
@@ -58,3 +58,9 @@ pub formatted : (size : ℕ) (d head front : List ℕ) → head ≡ header Two s
 formatted size d head area is_head is_area least fits most =
     first_live Two Two size first_snapshot [] d head area is_head (is_area ∙ ap (λ (l : List ℕ). l ++ 0 ∷ []) (sym (append-nil (headed Two first_snapshot)))) (omega arith) tt
     (omega (arith, least, ap (λ (l : List ℕ). length l) is_area)) least fits most
+
+-- it begins with its header
+pub begins_new : (size : ℕ) (d head : List ℕ) → head ≡ new_header size → take 32 (patched 0 head d) ≡ new_header size
+begins_new size d head is_head =
+    let long : length head ≡ 32 = ap (λ (l : List ℕ). length l) is_head ∙ length-append (header Two size) (replicate 16 0) ∙ ap (λ (n : ℕ). n + 16) (length-header Two size) in
+    ap (λ (l : List ℕ). take 32 l) (patched_front head d) ∙ take_at head (drop (length head) d) 32 long ∙ is_head

@@ -1,5 +1,5 @@
 -- How a journal stands on a disk: a header that names the live one of two areas.
-use Rattle.std.specs.Prelude.{◌≡◌, ◌==◌, ◌<◌, ◌≤◌, ◌+◌, ◌*◌, ◌%◌, ◌^◌, ℕ, Bool, true, false, List, ◌++◌, length, take, drop, slice_index, codes}
+use Rattle.std.specs.Prelude.{◌≡◌, ◌==◌, ◌<◌, ◌≤◌, ◌+◌, ◌*◌, ◌%◌, ◌^◌, ℕ, Bool, true, false, List, ◌++◌, length, replicate, take, drop, slice_index, codes}
 use Rattle.std.specs.Int.{w64, to_be_bytes}
 use Rattle.command_core.specs.Commands.{CommandValue}
 use Rattle.area_core.specs.declared.version.Version.{Version}
@@ -18,6 +18,11 @@ AreDigits bytes = (version : Version) × (bytes ≡ digits version)
 -- the header's first 16 bytes: the name, with a version's digits, and the length of an area
 abbrev pub header : Version → ℕ → List ℕ
 header version size = codes "STOMPJ" ++ (digits version ++ to_be_bytes w64 size)
+
+-- the 32 bytes before the areas of a new journal: the name with the second version's digits, the length of an area, the selector 0, and
+-- fifteen zeros that are not read
+abbrev pub new_header : ℕ → List ℕ
+new_header size = header Two size ++ replicate 16 0
 
 -- an odd selector names the second area
 abbrev pub is_odd : ℕ → Bool

@@ -1,9 +1,9 @@
 //! A disk is formatted as a journal.
 
-ghost use Rattle.std.specs.Prelude.{◌≡◌, ◌⊎◌, ◌+◌, ◌*◌, ◌<◌, ◌≤◌, ◌++◌, [], IfOk, IsErrOf, OnOk, codes, length, replicate};
+ghost use Rattle.std.specs.Prelude.{◌≡◌, ◌⊎◌, ◌+◌, ◌*◌, ◌<◌, ◌≤◌, ◌++◌, [], IfOk, IsErrOf, OnOk, codes, length, replicate, take};
 ghost use Rattle.disk_core.specs.Images.{Only};
 ghost use Rattle.area_core.specs.Areas.{first_snapshot};
-ghost use Rattle.area_core.specs.Journals.{Reads, digits, header};
+ghost use Rattle.area_core.specs.Journals.{Reads, digits, header, new_header};
 ghost use Rattle.area_core.specs.declared.version.Version.TheVariants.{Two};
 ghost use Rattle.area_core.specs.Puts.{Each};
 ghost use Rattle.area_core.specs.Steps.{IsBeforeWriting, IsFormatCaused};
@@ -43,6 +43,8 @@ pub fn header_of(alloc: Global, version: Version, area_bytes: u64) -> Result<Vec
 pub fn format<D: Disk>(alloc: Global, disk: &mut D, area_bytes: u64) -> Result<(), FormatFault>
     ensures formatted { D.honest disk.old →
         OnOk result (Each (D.images disk.new) (Reads Two area_bytes 0 first_snapshot [])) }
+    ensures begins { D.honest disk.old →
+        OnOk result (Each (D.images disk.new) (λ c. take 32 c ≡ new_header area_bytes)) }
     ensures only { D.honest disk.old → OnOk result (Only (D.content disk.new) (D.images disk.new)) }
     ensures small { IsErrOf result FormatFault.TooSmall →
         (area_bytes < 4096) ⊎ (length (D.content disk.old) < 32 + 2 * area_bytes) }

@@ -26,10 +26,10 @@ use Rattle.broker_state.specs.Names.{Name}
 use Rattle.broker_state.specs.States.{bytes, one, weight_of_subscription}
 use Rattle.broker_state.specs.Waiting.{is_own}
 use Rattle.broker_core.specs.Prechecks.{bytes_in, bytes_kept, deliveries_in, flight_of, flights_of, has, kept_bytes_in, kept_in, left_by, one_kept, sized}
-use Rattle.broker_operations.specs.Refusals.{all_kept, all_kept_bytes, refused_bytes, kept_bytes, kept_one}
+use Rattle.broker_tables.specs.Refusals.{all_kept, all_kept_bytes, refused_bytes, kept_bytes, kept_one}
 use Rattle.broker_state.proofs.Firsts.{found}
 use Rattle.broker_state.proofs.Weights.{ones, sum_by-part}
-use Rattle.waiting_core.specs.Tickets.{IsNext}
+use Rattle.broker_order.specs.Tickets.{IsNext}
 
 -- what a flight's deliveries before a place have is under the number there
 module _ {X Y : Type 0} (f : X → Y) where

@@ -24,7 +24,7 @@ use Rattle.broker_state.specs.States.{State, bytes, held_bytes, held_messages, o
 use Rattle.broker_state.specs.Waiting.{is_own}
 use Rattle.broker_core.specs.Prechecks.{Leads, StandsFor, bytes_in, deliveries_in, flight_of, flights_of, has, kept_bytes_in, kept_in, left_by, sized}
 use Rattle.broker_core.proofs.Flights.{any_flight, copies-after, copies-copied, few_bytes, few_deliveries, first_flight, flights-copied, kept-mapped, kept_bytes-mapped, length-mapped, picked_flight, sum_by-mapped}
-use Rattle.broker_operations.specs.Refusals.{refused_bytes}
+use Rattle.broker_tables.specs.Refusals.{refused_bytes}
 use Rattle.broker_state.proofs.Firsts.{picked_some}
 use Rattle.broker_state.proofs.Refusals.{fewer, kept_from, kept_in as kept_state, let_go, nacked_by, nacked_none, sum_kept, weight-kept_in, weight-let_go, weight-with_refused}
 use Rattle.broker_state.proofs.Weights.{ones}

@@ -15,7 +15,7 @@ use Rattle.broker_state.specs.Parts.{copies_to}
 use Rattle.broker_state.specs.States.{State, bytes, held_bytes, held_messages}
 use Rattle.broker_state.specs.Names.{Name, name_cmp, text_cmp}
 use Rattle.broker_state.specs.Waiting.{is_own}
-use Rattle.broker_operations.specs.Refusals.{refused_bytes}
+use Rattle.broker_tables.specs.Refusals.{refused_bytes}
 
 -- a message's bytes, and those that it has in the queue of refused ones, unless it is dropped once it is refused
 abbrev pub sized : Bool → Message → PrecheckSize

@@ -5,8 +5,8 @@ ghost use Rattle.broker_state.specs.Executing.{HasFewMembers, applied, committed
 ghost use Rattle.broker_state.specs.Parts.{leaving};
 
 use crate::precheck::precheck_members;
-use broker_operations::Tables;
 use broker_state::NackRule;
+use broker_tables::Tables;
 use command_core::{Fault, Member, Members, Op};
 use std::alloc::{AllocError, Global};
 

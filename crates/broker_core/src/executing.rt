@@ -12,8 +12,8 @@ ghost use Rattle.broker_state.specs.Steps.{accepted_or_ended, answers, is_openin
 
 use crate::answers::{answer_done, answer_end, answer_open, answer_refused};
 use crate::committing::commit;
-use broker_operations::Tables;
 use broker_state::NackRule;
+use broker_tables::Tables;
 use command_core::{Command, Fault, HeaderText, Op, Out};
 use std::alloc::{AllocError, Global};
 

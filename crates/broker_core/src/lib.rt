@@ -21,6 +21,6 @@ pub use broker_laws::{
     restarts_keep_what_is_kept, states_stay_in_order, states_stay_sound,
     subscriptions_stay_within_their_limits,
 };
-pub use broker_operations::SharedLines;
 pub use broker_state::{DurableName, GivenName, Held, NackRule, Parts, Subscription};
+pub use broker_tables::SharedLines;
 pub use fault::BrokerFault;

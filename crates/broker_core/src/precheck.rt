@@ -16,12 +16,12 @@ ghost use Rattle.broker_state.specs.Parts.{IsFirst, NonePass, find_room, without
 ghost use Rattle.broker_state.specs.States.{State};
 ghost use Rattle.broker_core.specs.Prechecks.{Leads, StandsFor, bytes_in, deliveries_in, flight_of, flights_of, has, kept_bytes_in, kept_in, left_by, sized};
 
-use broker_operations::{Tables, copies_to, find_room, is_dropped, refused_size};
+use broker_order::Order;
 use broker_state::{Held, MOST_BYTES, NackRule, Subscription, stand_in_order};
+use broker_tables::{Tables, copies_to, find_room, is_dropped, refused_size};
 use command_core::{AckMode, Fault, Member};
 use line_core::{Flight, Message, SettleFault, size};
 use std::alloc::{AllocError, Global};
-use waiting_core::Order;
 
 /// What decides whether a message that is not acknowledged finds room: its bytes, and those that it has in the queue of
 /// refused messages, unless it is dropped once it is refused.

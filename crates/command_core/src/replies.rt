@@ -1,51 +1,49 @@
 //! The frames that answer a command.
 
-ghost use Rattle.std.specs.Prelude.{◌≡◌, ◌<◌, ◌≤◌, ◌^◌, ◌∷◌, ◌++◌, [], IfOk, IfSome, OnOk, codes, length, string_bytes};
+ghost use Rattle.std.specs.Prelude.{◌≡◌, ◌<◌, ◌≤◌, ◌^◌, ◌∷◌, ◌++◌, [], IfOk, IfSome, OnOk, codes, length};
 ghost use Rattle.std.specs.Fmt.{decimal};
+ghost use Rattle.frame_core.specs.Words.{word_bytes};
 ghost use Rattle.frame_core.specs.Writable.{Writable};
 ghost use Rattle.command_core.specs.Replies.{ack_header, connected, error_frame, message_frame, message_id, own_headers, receipt_frame, receipt_header};
 ghost use Rattle.record_core.specs.Texts.{IsHeaderText};
 
 use crate::fault::{Fault, fault_text};
-use frame_core::{Bytes, Frame, Headers, Text, Verb};
+use frame_core::{Bytes, Frame, Headers, Text, Verb, Word};
 use record_core::{Dest, HeaderText, Sending};
 use std::alloc::{AllocError, Global};
 
 /// Adds a header behind the others.
-fn add_header(
-    alloc: Global,
-    headers: &mut Vec<(Text, Text)>,
-    name: &str,
-    value: String,
-) -> Result<(), AllocError>
-    ensures { OnOk result (headers.new.items ≡ headers.old.items ++ (name.now, string_bytes value) ∷ []) }
+fn add_header(headers: &mut Vec<(Text, Text)>, name: Word, value: Text) -> Result<(), AllocError>
+    ensures { OnOk result (headers.new.items ≡ headers.old.items ++ (word_bytes name, value) ∷ []) }
 {
-    let name = String::from_str(alloc, name)?;
-    headers.push((Text::new(name), Text::new(value)))?;
+    headers.push((Text::of_word(name), value))?;
     Ok(())
 }
 
+/// Adds a header whose value is a copy of this.
 fn add_text(
     alloc: Global,
     headers: &mut Vec<(Text, Text)>,
-    name: &str,
+    name: Word,
     value: &str,
 ) -> Result<(), AllocError>
-    ensures { OnOk result (headers.new.items ≡ headers.old.items ++ (name.now, value.now) ∷ []) }
+    ensures { OnOk result (headers.new.items ≡ headers.old.items ++ (word_bytes name, value.now) ∷ []) }
 {
-    add_header(alloc, headers, name, String::from_str(alloc, value)?)
+    let value = String::from_str(alloc, value)?;
+    add_header(headers, name, Text::new(value))
 }
 
 /// Adds a header whose value is a number in decimal.
 fn add_number(
     alloc: Global,
     headers: &mut Vec<(Text, Text)>,
-    name: &str,
+    name: Word,
     value: u64,
 ) -> Result<(), AllocError>
-    ensures { OnOk result (headers.new.items ≡ headers.old.items ++ (name.now, decimal value) ∷ []) }
+    ensures { OnOk result (headers.new.items ≡ headers.old.items ++ (word_bytes name, decimal value) ∷ []) }
 {
-    add_header(alloc, headers, name, format!(in alloc; "{value}")?)
+    let value = format!(in alloc; "{value}")?;
+    add_header(headers, name, Text::new(value))
 }
 
 /// The CONNECTED that opens a session of that number (STOMP 1.2, "CONNECTED").
@@ -54,9 +52,9 @@ pub fn connected_reply(alloc: Global, session: u64) -> Result<Frame, AllocError>
     ensures form { IfOk result (λ frame. Writable frame) }
 {
     let mut headers = Vec::with_capacity(alloc, 3)?;
-    add_text(alloc, &mut headers, "version", "1.2")?;
-    add_number(alloc, &mut headers, "session", session)?;
-    add_text(alloc, &mut headers, "heart-beat", "0,0")?;
+    add_text(alloc, &mut headers, Word::Version, "1.2")?;
+    add_number(alloc, &mut headers, Word::Session, session)?;
+    add_text(alloc, &mut headers, Word::HeartBeat, "0,0")?;
     Ok(Frame {
         verb: Verb::Connected,
         headers: Headers::new(headers),
@@ -70,7 +68,7 @@ pub fn receipt_reply(alloc: Global, receipt: HeaderText) -> Result<Frame, AllocE
     ensures form { IfOk result (λ frame. Writable frame) }
 {
     let mut headers = Vec::with_capacity(alloc, 1)?;
-    add_receipt(alloc, &mut headers, Some(receipt))?;
+    add_receipt(&mut headers, Some(receipt))?;
     Ok(Frame {
         verb: Verb::Receipt,
         headers: Headers::new(headers),
@@ -79,7 +77,6 @@ pub fn receipt_reply(alloc: Global, receipt: HeaderText) -> Result<Frame, AllocE
 }
 
 fn add_receipt(
-    alloc: Global,
     headers: &mut Vec<(Text, Text)>,
     receipt: Option<HeaderText>,
 ) -> Result<(), AllocError>
@@ -87,8 +84,7 @@ fn add_receipt(
     ensures form { OnOk result (IfSome receipt IsHeaderText) }
 {
     if let Some(id) = receipt {
-        let id = id.into_text();
-        add_header(alloc, headers, "receipt-id", id.into_string())?;
+        add_header(headers, Word::ReceiptId, id.into_text())?;
     }
     Ok(())
 }
@@ -103,8 +99,8 @@ pub fn error_reply(
     ensures form { IfOk result (λ frame. Writable frame) }
 {
     let mut headers = Vec::with_capacity(alloc, 2)?;
-    add_text(alloc, &mut headers, "message", fault_text(fault))?;
-    add_receipt(alloc, &mut headers, receipt)?;
+    add_text(alloc, &mut headers, Word::Message, fault_text(fault))?;
+    add_receipt(&mut headers, receipt)?;
     Ok(Frame {
         verb: Verb::Error,
         headers: Headers::new(headers),
@@ -122,7 +118,7 @@ fn add_ack(
 {
     match delivery {
         None => Ok(()),
-        Some(number) => add_number(alloc, headers, "ack", number),
+        Some(number) => add_number(alloc, headers, Word::Ack, number),
     }
 }
 
@@ -136,7 +132,28 @@ fn add_id(
     ensures { OnOk result (headers.new.items ≡ headers.old.items ++ (codes "message-id", message_id command place) ∷ []) }
 {
     let id = format!(in alloc; "{command}.{place}")?;
-    add_header(alloc, headers, "message-id", id)
+    add_header(headers, Word::MessageId, Text::new(id))
+}
+
+/// Adds a header whose value is a clone of this text.
+fn add_copy(
+    headers: &mut Vec<(Text, Text)>,
+    name: Word,
+    value: &HeaderText,
+) -> Result<(), AllocError>
+    ensures added { OnOk result (headers.new.items ≡ headers.old.items ++ (word_bytes name, value.now) ∷ []) }
+    ensures form { OnOk result (IsHeaderText value.now) }
+{
+    let value = value.clone()?;
+    add_header(headers, name, value.into_text())
+}
+
+/// Adds the header that tells where a message was sent to.
+fn add_destination(headers: &mut Vec<(Text, Text)>, destination: &Dest) -> Result<(), AllocError>
+    ensures { OnOk result (headers.new.items ≡ headers.old.items ++ (codes "destination", destination.now) ∷ []) }
+{
+    let destination = destination.clone()?;
+    add_header(headers, Word::Destination, destination.into_text())
 }
 
 /// Adds the headers that tell to whom a message goes, and which one it is.
@@ -151,9 +168,9 @@ fn add_names(
     ensures added { OnOk result (headers.new.items ≡ headers.old.items ++ (codes "subscription", subscription.now) ∷ (codes "message-id", message_id command place) ∷ (codes "destination", destination.now) ∷ []) }
     ensures form { OnOk result (IsHeaderText subscription.now) }
 {
-    add_text(alloc, headers, "subscription", subscription.as_str())?;
+    add_copy(headers, Word::Subscription, subscription)?;
     add_id(alloc, headers, command, place)?;
-    add_text(alloc, headers, "destination", destination.as_str())
+    add_destination(headers, destination)
 }
 
 /// Adds the broker's own headers of a MESSAGE.
@@ -180,7 +197,7 @@ fn add_own_headers(
     )?;
     add_ack(alloc, headers, delivery)?;
     let length = sending.body().as_slice().len() as u64;
-    add_number(alloc, headers, "content-length", length)
+    add_number(alloc, headers, Word::ContentLength, length)
 }
 
 /// The MESSAGE of these headers and those that were sent, with the body that was.

@@ -9,7 +9,7 @@ use Rattle.session_core.proofs.Hearings.{heard_as_one, pieces_as_one}
 use Rattle.frame_core.specs.Parts.{IsUnfinished}
 use Rattle.std.specs.Prelude.{OnErr, OnOk, Result, Ok, Err}
 use Rattle.connection_core.specs.Connections.{ConnectionValue, Fails, HearsBytes, IsLost, Listens, Wants, WantsBy, closed_by}
-use Rattle.connection_core.specs.Lives.{HasHeard, Went}
+use Rattle.connection_core.specs.Histories.{HasHeard, Went}
 use Rattle.connection_core.specs.Stages.{rested}
 use Rattle.connection_core.specs.Tasks.{Tasks, tasks, all_of}
 use Rattle.connection_core.specs.declared.progress.Progress.{Progress}

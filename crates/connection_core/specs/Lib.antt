@@ -1,6 +1,6 @@
 pub mod Connections
 pub mod Conversations
 pub mod Footprints
-pub mod Lives
+pub mod Histories
 pub mod Stages
 pub mod Tasks

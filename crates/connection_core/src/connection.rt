@@ -47,12 +47,12 @@ impl Connection {
     ghost use Rattle.std.specs.Prelude.{◌<◌, ◌≤◌, ◌++◌, [], List, ℕ, Some, None, IfSome, OnOk, OnErr, true, false};
     ghost use Rattle.session_core.specs.declared.act.Act.{Act};
     ghost use Rattle.session_core.specs.declared.act.Act.TheVariants as acts;
-    ghost use Rattle.session_core.specs.Sessions.{HasForm};
+    ghost use Rattle.session_core.specs.Sessions.{HasForm, held_in};
     ghost use Rattle.connection_core.specs.Connections.{Asks, Fails, HasWantedForm, HearsBytes, IsSent, Listens, Takes, Wants, closed_by, unheard, with_appended};
     ghost use Rattle.connection_core.specs.Conversations.{number_in, over};
     ghost use Rattle.connection_core.specs.Footprints.{charged, total};
     ghost use Rattle.connection_core.specs.declared.footprint.TheConstants.{SESSION_BYTES};
-    ghost use Rattle.connection_core.specs.Lives.{HasHeard, Went};
+    ghost use Rattle.connection_core.specs.Histories.{HasHeard, Went};
     ghost use Rattle.connection_core.specs.Stages.{given_up, lost, parted, stopped};
     ghost use Rattle.connection_core.specs.Tasks.{tasks};
     ghost use Rattle.connection_core.specs.declared.stage.Stage.TheVariants.{Closing};
@@ -100,6 +100,13 @@ impl Connection {
         ensures no { result ≡ false → Listens self.now → ⊥ }
     {
         self.stage == Stage::Running && self.acts.is_empty()
+    }
+
+    /// How many bytes it keeps of what its client said: those of the frame that isn't finished, and of the members of open transactions.
+    pub fn held(&self) -> u64
+        ensures { held_in self.now.session.phase ≤ result }
+    {
+        self.session.held()
     }
 
     /// Hears the next bytes of its client. Where memory is refused the connection is given up: of these bytes nothing is asked for.

@@ -11,7 +11,7 @@ use Rattle.claim_core.specs.declared.refusals.Refused.TheVariants as refusals
 use Rattle.command_core.specs.Commands.{CommandValue}
 use Rattle.connection_core.specs.declared.stage.Stage.{Stage}
 use Rattle.connection_core.specs.declared.stage.Stage.TheVariants.{Running}
-use Rattle.desk_core.specs.Answers.{Appended, Awaits, AwaitsBy, GoesOnYet, Grows, Heard, IsPressing, IsQuiet, IsRest, Leaves}
+use Rattle.desk_core.specs.Answers.{Appended, Awaits, AwaitsBy, GoesOnYet, Grows, Heard, IsPressing, IsQuiet, IsRest, IsSatisfied, Leaves}
 use Rattle.desk_core.specs.Holding.{Holds}
 use Rattle.desk_core.specs.declared.appending.Step.{Step}
 use Rattle.desk_core.specs.declared.appending.Step.TheVariants as steps
@@ -118,15 +118,15 @@ pressing_so (next.Over ended) last slot on p = absurd p
 pub runs_pressing : {B : Type 0} (n : Next) (last : Step) (slot : Slot B) → slot.connection.stage ≡ Running → IsPressing n last → AwaitsBy n last slot
 runs_pressing n last slot runs p = pressing_so n last slot (runs_yet slot.connection.stage runs) p
 
-pub rests_so : {B : Type 0} (n : Next) (last : Step) (slot : Slot B) → slot.connection.stage ≡ Running → IsRest n slot → AwaitsBy n last slot
-rests_so next.Read last slot runs r = runs
-rests_so (next.Output mark) last slot runs r = (runs, r)
-rests_so (next.Room mark) last slot runs r = absurd r
-rests_so next.Go last slot runs r = absurd r
-rests_so next.Memory last slot runs r = absurd r
-rests_so next.Write last slot runs r = absurd r
-rests_so next.Close last slot runs r = absurd r
-rests_so (next.Over ended) last slot runs r = absurd r
+pub rests_so : {B : Type 0} (n : Next) (last : Step) (slot : Slot B) → slot.connection.stage ≡ Running → IsSatisfied slot → IsRest n slot → AwaitsBy n last slot
+rests_so next.Read last slot runs s r = (runs, s)
+rests_so (next.Output mark) last slot runs s r = (runs, (s.0, s.1), r)
+rests_so (next.Room mark) last slot runs s r = absurd r
+rests_so next.Go last slot runs s r = absurd r
+rests_so next.Memory last slot runs s r = absurd r
+rests_so next.Write last slot runs s r = absurd r
+rests_so next.Close last slot runs s r = absurd r
+rests_so (next.Over ended) last slot runs s r = absurd r
 
 -- ── what was heard ──
 

@@ -4,9 +4,9 @@ use Rattle.std.specs.Prelude.{◌==◌, cond, option_map, slice_get}
 use Rattle.std.proofs.lemmas.Bool.{cases_eq}
 use Rattle.desk_core.specs.declared.place.Seated.{Seated}
 use Rattle.desk_core.specs.Chains.{AreTaken, Calls, Chain, Lived, deeds_at, deeds_of, last_of}
-use Rattle.desk_core.specs.Deeds.{Deed}
+use Rattle.desk_core.specs.Effects.{Effect}
 use Rattle.desk_core.specs.Desks.{Admits, DeskValue, IsFree, SitsAt}
-use Rattle.desk_core.specs.Lives.{Heeds}
+use Rattle.desk_core.specs.Histories.{Heeds}
 use Rattle.desk_core.proofs.Going.{did, heeds_none, heeds_then}
 use Rattle.desk_core.proofs.Lists.{cond_other, cond_same}
 
@@ -22,13 +22,13 @@ never_free places at s (inl free) sat = let both : Some None ≡ Some (Some s) =
 never_free places at s (inr last) sat = let both : None ≡ Some (Some s) = sym (none_there places) ∙ ap (λ k. slice_get places k) (sym last) ∙ sat in cc
 
 module _ {B L : Type 0} (sent : L → Option (List (List ℕ))) (received : L → Option (List ℕ)) where
-  -- it goes on so from one to the other with these deeds
-  abbrev Went : DeskValue B L → ℕ → Seated B L → List Deed → Type 0
-  Went new place s deeds = (mid : Seated B L) × SitsAt new.places place mid × Heeds received s.slot s.link mid.slot mid.link deeds
+  -- it goes on so from one to the other with these effects
+  abbrev Went : DeskValue B L → ℕ → Seated B L → List Effect → Type 0
+  Went new place s effects = (mid : Seated B L) × SitsAt new.places place mid × Heeds received s.slot s.link mid.slot mid.link effects
 
   at_place : (old new : DeskValue B L) (at : ℕ) (c : Calls sent received old new at) (s : Seated B L) → SitsAt old.places at s → (t : Seated B L) × SitsAt new.places at t → Went new at s (deeds_of sent received old new at c)
   at_place old new at (inl turn) s sat taken =
-      (turn.1.is, turn.1.sits, subst (λ (w : Seated B L). Heeds received w.slot w.link turn.1.is.slot turn.1.is.link turn.1.deeds) (one_seated _ _ _ turn.1.sat sat) turn.1.heeds)
+      (turn.1.is, turn.1.sits, subst (λ (w : Seated B L). Heeds received w.slot w.link turn.1.is.slot turn.1.is.link turn.1.effects) (one_seated _ _ _ turn.1.sat sat) turn.1.heeds)
   at_place old new at (inr (inl touch)) s sat taken = let is = touch.unserved s sat in (is.0, is.1, is.3.heeds)
   at_place old new at (inr (inr (link, inl admits))) s sat taken = absurd (never_free old.places at s admits.was_free sat)
   at_place old new at (inr (inr (link, inr leaves))) s sat taken = absurd (let both : Some None ≡ Some (Some taken.0) = sym leaves.free ∙ taken.1 in cc)
@@ -49,17 +49,17 @@ module _ {B L : Type 0} (sent : L → Option (List (List ℕ))) (received : L �
         (s, others_stay old new at c place (λ e. other (sym e)) ∙ sat, subst (λ d. Heeds received s.slot s.link s.slot s.link d) (sym (cond_other at place (deeds_of sent received old new at c) [] other)) (heeds_none received s.slot s.link).heeds)
   ]
 
-  all_calls : (place : ℕ) (from : Seated B L) (before : List Deed) (old : DeskValue B L) (others : List (DeskValue B L)) (chain : Chain sent received old others) (s : Seated B L) → SitsAt old.places place s
+  all_calls : (place : ℕ) (from : Seated B L) (before : List Effect) (old : DeskValue B L) (others : List (DeskValue B L)) (chain : Chain sent received old others) (s : Seated B L) → SitsAt old.places place s
       → Heeds received from.slot from.link s.slot s.link before → AreTaken place others → (is : Seated B L) → SitsAt (last_of old others).places place is
       → Heeds received from.slot from.link is.slot is.link (before ++ deeds_at sent received place old others chain)
   all_calls place from before old [] chain s sat h taken is sits =
       subst (λ d. Heeds received from.slot from.link is.slot is.link d) (sym (append-nil before))
       (subst (λ (x : Seated B L). Heeds received from.slot from.link x.slot x.link before) (one_seated _ _ _ sat sits) h)
   all_calls place from before old (new ∷ others) chain s sat h taken is sits =
-      let deeds : List Deed = cond (chain.0.0 == place) (deeds_of sent received old new chain.0.0 chain.0.1) [] in
+      let effects : List Effect = cond (chain.0.0 == place) (deeds_of sent received old new chain.0.0 chain.0.1) [] in
       let so = one_call old new chain.0.0 place chain.0.1 s sat taken.0 in
-      subst (λ d. Heeds received from.slot from.link is.slot is.link d) (append_assoc before deeds (deeds_at sent received place new others chain.1))
-      (all_calls place from (before ++ deeds) new others chain.1 so.0 so.1 (heeds_then received from.slot s.slot so.0.slot from.link s.link so.0.link before deeds h so.2) taken.1 is sits)
+      subst (λ d. Heeds received from.slot from.link is.slot is.link d) (append_assoc before effects (deeds_at sent received place new others chain.1))
+      (all_calls place from (before ++ effects) new others chain.1 so.0 so.1 (heeds_then received from.slot s.slot so.0.slot from.link s.link so.0.link before effects h so.2) taken.1 is sits)
 
   pub lives : (old first : DeskValue B L) (link : L) (place : ℕ) (others : List (DeskValue B L)) (chain : Chain sent received first others) → Admits old first link place → AreTaken place others → (is : Seated B L)
       → SitsAt (last_of first others).places place is → Lived received link is.link (deeds_at sent received place first others chain)

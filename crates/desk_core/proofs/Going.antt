@@ -23,10 +23,10 @@ use Rattle.connection_core.specs.declared.stage.Stage.TheVariants.{Running, Givi
 use Rattle.session_core.specs.declared.act.Act.TheVariants.{Direct, Do, Close}
 use Rattle.desk_core.specs.Continues.{Continues}
 use Rattle.desk_core.specs.Conversations.{StaysOrEnds}
-use Rattle.desk_core.specs.Deeds.{Deed, Said, Told, Untold, Tells, commands_of, told_of, untold_of}
-use Rattle.desk_core.specs.Goings.{GoesOn, TellsIt}
+use Rattle.desk_core.specs.Effects.{Effect, Said, Told, Untold, Tells, commands_of, told_of, untold_of}
+use Rattle.desk_core.specs.Steps.{GoesOn, TellsIt}
 use Rattle.desk_core.specs.Halting.{FindsEnd, HasHalted, IsFinal}
-use Rattle.desk_core.specs.Lives.{Did, DoesWanted, HasTold, Heeds, Idles, Lives, LivesAt, LivesOn, Restaged, Steady, act_of, wanted_of}
+use Rattle.desk_core.specs.Histories.{Did, DoesWanted, HasTold, Heeds, Idles, Lives, LivesAt, LivesOn, Restaged, Steady, act_of, wanted_of}
 use Rattle.desk_core.specs.Spending.{Spends, ops_of, waiting_of}
 use Rattle.desk_core.specs.Slots.{IsNew, Served, Stays, Unserved}
 use Rattle.desk_core.specs.declared.pending.Pending.{Pending}
@@ -48,8 +48,8 @@ more_bytes : (received : Option (List ℕ)) (a b : List ℕ) → option_map (λ 
 more_bytes None a b = refl
 more_bytes (Some bytes) a b = ap (λ x. Some x) (append_assoc bytes a b)
 
--- no deed more, and what waited waits
-as_before : {B : Type 0} (bytes : List ℕ) (before : List Deed) (is : Slot B) (p : Option (Pending B)) → is.pending ≡ p → Lives bytes before is.connection (wanted_of p) → Spends before is.connection (waiting_of p) → LivesAt bytes (before ++ []) is
+-- no effect more, and what waited waits
+as_before : {B : Type 0} (bytes : List ℕ) (before : List Effect) (is : Slot B) (p : Option (Pending B)) → is.pending ≡ p → Lives bytes before is.connection (wanted_of p) → Spends before is.connection (waiting_of p) → LivesAt bytes (before ++ []) is
 as_before bytes before is p pending l s =
     subst (λ d. LivesAt bytes d is) (sym (append-nil before))
     (subst (λ x. Lives bytes before is.connection (wanted_of x) × Spends before is.connection (waiting_of x)) (sym pending) (l, s))
@@ -70,7 +70,7 @@ heeds_quietly received was is from to unread steady pending = let restaged = ste
 pub heeds_none : {B L : Type 0} (received : L → Option (List ℕ)) (s : Slot B) (l : L) → Idles received s l s l
 heeds_none received s l = heeds_quietly received s s l l refl (same_stage s.connection s.connection refl) refl
 
-pub heeds_then : {B L : Type 0} (received : L → Option (List ℕ)) (was mid is : Slot B) (l m n : L) (a b : List Deed) → Heeds received was l mid m a → Heeds received mid m is n b → Heeds received was l is n (a ++ b)
+pub heeds_then : {B L : Type 0} (received : L → Option (List ℕ)) (was mid is : Slot B) (l m n : L) (a b : List Effect) → Heeds received was l mid m a → Heeds received mid m is n b → Heeds received was l is n (a ++ b)
 heeds_then received was mid is l m n a b first second = record {
   got = first.got ++ second.got;
   read = second.read ∙ ap (λ o. option_map (λ bytes. bytes ++ second.got) o) first.read ∙ more_bytes (received l) first.got second.got;
@@ -86,11 +86,11 @@ heeds_then received was mid is l m n a b first second = record {
 pub goes_then : {B L : Type 0} (sent : L → Option (List (List ℕ))) (received : L → Option (List ℕ)) (was mid is : Slot B) (s t u : SessionSeatValue) (l m n : L)
     → GoesOn sent received was s l mid t m → GoesOn sent received mid t m is u n → GoesOn sent received was s l is u n
 goes_then sent received was mid is s t u l m n a b = record {
-  deeds = a.deeds ++ b.deeds;
-  added = b.added ∙ ap (λ x. x ++ commands_of b.deeds) a.added ∙ append_assoc s.own (commands_of a.deeds) (commands_of b.deeds) ∙ ap (λ x. s.own ++ x) (sym (commands_append a.deeds b.deeds));
+  effects = a.effects ++ b.effects;
+  added = b.added ∙ ap (λ x. x ++ commands_of b.effects) a.added ∙ append_assoc s.own (commands_of a.effects) (commands_of b.effects) ∙ ap (λ x. s.own ++ x) (sym (commands_append a.effects b.effects));
   continues = joined was.connection.progress mid.connection.progress is.connection.progress s t u a.continues b.continues;
-  served = subst (λ frames. Served sent frames was l is n) (sym (told_append a.deeds b.deeds)) (served sent (told_of a.deeds) (told_of b.deeds) was mid is l m n a.served b.served);
-  heeds = heeds_then received was mid is l m n a.deeds b.deeds a.heeds b.heeds;
+  served = subst (λ frames. Served sent frames was l is n) (sym (told_append a.effects b.effects)) (served sent (told_of a.effects) (told_of b.effects) was mid is l m n a.served b.served);
+  heeds = heeds_then received was mid is l m n a.effects b.effects a.heeds b.heeds;
   halts = λ before h. b.halts (λ m. a.halts before m) h;
 }
 
@@ -101,7 +101,7 @@ stands p q s t same seat = subst (λ x. Continues p s x t) (sym same) (subst (λ
 -- where nothing is said, told or sent
 pub goes_quietly : {B L : Type 0} (sent : L → Option (List (List ℕ))) (received : L → Option (List ℕ)) (was is : Slot B) (s : SessionSeatValue) (l m : L) → Unserved sent was l is m → Idles received was l is m → GoesOn sent received was s l is s m
 goes_quietly sent received was is s l m u h = record {
-  deeds = [];
+  effects = [];
   added = sym (append-nil s.own);
   continues = stands was.connection.progress is.connection.progress s s u.progress refl;
   served = unserved sent was is l m u;
@@ -120,7 +120,7 @@ found_later s t mark seen no_less (inr far) = inr (omega (arith, far, no_less))
 pub goes_reading : {B L : Type 0} (sent : L → Option (List (List ℕ))) (received : L → Option (List ℕ)) (was is : Slot B) (s t : SessionSeatValue) (l m : L) (mark : ℕ)
     → StaysOrEnds was.connection.progress is.connection.progress → t ≡ with_seen s mark → s.seen ≤ t.seen → Served sent [] was l is m → Idles received was l is m → GoesOn sent received was s l is t m
 goes_reading sent received was is s t l m mark ends seen no_less served idles = record {
-  deeds = [];
+  effects = [];
   added = ap (λ (x : SessionSeatValue). x.own) seen ∙ sym (append-nil s.own);
   continues = reads_so was.connection.progress was.connection.progress is.connection.progress s s t mark (stays was.connection.progress s) ends seen;
   served = served;
@@ -129,19 +129,19 @@ goes_reading sent received was is s t l m mark ends seen no_less served idles = 
 }
 
 -- with what was wanted and done, and no bytes
-by_deeds : {B L : Type 0} (received : L → Option (List ℕ)) (was is : Slot B) (l m : L) (deeds : List Deed) → received m ≡ received l
-    → ((bytes : List ℕ) (before : List Deed) → LivesAt bytes before was → LivesAt bytes (before ++ deeds) is) → Heeds received was l is m deeds
-by_deeds received was is l m deeds unread lives = record {
+by_deeds : {B L : Type 0} (received : L → Option (List ℕ)) (was is : Slot B) (l m : L) (effects : List Effect) → received m ≡ received l
+    → ((bytes : List ℕ) (before : List Effect) → LivesAt bytes before was → LivesAt bytes (before ++ effects) is) → Heeds received was l is m effects
+by_deeds received was is l m effects unread lives = record {
   got = [];
   read = unread ∙ no_bytes (received l);
-  lives = λ bytes before x. subst (λ b. LivesAt b (before ++ deeds) is) (sym (append-nil bytes)) (lives bytes before x);
+  lives = λ bytes before x. subst (λ b. LivesAt b (before ++ effects) is) (sym (append-nil bytes)) (lives bytes before x);
 }
 
 -- the whole life of a connection
-pub did : {B : Type 0} (was is : Slot B) (got : List ℕ) (deeds : List Deed) → IsNew was → ((bytes : List ℕ) (before : List Deed) → LivesAt bytes before was → LivesAt (bytes ++ got) (before ++ deeds) is) → Did got deeds
-did was is got deeds anew lives =
+pub did : {B : Type 0} (was is : Slot B) (got : List ℕ) (effects : List Effect) → IsNew was → ((bytes : List ℕ) (before : List Effect) → LivesAt bytes before was → LivesAt (bytes ++ got) (before ++ effects) is) → Did got effects
+did was is got effects anew lives =
     let spends = spends_new was.connection (ap (λ (c : ConnectionValue). c.footprint) anew.connection) in
-    let both : LivesAt got deeds is =
+    let both : LivesAt got effects is =
     lives [] [] (subst (λ p. Lives [] [] was.connection (wanted_of p) × Spends [] was.connection (waiting_of p)) (sym anew.pending) (begins was.connection anew.connection, spends)) in
     let last = both.0 in record {
       heard = last.heard;
@@ -157,7 +157,7 @@ did was is got deeds anew lives =
       are_losses = last.are_losses;
       done = last.done;
       cut_for = last.cut_for;
-      within = within_less (ops_of (commands_of deeds)) (waiting_of is.pending) both.1.within;
+      within = within_less (ops_of (commands_of effects)) (waiting_of is.pending) both.1.within;
       left = act_of (wanted_of is.pending) ++ (last.left ++ all_of is.connection.acts);
       split = last.split;
       reached = last.reached;
@@ -229,11 +229,11 @@ heeds_bytes received was is from to got (Err e) listens none heard failed read p
 -- ── what is wanted ──
 
 -- where nothing waits
-none_waits : {B : Type 0} (bytes : List ℕ) (deeds : List Deed) (new : ConnectionValue) (p : Option (Pending B)) → p ≡ None → Lives bytes deeds new Rest → Spends deeds new [] → Lives bytes deeds new (wanted_of p) × Spends deeds new (waiting_of p)
-none_waits bytes deeds new p none l s = subst (λ x. Lives bytes deeds new (wanted_of x) × Spends deeds new (waiting_of x)) (sym none) (l, s)
+none_waits : {B : Type 0} (bytes : List ℕ) (effects : List Effect) (new : ConnectionValue) (p : Option (Pending B)) → p ≡ None → Lives bytes effects new Rest → Spends effects new [] → Lives bytes effects new (wanted_of p) × Spends effects new (waiting_of p)
+none_waits bytes effects new p none l s = subst (λ x. Lives bytes effects new (wanted_of x) × Spends effects new (waiting_of x)) (sym none) (l, s)
 
--- and no deed is added
-none_more_waits : {B : Type 0} (bytes : List ℕ) (before : List Deed) (new : ConnectionValue) (p : Option (Pending B)) → p ≡ None → Lives bytes before new Rest → Spends before new [] → Lives bytes (before ++ []) new (wanted_of p) × Spends (before ++ []) new (waiting_of p)
+-- and no effect is added
+none_more_waits : {B : Type 0} (bytes : List ℕ) (before : List Effect) (new : ConnectionValue) (p : Option (Pending B)) → p ≡ None → Lives bytes before new Rest → Spends before new [] → Lives bytes (before ++ []) new (wanted_of p) × Spends (before ++ []) new (waiting_of p)
 none_more_waits bytes before new p none l s = subst (λ d. Lives bytes d new (wanted_of p) × Spends d new (waiting_of p)) (sym (append-nil before)) (none_waits bytes before new p none l s)
 
 pub held_so : {B : Type 0} (old new : ConnectionValue) (p : Option (Pending B)) (pending : Pending B) → new ≡ old → p ≡ Some pending → LivesOn (Append pending.entry.command) (pending.entry.command.op ∷ []) old new p []
@@ -252,11 +252,11 @@ said_so old new p c ticket executes same none = λ bytes before l s.
     none_waits bytes (before ++ Said (ticket, c) ∷ []) new p none (says_it bytes before old new c ticket executes same l)
     (spends_said before old new c ticket executes (ap (λ (x : ConnectionValue). x.footprint) same) s)
 
-pub told_so : {B : Type 0} (old new : ConnectionValue) (p : Option (Pending B)) (frame : Frame) (deed : Deed) → Executes old.stage → Restaged old new → Tells frame deed → (HasTold new.stage → untold_of (deed ∷ []) ≡ []) → p ≡ None
-    → LivesOn (Tell frame) [] old new p (deed ∷ [])
-told_so old new p frame deed executes restaged tells none_untold none = λ bytes before l s.
-    none_waits bytes (before ++ deed ∷ []) new p none (tells_it bytes before old new frame deed restaged executes tells none_untold l)
-    (spends_as before (before ++ deed ∷ []) [] new (tells_none before frame deed tells) (spends_on before [] old new restaged.executes restaged.footprint s))
+pub told_so : {B : Type 0} (old new : ConnectionValue) (p : Option (Pending B)) (frame : Frame) (effect : Effect) → Executes old.stage → Restaged old new → Tells frame effect → (HasTold new.stage → untold_of (effect ∷ []) ≡ []) → p ≡ None
+    → LivesOn (Tell frame) [] old new p (effect ∷ [])
+told_so old new p frame effect executes restaged tells none_untold none = λ bytes before l s.
+    none_waits bytes (before ++ effect ∷ []) new p none (tells_it bytes before old new frame effect restaged executes tells none_untold l)
+    (spends_as before (before ++ effect ∷ []) [] new (tells_none before frame effect tells) (spends_on before [] old new restaged.executes restaged.footprint s))
 
 pub again_so : {B : Type 0} (old new : ConnectionValue) (p : Option (Pending B)) (wanted : Wanted) (act : Act) → Executes old.stage → old.acts.again ≡ None → act_of wanted ≡ act ∷ []
     → new ≡ record old { acts = record old.acts { again = Some act } } → p ≡ None → LivesOn wanted [] old new p []
@@ -265,11 +265,11 @@ again_so old new p wanted act executes first is_act same none = λ bytes before 
     (spends_on before [] old new (λ e. executes) (ap (λ (x : ConnectionValue). x.footprint) same) s)
 
 pub nothing_wanted : {B : Type 0} (wanted : Wanted) (old new : ConnectionValue) (p : Option (Pending B)) (waiting : List Op) (s t : SessionSeatValue) → t.own ≡ s.own → (HasHalted new.stage → HasHalted old.stage ⊎ FindsEnd t) → LivesOn wanted waiting old new p [] → DoesWanted wanted waiting old s new p t
-nothing_wanted wanted old new p waiting s t own halts lives = record { deeds = []; added = own ∙ sym (append-nil s.own); none_told = refl; halts = halts; lives = lives }
+nothing_wanted wanted old new p waiting s t own halts lives = record { effects = []; added = own ∙ sym (append-nil s.own); none_told = refl; halts = halts; lives = lives }
 
 pub said_it : {B : Type 0} (window : ℕ) (old new : ConnectionValue) (p : Option (Pending B)) (s t : SessionSeatValue) (c : CommandValue) (ticket : ℕ) → Executes old.stage → Appends window s t ticket c → new ≡ with_appended old (said_of c) ticket → p ≡ None
     → DoesWanted (Append c) (c.op ∷ []) old s new p t
-said_it window old new p s t c ticket executes a same none = record { deeds = Said (ticket, c) ∷ []; added = ap (λ (x : SessionSeatValue). x.own) a.added; none_told = refl; halts = λ h. inl (subst HasHalted (ap (λ (x : ConnectionValue). x.stage) same) h); lives = said_so old new p c ticket executes same none }
+said_it window old new p s t c ticket executes a same none = record { effects = Said (ticket, c) ∷ []; added = ap (λ (x : SessionSeatValue). x.own) a.added; none_told = refl; halts = λ h. inl (subst HasHalted (ap (λ (x : ConnectionValue). x.stage) same) h); lives = said_so old new p c ticket executes same none }
 
 pub said_some : {B : Type 0} (window : ℕ) (old new : ConnectionValue) (p : Option (Pending B)) (s t : SessionSeatValue) (c : CommandValue) (o : Option ℕ) (ticket : ℕ) → o ≡ Some ticket → Executes old.stage
     → IfSome o (λ n. Appends window s t n c × IsNext old.progress c × (new ≡ with_appended old (said_of c) n)) → p ≡ None → DoesWanted (Append c) (c.op ∷ []) old s new p t
@@ -319,7 +319,7 @@ pub charged_so : {B : Type 0} (old mid new : ConnectionValue) (p : Option (Pendi
 charged_so {B} old mid new p s t c d executes fits counted command does =
     let own : DoesWanted (Append c) (c.op ∷ []) mid s new p t =
     subst (λ (x : CommandValue). DoesWanted {B = B} (Append x) (x.op ∷ []) mid s new p t) command (does (subst Executes (sym (ap (λ (x : ConnectionValue). x.stage) counted)) executes)) in record {
-      deeds = own.deeds;
+      effects = own.effects;
       added = own.added;
       none_told = own.none_told;
       halts = λ h. elim (own.halts h) [ inl before ↦ inl (subst HasHalted (ap (λ (x : ConnectionValue). x.stage) counted) before) | inr found ↦ inr found ];
@@ -328,21 +328,21 @@ charged_so {B} old mid new p s t c d executes fits counted command does =
           (spends_charged before old mid c.op executes fits (ap (λ (x : ConnectionValue). x.footprint) counted) spends);
     }
 
-spending : {B : Type 0} (before : List Deed) (c : ConnectionValue) (p : Option (Pending B)) → p ≡ None → Spends before c (waiting_of p) → Spends before c []
+spending : {B : Type 0} (before : List Effect) (c : ConnectionValue) (p : Option (Pending B)) → p ≡ None → Spends before c (waiting_of p) → Spends before c []
 spending before c p none s = subst (λ x. Spends before c (waiting_of x)) none s
 
-wanting : {B : Type 0} (bytes : List ℕ) (before : List Deed) (c : ConnectionValue) (p : Option (Pending B)) → p ≡ None → Lives bytes before c (wanted_of p) → Lives bytes before c Rest
+wanting : {B : Type 0} (bytes : List ℕ) (before : List Effect) (c : ConnectionValue) (p : Option (Pending B)) → p ≡ None → Lives bytes before c (wanted_of p) → Lives bytes before c Rest
 wanting bytes before c p none l = subst (λ x. Lives bytes before c (wanted_of x)) none l
 
 -- the command of an entry that waited, or the next that was wanted
-goes_doing : {B L : Type 0} (sent : L → Option (List (List ℕ))) (received : L → Option (List ℕ)) (was is : Slot B) (s t : SessionSeatValue) (l : L) (deeds : List Deed) → t.own ≡ s.own ++ commands_of deeds → told_of deeds ≡ []
-    → Continues was.connection.progress s is.connection.progress t → Stays was is → ((bytes : List ℕ) (before : List Deed) → LivesAt bytes before was → LivesAt bytes (before ++ deeds) is) → (HasHalted is.connection.stage → FindsEnd t) → GoesOn sent received was s l is t l
-goes_doing sent received was is s t l deeds added none_told continues same lives halts = record {
-  deeds = deeds;
+goes_doing : {B L : Type 0} (sent : L → Option (List (List ℕ))) (received : L → Option (List ℕ)) (was is : Slot B) (s t : SessionSeatValue) (l : L) (effects : List Effect) → t.own ≡ s.own ++ commands_of effects → told_of effects ≡ []
+    → Continues was.connection.progress s is.connection.progress t → Stays was is → ((bytes : List ℕ) (before : List Effect) → LivesAt bytes before was → LivesAt bytes (before ++ effects) is) → (HasHalted is.connection.stage → FindsEnd t) → GoesOn sent received was s l is t l
+goes_doing sent received was is s t l effects added none_told continues same lives halts = record {
+  effects = effects;
   added = added;
   continues = continues;
   served = subst (λ frames. Served sent frames was l is l) (sym none_told) (quiet sent was is l l same refl);
-  heeds = by_deeds received was is l l deeds refl lives;
+  heeds = by_deeds received was is l l effects refl lives;
   halts = λ before h. halts h;
 }
 
@@ -355,7 +355,7 @@ pub goes_wanted : {B L : Type 0} (sent : L → Option (List (List ℕ))) (receiv
     → Continues mid.connection.progress s is.connection.progress t → Stays mid is → DoesWanted wanted [] mid.connection s is.connection is.pending t → GoesOn sent received was s l is t l
 goes_wanted sent received was mid is s t l wanted executes still_so none w outbox kept continues same d =
     let progress = wants_no_other was.connection mid.connection wanted w in
-    goes_doing sent received was is s t l d.deeds d.added d.none_told (subst (λ p. Continues p s is.connection.progress t) progress continues) (restay was mid is progress outbox kept same)
+    goes_doing sent received was is s t l d.effects d.added d.none_told (subst (λ p. Continues p s is.connection.progress t) progress continues) (restay was mid is progress outbox kept same)
     (λ bytes before x. d.lives bytes before (wants_next bytes before was.connection mid.connection wanted executes w (wanting bytes before was.connection was.pending none x.0))
     (spends_wanted before [] was.connection mid.connection wanted executes w (spending before was.connection was.pending none x.1)))
     (λ h. only_found mid.connection.stage t still_so (d.halts h))
@@ -365,7 +365,7 @@ pub goes_pending : {B L : Type 0} (sent : L → Option (List (List ℕ))) (recei
     → DoesWanted (Append pending.entry.command) (pending.entry.command.op ∷ []) mid.connection s is.connection is.pending t → GoesOn sent received was s l is t l
 goes_pending sent received was mid is s t l pending executes some connection outbox kept continues same d =
     let progress = ap (λ (c : ConnectionValue). c.progress) connection in
-    goes_doing sent received was is s t l d.deeds d.added d.none_told (subst (λ p. Continues p s is.connection.progress t) progress continues) (restay was mid is progress outbox kept same)
+    goes_doing sent received was is s t l d.effects d.added d.none_told (subst (λ p. Continues p s is.connection.progress t) progress continues) (restay was mid is progress outbox kept same)
     (λ bytes before x. d.lives bytes before (subst (λ c. Lives bytes before c (Append pending.entry.command)) (sym connection) (subst (λ p. Lives bytes before was.connection (wanted_of p)) some x.0))
     (subst (λ c. Spends before c (pending.entry.command.op ∷ [])) (sym connection) (subst (λ p. Spends before was.connection (waiting_of p)) some x.1)))
     (λ h. only_found mid.connection.stage t (subst (λ (c : ConnectionValue). Executes c.stage) (sym connection) executes) (d.halts h))
@@ -375,17 +375,17 @@ pub goes_telling : {B L : Type 0} (sent : L → Option (List (List ℕ))) (recei
     → Wants was.connection mid.connection (Tell frame) → mid.outbox ≡ was.outbox → mid.kept ≡ was.kept → received m ≡ received l → StaysOrEnds mid.connection.progress is.connection.progress → TellsIt sent frame mid l is m → GoesOn sent received was s l is s m
 goes_telling sent received was mid is s l m frame executes still_so none w outbox kept unread same t =
     let progress = wants_no_other was.connection mid.connection (Tell frame) w in record {
-      deeds = t.deeds;
+      effects = t.effects;
       added = sym (append-nil s.own) ∙ ap (λ x. s.own ++ x) (sym t.none_said);
       continues = ends_so was.connection.progress was.connection.progress is.connection.progress s s (stays was.connection.progress s) (subst (λ p. StaysOrEnds p is.connection.progress) progress same);
-      served = reserve sent (told_of t.deeds) was mid is l m progress outbox kept t.served;
-      heeds = by_deeds received was is l m t.deeds unread
+      served = reserve sent (told_of t.effects) was mid is l m progress outbox kept t.served;
+      heeds = by_deeds received was is l m t.effects unread
           (λ bytes before x. t.lives still_so bytes before (wants_next bytes before was.connection mid.connection (Tell frame) executes w (wanting bytes before was.connection was.pending none x.0))
           (spends_wanted before [] was.connection mid.connection (Tell frame) executes w (spending before was.connection was.pending none x.1)));
       halts = λ before h. absurd (not_halted mid.connection.stage still_so (t.halts still_so h));
     }
 
-done_rest : (bytes : List ℕ) (before : List Deed) (c : ConnectionValue) → Lives bytes before c Done → Lives bytes before c Rest
+done_rest : (bytes : List ℕ) (before : List Effect) (c : ConnectionValue) → Lives bytes before c Done → Lives bytes before c Rest
 done_rest bytes before c l = record {
   heard = l.heard;
   unheard = l.unheard;
@@ -466,7 +466,7 @@ pub tells_told : {B L : Type 0} (sent : L → Option (List (List ℕ))) (frame :
     → Served sent (frame ∷ []) was l is m → TellsIt sent frame was l is m
 tells_told sent frame was is l m none pending steady s = record {
   halts = λ executes. (steady executes).halts;
-  deeds = Told frame ∷ [];
+  effects = Told frame ∷ [];
   none_said = refl;
   served = s;
   lives = λ executes. told_so was.connection is.connection is.pending frame (Told frame) executes (steady executes).restaged (inl refl) (λ t. refl) (pending ∙ none);
@@ -476,11 +476,11 @@ pub tells_nobody : {B L : Type 0} (sent : L → Option (List (List ℕ))) (frame
     → (Executes was.connection.stage → HasTold is.connection.stage → ⊥) → Served sent [] was l is m → TellsIt sent frame was l is m
 tells_nobody sent frame was is l m none pending steady over s = record {
   halts = λ executes. steady.halts;
-  deeds = Untold frame ∷ [];
+  effects = Untold frame ∷ [];
   none_said = refl;
   served = s;
   lives = λ executes. told_so was.connection is.connection is.pending frame (Untold frame) executes steady.restaged (inr refl) (λ t. absurd (over executes t)) (pending ∙ none);
 }
 
 pub tells_later : {B L : Type 0} (sent : L → Option (List (List ℕ))) (frame : Frame) (was is : Slot B) (l m : L) → Served sent [] was l is m → (HasHalted is.connection.stage → HasHalted was.connection.stage) → (Executes was.connection.stage → LivesOn (Tell frame) [] was.connection is.connection is.pending []) → TellsIt sent frame was l is m
-tells_later sent frame was is l m s halts lives = record { halts = λ executes. halts; deeds = []; none_said = refl; served = s; lives = lives }
+tells_later sent frame was is l m s halts lives = record { halts = λ executes. halts; effects = []; none_said = refl; served = s; lives = lives }

@@ -17,7 +17,7 @@ use Rattle.connection_core.specs.Connections.{ConnectionValue, HearsBytes, IsLos
 use Rattle.connection_core.specs.Conversations.{IsDone, IsFinished, IsNext, after, asked, is_farewell, over, role_of, said_of}
 use Rattle.connection_core.specs.Footprints.{footprint}
 use Rattle.connection_core.specs.declared.footprint.TheConstants.{SESSION_BYTES}
-use Rattle.connection_core.specs.Lives.{HasHeard}
+use Rattle.connection_core.specs.Histories.{HasHeard}
 use Rattle.connection_core.specs.Stages.{Executes, IsEnding, IsOwnEnd, given_up, lost, parted, rested, stopped}
 use Rattle.connection_core.specs.Tasks.{Tasks, all_of}
 use Rattle.connection_core.specs.declared.ended.Ended.{Ended}
@@ -35,8 +35,8 @@ use Rattle.claim_core.specs.Counts.{Pair}
 use Rattle.connection_core.proofs.Footprints.{nothing_by_end}
 use Rattle.connection_core.proofs.Living.{hears_on, lost_or_not, lost_runs, nothing_heard_yet, still_runs}
 use Rattle.desk_core.specs.Conversations.{StaysOrEnds}
-use Rattle.desk_core.specs.Deeds.{Deed, Does, Said, Tells, commands_of, untold_of}
-use Rattle.desk_core.specs.Lives.{HasTold, IsAsked, IsBad, IsLast, IsLoss, Lives, Restaged, Steady, act_of}
+use Rattle.desk_core.specs.Effects.{Effect, Does, Said, Tells, commands_of, untold_of}
+use Rattle.desk_core.specs.Histories.{HasTold, IsAsked, IsBad, IsLast, IsLoss, Lives, Restaged, Steady, act_of}
 use Rattle.desk_core.specs.Halting.{HasHalted, IsStopped}
 use Rattle.desk_core.specs.Spending.{IsCut, ops_of}
 use Rattle.desk_core.proofs.Doing.{IsSilent, commands_append, does_say, does_silent, does_tell, none_more}
@@ -120,8 +120,8 @@ goes_on_then (Parting ended) e i = e
 goes_on_then (Over ended) e i = e
 
 -- with bytes that came and were not heard, where it does not run
-pub restages : (bytes got : List ℕ) (deeds : List Deed) (old new : ConnectionValue) (wanted : Wanted) → Restaged old new → (new.stage ≡ Running → got ≡ []) → Lives bytes deeds old wanted → Lives (bytes ++ got) deeds new wanted
-restages bytes got deeds old new wanted r none l = record {
+pub restages : (bytes got : List ℕ) (effects : List Effect) (old new : ConnectionValue) (wanted : Wanted) → Restaged old new → (new.stage ≡ Running → got ≡ []) → Lives bytes effects old wanted → Lives (bytes ++ got) effects new wanted
+restages bytes got effects old new wanted r none l = record {
   heard = l.heard;
   unheard = l.unheard ++ got;
   whole = ap (λ b. b ++ got) l.whole ∙ append_assoc l.heard l.unheard got;
@@ -153,11 +153,11 @@ restages bytes got deeds old new wanted r none l = record {
   ended = r.ended l.last l.ended;
 }
 
-as_bytes : (bytes : List ℕ) (deeds : List Deed) (c : ConnectionValue) (wanted : Wanted) → Lives (bytes ++ []) deeds c wanted → Lives bytes deeds c wanted
-as_bytes bytes deeds c wanted l = subst (λ b. Lives b deeds c wanted) (append-nil bytes) l
+as_bytes : (bytes : List ℕ) (effects : List Effect) (c : ConnectionValue) (wanted : Wanted) → Lives (bytes ++ []) effects c wanted → Lives bytes effects c wanted
+as_bytes bytes effects c wanted l = subst (λ b. Lives b effects c wanted) (append-nil bytes) l
 
-pub restays : (bytes : List ℕ) (deeds : List Deed) (old new : ConnectionValue) (wanted : Wanted) → Restaged old new → Lives bytes deeds old wanted → Lives bytes deeds new wanted
-restays bytes deeds old new wanted r l = as_bytes bytes deeds new wanted (restages bytes [] deeds old new wanted r (λ run. refl) l)
+pub restays : (bytes : List ℕ) (effects : List Effect) (old new : ConnectionValue) (wanted : Wanted) → Restaged old new → Lives bytes effects old wanted → Lives bytes effects new wanted
+restays bytes effects old new wanted r l = as_bytes bytes effects new wanted (restages bytes [] effects old new wanted r (λ run. refl) l)
 
 -- by the stage alone
 pub by_stage : (old : ConnectionValue) (stage : Stage) → (stage ≡ Running → old.stage ≡ Running) → (HasTold stage → HasTold old.stage) → (Executes stage → Executes old.stage) → (IsEnding stage → IsEnding old.stage)
@@ -180,8 +180,8 @@ as_restaged old new it is r = subst (λ x. Restaged old x) (sym is) r
 
 -- ── it hears ──
 
-pub hears_more : (bytes got : List ℕ) (deeds : List Deed) (old new : ConnectionValue) → Listens old → HearsBytes old got new → Lives bytes deeds old Rest → Lives (bytes ++ got) deeds new Rest
-hears_more bytes got deeds old new listens is l = record {
+pub hears_more : (bytes got : List ℕ) (effects : List Effect) (old new : ConnectionValue) → Listens old → HearsBytes old got new → Lives bytes effects old Rest → Lives (bytes ++ got) effects new Rest
+hears_more bytes got effects old new listens is l = record {
   heard = l.heard ++ got;
   unheard = [];
   whole = ap (λ b. b ++ got) (l.whole ∙ ap (λ u. l.heard ++ u) (l.none_unheard runs) ∙ append-nil l.heard) ∙ sym (append-nil (l.heard ++ got));
@@ -281,9 +281,9 @@ cut_end asked cut done others losses said ticket c are_losses split (inr k) =
           (subst (λ n. SESSION_BYTES < n) (sym (nothing_by_end (ops_of said) ends.Lost k.op)) k.passes);
     }
 
-pub tells_none : (deeds : List Deed) (frame : Frame) (deed : Deed) → Tells frame deed → commands_of (deeds ++ deed ∷ []) ≡ commands_of deeds
-tells_none deeds frame deed (inl told) = commands_append deeds (deed ∷ []) ∙ ap (λ d. commands_of deeds ++ commands_of (d ∷ [])) told ∙ append-nil (commands_of deeds)
-tells_none deeds frame deed (inr untold) = commands_append deeds (deed ∷ []) ∙ ap (λ d. commands_of deeds ++ commands_of (d ∷ [])) untold ∙ append-nil (commands_of deeds)
+pub tells_none : (effects : List Effect) (frame : Frame) (effect : Effect) → Tells frame effect → commands_of (effects ++ effect ∷ []) ≡ commands_of effects
+tells_none effects frame effect (inl told) = commands_append effects (effect ∷ []) ∙ ap (λ d. commands_of effects ++ commands_of (d ∷ [])) told ∙ append-nil (commands_of effects)
+tells_none effects frame effect (inr untold) = commands_append effects (effect ∷ []) ∙ ap (λ d. commands_of effects ++ commands_of (d ∷ [])) untold ∙ append-nil (commands_of effects)
 
 never_next : (p : Progress) (c : CommandValue) → IsFinished p → IsNext p c → ⊥
 never_next New c f next = f
@@ -317,8 +317,8 @@ done_further : (all losses done others : List Act) (act : Act) → all ++ losses
 done_further all losses done others act split = split ∙ sym (append_assoc done (act ∷ []) others)
 
 -- what stands behind the next act
-record Next (bytes : List ℕ) (deeds : List Deed) (old new : ConnectionValue) (act : Act) : Type 0 where
-  lives : Lives bytes deeds old Rest
+record Next (bytes : List ℕ) (effects : List Effect) (old new : ConnectionValue) (act : Act) : Type 0 where
+  lives : Lives bytes effects old Rest
   losses : List Act
   are_losses : AllByRecursion IsLoss losses
   split : lives.asked_for ++ losses ≡ lives.done ++ (act ∷ [] ++ ([] ++ all_of new.acts))
@@ -332,9 +332,9 @@ record Next (bytes : List ℕ) (deeds : List Deed) (old new : ConnectionValue) (
   last : IsLast new
   ended : IsEnding new.stage → IsDone new.progress
 
-wants_it : (bytes : List ℕ) (deeds : List Deed) (old new : ConnectionValue) (act : Act) (wanted : Wanted) → Next bytes deeds old new act → act_of wanted ≡ act ∷ [] → ((p : Progress) → p ≡ old.progress → IsAsked p wanted) → old.progress ≡ new.progress
-    → Lives bytes deeds new wanted
-wants_it bytes deeds old new act wanted n is asked_for same = record {
+wants_it : (bytes : List ℕ) (effects : List Effect) (old new : ConnectionValue) (act : Act) (wanted : Wanted) → Next bytes effects old new act → act_of wanted ≡ act ∷ [] → ((p : Progress) → p ≡ old.progress → IsAsked p wanted) → old.progress ≡ new.progress
+    → Lives bytes effects new wanted
+wants_it bytes effects old new act wanted n is asked_for same = record {
   heard = n.lives.heard;
   unheard = n.lives.unheard;
   whole = n.lives.whole;
@@ -366,9 +366,9 @@ wants_it bytes deeds old new act wanted n is asked_for same = record {
   ended = n.ended;
 }
 
-passes_it : (bytes : List ℕ) (deeds : List Deed) (old new : ConnectionValue) (act : Act) (wanted : Wanted) → Next bytes deeds old new act → act_of wanted ≡ [] → ((p : Progress) → IsAsked p wanted) → ((p : Progress) → p ≡ old.progress → IsSilent p act) → old.progress ≡ new.progress
-    → Lives bytes deeds new wanted
-passes_it bytes deeds old new act wanted n is asked_for silent same = record {
+passes_it : (bytes : List ℕ) (effects : List Effect) (old new : ConnectionValue) (act : Act) (wanted : Wanted) → Next bytes effects old new act → act_of wanted ≡ [] → ((p : Progress) → IsAsked p wanted) → ((p : Progress) → p ≡ old.progress → IsSilent p act) → old.progress ≡ new.progress
+    → Lives bytes effects new wanted
+passes_it bytes effects old new act wanted n is asked_for silent same = record {
   heard = n.lives.heard;
   unheard = n.lives.unheard;
   whole = n.lives.whole;
@@ -381,11 +381,11 @@ passes_it bytes deeds old new act wanted n is asked_for silent same = record {
   losses = n.losses;
   are_losses = n.are_losses;
   done = n.lives.done ++ act ∷ [];
-  cut_for = cut_more n.lives.asked_for n.lives.cut n.lives.done (act ∷ []) (commands_of deeds) (commands_of deeds) refl n.lives.cut_for;
+  cut_for = cut_more n.lives.asked_for n.lives.cut n.lives.done (act ∷ []) (commands_of effects) (commands_of effects) refl n.lives.cut_for;
   left = [];
   split = done_further n.lives.asked_for n.losses n.lives.done (all_of new.acts) act n.split ∙ ap (λ l. (n.lives.done ++ act ∷ []) ++ (l ++ ([] ++ all_of new.acts))) (sym is);
   reached = n.lives.reached;
-  does = does_silent New n.lives.done deeds n.lives.reached act n.lives.does (silent n.lives.reached (sym n.progress ∙ sym same));
+  does = does_silent New n.lives.done effects n.lives.reached act n.lives.does (silent n.lives.reached (sym n.progress ∙ sym same));
   none_untold = λ t. n.lives.none_untold (n.told t);
   none_unheard = n.none_unheard;
   none_lost = n.none_lost;
@@ -401,20 +401,20 @@ passes_it bytes deeds old new act wanted n is asked_for silent same = record {
 }
 
 -- by what an act asks for
-by_act : (bytes : List ℕ) (deeds : List Deed) (old new : ConnectionValue) (act : Act) (wanted : Wanted) → Next bytes deeds old new act → WantsBy old new (Some act) wanted → old.progress ≡ new.progress → Lives bytes deeds new wanted
-by_act bytes deeds old new (Do op receipt) (Append c) n by same =
+by_act : (bytes : List ℕ) (effects : List Effect) (old new : ConnectionValue) (act : Act) (wanted : Wanted) → Next bytes effects old new act → WantsBy old new (Some act) wanted → old.progress ≡ new.progress → Lives bytes effects new wanted
+by_act bytes effects old new (Do op receipt) (Append c) n by same =
     let asks : c ≡ asked old.progress op receipt = by.0.0 in
-    wants_it bytes deeds old new (Do op receipt) (Append c) n (ap (λ (x : CommandValue). Do x.op x.receipt ∷ []) asks)
+    wants_it bytes effects old new (Do op receipt) (Append c) n (ap (λ (x : CommandValue). Do x.op x.receipt ∷ []) asks)
     (λ p e. subst (λ q. IsAsked q (Append c)) (sym e) (by.0.1, subst (λ (x : CommandValue). x ≡ asked old.progress x.op x.receipt) (sym asks) refl)) same
-by_act bytes deeds old new (Do op receipt) (Tell frame) n by same = absurd by.0
-by_act bytes deeds old new (Do op receipt) Done n by same = passes_it bytes deeds old new (Do op receipt) Done n refl (λ p. tt) (λ p e. subst (λ q. IsNext q (asked q op receipt) → ⊥) (sym e) by.0) same
-by_act bytes deeds old new (Do op receipt) Rest n by same = absurd by.0
-by_act bytes deeds old new (Direct frame) wanted n by same = subst (λ w. Lives bytes deeds new w) (sym by.0) (wants_it bytes deeds old new (Direct frame) (Tell frame) n refl (λ p e. tt) same)
-by_act bytes deeds old new (Close code) wanted n by same = subst (λ w. Lives bytes deeds new w) (sym by.0) (passes_it bytes deeds old new (Close code) Done n refl (λ p. tt) (λ p e. tt) same)
+by_act bytes effects old new (Do op receipt) (Tell frame) n by same = absurd by.0
+by_act bytes effects old new (Do op receipt) Done n by same = passes_it bytes effects old new (Do op receipt) Done n refl (λ p. tt) (λ p e. subst (λ q. IsNext q (asked q op receipt) → ⊥) (sym e) by.0) same
+by_act bytes effects old new (Do op receipt) Rest n by same = absurd by.0
+by_act bytes effects old new (Direct frame) wanted n by same = subst (λ w. Lives bytes effects new w) (sym by.0) (wants_it bytes effects old new (Direct frame) (Tell frame) n refl (λ p e. tt) same)
+by_act bytes effects old new (Close code) wanted n by same = subst (λ w. Lives bytes effects new w) (sym by.0) (passes_it bytes effects old new (Close code) Done n refl (λ p. tt) (λ p e. tt) same)
 
-first_next : (bytes : List ℕ) (deeds : List Deed) (old new : ConnectionValue) (act : Act) (others : List Act) → Lives bytes deeds old Rest → Executes old.stage → all_of old.acts ≡ act ∷ others → all_of new.acts ≡ others → new.session ≡ old.session
-    → (new.stage ≡ Running → old.stage ≡ Running) → (HasTold new.stage → HasTold old.stage) → new.progress ≡ old.progress → new.last ≡ old.last → (IsEnding new.stage → IsDone old.progress) → Next bytes deeds old new act
-first_next bytes deeds old new act others l executes first now session runs told progress last ended = record {
+first_next : (bytes : List ℕ) (effects : List Effect) (old new : ConnectionValue) (act : Act) (others : List Act) → Lives bytes effects old Rest → Executes old.stage → all_of old.acts ≡ act ∷ others → all_of new.acts ≡ others → new.session ≡ old.session
+    → (new.stage ≡ Running → old.stage ≡ Running) → (HasTold new.stage → HasTold old.stage) → new.progress ≡ old.progress → new.last ≡ old.last → (IsEnding new.stage → IsDone old.progress) → Next bytes effects old new act
+first_next bytes effects old new act others l executes first now session runs told progress last ended = record {
   lives = l;
   losses = l.losses;
   are_losses = l.are_losses;
@@ -430,9 +430,9 @@ first_next bytes deeds old new act others l executes first now session runs told
   ended = λ e. subst IsDone (sym progress) (ended e);
 }
 
-loss_next : (bytes : List ℕ) (deeds : List Deed) (old new : ConnectionValue) (act : Act) → Lives bytes deeds old Rest → Executes old.stage → IsLoss act → all_of old.acts ≡ [] → all_of new.acts ≡ []
-    → (new.stage ≡ Running → ⊥) → (HasTold new.stage → HasTold old.stage) → new.progress ≡ old.progress → new.last ≡ old.last → (IsEnding new.stage → IsDone old.progress) → Next bytes deeds old new act
-loss_next bytes deeds old new act l executes loss none now lost told progress last ended = record {
+loss_next : (bytes : List ℕ) (effects : List Effect) (old new : ConnectionValue) (act : Act) → Lives bytes effects old Rest → Executes old.stage → IsLoss act → all_of old.acts ≡ [] → all_of new.acts ≡ []
+    → (new.stage ≡ Running → ⊥) → (HasTold new.stage → HasTold old.stage) → new.progress ≡ old.progress → new.last ≡ old.last → (IsEnding new.stage → IsDone old.progress) → Next bytes effects old new act
+loss_next bytes effects old new act l executes loss none now lost told progress last ended = record {
   lives = l;
   losses = l.losses ++ act ∷ [];
   are_losses = all_append IsLoss l.losses (act ∷ []) l.are_losses (loss, tt);
@@ -450,9 +450,9 @@ loss_next bytes deeds old new act l executes loss none now lost told progress la
 }
 
 -- nothing was next
-rests_so : (bytes : List ℕ) (deeds : List Deed) (old new : ConnectionValue) (wanted : Wanted) → Lives bytes deeds old Rest → Executes old.stage → WantsBy old new None wanted → all_of old.acts ≡ [] → all_of new.acts ≡ []
-    → (new.stage ≡ Running → (old.stage ≡ Running) × (new.session ≡ old.session)) → (HasTold new.stage → HasTold old.stage) → new.progress ≡ old.progress → new.last ≡ old.last → (IsEnding new.stage → IsDone old.progress) → Lives bytes deeds new wanted
-rests_so bytes deeds old new wanted l executes by none now runs told progress last ended = subst (λ w. Lives bytes deeds new w) (sym by.0) record {
+rests_so : (bytes : List ℕ) (effects : List Effect) (old new : ConnectionValue) (wanted : Wanted) → Lives bytes effects old Rest → Executes old.stage → WantsBy old new None wanted → all_of old.acts ≡ [] → all_of new.acts ≡ []
+    → (new.stage ≡ Running → (old.stage ≡ Running) × (new.session ≡ old.session)) → (HasTold new.stage → HasTold old.stage) → new.progress ≡ old.progress → new.last ≡ old.last → (IsEnding new.stage → IsDone old.progress) → Lives bytes effects new wanted
+rests_so bytes effects old new wanted l executes by none now runs told progress last ended = subst (λ w. Lives bytes effects new w) (sym by.0) record {
   heard = l.heard;
   unheard = l.unheard;
   whole = l.whole;
@@ -542,8 +542,8 @@ none_lost_yet old new act t none lost = by_list (all_of old.acts) refl
     by_list (one ∷ others) e = absurd (let never : None ≡ Some one = sym none ∙ (t.first one others e).0 in cc)
     by_list [] e = loss_none old.progress (sym (t.loss e lost).0 ∙ none)
 
-pub wants_next : (bytes : List ℕ) (deeds : List Deed) (old new : ConnectionValue) (wanted : Wanted) → Executes old.stage → Wants old new wanted → Lives bytes deeds old Rest → Lives bytes deeds new wanted
-wants_next bytes deeds old new wanted executes w l = by_list (all_of old.acts) refl
+pub wants_next : (bytes : List ℕ) (effects : List Effect) (old new : ConnectionValue) (wanted : Wanted) → Executes old.stage → Wants old new wanted → Lives bytes effects old Rest → Lives bytes effects new wanted
+wants_next bytes effects old new wanted executes w l = by_list (all_of old.acts) refl
   where
     progress : new.progress ≡ old.progress
     progress = ap (λ (c : ConnectionValue). c.progress) w.taken.same
@@ -560,38 +560,38 @@ wants_next bytes deeds old new wanted executes w l = by_list (all_of old.acts) r
     ended : IsEnding new.stage → IsDone old.progress
     ended = still_ends old new w.act wanted executes w.asked_for (none_lost_yet old (record new { stage = old.stage }) w.act w.taken)
 
-    rests : all_of old.acts ≡ [] → all_of new.acts ≡ [] → (new.stage ≡ Running → ⊥) → w.act ≡ None → Lives bytes deeds new wanted
-    rests none now lost is = rests_so bytes deeds old new wanted l executes (subst (λ a. WantsBy old new a wanted) is w.asked_for) none now (λ r. absurd (lost r)) told progress last ended
+    rests : all_of old.acts ≡ [] → all_of new.acts ≡ [] → (new.stage ≡ Running → ⊥) → w.act ≡ None → Lives bytes effects new wanted
+    rests none now lost is = rests_so bytes effects old new wanted l executes (subst (λ a. WantsBy old new a wanted) is w.asked_for) none now (λ r. absurd (lost r)) told progress last ended
 
-    by_loss : (p : Progress) → all_of old.acts ≡ [] → all_of new.acts ≡ [] → (new.stage ≡ Running → ⊥) → w.act ≡ loss_of p → Lives bytes deeds new wanted
+    by_loss : (p : Progress) → all_of old.acts ≡ [] → all_of new.acts ≡ [] → (new.stage ≡ Running → ⊥) → w.act ≡ loss_of p → Lives bytes effects new wanted
     by_loss New none now lost is = rests none now lost is
     by_loss (Open number) none now lost is =
-        by_act bytes deeds old new (Do (ops.End ends.Lost) None) wanted (loss_next bytes deeds old new (Do (ops.End ends.Lost) None) l executes refl none now lost told progress last ended)
+        by_act bytes effects old new (Do (ops.End ends.Lost) None) wanted (loss_next bytes effects old new (Do (ops.End ends.Lost) None) l executes refl none now lost told progress last ended)
         (subst (λ a. WantsBy old new a wanted) is w.asked_for) (sym progress)
     by_loss (Finished number) none now lost is = rests none now lost is
     by_loss Gone none now lost is = rests none now lost is
 
-    by_list : (a : List Act) → all_of old.acts ≡ a → Lives bytes deeds new wanted
+    by_list : (a : List Act) → all_of old.acts ≡ a → Lives bytes effects new wanted
     by_list (act ∷ others) e =
         let is = w.taken.first act others e in
-        by_act bytes deeds old new act wanted (first_next bytes deeds old new act others l executes e is.1 is.2 runs told progress last ended) (subst (λ a. WantsBy old new a wanted) is.0 w.asked_for) (sym progress)
+        by_act bytes effects old new act wanted (first_next bytes effects old new act others l executes e is.1 is.2 runs told progress last ended) (subst (λ a. WantsBy old new a wanted) is.0 w.asked_for) (sym progress)
     by_list [] e = elim (lost_or_not old.stage) [
       | inl lost ↦
           let is = w.taken.loss e lost in
           by_loss old.progress e is.1 (λ r. lost_runs old.stage lost (runs r)) is.0
       | inr goes ↦
           let is = w.taken.none e goes in
-          rests_so bytes deeds old new wanted l executes (subst (λ a. WantsBy old new a wanted) is.0 w.asked_for) e is.1 (λ r. (runs r, is.2)) told progress last ended
+          rests_so bytes effects old new wanted l executes (subst (λ a. WantsBy old new a wanted) is.0 w.asked_for) e is.1 (λ r. (runs r, is.2)) told progress last ended
     ]
 
 -- ── what is wanted is done ──
 
-pub says_it : (bytes : List ℕ) (deeds : List Deed) (old new : ConnectionValue) (c : CommandValue) (ticket : ℕ) → Executes old.stage → new ≡ with_appended old (said_of c) ticket → Lives bytes deeds old (Append c)
-    → Lives bytes (deeds ++ Said (ticket, c) ∷ []) new Rest
-says_it bytes deeds old new c ticket executes is l =
+pub says_it : (bytes : List ℕ) (effects : List Effect) (old new : ConnectionValue) (c : CommandValue) (ticket : ℕ) → Executes old.stage → new ≡ with_appended old (said_of c) ticket → Lives bytes effects old (Append c)
+    → Lives bytes (effects ++ Said (ticket, c) ∷ []) new Rest
+says_it bytes effects old new c ticket executes is l =
     let next = l.next executes in
     let command : c ≡ asked l.reached c.op c.receipt = next.1 in
-    subst (λ x. Lives bytes (deeds ++ Said (ticket, c) ∷ []) x Rest) (sym is) record {
+    subst (λ x. Lives bytes (effects ++ Said (ticket, c) ∷ []) x Rest) (sym is) record {
       heard = l.heard;
       unheard = l.unheard;
       whole = l.whole;
@@ -604,14 +604,14 @@ says_it bytes deeds old new c ticket executes is l =
       losses = l.losses;
       are_losses = l.are_losses;
       done = l.done ++ Do c.op c.receipt ∷ [];
-      cut_for = subst (λ said. IsCut l.asked_for l.cut (l.done ++ Do c.op c.receipt ∷ []) said) (sym (commands_append deeds (Said (ticket, c) ∷ [])))
-          (cut_end l.asked_for l.cut l.done (l.left ++ all_of old.acts) l.losses (commands_of deeds) ticket c l.are_losses l.split l.cut_for);
+      cut_for = subst (λ said. IsCut l.asked_for l.cut (l.done ++ Do c.op c.receipt ∷ []) said) (sym (commands_append effects (Said (ticket, c) ∷ [])))
+          (cut_end l.asked_for l.cut l.done (l.left ++ all_of old.acts) l.losses (commands_of effects) ticket c l.are_losses l.split l.cut_for);
       left = l.left;
       split = l.split ∙ sym (append_assoc l.done (Do c.op c.receipt ∷ []) (l.left ++ all_of old.acts));
       reached = after l.reached (role_of c.op) ticket;
-      does = subst (λ (x : CommandValue). Does New (l.done ++ Do c.op c.receipt ∷ []) (deeds ++ Said (ticket, x) ∷ []) (after l.reached (role_of c.op) ticket)) (sym command)
-          (does_say New l.done deeds l.reached ticket c.op c.receipt l.does (subst (λ (x : CommandValue). IsNext l.reached x) command next.0));
-      none_untold = λ t. none_more deeds (Said (ticket, c)) (l.none_untold t) refl;
+      does = subst (λ (x : CommandValue). Does New (l.done ++ Do c.op c.receipt ∷ []) (effects ++ Said (ticket, x) ∷ []) (after l.reached (role_of c.op) ticket)) (sym command)
+          (does_say New l.done effects l.reached ticket c.op c.receipt l.does (subst (λ (x : CommandValue). IsNext l.reached x) command next.0));
+      none_untold = λ t. none_more effects (Said (ticket, c)) (l.none_untold t) refl;
       none_unheard = l.none_unheard;
       none_lost = l.none_lost;
       none_cut = l.none_cut;
@@ -626,9 +626,9 @@ says_it bytes deeds old new c ticket executes is l =
     }
 
 -- it is left undone, where nothing more is appended
-pub leaves_it : (bytes : List ℕ) (deeds : List Deed) (old new : ConnectionValue) (wanted : Wanted) → Restaged old new → (Executes new.stage → ⊥) → Lives bytes deeds old wanted → Lives bytes deeds new Rest
-leaves_it bytes deeds old new wanted r over m =
-    let l : Lives bytes deeds new wanted = restays bytes deeds old new wanted r m in record {
+pub leaves_it : (bytes : List ℕ) (effects : List Effect) (old new : ConnectionValue) (wanted : Wanted) → Restaged old new → (Executes new.stage → ⊥) → Lives bytes effects old wanted → Lives bytes effects new Rest
+leaves_it bytes effects old new wanted r over m =
+    let l : Lives bytes effects new wanted = restays bytes effects old new wanted r m in record {
       heard = l.heard;
       unheard = l.unheard;
       whole = l.whole;
@@ -661,10 +661,10 @@ leaves_it bytes deeds old new wanted r over m =
     }
 
 -- a frame was told, or was not, since its link was over
-pub tells_it : (bytes : List ℕ) (deeds : List Deed) (old new : ConnectionValue) (frame : Frame) (deed : Deed) → Restaged old new → Executes old.stage → Tells frame deed → (HasTold new.stage → untold_of (deed ∷ []) ≡ [])
-    → Lives bytes deeds old (Tell frame) → Lives bytes (deeds ++ deed ∷ []) new Rest
-tells_it bytes deeds old new frame deed r executes tells none m =
-    let l : Lives bytes deeds new (Tell frame) = restays bytes deeds old new (Tell frame) r m in record {
+pub tells_it : (bytes : List ℕ) (effects : List Effect) (old new : ConnectionValue) (frame : Frame) (effect : Effect) → Restaged old new → Executes old.stage → Tells frame effect → (HasTold new.stage → untold_of (effect ∷ []) ≡ [])
+    → Lives bytes effects old (Tell frame) → Lives bytes (effects ++ effect ∷ []) new Rest
+tells_it bytes effects old new frame effect r executes tells none m =
+    let l : Lives bytes effects new (Tell frame) = restays bytes effects old new (Tell frame) r m in record {
       heard = l.heard;
       unheard = l.unheard;
       whole = l.whole;
@@ -677,12 +677,12 @@ tells_it bytes deeds old new frame deed r executes tells none m =
       losses = l.losses;
       are_losses = l.are_losses;
       done = l.done ++ Direct frame ∷ [];
-      cut_for = cut_more l.asked_for l.cut l.done (Direct frame ∷ []) (commands_of deeds) (commands_of (deeds ++ deed ∷ [])) (tells_none deeds frame deed tells) l.cut_for;
+      cut_for = cut_more l.asked_for l.cut l.done (Direct frame ∷ []) (commands_of effects) (commands_of (effects ++ effect ∷ [])) (tells_none effects frame effect tells) l.cut_for;
       left = l.left;
       split = l.split ∙ sym (append_assoc l.done (Direct frame ∷ []) (l.left ++ all_of new.acts));
       reached = l.reached;
-      does = does_tell New l.done deeds l.reached frame deed l.does tells;
-      none_untold = λ t. none_more deeds deed (l.none_untold t) (none t);
+      does = does_tell New l.done effects l.reached frame effect l.does tells;
+      none_untold = λ t. none_more effects effect (l.none_untold t) (none t);
       none_unheard = l.none_unheard;
       none_lost = l.none_lost;
       none_cut = l.none_cut;
@@ -697,9 +697,9 @@ tells_it bytes deeds old new frame deed r executes tells none m =
     }
 
 -- memory was refused: it is the next again
-pub again_next : (bytes : List ℕ) (deeds : List Deed) (old new : ConnectionValue) (wanted : Wanted) (act : Act) → Executes old.stage → old.acts.again ≡ None → act_of wanted ≡ act ∷ [] → new ≡ record old { acts = record old.acts { again = Some act } }
-    → Lives bytes deeds old wanted → Lives bytes deeds new Rest
-again_next bytes deeds old new wanted act executes first is_act is l = subst (λ x. Lives bytes deeds x Rest) (sym is) record {
+pub again_next : (bytes : List ℕ) (effects : List Effect) (old new : ConnectionValue) (wanted : Wanted) (act : Act) → Executes old.stage → old.acts.again ≡ None → act_of wanted ≡ act ∷ [] → new ≡ record old { acts = record old.acts { again = Some act } }
+    → Lives bytes effects old wanted → Lives bytes effects new Rest
+again_next bytes effects old new wanted act executes first is_act is l = subst (λ x. Lives bytes effects x Rest) (sym is) record {
   heard = l.heard;
   unheard = l.unheard;
   whole = l.whole;

@@ -20,8 +20,8 @@ use Rattle.connection_core.specs.declared.said.Wanted.TheVariants.{Append, Rest}
 use Rattle.connection_core.specs.declared.stage.Stage.{Stage}
 use Rattle.connection_core.specs.declared.stage.Stage.TheVariants.{Running, GivingUp, Closing, Parting, Leaving, Over}
 use Rattle.connection_core.proofs.Footprints.{charges, within_less, within_more, within_none}
-use Rattle.desk_core.specs.Deeds.{Deed, Said, commands_of}
-use Rattle.desk_core.specs.Lives.{IsLoss, Lives}
+use Rattle.desk_core.specs.Effects.{Effect, Said, commands_of}
+use Rattle.desk_core.specs.Histories.{IsLoss, Lives}
 use Rattle.desk_core.specs.Spending.{Spends, ops_of}
 use Rattle.desk_core.proofs.Doing.{commands_append}
 use Rattle.desk_core.proofs.Living.{untold_giving}
@@ -31,40 +31,40 @@ use Rattle.desk_core.proofs.Living.{untold_giving}
 pub spends_new : (c : ConnectionValue) → c.footprint ≡ [] → Spends [] c []
 spends_new c none = record { within = within_none; counted = λ e. none }
 
-pub spends_on : (deeds : List Deed) (waiting : List Op) (old new : ConnectionValue) → (Executes new.stage → Executes old.stage) → new.footprint ≡ old.footprint → Spends deeds old waiting → Spends deeds new waiting
-spends_on deeds waiting old new executes same s = record { within = s.within; counted = λ e. same ∙ s.counted (executes e) }
+pub spends_on : (effects : List Effect) (waiting : List Op) (old new : ConnectionValue) → (Executes new.stage → Executes old.stage) → new.footprint ≡ old.footprint → Spends effects old waiting → Spends effects new waiting
+spends_on effects waiting old new executes same s = record { within = s.within; counted = λ e. same ∙ s.counted (executes e) }
 
-pub spends_as : (deeds others : List Deed) (waiting : List Op) (c : ConnectionValue) → commands_of others ≡ commands_of deeds → Spends deeds c waiting → Spends others c waiting
-spends_as deeds others waiting c same s = record {
+pub spends_as : (effects others : List Effect) (waiting : List Op) (c : ConnectionValue) → commands_of others ≡ commands_of effects → Spends effects c waiting → Spends others c waiting
+spends_as effects others waiting c same s = record {
   within = subst (λ l. IsWithin (ops_of l ++ waiting)) (sym same) s.within;
   counted = λ e. s.counted e ∙ ap (λ l. standing (ops_of l ++ waiting)) (sym same);
 }
 
-pub spends_wanted : (deeds : List Deed) (waiting : List Op) (old new : ConnectionValue) (wanted : Wanted) → Executes old.stage → Wants old new wanted → Spends deeds old waiting → Spends deeds new waiting
-spends_wanted deeds waiting old new wanted executes w s = spends_on deeds waiting old new (λ e. executes) (ap (λ (c : ConnectionValue). c.footprint) w.taken.same) s
+pub spends_wanted : (effects : List Effect) (waiting : List Op) (old new : ConnectionValue) (wanted : Wanted) → Executes old.stage → Wants old new wanted → Spends effects old waiting → Spends effects new waiting
+spends_wanted effects waiting old new wanted executes w s = spends_on effects waiting old new (λ e. executes) (ap (λ (c : ConnectionValue). c.footprint) w.taken.same) s
 
 -- the command that is counted is appended
-pub spends_said : (deeds : List Deed) (old new : ConnectionValue) (c : CommandValue) (ticket : ℕ) → Executes old.stage → new.footprint ≡ old.footprint → Spends deeds old (c.op ∷ []) → Spends (deeds ++ Said (ticket, c) ∷ []) new []
-spends_said deeds old new c ticket executes same s =
-    let all : ops_of (commands_of (deeds ++ Said (ticket, c) ∷ [])) ++ [] ≡ ops_of (commands_of deeds) ++ c.op ∷ [] =
-    append-nil (ops_of (commands_of (deeds ++ Said (ticket, c) ∷ []))) ∙ ap ops_of (commands_append deeds (Said (ticket, c) ∷ [])) ∙ map-append (λ (p : Pair). p.1.op) (commands_of deeds) ((ticket, c) ∷ []) in record {
+pub spends_said : (effects : List Effect) (old new : ConnectionValue) (c : CommandValue) (ticket : ℕ) → Executes old.stage → new.footprint ≡ old.footprint → Spends effects old (c.op ∷ []) → Spends (effects ++ Said (ticket, c) ∷ []) new []
+spends_said effects old new c ticket executes same s =
+    let all : ops_of (commands_of (effects ++ Said (ticket, c) ∷ [])) ++ [] ≡ ops_of (commands_of effects) ++ c.op ∷ [] =
+    append-nil (ops_of (commands_of (effects ++ Said (ticket, c) ∷ []))) ∙ ap ops_of (commands_append effects (Said (ticket, c) ∷ [])) ∙ map-append (λ (p : Pair). p.1.op) (commands_of effects) ((ticket, c) ∷ []) in record {
       within = subst IsWithin (sym all) s.within;
       counted = λ e. same ∙ s.counted executes ∙ ap standing (sym all);
     }
 
 -- a command is counted
-pub spends_charged : (deeds : List Deed) (old new : ConnectionValue) (op : Op) → Executes old.stage → total (charged old.footprint op) ≤ SESSION_BYTES → new.footprint ≡ charged old.footprint op → Spends deeds old [] → Spends deeds new (op ∷ [])
-spends_charged deeds old new op executes fits same s =
-    let all : List Op = ops_of (commands_of deeds) in
+pub spends_charged : (effects : List Effect) (old new : ConnectionValue) (op : Op) → Executes old.stage → total (charged old.footprint op) ≤ SESSION_BYTES → new.footprint ≡ charged old.footprint op → Spends effects old [] → Spends effects new (op ∷ [])
+spends_charged effects old new op executes fits same s =
+    let all : List Op = ops_of (commands_of effects) in
     let counted : old.footprint ≡ standing all = s.counted executes ∙ ap standing (append-nil all) in record {
       within = within_more all op (subst IsWithin (append-nil all) s.within) (subst (λ (parts : List Part). total (charged parts op) ≤ SESSION_BYTES) counted fits);
       counted = λ e. same ∙ ap (λ parts. charged parts op) counted ∙ sym (charges all op);
     }
 
 -- what waited is dropped, and nothing more is appended
-pub spends_no_more : (deeds : List Deed) (waiting : List Op) (old new : ConnectionValue) → (Executes new.stage → ⊥) → Spends deeds old waiting → Spends deeds new []
-spends_no_more deeds waiting old new over s = record {
-  within = subst IsWithin (sym (append-nil (ops_of (commands_of deeds)))) (within_less (ops_of (commands_of deeds)) waiting s.within);
+pub spends_no_more : (effects : List Effect) (waiting : List Op) (old new : ConnectionValue) → (Executes new.stage → ⊥) → Spends effects old waiting → Spends effects new []
+spends_no_more effects waiting old new over s = record {
+  within = subst IsWithin (sym (append-nil (ops_of (commands_of effects)))) (within_less (ops_of (commands_of effects)) waiting s.within);
   counted = λ e. absurd (over e);
 }
 
@@ -118,13 +118,13 @@ no_loss all op receipt fits passes loss =
     let more : SESSION_BYTES < footprint (all ++ ops.End ends.Lost ∷ []) = subst (λ o. SESSION_BYTES < footprint (all ++ o ∷ [])) (op_in op receipt loss) passes in
     absurd (omega (arith, same, more, fits))
 
-pub cuts_it : (bytes : List ℕ) (deeds : List Deed) (old new : ConnectionValue) (c : CommandValue) → Executes old.stage → new ≡ record old { acts = tasks None []; stage = given_up old.stage }
-    → footprint (ops_of (commands_of deeds)) ≤ SESSION_BYTES → SESSION_BYTES < footprint (ops_of (commands_of deeds) ++ c.op ∷ []) → Lives bytes deeds old (Append c) → Lives bytes deeds new Rest
-cuts_it bytes deeds old new c executes is fits passes l =
+pub cuts_it : (bytes : List ℕ) (effects : List Effect) (old new : ConnectionValue) (c : CommandValue) → Executes old.stage → new ≡ record old { acts = tasks None []; stage = given_up old.stage }
+    → footprint (ops_of (commands_of effects)) ≤ SESSION_BYTES → SESSION_BYTES < footprint (ops_of (commands_of effects) ++ c.op ∷ []) → Lives bytes effects old (Append c) → Lives bytes effects new Rest
+cuts_it bytes effects old new c executes is fits passes l =
     let act : Act = Do c.op c.receipt in
     let split : l.asked_for ++ l.losses ≡ l.done ++ (act ∷ (l.left ++ all_of old.acts)) = l.split in
-    let rest = stands_in l.asked_for l.losses l.done (l.left ++ all_of old.acts) act l.are_losses (no_loss (ops_of (commands_of deeds)) c.op c.receipt fits passes) split in
-    subst (λ x. Lives bytes deeds x Rest) (sym is) record {
+    let rest = stands_in l.asked_for l.losses l.done (l.left ++ all_of old.acts) act l.are_losses (no_loss (ops_of (commands_of effects)) c.op c.receipt fits passes) split in
+    subst (λ x. Lives bytes effects x Rest) (sym is) record {
       heard = l.heard;
       unheard = l.unheard;
       whole = l.whole;
@@ -157,10 +157,10 @@ cuts_it bytes deeds old new c executes is fits passes l =
     }
 
 -- by what is counted
-pub cut_by_count : (deeds : List Deed) (old : ConnectionValue) (op : Op) → Executes old.stage → Spends deeds old [] → SESSION_BYTES < total (charged old.footprint op)
-    → (footprint (ops_of (commands_of deeds)) ≤ SESSION_BYTES) × (SESSION_BYTES < footprint (ops_of (commands_of deeds) ++ op ∷ []))
-cut_by_count deeds old op executes s passes =
-    let all : List Op = ops_of (commands_of deeds) in
+pub cut_by_count : (effects : List Effect) (old : ConnectionValue) (op : Op) → Executes old.stage → Spends effects old [] → SESSION_BYTES < total (charged old.footprint op)
+    → (footprint (ops_of (commands_of effects)) ≤ SESSION_BYTES) × (SESSION_BYTES < footprint (ops_of (commands_of effects) ++ op ∷ []))
+cut_by_count effects old op executes s passes =
+    let all : List Op = ops_of (commands_of effects) in
     let counted : old.footprint ≡ standing all = s.counted executes ∙ ap standing (append-nil all) in (
       within_all all (subst IsWithin (append-nil all) s.within),
       subst (λ n. SESSION_BYTES < n) (ap (λ (parts : List Part). total (charged parts op)) counted ∙ ap total (sym (charges all op))) passes,
@@ -168,8 +168,8 @@ cut_by_count deeds old op executes s passes =
 
 -- ── what is counted has changed, and nothing else ──
 
-pub counts_it : (bytes : List ℕ) (deeds : List Deed) (old : ConnectionValue) (parts : List Part) (wanted : Wanted) → Lives bytes deeds old wanted → Lives bytes deeds (record old { footprint = parts }) wanted
-counts_it bytes deeds old parts wanted l = record {
+pub counts_it : (bytes : List ℕ) (effects : List Effect) (old : ConnectionValue) (parts : List Part) (wanted : Wanted) → Lives bytes effects old wanted → Lives bytes effects (record old { footprint = parts }) wanted
+counts_it bytes effects old parts wanted l = record {
   heard = l.heard;
   unheard = l.unheard;
   whole = l.whole;

@@ -18,10 +18,10 @@ use Rattle.desk_core.specs.Answers.{Answers}
 use Rattle.desk_core.specs.Continues.{Continues}
 use Rattle.desk_core.specs.Conversations.{Converse, IsConversation, IsPart, Speaks, holds, number_of, opens, part_of}
 use Rattle.desk_core.specs.Desks.{Admits, AreApart, DeskValue, IsDesk, Leaves, Others, Touches, Turns, desk, seated_at, stand_of}
-use Rattle.desk_core.specs.Deeds.{commands_of}
-use Rattle.desk_core.specs.Goings.{GoesOn, Serves}
+use Rattle.desk_core.specs.Effects.{commands_of}
+use Rattle.desk_core.specs.Steps.{GoesOn, Serves}
 use Rattle.desk_core.specs.Halting.{FindsEnd}
-use Rattle.desk_core.specs.Lives.{Idles}
+use Rattle.desk_core.specs.Histories.{Idles}
 use Rattle.desk_core.specs.Places.{ServedAt, UnservedAt, is_over, is_over_at, progress_at}
 use Rattle.desk_core.specs.Slots.{IsNew, IsOwn, Message, Unserved, number_at}
 use Rattle.desk_core.specs.declared.slot.Slot.{Slot}
@@ -215,17 +215,17 @@ alone is old new c more added =
 
 pub serves : {B L : Type 0} (sent : L → Option (List (List ℕ))) (received : L → Option (List ℕ)) (was is : Slot B) (s t : SessionSeatValue) (l m : L) → IsNew was → GoesOn sent received was s l is t m → Serves sent received s l t m
 serves sent received was is s t l m anew g = record {
-  deeds = g.deeds;
+  effects = g.effects;
   added = g.added;
   number = number_or (number_at is);
-  conversation = alone is.connection.progress s t (subst (λ p. Continues p s is.connection.progress t) (ap (λ (c : ConnectionValue). c.progress) anew.connection) g.continues) (commands_of g.deeds) g.added;
+  conversation = alone is.connection.progress s t (subst (λ p. Continues p s is.connection.progress t) (ap (λ (c : ConnectionValue). c.progress) anew.connection) g.continues) (commands_of g.effects) g.added;
   messages = g.served.passes.messages;
   told = g.served.passes.told;
   own = all_weaker (IsOwn (number_at is)) (IsOwn (Some (number_or (number_at is)))) (own_at (number_at is)) g.served.passes.messages g.served.passes.own;
   frames_are = g.served.passes.frames_are;
   got = g.heeds.got;
   read = g.heeds.read;
-  did = did was is g.heeds.got g.deeds anew g.heeds.lives;
+  did = did was is g.heeds.got g.effects anew g.heeds.lives;
 }
 
 -- ── nothing is said at a place ──
@@ -283,10 +283,10 @@ turns {B} {L} sent received old before seat after places at was is turned same w
   is = s.is;
   sat = ap (λ (d : DeskValue B L). slice_get d.places at) (sym same) ∙ sitting places at was within there ∙ ap (λ x. Some x) s.sat;
   sits = get_same places at is within ∙ ap (λ x. Some x) s.sits;
-  deeds = s.goes.deeds;
-  added = s.goes.added ∙ ap (λ (d : DeskValue B L). d.seat.own ++ commands_of s.goes.deeds) same;
-  of_it = subst (λ p. AllByRecursion (λ (x : Pair). number_in p ≡ Some (number_of x)) (commands_of s.goes.deeds)) (ap progress_at s.sits)
-      (subst (λ l. AllByRecursion (λ (x : Pair). number_in (progress_at is) ≡ Some (number_of x)) l) (cancel seat.own c.said (commands_of s.goes.deeds) (sym c.added ∙ s.goes.added)) c.of_it);
+  effects = s.goes.effects;
+  added = s.goes.added ∙ ap (λ (d : DeskValue B L). d.seat.own ++ commands_of s.goes.effects) same;
+  of_it = subst (λ p. AllByRecursion (λ (x : Pair). number_in p ≡ Some (number_of x)) (commands_of s.goes.effects)) (ap progress_at s.sits)
+      (subst (λ l. AllByRecursion (λ (x : Pair). number_in (progress_at is) ≡ Some (number_of x)) l) (cancel seat.own c.said (commands_of s.goes.effects) (sym c.added ∙ s.goes.added)) c.of_it);
   served = s.goes.served;
   heeds = s.goes.heeds;
   halts = λ before h. s.goes.halts (λ m. subst (λ (d : DeskValue B L). FindsEnd d.seat) (sym same) (before m)) h;

@@ -1,9 +1,10 @@
 -- What a turn of a connection answers.
-use Rattle.std.specs.Prelude.{◌≡◌, ◌<◌, ◌≤◌, ℕ, List, Bool, true, false, Option, IsSome, length}
+use Rattle.std.specs.Prelude.{◌≡◌, ◌<◌, ◌≤◌, ℕ, List, [], Bool, true, false, Option, None, IsSome, length}
 use Rattle.command_core.specs.Outs.{OutValue}
 use Rattle.limits_core.specs.declared.TheConstants.{WINDOW}
 use Rattle.claim_core.specs.Counts.{above}
 use Rattle.claim_core.specs.Seats.{SessionSeatValue}
+use Rattle.connection_core.specs.Tasks.{all_of}
 use Rattle.connection_core.specs.declared.ended.Ended.{Ended}
 use Rattle.connection_core.specs.declared.stage.Stage.{Stage}
 use Rattle.connection_core.specs.declared.stage.Stage.TheVariants.{Running, GivingUp, Closing, Parting, Leaving, Over}
@@ -44,15 +45,20 @@ IsFull mark pending seat = IsSome pending × (WINDOW ≤ above mark seat.own)
 abbrev pub WaitsFor : ℕ → Kept → Type 0
 WaitsFor mark it = (out : OutValue) × (it ≡ kept.Waits out) × (mark ≡ out.number)
 
+-- nothing of what its client asked for is left to be done
+abbrev pub IsSatisfied : {B : Type 0} → Slot B → Type 0
+IsSatisfied slot = (slot.pending ≡ None) × (all_of slot.connection.acts ≡ [])
+
 -- What a connection waits for that is said to do so: it has ended just where that is said; it waits for room only where an
--- entry does; for a mark over its next output only where that is kept; for that, for bytes of its client, or that its socket
--- takes some, only where it runs; and for its peer's close only behind its own.
+-- entry does; for a mark over its next output only where that is kept; for that, or for bytes of its client, only where it runs
+-- and nothing of what its client asked for is left to be done; that its socket takes some, only where it runs; and for its peer's close only
+-- behind its own.
 abbrev pub Awaits : {B : Type 0} → Next → Slot B → SessionSeatValue → Type 0
 Awaits next.Go slot seat = GoesOnYet slot.connection.stage
-Awaits next.Read slot seat = slot.connection.stage ≡ Running
+Awaits next.Read slot seat = (slot.connection.stage ≡ Running) × IsSatisfied slot
 Awaits next.Write slot seat = slot.connection.stage ≡ Running
 Awaits (next.Room mark) slot seat = GoesOnYet slot.connection.stage × IsFull mark slot.pending seat
-Awaits (next.Output mark) slot seat = (slot.connection.stage ≡ Running) × WaitsFor mark slot.kept
+Awaits (next.Output mark) slot seat = (slot.connection.stage ≡ Running) × IsSatisfied slot × WaitsFor mark slot.kept
 Awaits next.Memory slot seat = GoesOnYet slot.connection.stage
 Awaits next.Close slot seat = (ended : Ended) × (slot.connection.stage ≡ Parting ended)
 Awaits (next.Over ended) slot seat = slot.connection.stage ≡ Over ended
@@ -90,10 +96,10 @@ Leaves steps.Rest pending seat = Unit {0}
 -- what a connection waits for, by what the last act of its turn came to
 abbrev pub AwaitsBy : {B : Type 0} → Next → Step → Slot B → Type 0
 AwaitsBy next.Go last slot = GoesOnYet slot.connection.stage
-AwaitsBy next.Read last slot = slot.connection.stage ≡ Running
+AwaitsBy next.Read last slot = (slot.connection.stage ≡ Running) × IsSatisfied slot
 AwaitsBy next.Write last slot = slot.connection.stage ≡ Running
 AwaitsBy (next.Room mark) last slot = GoesOnYet slot.connection.stage × (last ≡ steps.Full mark)
-AwaitsBy (next.Output mark) last slot = (slot.connection.stage ≡ Running) × WaitsFor mark slot.kept
+AwaitsBy (next.Output mark) last slot = (slot.connection.stage ≡ Running) × IsSatisfied slot × WaitsFor mark slot.kept
 AwaitsBy next.Memory last slot = GoesOnYet slot.connection.stage
 AwaitsBy next.Close last slot = (ended : Ended) × (slot.connection.stage ≡ Parting ended)
 AwaitsBy (next.Over ended) last slot = slot.connection.stage ≡ Over ended

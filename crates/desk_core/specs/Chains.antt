@@ -4,9 +4,9 @@ use Rattle.std.proofs.Common.{inl, inr}
 use Rattle.std.specs.List.{AllByRecursion}
 use Rattle.desk_core.specs.declared.place.Seated.{Seated}
 use Rattle.desk_core.specs.declared.turned.Turned.{Turned}
-use Rattle.desk_core.specs.Deeds.{Deed}
+use Rattle.desk_core.specs.Effects.{Effect}
 use Rattle.desk_core.specs.Desks.{Admits, DeskValue, Leaves, Others, SitsAt, Touches, Turns}
-use Rattle.desk_core.specs.Lives.{Did}
+use Rattle.desk_core.specs.Histories.{Did}
 
 module _ {B L : Type 0} (sent : L → Option (List (List ℕ))) (received : L → Option (List ℕ)) where
   -- One call for a place of a desk: a turn there; a ping or a loss; or a client comes, or goes.
@@ -18,12 +18,12 @@ module _ {B L : Type 0} (sent : L → Option (List (List ℕ))) (received : L �
   Chain old [] = Unit {0}
   Chain old (new ∷ others) = ((at : ℕ) × Calls old new at) × Chain new others
 
-  abbrev pub deeds_of : (old new : DeskValue B L) (at : ℕ) → Calls old new at → List Deed
-  deeds_of old new at (inl turn) = turn.1.deeds
+  abbrev pub deeds_of : (old new : DeskValue B L) (at : ℕ) → Calls old new at → List Effect
+  deeds_of old new at (inl turn) = turn.1.effects
   deeds_of old new at (inr other) = []
 
   -- what was done by the turns at that place
-  abbrev pub deeds_at : ℕ → (old : DeskValue B L) (others : List (DeskValue B L)) → Chain old others → List Deed
+  abbrev pub deeds_at : ℕ → (old : DeskValue B L) (others : List (DeskValue B L)) → Chain old others → List Effect
   deeds_at place old [] chain = []
   deeds_at place old (new ∷ others) chain = cond (chain.0.0 == place) (deeds_of old new chain.0.0 chain.0.1) [] ++ deeds_at place new others chain.1
 
@@ -36,8 +36,8 @@ last_of first (next ∷ others) = last_of next others
 abbrev pub AreTaken : {B L : Type 0} → ℕ → List (DeskValue B L) → Type 0
 AreTaken {B} {L} place desks = AllByRecursion (λ (d : DeskValue B L). (seated : Seated B L) × SitsAt d.places place seated) desks
 
--- The link has given these bytes since, and these deeds are what they ask for.
-pub record Lived {L : Type 0} (received : L → Option (List ℕ)) (from to : L) (deeds : List Deed) : Type 0 where
+-- The link has given these bytes since, and these effects are what they ask for.
+pub record Lived {L : Type 0} (received : L → Option (List ℕ)) (from to : L) (effects : List Effect) : Type 0 where
   pub got : List ℕ
   pub read : received to ≡ option_map (λ bytes. bytes ++ got) (received from)
-  pub did : Did got deeds
+  pub did : Did got effects

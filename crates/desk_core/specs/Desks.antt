@@ -6,10 +6,10 @@ use Rattle.desk_core.specs.declared.place.Seated.{Seated}
 use Rattle.desk_core.specs.declared.turned.Turned.{Turned}
 use Rattle.desk_core.specs.Answers.{Answers}
 use Rattle.desk_core.specs.Continues.{AreSaid}
-use Rattle.desk_core.specs.Deeds.{Deed, commands_of, told_of}
+use Rattle.desk_core.specs.Effects.{Effect, commands_of, told_of}
 use Rattle.desk_core.specs.Conversations.{Speaks}
 use Rattle.desk_core.specs.Halting.{FindsEnd, HasHalted}
-use Rattle.desk_core.specs.Lives.{Heeds, Idles}
+use Rattle.desk_core.specs.Histories.{Heeds, Idles}
 use Rattle.desk_core.specs.Places.{is_over, progress_at}
 use Rattle.desk_core.specs.Slots.{IsNew, Served, Unserved, number_at}
 
@@ -45,7 +45,7 @@ SitsAt places at seated = slice_get places at ≡ Some (Some seated)
 abbrev pub seated_at : {B L : Type 0} → List (Option (Seated B L)) → ℕ → Option (Seated B L)
 seated_at places at = get_or places at None
 
--- These deeds were done at that place. The seat got the commands among them, which are of its own session; its client was sent the
+-- These effects were done at that place. The seat got the commands among them, which are of its own session; its client was sent the
 -- frames among them, beside outputs of that session; and they are what it has next of what its bytes ask for. It is stopped only
 -- where the seat has found that the ring takes nothing more. The turn answers so.
 pub record Turns {B L : Type 0} (sent : L → Option (List (List ℕ))) (received : L → Option (List ℕ)) (old new : DeskValue B L) (at : ℕ) (turned : Turned) : Type 0 where
@@ -53,11 +53,11 @@ pub record Turns {B L : Type 0} (sent : L → Option (List (List ℕ))) (receive
   pub is : Seated B L
   pub sat : SitsAt old.places at was
   pub sits : SitsAt new.places at is
-  pub deeds : List Deed
-  pub added : new.seat.own ≡ old.seat.own ++ commands_of deeds
-  pub of_it : AreSaid is.slot.connection.progress (commands_of deeds)
-  pub served : Served sent (told_of deeds) was.slot was.link is.slot is.link
-  pub heeds : Heeds received was.slot was.link is.slot is.link deeds
+  pub effects : List Effect
+  pub added : new.seat.own ≡ old.seat.own ++ commands_of effects
+  pub of_it : AreSaid is.slot.connection.progress (commands_of effects)
+  pub served : Served sent (told_of effects) was.slot was.link is.slot is.link
+  pub heeds : Heeds received was.slot was.link is.slot is.link effects
   pub halts : (HasHalted was.slot.connection.stage → FindsEnd old.seat) → HasHalted is.slot.connection.stage → FindsEnd new.seat
   pub answers : Answers received turned old.seat was.link is.slot new.seat is.link
 
@@ -92,7 +92,7 @@ pub record Leaves {B L : Type 0} (old new : DeskValue B L) (at : ℕ) (link : L)
   pub others : Others old.places new.places at
 
 -- Nothing was said or sent at any place, and nothing has changed but what the connection at that place is told, which goes on from
--- there with no deed.
+-- there with no effect.
 pub record Touches {B L : Type 0} (sent : L → Option (List (List ℕ))) (received : L → Option (List ℕ)) (old new : DeskValue B L) (at : ℕ) : Type 0 where
   pub before : new.before ≡ old.before
   pub seat : new.seat ≡ old.seat

@@ -3,13 +3,13 @@ pub mod Boxes
 pub mod Chains
 pub mod Continues
 pub mod Conversations
-pub mod Deeds
+pub mod Effects
 pub mod Desks
-pub mod Goings
+pub mod Steps
 pub mod Halting
 pub mod Holding
 pub mod Keeping
-pub mod Lives
+pub mod Histories
 pub mod Places
 pub mod Relays
 pub mod Slots

@@ -6,8 +6,8 @@ use Rattle.desk_core.specs.declared.place.Seated.{Seated}
 use Rattle.claim_core.specs.Seats.{SessionSeatValue}
 use Rattle.desk_core.specs.declared.turned.Turned.{Turned}
 use Rattle.desk_core.specs.Answers.{Answers}
-use Rattle.desk_core.specs.Goings.{GoesOn}
-use Rattle.desk_core.specs.Lives.{Idles}
+use Rattle.desk_core.specs.Steps.{GoesOn}
+use Rattle.desk_core.specs.Histories.{Idles}
 use Rattle.connection_core.specs.declared.stage.Stage.{Stage}
 use Rattle.connection_core.specs.declared.stage.Stage.TheVariants.{Running, GivingUp, Closing, Parting, Leaving, Over}
 use Rattle.desk_core.specs.Slots.{Unserved, number_at}
@@ -36,6 +36,15 @@ is_over (Parting ended) = false
 is_over Leaving = false
 is_over (Over ended) = true
 
+-- its link is over
+abbrev pub has_no_link : Stage → Bool
+has_no_link Running = false
+has_no_link GivingUp = false
+has_no_link (Closing ended) = false
+has_no_link (Parting ended) = false
+has_no_link Leaving = true
+has_no_link (Over ended) = true
+
 -- the connection has ended that sits at a place
 abbrev pub is_over_at : {B L : Type 0} → Option (Seated B L) → Bool
 is_over_at None = false
@@ -46,7 +55,7 @@ abbrev pub is_open_at : {B L : Type 0} → Option (Seated B L) → Bool
 is_open_at None = false
 is_open_at (Some seated) = is_some (number_at seated.slot)
 
--- nothing was sent there, nobody came or went, and who sits there goes on from there with no deed
+-- nothing was sent there, nobody came or went, and who sits there goes on from there with no effect
 abbrev pub UnservedAt : {B L : Type 0} → (L → Option (List (List ℕ))) → (L → Option (List ℕ)) → Option (Seated B L) → Option (Seated B L) → Type 0
 UnservedAt sent received None new = new ≡ None
 UnservedAt sent received (Some was) new =

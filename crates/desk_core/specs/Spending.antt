@@ -8,7 +8,7 @@ use Rattle.connection_core.specs.Connections.{ConnectionValue}
 use Rattle.connection_core.specs.Footprints.{IsWithin, footprint, standing}
 use Rattle.connection_core.specs.Stages.{Executes}
 use Rattle.connection_core.specs.declared.footprint.TheConstants.{SESSION_BYTES}
-use Rattle.desk_core.specs.Deeds.{Deed, commands_of}
+use Rattle.desk_core.specs.Effects.{Effect, commands_of}
 use Rattle.desk_core.specs.declared.pending.Pending.{Pending}
 
 -- what commands ask for
@@ -22,9 +22,9 @@ waiting_of (Some pending) = pending.entry.command.op ∷ []
 
 -- Behind each of the commands that were appended the session keeps within its bytes, and behind what waits. What is counted is what
 -- stands by these, for as long as more may be appended.
-pub record Spends (deeds : List Deed) (c : ConnectionValue) (waiting : List Op) : Type 0 where
-  pub within : IsWithin (ops_of (commands_of deeds) ++ waiting)
-  pub counted : Executes c.stage → c.footprint ≡ standing (ops_of (commands_of deeds) ++ waiting)
+pub record Spends (effects : List Effect) (c : ConnectionValue) (waiting : List Op) : Type 0 where
+  pub within : IsWithin (ops_of (commands_of effects) ++ waiting)
+  pub counted : Executes c.stage → c.footprint ≡ standing (ops_of (commands_of effects) ++ waiting)
 
 -- The acts are cut off from a command on: with all commands that were appended it would have had its session pass its bytes. All
 -- acts before it are done.

@@ -76,8 +76,8 @@ impl<B: Bell> Slot<B> {
     ghost use Rattle.desk_core.specs.Conversations.{StaysOrEnds};
     ghost use Rattle.desk_core.specs.Halting.{HasHalted, IsFinal};
     ghost use Rattle.desk_core.specs.Holding.{Holds};
-    ghost use Rattle.desk_core.specs.Goings.{GoesOn, TellsIt};
-    ghost use Rattle.desk_core.specs.Lives.{DoesWanted, LivesOn};
+    ghost use Rattle.desk_core.specs.Steps.{GoesOn, TellsIt};
+    ghost use Rattle.desk_core.specs.Histories.{DoesWanted, LivesOn};
     ghost use Rattle.desk_core.specs.Slots.{Stays};
 
     // Does what the connection wants, in order, until something has to wait or so much was done.
@@ -239,7 +239,8 @@ impl<B: Bell> Slot<B> {
             drop(notice);
             return Step::Done;
         }
-        match link.send_direct(alloc, notice.frame()) {
+        let _form = notice.frame();
+        match link.send_direct(alloc, &notice) {
             Ok(()) => {
                 drop(notice);
                 self.connection.told();

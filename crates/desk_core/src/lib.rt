@@ -4,6 +4,7 @@
 
 mod appending;
 mod desk;
+mod holding;
 mod kept;
 mod laws;
 mod lending;

@@ -2,7 +2,7 @@
 
 ghost use Rattle.std.specs.Prelude.{◌≡◌, ◌≢◌, true};
 ghost use Rattle.desk_core.specs.Conversations.{StaysOrEnds};
-ghost use Rattle.desk_core.specs.Lives.{Steady};
+ghost use Rattle.desk_core.specs.Histories.{Steady};
 ghost use Rattle.claim_core.specs.Seats.{with_seen};
 
 use crate::kept::Relayed;
@@ -33,8 +33,8 @@ pub enum PassedOn {
 
 impl<B: Bell> Slot<B> {
     ghost use Rattle.std.specs.Prelude.{◌≤◌, []};
-    ghost use Rattle.desk_core.specs.Goings.{GoesOn};
-    ghost use Rattle.desk_core.specs.Lives.{Idles};
+    ghost use Rattle.desk_core.specs.Steps.{GoesOn};
+    ghost use Rattle.desk_core.specs.Histories.{Idles};
     ghost use Rattle.desk_core.specs.Slots.{Served};
 
     // Sends what may leave, until nothing more may or so much was sent. A link that has not taken all before gets nothing more.

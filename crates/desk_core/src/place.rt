@@ -1,6 +1,7 @@
 //! A place at a desk.
 
 use crate::slot::Slot;
+use connection_core::Stage;
 use outbox_core::Bell;
 use ws_core::Link;
 
@@ -15,7 +16,9 @@ pub struct Seated<B: Bell, L> {
 pub(crate) type Place<B, L> = Option<Seated<B, L>>;
 
 impl<B: Bell, L: Link> Seated<B, L> {
-    ghost use Rattle.desk_core.specs.Lives.{Idles};
+    ghost use Rattle.std.specs.Prelude.{◌≡◌, true};
+    ghost use Rattle.desk_core.specs.Histories.{Idles};
+    ghost use Rattle.desk_core.specs.Places.{has_no_link};
     ghost use Rattle.desk_core.specs.Slots.{Unserved};
 
     // Its link is over.
@@ -32,6 +35,16 @@ impl<B: Bell, L: Link> Seated<B, L> {
         ensures lives { Idles L.received self.old.slot self.old.link self.new.slot self.new.link }
     {
         self.slot.connection.give_up();
+    }
+
+    // How many bytes are kept for it, and none once its link is over.
+    pub(crate) fn held(&self) -> u64
+        ensures { has_no_link self.now.slot.connection.stage ≡ true → result ≡ 0 }
+    {
+        match self.slot.connection.stage() {
+            Stage::Leaving | Stage::Over(_) => 0,
+            _ => self.slot.held().saturating_add(self.link.held()),
+        }
     }
 
     // Sends its client a ping.

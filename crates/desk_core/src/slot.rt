@@ -39,6 +39,15 @@ impl<B: Bell> Slot<B> {
         }
     }
 
+    // How many bytes wait in its outbox, or are kept of what its client said.
+    pub(crate) fn held(&self) -> u64 {
+        let waiting = match &self.outbox {
+            Some(taker) => taker.waiting(),
+            None => 0,
+        };
+        waiting.saturating_add(self.connection.held())
+    }
+
     // Whether its connection has ended.
     pub(crate) fn is_over(&self) -> bool
         ensures { result ≡ is_over self.now.connection.stage }

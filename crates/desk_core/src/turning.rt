@@ -26,14 +26,14 @@ enum Hearing {
 }
 
 impl<B: Bell> Slot<B> {
-    ghost use Rattle.std.specs.Prelude.{◌≢◌, None};
-    ghost use Rattle.desk_core.specs.Answers.{Answers, AwaitsBy, IsRest};
+    ghost use Rattle.std.specs.Prelude.{◌≢◌, None, true};
+    ghost use Rattle.desk_core.specs.Answers.{Answers, AwaitsBy, IsRest, IsSatisfied};
     ghost use Rattle.desk_core.specs.declared.appending.Step.{Step};
     ghost use Rattle.desk_core.specs.declared.turning.Hearing.TheVariants.{Something};
     ghost use Rattle.connection_core.specs.Connections.{Listens};
     ghost use Rattle.connection_core.specs.declared.stage.Stage.TheVariants.{Running};
-    ghost use Rattle.desk_core.specs.Goings.{GoesOn};
-    ghost use Rattle.desk_core.specs.Lives.{Idles};
+    ghost use Rattle.desk_core.specs.Steps.{GoesOn};
+    ghost use Rattle.desk_core.specs.Histories.{Idles};
     ghost use Rattle.desk_core.specs.Slots.{Unserved};
 
     /// Lets the connection go on: what waits in its link is written, its client is heard where nothing else is to be done first, what
@@ -195,10 +195,17 @@ impl<B: Bell> Slot<B> {
         if waits {
             return Next::Write;
         }
-        if more || !matches!(last, Step::Rest) {
+        if more || !matches!(last, Step::Rest) || !self.is_satisfied() {
             return Next::Go;
         }
         self.rest()
+    }
+
+    // Whether nothing of what its client asked for is left to be done.
+    fn is_satisfied(&self) -> bool
+        ensures { result ≡ true → IsSatisfied self.now }
+    {
+        self.pending.is_none() && self.connection.listens()
     }
 
     // What one that runs and has nothing to do waits for.

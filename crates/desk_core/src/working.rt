@@ -1,7 +1,7 @@
 //! One connection alone at a seat.
 
 ghost use Rattle.std.specs.Prelude.{◌≡◌};
-ghost use Rattle.desk_core.specs.Goings.{GoesOn, Serves};
+ghost use Rattle.desk_core.specs.Steps.{GoesOn, Serves};
 
 use crate::pacing::Pacing;
 use crate::ringers::Ringers;

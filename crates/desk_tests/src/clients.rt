@@ -2,17 +2,19 @@
 
 use crate::texts::CONNECTED;
 use claim_core::Released;
-use frame_core::Frame;
+use session_core::Notice;
 use std::alloc::{AllocError, Global};
+use std::cell::Cell;
 use ws_core::{CloseReason, Link, LinkFault, MemLink, Outgoing, Received};
 
-/// A link in memory whose stream takes nothing for a while: from its first flush on, for so many more. It keeps the code with which
-/// it is closed.
+/// A link in memory whose stream takes nothing for a while: from its first flush on, for so many more. At first it may be refused memory for
+/// what it sends. It keeps the code with which it is closed.
 #[derive(Drop)]
 pub struct Client {
     link: MemLink,
     stuck: u64,
     held_up: bool,
+    short: Cell<u64>,
     code: Option<u16>,
 }
 
@@ -24,10 +26,16 @@ impl Client {
                 link: MemLink::new(alloc, messages),
                 stuck,
                 held_up: false,
+                short: Cell::new(0),
                 code: None,
             }),
             Err(_) => None,
         }
+    }
+
+    /// It is refused memory for what it sends, so many times.
+    pub fn run_short(&self, times: u64) {
+        self.short.set(times);
     }
 
     /// Whether it heard these messages, and no other: of one that ends with the head's first line the rest is any.
@@ -77,6 +85,11 @@ impl Outgoing for Client {
     ghost is_held_up = { λ a. a.held_up };
 
     fn send(&mut self, alloc: Global, released: &Released) -> Result<(), LinkFault> {
+        let left = self.short.get();
+        if left > 0 {
+            self.short.set(left - 1);
+            return Err(LinkFault::Memory);
+        }
         self.link.send(alloc, released)
     }
 
@@ -100,8 +113,8 @@ impl Link for Client {
         self.link.receive(alloc)
     }
 
-    fn send_direct(&mut self, alloc: Global, frame: &Frame) -> Result<(), LinkFault> {
-        self.link.send_direct(alloc, frame)
+    fn send_direct(&mut self, alloc: Global, notice: &Notice) -> Result<(), LinkFault> {
+        self.link.send_direct(alloc, notice)
     }
 
     fn ping(&mut self) -> Result<(), LinkFault> {

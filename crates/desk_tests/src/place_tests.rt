@@ -5,6 +5,7 @@ use crate::texts::{
     SECOND_RECEIPT, SEND, SEND_X, SPEAKER, SUBSCRIBER, THREE_RECEIPTS, TOPIC_X, TOPIC_Y,
     TWENTY_LOWER, TWENTY_UPPER, TWO_MESSAGES, UPPER_RECEIPTS,
 };
+use hub_core::Next;
 use std::alloc::Global;
 use std::test::Fail;
 
@@ -251,5 +252,32 @@ fn run_again(alloc: Global) -> Option<(Option<usize>, bool)> {
 #[test]
 fn who_takes_a_place_hears_nothing_of_the_one_before(rt: HostRuntime) -> Result<(), Fail> {
     assert_eq!(rt; run_again(rt.alloc()), Some((Some(0), true)));
+    Ok(())
+}
+
+// A client that is refused memory for its CONNECTED: whether its turn says that memory is lacking, and whether the next one, which sends that
+// and reads nothing, says that it has another turn at once.
+fn turns_of_one_short_of_memory(alloc: Global) -> Option<[bool; 2]> {
+    let client = Client::new(alloc, &[CONNECT, SEND], 0)?;
+    client.run_short(1);
+    let mut room = Room::new(alloc)?;
+    let _ = room.admit(alloc, client);
+    let opened = room.turn(alloc, 0).is_some() && room.flush(alloc);
+    let short = room.turn(alloc, 0);
+    let unread = room.turn(alloc, 0);
+    drop(room);
+    Some([
+        opened && matches!(short, Some(Next::Memory)),
+        matches!(unread, Some(Next::Go)),
+    ])
+}
+
+// Bytes of it may have come meanwhile, of which nothing tells again.
+#[test]
+fn a_client_that_was_not_read_has_another_turn(rt: HostRuntime) -> Result<(), Fail> {
+    assert_eq!(rt;
+        turns_of_one_short_of_memory(rt.alloc()),
+        Some([true, true])
+    );
     Ok(())
 }

@@ -122,8 +122,8 @@ abbrev pub IsTooFar : ℕ → QueueValue → Act → Type 0
 IsTooFar connection queue (Do op receipt) = CountsTooFar connection queue
 IsTooFar connection queue _ = ⊥
 
--- the disk of this content has no room for some of the waiting commands: it stands for the state after those before them, and
--- is too short for their block
+-- the disk of this content, whose journal is compacted as far as that goes, stands for the state after the first of the waiting commands, and
+-- has no room for a block of the next one alone, or for a snapshot of that state
 abbrev pub LacksRoom : List ℕ → QueueValue → Type 0
 LacksRoom content queue = IsFull queue.state (commands_of queue.waiting) content
 

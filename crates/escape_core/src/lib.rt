@@ -2,7 +2,7 @@
 
 #![tactic(auto)]
 
-ghost use Rattle.std.specs.Prelude.{◌++◌, ◌≡◌, ◌↔◌, Some, None, IfOk, List, ℕ, is_some};
+ghost use Rattle.std.specs.Prelude.{◌++◌, ◌∷◌, ◌≡◌, ◌↔◌, [], Some, None, IfOk, List, ℕ, is_some, true};
 ghost use Rattle.escape_core.specs.Escapes.{code_of, escaped, unescaped, escape_of};
 
 use std::alloc::{AllocError, Global};
@@ -43,6 +43,25 @@ fn push_escaped(written: &mut Vec<u8>, b: u8) -> Result<(), AllocError>
         b'\\' => written.extend_from_slice(b"\\\\"),
         plain => Ok(written.push(plain)?),
     }
+}
+
+/// Whether a byte is written as itself.
+fn is_plain_byte(b: u8) -> bool
+    ensures { result ≡ true → code_of b ≡ b ∷ [] }
+{
+    !matches!(b, b'\r' | b'\n' | b':' | b'\\')
+}
+
+/// Whether the text is written as it is, since no byte of it has an escape. No memory is taken.
+pub fn is_plain(text: &[u8]) -> bool
+    ensures { result ≡ true → escaped text.now ≡ text.now }
+{
+    for b in text {
+        if !is_plain_byte(*b) {
+            return false;
+        }
+    }
+    true
 }
 
 /// The text as it is written in a header: CR, LF, colon and backslash as their escapes, every other byte as itself

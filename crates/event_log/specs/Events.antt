@@ -6,7 +6,7 @@ use Rattle.event_log.specs.declared.event.Event.TheVariants as events
 use Rattle.event_log.specs.declared.event.Figures.{Figures}
 use Rattle.event_log.specs.declared.event.Start.{Start}
 use Rattle.event_log.specs.declared.kind.Kind.{Kind}
-use Rattle.event_log.specs.declared.kind.Kind.TheVariants.{Malformed, OtherProtocol, Foreign, Method, NoUpgrade, Version, TooLarge, Full, Silent, TakesNothing, Unopened, NoRoom, NotAccepted, LeftOut}
+use Rattle.event_log.specs.declared.kind.Kind.TheVariants.{Malformed, OtherProtocol, Foreign, Method, NoUpgrade, Version, TooLarge, Full, Silent, TakesNothing, Unopened, TookMost, NoRoom, NotAccepted, LeftOut}
 
 -- the place of a kind among all
 abbrev pub place_of : Kind → ℕ
@@ -21,9 +21,10 @@ place_of Full = 7
 place_of Silent = 8
 place_of TakesNothing = 9
 place_of Unopened = 10
-place_of NoRoom = 11
-place_of NotAccepted = 12
-place_of LeftOut = 13
+place_of TookMost = 11
+place_of NoRoom = 12
+place_of NotAccepted = 13
+place_of LeftOut = 14
 
 -- the words before a count, and after it
 abbrev pub before_count : Kind → List ℕ
@@ -38,6 +39,7 @@ before_count Full = codes "refused "
 before_count Silent = codes "gave up "
 before_count TakesNothing = codes "gave up "
 before_count Unopened = codes "gave up "
+before_count TookMost = codes "gave up "
 before_count NoRoom = codes "refused "
 before_count NotAccepted = codes "failed to accept "
 before_count LeftOut = codes "left out "
@@ -54,13 +56,14 @@ behind_count Full = codes " clients over the most that are taken (503)"
 behind_count Silent = codes " clients that answered no ping or close"
 behind_count TakesNothing = codes " clients that took nothing for 10 s"
 behind_count Unopened = codes " clients that opened no session in time"
+behind_count TookMost = codes " clients that took the most memory"
 behind_count NoRoom = codes " SENDs for which there is no room (E12)"
 behind_count NotAccepted = codes " clients: out of descriptors or memory"
 behind_count LeftOut = codes " lines that nobody read in time"
 
 -- with what a server starts
 abbrev pub start_text : Start → List ℕ
-start_text s = codes "started: journal of version 2, areas of " ++ (decimal s.area ++ (codes " bytes, " ++ (decimal s.messages ++ (codes " messages held, " ++ (decimal s.clients ++ codes " clients allowed")))))
+start_text s = codes "started: journal of version 2, areas of " ++ (decimal s.area ++ (codes " bytes, " ++ (decimal s.messages ++ (codes " messages held, " ++ (decimal s.clients ++ (codes " clients allowed, " ++ (decimal s.memory ++ codes " bytes of memory for them")))))))
 
 -- how it does
 abbrev pub figures_text : Figures → List ℕ

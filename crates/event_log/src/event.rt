@@ -12,6 +12,8 @@ pub struct Start {
     pub messages: u64,
     /// How many clients it takes.
     pub clients: u64,
+    /// How many bytes these may hold together.
+    pub memory: u64,
 }
 
 /// How a server does.
@@ -88,8 +90,8 @@ impl fmt::Display for Start {
     fn fmt<W: fmt::Write>(&self, f: &mut fmt::Formatter<W>) -> fmt::Result {
         write!(
             f,
-            "started: journal of version 2, areas of {} bytes, {} messages held, {} clients allowed",
-            self.area, self.messages, self.clients
+            "started: journal of version 2, areas of {} bytes, {} messages held, {} clients allowed, {} bytes of memory for them",
+            self.area, self.messages, self.clients, self.memory
         )
     }
 }

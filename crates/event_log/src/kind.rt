@@ -5,7 +5,7 @@ ghost use Rattle.event_log.specs.Events.{before_count, behind_count, place_of};
 ghost use Rattle.event_log.specs.declared.kind.TheConstants.{KINDS};
 
 /// How many kinds there are.
-pub const KINDS: usize = 14;
+pub const KINDS: usize = 15;
 
 /// What may come many times in a second: it is counted, and told with how often it came.
 #[derive(Clone, Copy)]
@@ -32,6 +32,8 @@ pub enum Kind {
     TakesNothing,
     /// A client was given up that opened no session in time.
     Unopened,
+    /// A client was given up that held most, since all together held more memory than they may.
+    TookMost,
     /// A SEND was refused with E12.
     NoRoom,
     /// The system refused to accept a client: there are no descriptors or no memory for it.
@@ -66,9 +68,10 @@ impl Kind {
             8 => Some(Kind::Silent),
             9 => Some(Kind::TakesNothing),
             10 => Some(Kind::Unopened),
-            11 => Some(Kind::NoRoom),
-            12 => Some(Kind::NotAccepted),
-            13 => Some(Kind::LeftOut),
+            11 => Some(Kind::TookMost),
+            12 => Some(Kind::NoRoom),
+            13 => Some(Kind::NotAccepted),
+            14 => Some(Kind::LeftOut),
             _ => None,
         }
     }
@@ -78,7 +81,7 @@ impl Kind {
         ensures { result.now ≡ before_count self }
     {
         match self {
-            Kind::Silent | Kind::TakesNothing | Kind::Unopened => "gave up ",
+            Kind::Silent | Kind::TakesNothing | Kind::Unopened | Kind::TookMost => "gave up ",
             Kind::NotAccepted => "failed to accept ",
             Kind::LeftOut => "left out ",
             _ => "refused ",
@@ -100,6 +103,7 @@ impl Kind {
             Kind::Silent => " clients that answered no ping or close",
             Kind::TakesNothing => " clients that took nothing for 10 s",
             Kind::Unopened => " clients that opened no session in time",
+            Kind::TookMost => " clients that took the most memory",
             Kind::NoRoom => " SENDs for which there is no room (E12)",
             Kind::NotAccepted => " clients: out of descriptors or memory",
             Kind::LeftOut => " lines that nobody read in time",

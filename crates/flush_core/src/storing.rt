@@ -83,46 +83,6 @@ impl<D: Disk, B: Bell, W: Width> Flusher<D, B, W> {
         count_fitting(self.journal.size(), self.journal.used(), &self.batch)
     }
 
-    // How many commands are gathered.
-    fn count_gathered(&self) -> usize
-        ensures { self.now.broken ≡ false → result ≡ length (gathered self.now) }
-    {
-        self.batch.len()
-    }
-
-    // Makes the gathered batch durable in one block, behind what the live area holds. Where nothing is gathered it calls no disk
-    // and changes nothing. `Full` and `Memory` leave the disk as it was.
-    pub(crate) fn append_all(
-        &mut self,
-        alloc: Global,
-        ring: &BrokerRing<OutSender<B>>,
-    ) -> Result<(), FlushFault>
-        requires ring { self.old.seat.ring ≡ ring.now }
-        requires executed { self.old.broken ≡ false → self.old.executed ≡ self.old.stored }
-        ensures any_moment { D.honest self.old.disk → self.old.broken ≡ false →
-            LeavesOnly D.moment D.images_since self.old.disk self.new.disk
-            (StandsForEither (state_at self.old.opening self.old.seat self.old.stored) (state_at self.old.opening self.old.seat (next_ticket self.old.seat))) }
-        ensures after { D.honest self.old.disk →
-            OnOk result (StandFor (D.images self.new.disk) (state_at self.old.opening self.old.seat (next_ticket self.old.seat))) }
-        ensures stored { OnOk result (self.new ≡ storing self.old (next_ticket self.old.seat) self.new.disk self.new.size self.new.used self.old.won) }
-        ensures nothing { self.old.broken ≡ false → gathered self.old ≡ [] → IsOk result × (self.new ≡ self.old) }
-        ensures full { IsErrOf result FlushFault.Full →
-            IsTooLong self.old.size self.old.used (gathered self.old) × (self.new.disk ≡ self.old.disk) }
-        ensures no_room { D.honest self.old.disk → IsErrOf result FlushFault.Full →
-            HasNoRoom (D.content self.old.disk) (state_at self.old.opening self.old.seat self.old.stored) (gathered self.old) }
-        ensures outcome { IsOutcome self.old self.new result }
-        ensures stops { OnErr result ((self.new.broken ≡ true) × (self.new.seat.stopped ≡ true)) }
-        ensures cause { IsFlushCaused (D.failures self.old.disk) (D.failures self.new.disk) result }
-        ensures honest { D.honest self.old.disk → D.honest self.new.disk }
-        ensures was_honest { D.honest self.new.disk → D.honest self.old.disk }
-    {
-        if self.is_broken() {
-            return Err(FlushFault::Broken);
-        }
-        let count = self.count_gathered();
-        self.append(alloc, ring, count)
-    }
-
     // Makes so many gathered commands durable in one block, behind what the live area holds. If there are none it calls no disk
     // and changes nothing. `Full` and `Memory` leave the disk as it was.
     fn append(

@@ -11,7 +11,7 @@ ghost use Rattle.recover_core.specs.Standing.{StandFor, StandsForEither};
 ghost use Rattle.flush_core.specs.Batches.{IsBatch, block_bytes, from_on, state_at};
 ghost use Rattle.flush_core.specs.Faults.{IsFlushCaused};
 ghost use Rattle.flush_core.specs.Outcomes.{IsNext, IsTurn, IsTurned};
-ghost use Rattle.flush_core.specs.Room.{Fits, HasNoRoom, HasNoRoomLeft, IsTooLong, StoresAfresh, used_afresh};
+ghost use Rattle.flush_core.specs.Room.{Fits, HasNoRoomLeft, IsTooLong, StoresAfresh, used_afresh};
 
 use crate::FlushFault;
 use crate::flusher::Flusher;
@@ -68,46 +68,6 @@ impl<D: Disk, B: Bell, W: Width> Flusher<D, B, W> {
         }
         let count = self.gather(ring)?;
         self.store(alloc, ring)?;
-        self.execute(alloc, ring)?;
-        self.publish(ring);
-        Ok(count)
-    }
-
-    /// The same of a journal that is never compacted: `Full` where the block doesn't fit behind what the live area holds, with the
-    /// closed gate behind it, and the disk is then as it was.
-    pub fn append_turn(
-        &mut self,
-        alloc: Global,
-        ring: &BrokerRing<OutSender<B>>,
-    ) -> Result<u64, FlushFault>
-        requires ring { self.old.seat.ring ≡ ring.now }
-        requires executed { self.old.broken ≡ false → self.old.executed ≡ self.old.stored }
-        ensures any_moment { D.honest self.old.disk → self.old.broken ≡ false →
-            LeavesOnly D.moment D.images_since self.old.disk self.new.disk
-            (StandsForEither (state_at self.old.opening self.old.seat self.old.stored) (state_at self.new.opening self.new.seat (next_ticket self.new.seat))) }
-        ensures after { D.honest self.old.disk →
-            IfOk result (λ count. StandFor (D.images self.new.disk) (state_at self.new.opening self.new.seat self.new.stored)) }
-        ensures turned { IfOk result (λ count. (more : List (EntryValue SenderValue)) × (length more ≡ count) × IsTurned self.old self.new more) }
-        ensures all { IfOk result (λ count. self.new.stored ≡ next_ticket self.new.seat) }
-        ensures batch { IfOk result (λ count. IsBatch W.COMMANDS (block_bytes self.old.size W.BYTES) (from_on self.new.seat self.old.stored)) }
-        ensures nothing { from_on self.new.seat self.old.stored ≡ [] → self.new.disk ≡ self.old.disk }
-        ensures uncompacted { IfOk result (λ count. self.new.won ≡ self.old.won) }
-        ensures full { IsErrOf result FlushFault.Full →
-            IsTooLong self.old.size self.old.used (from_on self.new.seat self.old.stored)
-            × (self.new.disk ≡ self.old.disk) × IsBatch W.COMMANDS (block_bytes self.old.size W.BYTES) (from_on self.new.seat self.old.stored) × (from_on self.new.seat self.old.stored ≢ []) }
-        ensures no_room { D.honest self.old.disk → IsErrOf result FlushFault.Full →
-            HasNoRoom (D.content self.old.disk) (state_at self.old.opening self.old.seat self.old.stored) (from_on self.new.seat self.old.stored) }
-        ensures outcome { IsTurn self.old self.new result }
-        ensures stops { OnErr result ((self.new.broken ≡ true) × (self.new.seat.stopped ≡ true)) }
-        ensures cause { IsFlushCaused (D.failures self.old.disk) (D.failures self.new.disk) result }
-        ensures honest { D.honest self.old.disk → D.honest self.new.disk }
-        ensures was_honest { D.honest self.new.disk → D.honest self.old.disk }
-    {
-        if self.is_broken() {
-            return Err(FlushFault::Broken);
-        }
-        let count = self.gather(ring)?;
-        self.append_all(alloc, ring)?;
         self.execute(alloc, ring)?;
         self.publish(ring);
         Ok(count)

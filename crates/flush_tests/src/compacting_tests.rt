@@ -9,6 +9,7 @@ use crate::setups::{
 use broker_core::Broker;
 use disk_core::{Call, Disk, FuseDisk, MemDisk};
 use flush_core::FlushFault;
+use log::{Log, info};
 use recover_core::{open, read, stored_broker};
 use snapshot_core::encode_state;
 use std::alloc::Global;
@@ -228,7 +229,7 @@ fn stop(
 
 // A stop at each of so many calls, six at most, and behind them, with each fill.
 fn stop_at_each_call(
-    rt: &impl Abort,
+    rt: &(impl Abort + Log),
     alloc: Global,
     messages: u32,
     calls: u64,
@@ -241,6 +242,7 @@ fn stop_at_each_call(
     };
     for turn in 0..28_u64 {
         let (passed, fill) = (turn / 4, FILLS[(turn % 4) as usize]);
+        info!(rt; "a compaction of {messages} messages: the disk stops after {passed} calls");
         let seen = stop(alloc, messages, passed, fill, restart.as_slice());
         assert!(rt;
             seen == Some((true, passed >= calls)),

@@ -8,6 +8,7 @@ use crate::step_tests::{FIRST_SEND, LAST_SEND, SECOND_SEND};
 use claim_core::Refused;
 use disk_core::{Disk, FailOnce, FuseDisk, MemDisk};
 use flush_core::FlushFault;
+use log::info;
 use std::alloc::Global;
 use std::process::Abort;
 use std::test::Fail;
@@ -232,6 +233,7 @@ fn a_call_that_fails_within_two_batches_leaves_all_that_was_released(
     };
     for turn in 0..36_u64 {
         let (call, fill) = (turn / 4, FILLS[(turn % 4) as usize]);
+        info!(rt; "two batches: call {call} fails");
         let ran = fail_two(rt.alloc(), before.saturating_add(call));
         let is_right = is_as_wanted(rt.alloc(), ran, call, fill);
         assert!(rt; is_right, "call {call}");
@@ -243,6 +245,7 @@ fn a_call_that_fails_within_two_batches_leaves_all_that_was_released(
 fn a_stop_within_two_batches_leaves_all_that_was_released(rt: HostRuntime) -> Result<(), Fail> {
     for turn in 0..36_u64 {
         let (call, fill) = (turn / 4, FILLS[(turn % 4) as usize]);
+        info!(rt; "two batches: the disk stops at call {call}");
         let ran = stop_two(rt.alloc(), call);
         let is_right = is_as_wanted(rt.alloc(), ran, call, fill);
         assert!(rt; is_right, "call {call}");
@@ -318,6 +321,7 @@ fn a_call_that_fails_within_a_compaction_leaves_the_state(rt: HostRuntime) -> Re
     };
     for turn in 0..24_u64 {
         let (call, fill) = (turn / 4, FILLS[(turn % 4) as usize]);
+        info!(rt; "a compaction: call {call} fails");
         let seen = left_by_compaction(rt.alloc(), before.saturating_add(call), fill);
         let wanted = if call < 5 { failed(5) } else { DONE };
         assert!(rt; seen == Some((wanted, true)), "call {call}");

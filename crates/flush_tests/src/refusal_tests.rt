@@ -1,4 +1,4 @@
-//! A compaction while memory is refused. In an ordinary run none is, and it is done; `tests/no_memory.py` has each growth refused in
+//! A compaction while memory is refused. In an ordinary run none is, and it is done; `tests/program/no_memory.py` has each growth refused in
 //! turn, and reads what this test says of it.
 
 ghost use Rattle.std.specs.Prelude.{◌≡◌, ◌≤◌, IfSome};

@@ -8,6 +8,7 @@ use claim_core::{NotYet, Refused};
 use command_core::{Out, connected_reply};
 use disk_core::{Call, Disk, FuseDisk, MemDisk};
 use flush_core::FlushFault;
+use log::info;
 use std::alloc::{AllocError, Global};
 use std::test::Fail;
 
@@ -282,6 +283,7 @@ fn break_off(
 fn a_flusher_whose_disk_fails_stays_broken(rt: HostRuntime) -> Result<(), Fail> {
     for turn in 0..8_u64 {
         let (passed, in_a_turn) = (turn / 2, turn % 2 == 1);
+        info!(rt; "a block: the disk stops after {passed} calls");
         let answers = break_off(rt.alloc(), passed, in_a_turn);
         let wanted = Some((Some(Err(Refused::Stopped)), 2, 2));
         assert!(rt; answers == wanted, "{passed} calls");

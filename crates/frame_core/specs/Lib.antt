@@ -1,3 +1,5 @@
+pub mod Words
+pub mod Forms
 pub mod SameHeaders
 pub mod Verbs
 pub mod Heads

@@ -1,21 +1,30 @@
 //! Bytes that contracts see as a list.
 
-ghost use Rattle.std.specs.Prelude.{◌≡◌};
+ghost use Rattle.std.specs.Prelude.{◌≡◌, IfOk};
 
+use std::alloc::{AllocError, Global};
 use std::marker::Model;
+use std::sync::Arc;
 
-/// The bytes of a body. Contracts see them as a list.
-#[derive(Clone, Drop)]
+// How bytes are kept: in a vector of their own, or in one that several bodies share.
+#[derive(Drop)]
+pub(crate) enum BytesForm {
+    Own(Vec<u8>),
+    Shared(Arc<Vec<u8>>),
+}
+
+/// The bytes of a body. Contracts see them as a list. A clone copies them, unless they are shared.
 pub struct Bytes {
-    bytes: Vec<u8>,
+    form: BytesForm,
 }
 
 impl Model for Bytes {
     ghost use Rattle.std.specs.Prelude.{List, ℕ};
+    ghost use Rattle.frame_core.specs.Forms.{bytes_items};
 
     ghost Value = { List ℕ };
 
-    ghost view = { λ a. a.bytes.items };
+    ghost view = { λ a. bytes_items a.form };
 }
 
 impl Bytes {
@@ -23,21 +32,57 @@ impl Bytes {
     pub fn new(bytes: Vec<u8>) -> Bytes
         ensures { result ≡ bytes.items }
     {
-        Bytes { bytes }
+        Bytes {
+            form: BytesForm::Own(bytes),
+        }
+    }
+
+    /// The same bytes, which clones share from now on. If memory is refused for that, they are gone.
+    pub fn share(self, alloc: Global) -> Result<Bytes, AllocError>
+        ensures { IfOk result (λ shared. shared ≡ self) }
+    {
+        let Bytes { form } = self;
+        match form {
+            BytesForm::Own(bytes) => {
+                let bytes = Arc::new(alloc, bytes)?;
+                Ok(Bytes {
+                    form: BytesForm::Shared(bytes),
+                })
+            }
+            form => Ok(Bytes { form }),
+        }
     }
 
     /// The bytes.
     pub fn as_slice(&self) -> &[u8]
         ensures { result.now ≡ self.now }
     {
-        self.bytes.as_slice()
+        match &self.form {
+            BytesForm::Own(bytes) => bytes.as_slice(),
+            BytesForm::Shared(bytes) => bytes.as_slice(),
+        }
     }
+}
 
-    /// The vector of the bytes, which moves: no memory is taken.
-    pub fn into_vec(self) -> Vec<u8>
-        ensures { result.items ≡ self }
-    {
-        self.bytes
+// Written out, so that whoever drops bytes has one step for them, and not one for each form.
+impl Drop for Bytes {
+    fn drop(self) {
+        let Bytes { form } = self;
+        drop(form);
+    }
+}
+
+impl Clone for Bytes {
+    ghost use Rattle.std.specs.Prelude.{◌≡◌};
+
+    ghost is_clone = { λ old copy. copy ≡ old };
+
+    fn clone(&self) -> Result<Bytes, AllocError> {
+        let form = match &self.form {
+            BytesForm::Own(bytes) => BytesForm::Own(bytes.clone()?),
+            BytesForm::Shared(bytes) => BytesForm::Shared(bytes.clone()?),
+        };
+        Ok(Bytes { form })
     }
 }
 
@@ -51,7 +96,7 @@ impl PartialEq for Bytes {
     ghost laws = { partial_equiv_from_equiv nat_list_eq_equiv };
 
     fn eq(&self, other: &Bytes) -> bool {
-        self.bytes == other.bytes
+        self.as_slice() == other.as_slice()
     }
 }
 

@@ -12,6 +12,7 @@ mod partial;
 mod reader;
 mod search;
 mod text;
+mod word;
 mod write;
 
 pub use bytes::Bytes;
@@ -21,4 +22,5 @@ pub use headers::Headers;
 pub use laws::{answers_stay, one_answer, one_spelling};
 pub use reader::{Fed, FeedFault, FrameReader, read_pieces};
 pub use text::Text;
+pub use word::Word;
 pub use write::{writable, write_frame};

@@ -108,6 +108,11 @@ impl Partial {
         }
     }
 
+    /// How many bytes it has.
+    pub(crate) fn len(&self) -> usize {
+        self.head.len().saturating_add(self.body.len())
+    }
+
     /// Takes some bytes of the piece, which has some, and says how many.
     pub(crate) fn advance(
         &mut self,

@@ -65,6 +65,11 @@ impl FrameReader {
         }
     }
 
+    /// How many bytes it keeps of a frame that is not finished.
+    pub fn len(&self) -> usize {
+        self.partial.len()
+    }
+
     /// Reads a piece of the stream, behind the bytes that earlier pieces left of an unfinished frame. It gives the
     /// frames that are whole now, each as its bytes spell it, and the fault behind them where the piece has the byte
     /// that decides one (STOMP 1.2, "Augmented BNF", within the limits of 8,192 bytes of head, 64 headers and 65,536

@@ -1,22 +1,35 @@
 //! Text that contracts see as its bytes.
 
-ghost use Rattle.std.specs.Prelude.{◌≡◌, string_bytes};
+ghost use Rattle.std.specs.Prelude.{◌≡◌, IfOk, string_bytes};
+ghost use Rattle.frame_core.specs.Words.{word_bytes};
 
+use crate::word::Word;
+use std::alloc::{AllocError, Global};
 use std::cmp::Ordering;
 use std::marker::Model;
+use std::sync::Arc;
 
-/// A text in UTF-8. Contracts see it as the list of its bytes.
-#[derive(Clone, Drop)]
+// How a text is kept: as a word of the broker, a string of its own, or one that several texts share.
+#[derive(Drop)]
+pub(crate) enum TextForm {
+    Written(Word),
+    Own(String),
+    Shared(Arc<String>),
+}
+
+/// A text in UTF-8. Contracts see it as the list of its bytes. A clone copies these bytes, unless they are a word of the broker or
+/// shared.
 pub struct Text {
-    text: String,
+    form: TextForm,
 }
 
 impl Model for Text {
-    ghost use Rattle.std.specs.Prelude.{List, ℕ, string_bytes};
+    ghost use Rattle.std.specs.Prelude.{List, ℕ};
+    ghost use Rattle.frame_core.specs.Forms.{text_bytes};
 
     ghost Value = { List ℕ };
 
-    ghost view = { λ a. string_bytes a.text };
+    ghost view = { λ a. text_bytes a.form };
 }
 
 impl Text {
@@ -24,21 +37,68 @@ impl Text {
     pub fn new(text: String) -> Text
         ensures { result ≡ string_bytes text }
     {
-        Text { text }
+        Text {
+            form: TextForm::Own(text),
+        }
+    }
+
+    /// The text of a word of the broker: no memory is taken.
+    pub fn of_word(word: Word) -> Text
+        ensures { result ≡ word_bytes word }
+    {
+        Text {
+            form: TextForm::Written(word),
+        }
+    }
+
+    /// The same text, whose clones share its bytes from now on. If memory is refused for that, the text is gone.
+    pub fn share(self, alloc: Global) -> Result<Text, AllocError>
+        ensures { IfOk result (λ shared. shared ≡ self) }
+    {
+        let Text { form } = self;
+        match form {
+            TextForm::Own(text) => {
+                let text = Arc::new(alloc, text)?;
+                Ok(Text {
+                    form: TextForm::Shared(text),
+                })
+            }
+            form => Ok(Text { form }),
+        }
     }
 
     /// The text, as UTF-8.
     pub fn as_str(&self) -> &str
         ensures { result.now ≡ self.now }
     {
-        self.text.as_str()
+        match &self.form {
+            TextForm::Written(word) => word.as_str(),
+            TextForm::Own(text) => text.as_str(),
+            TextForm::Shared(text) => text.as_str(),
+        }
     }
+}
 
-    /// The string of the text, which moves: no memory is taken.
-    pub fn into_string(self) -> String
-        ensures { string_bytes result ≡ self }
-    {
-        self.text
+// Written out, so that whoever drops a text has one step for it, and not one for each form.
+impl Drop for Text {
+    fn drop(self) {
+        let Text { form } = self;
+        drop(form);
+    }
+}
+
+impl Clone for Text {
+    ghost use Rattle.std.specs.Prelude.{◌≡◌};
+
+    ghost is_clone = { λ old copy. copy ≡ old };
+
+    fn clone(&self) -> Result<Text, AllocError> {
+        let form = match &self.form {
+            TextForm::Written(word) => TextForm::Written(*word),
+            TextForm::Own(text) => TextForm::Own(text.clone()?),
+            TextForm::Shared(text) => TextForm::Shared(text.clone()?),
+        };
+        Ok(Text { form })
     }
 }
 
@@ -52,7 +112,7 @@ impl PartialEq for Text {
     ghost laws = { partial_equiv_from_equiv nat_list_eq_equiv };
 
     fn eq(&self, other: &Text) -> bool {
-        self.text == other.text
+        self.as_str() == other.as_str()
     }
 }
 
@@ -91,6 +151,6 @@ impl Ord for Text {
     ghost matches_eq = { texts_ties };
 
     fn cmp(&self, other: &Text) -> Ordering {
-        self.text.as_str().cmp(other.text.as_str())
+        self.as_str().cmp(other.as_str())
     }
 }

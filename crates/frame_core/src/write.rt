@@ -1,6 +1,7 @@
 //! How a frame is written, and which frames can be.
 
 ghost use Rattle.std.specs.Prelude.{◌≡◌, ◌↔◌, ◌++◌, IsTrue, IfOk, OnOk, length, ◌<◌, codes, MatchOption, decimal, ◌≢◌};
+ghost use Rattle.escape_core.specs.Escapes.{escaped};
 ghost use Rattle.frame_core.specs.Writable.{HasNoNul, IsOneLine, IsHeader, IsRawHeader, Writable, first_of};
 ghost use Rattle.frame_core.specs.Written.{written, written_header, IsText};
 ghost use Rattle.frame_core.specs.Spelling.{Spells, IsWithinLimits};
@@ -9,7 +10,7 @@ ghost use Rattle.std.specs.List.{AllByRecursion, flat_map};
 
 use crate::frame::{Frame, Verb, first};
 use crate::text::Text;
-use escape_core::escape;
+use escape_core::{escape, is_plain};
 use itoa::Buffer;
 use std::alloc::{AllocError, Global};
 
@@ -110,6 +111,19 @@ fn room(frame: &Frame) -> usize {
     room
 }
 
+/// Appends a text with its escapes.
+fn write_escaped(alloc: Global, bytes: &mut Vec<u8>, text: &str) -> Result<(), AllocError>
+    ensures { OnOk result (bytes.new.items ≡ bytes.old.items ++ escaped text.now) }
+{
+    let text = text.as_bytes();
+    if is_plain(text) {
+        bytes.extend_from_slice(text)?;
+        return Ok(());
+    }
+    bytes.extend_from_slice(escape(alloc, text)?.as_slice())?;
+    Ok(())
+}
+
 /// Appends a header line.
 fn write_header(
     alloc: Global,
@@ -125,9 +139,9 @@ fn write_header(
         bytes.push(b':')?;
         bytes.extend_from_slice(value.as_bytes())?;
     } else {
-        bytes.extend_from_slice(escape(alloc, name.as_bytes())?.as_slice())?;
+        write_escaped(alloc, bytes, name)?;
         bytes.push(b':')?;
-        bytes.extend_from_slice(escape(alloc, value.as_bytes())?.as_slice())?;
+        write_escaped(alloc, bytes, value)?;
     }
     bytes.push(b'\n')?;
     Ok(())

@@ -1,9 +1,9 @@
 //! Links in memory that end as a test wants them to, and want of memory.
 
 use claim_core::Released;
-use frame_core::Frame;
 use hub_core::Ringers;
 use outbox_core::Silent;
+use session_core::Notice;
 use std::alloc::{AllocError, Global};
 use std::cell::Cell;
 use ws_core::{CloseReason, Link, LinkFault, MemLink, Outgoing, Received};
@@ -100,11 +100,11 @@ impl Link for ScriptedLink {
         }
     }
 
-    fn send_direct(&mut self, alloc: Global, frame: &Frame) -> Result<(), LinkFault> {
+    fn send_direct(&mut self, alloc: Global, notice: &Notice) -> Result<(), LinkFault> {
         if is_refused(&self.short_errors) {
             return Err(LinkFault::Memory);
         }
-        self.link.send_direct(alloc, frame)
+        self.link.send_direct(alloc, notice)
     }
 
     fn ping(&mut self) -> Result<(), LinkFault> {
@@ -152,8 +152,8 @@ impl Link for Endless {
         }
     }
 
-    fn send_direct(&mut self, alloc: Global, frame: &Frame) -> Result<(), LinkFault> {
-        self.link.send_direct(alloc, frame)
+    fn send_direct(&mut self, alloc: Global, notice: &Notice) -> Result<(), LinkFault> {
+        self.link.send_direct(alloc, notice)
     }
 
     fn ping(&mut self) -> Result<(), LinkFault> {

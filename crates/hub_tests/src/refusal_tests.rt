@@ -1,4 +1,4 @@
-//! The flusher's loop and a worker while memory is refused. In an ordinary run none is, and all is done; `tests/no_memory.py` has each
+//! The flusher's loop and a worker while memory is refused. In an ordinary run none is, and all is done; `tests/program/no_memory.py` has each
 //! growth refused in turn, and reads what these tests say of it.
 
 ghost use Rattle.std.specs.Prelude.{◌≡◌};

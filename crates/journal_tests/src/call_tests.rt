@@ -4,6 +4,7 @@ use area_core::{
 };
 use byteorder::{BigEndian, ByteOrder};
 use disk_core::{Call, Disk, FuseDisk, MemDisk};
+use log::info;
 use std::alloc::{AllocError, Global};
 use std::process::Abort;
 use std::test::Fail;
@@ -95,6 +96,7 @@ fn a_disk_is_formatted_where_both_areas_fit(rt: HostRuntime) -> Result<(), Fail>
 #[test]
 fn formatting_fails_where_its_disk_fails(rt: HostRuntime) -> Result<(), Fail> {
     for passed in 0..4_u64 {
+        info!(rt; "formatting: {passed} calls pass, and then all fail");
         let disk = MemDisk::new(rt.alloc(), SIZE)?;
         let mut fuse = FuseDisk::new(disk, passed);
         let failed = match format(rt.alloc(), &mut fuse, 4_096) {
@@ -318,6 +320,7 @@ fn fails_to_move(rt: &impl Abort, alloc: Global, passed: u64) -> Result<bool, Fa
 #[test]
 fn a_snapshot_fails_where_its_disk_fails(rt: HostRuntime) -> Result<(), Fail> {
     for passed in 0..5_u64 {
+        info!(rt; "a snapshot: {passed} calls pass, and then all fail");
         let failed = fails_to_move(&rt, rt.alloc(), passed)?;
         assert!(rt; failed == (passed < 4), "{passed} calls");
     }

@@ -1,4 +1,5 @@
 use disk_core::{Call, DeviceFault, Disk, FileDisk, FuseDisk, MemDisk, OpenError, publish};
+use log::info;
 use std::alloc::{AllocError, Global};
 use std::fs;
 use std::fs::File;
@@ -265,6 +266,7 @@ fn left_after(rt: &impl Abort, alloc: Global, k: usize, fill: Option<u8>) -> Res
 #[test]
 fn a_fuse_passes_so_many_calls(rt: HostRuntime) -> Result<(), Fail> {
     for (k, (after_a_fill, put_back)) in LEFT.iter().enumerate() {
+        info!(rt; "a fuse: {k} calls pass, and then all fail");
         let filled = left_after(&rt, rt.alloc(), k, Some(F))?;
         assert_eq!(rt; filled, *after_a_fill, "at {k}");
         let back = left_after(&rt, rt.alloc(), k, None)?;
@@ -294,6 +296,7 @@ fn published(
 fn a_payload_is_there_as_a_whole_or_not_at_all(rt: HostRuntime) -> Result<(), Fail> {
     for at in 0..20_u64 {
         let k = at / 4;
+        info!(rt; "a payload: {k} calls pass, and then all fail");
         let (bytes, done) = published(&rt, rt.alloc(), k, FILLS[(at % 4) as usize])?;
         assert_eq!(rt; done, k == 4);
         assert!(rt;

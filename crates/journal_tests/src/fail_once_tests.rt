@@ -2,6 +2,7 @@
 
 use crate::disk_tests::{read, write};
 use disk_core::{Disk, FailOnce, MemDisk};
+use log::info;
 use std::alloc::Global;
 use std::process::Abort;
 use std::test::Fail;
@@ -62,6 +63,7 @@ fn left_after(
 #[test]
 fn a_single_call_fails_and_every_other_passes(rt: HostRuntime) -> Result<(), Fail> {
     for (failing, (after_a_fill, put_back)) in LEFT.iter().enumerate() {
+        info!(rt; "call {failing} fails, and no other");
         let filled = left_after(&rt, rt.alloc(), failing, Some(F))?;
         assert_eq!(rt; filled, *after_a_fill, "at {failing}");
         let back = left_after(&rt, rt.alloc(), failing, None)?;

@@ -7,10 +7,12 @@ ghost use Rattle.outbox_core.specs.Weights.{Overfill, weight_of};
 
 use crate::finished::Finished;
 use crate::size::BoxSize;
-use crate::weight::weigh;
+use crate::weight::{OUTPUT_BYTES, weigh};
 use command_core::Out;
 use rtrb::{Consumer, Producer, PushError};
 use std::marker::Model;
+use std::sync::Arc;
+use std::sync::atomic::{AtomicU64, Ordering};
 
 /// For how many credits there is room.
 pub(crate) const CREDITS: usize = 64;
@@ -48,6 +50,8 @@ pub(crate) struct OpenEnd {
     pub(crate) size: BoxSize,
     // How many of the box's bytes are free, as far as this end was told.
     pub(crate) free: u64,
+    // How many bytes were given, of which the taker reads.
+    pub(crate) given: Arc<AtomicU64>,
 }
 
 impl Model for OpenEnd {
@@ -74,6 +78,8 @@ impl OpenEnd {
         };
         match self.outputs.push(out) {
             Ok(()) => {
+                let kept = (self.free - left).saturating_add(OUTPUT_BYTES);
+                self.given.fetch_add(kept, Ordering::SeqCst);
                 self.free = left;
                 Ok(())
             }
@@ -90,7 +96,9 @@ impl OpenEnd {
             credits,
             size,
             free: _,
+            given,
         } = self;
+        drop(given);
         let Some(outputs) = outputs.finish() else {
             return None;
         };

@@ -9,6 +9,8 @@ use crate::size::BoxSize;
 use crate::taker::OutTaker;
 use rtrb::RingBuffer;
 use std::alloc::{AllocError, Global};
+use std::sync::Arc;
+use std::sync::atomic::AtomicU64;
 
 /// A new box, open and empty, of that size: the end that gives, which rings that bell, and the end that takes. It takes the
 /// memory of all its places. No other call of a box takes memory.
@@ -24,11 +26,14 @@ pub fn outbox<B: Bell>(
 {
     let (outputs, taken) = RingBuffer::new(alloc, size.outputs)?;
     let (told, credits) = RingBuffer::new(alloc, CREDITS)?;
+    let given = Arc::new(alloc, AtomicU64::new(0))?;
+    let seen: Arc<AtomicU64> = given.clone()?;
     let open = OpenEnd {
         outputs,
         credits,
         size,
         free: size.bytes,
+        given,
     };
     let sender = OutSender {
         end: End::Open(open),
@@ -40,6 +45,8 @@ pub fn outbox<B: Bell>(
         credits: told,
         owed: 0,
         share: size.bytes / 32 + 1,
+        given: seen,
+        took: 0,
     };
     Ok((sender, taker))
 }

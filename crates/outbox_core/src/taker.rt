@@ -7,10 +7,12 @@ ghost use Rattle.outbox_core.specs.Weights.{Fits, weight_of};
 use crate::bell::Bell;
 use crate::finished::Finished;
 use crate::sender::{End, OutSender};
-use crate::weight::weigh;
+use crate::weight::{OUTPUT_BYTES, weigh};
 use command_core::Out;
 use rtrb::{Consumer, Producer};
 use std::marker::Model;
+use std::sync::Arc;
+use std::sync::atomic::{AtomicU64, Ordering};
 
 /// What a taker got.
 #[derive(Drop)]
@@ -34,6 +36,9 @@ pub struct OutTaker {
     pub(crate) owed: u64,
     // From how many on it is told at once.
     pub(crate) share: u64,
+    // How many bytes were given in all, and how many of them were taken.
+    pub(crate) given: Arc<AtomicU64>,
+    pub(crate) took: u64,
 }
 
 impl Model for OutTaker {
@@ -70,9 +75,18 @@ impl OutTaker {
             self.tell_from(1);
             return if gone { Taken::Cut } else { Taken::Empty };
         };
+        let before = self.owed;
         self.owed = owed_with(self.owed, &out);
+        let kept = (self.owed - before).saturating_add(OUTPUT_BYTES);
+        self.took = self.took.saturating_add(kept);
         self.tell_from(self.share);
         Taken::Item(out)
+    }
+
+    /// How many bytes the outputs take that wait: those that the box counts, and 512 for each. One that is just being given may not be
+    /// counted yet. No clause says so, since the sending end counts what it gives in a thread of its own.
+    pub fn waiting(&self) -> u64 {
+        self.given.load(Ordering::SeqCst).saturating_sub(self.took)
     }
 
     // Tells the sending end what was taken, where that is so many bytes at least, and there is room to tell it.

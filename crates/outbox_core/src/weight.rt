@@ -7,6 +7,9 @@ ghost use Rattle.outbox_core.specs.Weights.{header_bytes, weight_of};
 use command_core::Out;
 use frame_core::Text;
 
+/// How many bytes an output that waits takes beside its own, for its list of headers.
+pub(crate) const OUTPUT_BYTES: u64 = 512;
+
 /// So many bytes and those of the names and values, or `None` where these are 2^64 or more.
 fn with_headers(bytes: u64, headers: &[(Text, Text)]) -> Option<u64>
     ensures { SomeIff result (bytes + sum_by header_bytes headers.now < 2 ^ 64) (bytes + sum_by header_bytes headers.now) }

@@ -1,4 +1,4 @@
-//! Calls whose memory is refused. In an ordinary run nothing is, and each gives its whole answer; `tests/no_memory.py` has each
+//! Calls whose memory is refused. In an ordinary run nothing is, and each gives its whole answer; `tests/program/no_memory.py` has each
 //! growth refused in turn, and reads what these tests say of it.
 
 use crate::frame_tests::tell_fed;

@@ -1,10 +1,11 @@
 //! Text that may stand in a header.
 
-ghost use Rattle.std.specs.Prelude.{◌≡◌, ◌≤◌, ◌↔◌, IsTrue, length};
+ghost use Rattle.std.specs.Prelude.{◌≡◌, ◌≤◌, ◌↔◌, IsTrue, IfOk, length};
 ghost use Rattle.frame_core.specs.Writable.{HasNoNul};
 ghost use Rattle.record_core.specs.Texts.{IsHeaderText};
 
 use frame_core::Text;
+use std::alloc::{AllocError, Global};
 use std::marker::Model;
 
 /// A text that may stand in a header: UTF-8 without NUL, at most 8,192 bytes. Contracts see it as the list of its
@@ -61,6 +62,14 @@ impl HeaderText {
         ensures form { IsHeaderText self.now }
     {
         self.text.as_str()
+    }
+
+    /// The same text, whose clones share its bytes from now on. If memory is refused for that, the text is gone.
+    pub fn share(self, alloc: Global) -> Result<HeaderText, AllocError>
+        ensures { IfOk result (λ shared. shared ≡ self) }
+    {
+        let text = self.text.share(alloc)?;
+        Ok(HeaderText { text })
     }
 
     /// The text, which moves: no memory is taken.

@@ -6,7 +6,7 @@ ghost use Rattle.record_core.specs.Sendings.{IsKept, IsSending, is_kept};
 
 use crate::destination::Dest;
 use frame_core::{Bytes, Headers};
-use std::alloc::AllocError;
+use std::alloc::{AllocError, Global};
 use std::marker::Model;
 
 /// What is sent where: a destination, the headers that go on with the message, and a body (STOMP 1.2, "SEND"). At most
@@ -83,6 +83,17 @@ impl Sending {
         ensures form { IsSending self.now }
     {
         &self.body
+    }
+
+    /// The same, whose clones share its bytes from now on. If memory is refused for that, it is gone.
+    pub fn share(self, alloc: Global) -> Result<Sending, AllocError>
+        ensures { IfOk result (λ shared. shared ≡ self) }
+    {
+        let (destination, headers, body) = self.into_parts();
+        let destination = destination.share(alloc)?;
+        let headers = headers.share(alloc)?;
+        let body = body.share(alloc)?;
+        Ok(Sending::new(destination, headers, body))
     }
 
     /// The three parts, which move: no memory is taken.

@@ -5,6 +5,7 @@ use crate::old_journal_tests::{RESTARTED as RESTARTED_OF_OLD, journal as old_jou
 use crate::stop_tests::{RESTARTED, journal_in};
 use area_core::ReadFault;
 use disk_core::{FailOnce, MemDisk};
+use log::info;
 use recover_core::{AreaFault, OpenFault, open};
 use std::alloc::Global;
 use std::process::Abort;
@@ -70,6 +71,7 @@ fn fail_and_open(
 fn a_journal_of_which_a_call_fails_is_opened_the_next_time(rt: HostRuntime) -> Result<(), Fail> {
     for turn in 0..240_u64 {
         let (area, then, call) = (turn % 2, THEN[(turn / 2 % 5) as usize], turn / 10);
+        info!(rt; "opening: area {area} is live, and call {call} fails");
         let journal = journal_in(rt.alloc(), area as u8)?;
         let is_opened = fail_and_open(&rt, rt.alloc(), journal, call, then, RESTARTED)?;
         assert!(rt; is_opened || call < 20, "call {call}");
@@ -82,6 +84,7 @@ fn a_journal_of_which_a_call_fails_is_opened_the_next_time(rt: HostRuntime) -> R
 fn an_older_journal_of_which_a_call_fails_keeps_its_state(rt: HostRuntime) -> Result<(), Fail> {
     for turn in 0..220_u64 {
         let (then, call) = (THEN[(turn % 5) as usize], turn / 5);
+        info!(rt; "opening nine old blocks: call {call} fails");
         let journal = old_journal(&rt, rt.alloc())?;
         let is_opened = fail_and_open(&rt, rt.alloc(), journal, call, then, RESTARTED_OF_OLD)?;
         assert!(rt; is_opened || call < 43, "call {call}");

@@ -1,4 +1,4 @@
-//! Opening a journal while memory is refused. In an ordinary run none is, and it opens; `tests/no_memory.py` has each growth refused
+//! Opening a journal while memory is refused. In an ordinary run none is, and it opens; `tests/program/no_memory.py` has each growth refused
 //! in turn, and reads what this test says of it.
 ghost use Rattle.std.specs.Prelude.{◌≤◌, length};
 

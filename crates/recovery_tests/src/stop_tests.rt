@@ -5,6 +5,7 @@ use crate::journals::{
 use area_core::{ReadFault, format};
 use command_core::Entry;
 use disk_core::{FileDisk, FuseDisk, MemDisk};
+use log::info;
 use recover_core::{AreaFault, OpenFault, Store, open, read};
 use std::alloc::Global;
 use std::fs;
@@ -78,6 +79,7 @@ fn stop_opening(
 fn a_stop_at_each_call_of_opening_leaves_the_state(rt: HostRuntime) -> Result<(), Fail> {
     for turn in 0..192_u64 {
         let (area, passed, fill) = (turn % 2, turn / 8, FILLS[(turn / 2 % 4) as usize]);
+        info!(rt; "opening: area {area} is live, and the disk stops after {passed} calls");
         let is_opened = stop_opening(&rt, rt.alloc(), area as u8, passed, fill)?;
         assert!(rt; is_opened || passed < 20, "{passed} calls are not enough");
     }
@@ -144,6 +146,7 @@ fn stop_batch(alloc: Global, passed: u64, fill: Option<u8>) -> Result<bool, Fail
 fn a_stop_at_each_call_of_a_batch_leaves_all_of_it_or_none(rt: HostRuntime) -> Result<(), Fail> {
     for turn in 0..20_u64 {
         let passed = turn / 4;
+        info!(rt; "a batch: the disk stops after {passed} calls");
         let is_told = stop_batch(rt.alloc(), passed, FILLS[(turn % 4) as usize])?;
         assert!(rt; is_told, "{passed} calls");
     }

@@ -1,6 +1,7 @@
 -- How far a flusher has gone.
-use Rattle.std.proofs.Common.{ne_eqb, ◌≡◌, ◌≢◌, ◌==◌, suc, ◌+◌, ◌-◌, ◌≤◌, ◌++◌, ℕ, List, [], ◌∷◌, false, Err, length, take, drop, refl, sym, ap, ◌∙◌, subst, arith, length-append, true, Option, Some, None, is_none, is_some, if◌then◌else◌}
-use Rattle.std.proofs.lemmas.List.{append-nil, append_assoc, take_all, take-append-drop}
+use Rattle.std.proofs.Common.{ne_eqb, ◌≡◌, ◌≢◌, ◌==◌, suc, zero, ◌+◌, ◌-◌, ◌≤◌, ◌++◌, ℕ, List, [], ◌∷◌, false, Err, length, take, drop, refl, sym, ap, ◌∙◌, subst, arith, length-append, true, Option, Some, None, is_none, is_some, if◌then◌else◌}
+use Rattle.std.proofs.lemmas.List.{append-nil, append_assoc, take_all, take-append-drop, take-append-le}
+use Rattle.std.proofs.Math.Seq.{drop-append-add, take-append-add}
 use Rattle.std.proofs.lemmas.Bool.{false≢true}
 use Rattle.command_core.specs.Commands.{CommandValue}
 use Rattle.command_core.specs.Entries.{EntryValue}
@@ -14,13 +15,12 @@ use Rattle.claim_core.specs.Seats.{FlushSeatValue, SessionSeatValue, flushing, n
 use Rattle.recover_core.proofs.Stores.{after-append}
 use Rattle.flush_core.specs.declared.faults.FlushFault.{FlushFault}
 use Rattle.flush_core.specs.declared.faults.FlushFault.TheVariants.{Device, Full, Broken, Memory}
-use Rattle.flush_core.specs.Batches.{IsBatch, between, from_on, state_at, state_taken, with_more}
-use Rattle.script_journal.specs.declared.sizes.TheConstants.{BATCH, BATCH_BYTES}
+use Rattle.flush_core.specs.Batches.{between, from_on, state_at, with_more}
 use Rattle.flush_core.specs.Flushed.{Flushed}
 use Rattle.flush_core.specs.Outcomes.{IsTurn, IsTurned, TurnFalls, turned_boxes, turned_outs}
-use Rattle.flush_core.specs.Room.{HasNoRoom}
-use Rattle.flush_core.proofs.Taken.{all_at, between_all, from_end, from_more}
-use Rattle.script_journal.specs.Going.{HasFilled, HasGone, HasGoneFront, HasGoneSomeWay, IsIdle}
+use Rattle.flush_core.specs.Room.{HasNoRoomLeft}
+use Rattle.flush_core.proofs.Taken.{all_at}
+use Rattle.script_journal.specs.Going.{HasCome, HasFilled, HasGone, HasGoneFront, HasGoneSomeWay, IsIdle}
 use Rattle.script_journal.specs.Journals.{IsFull}
 use Rattle.script_journal.specs.Placed.{AgreeAll, ArePlaced, commands_of}
 use Rattle.script_journal.specs.declared.waiting.Waiting.{Waiting}
@@ -47,57 +47,138 @@ pub no_boxes : (boxes : Kept) → (length boxes == 0) ≡ true → boxes ≡ []
 no_boxes [] none = refl
 no_boxes (b ∷ boxes) none = absurd (false≢true (sym (ne_eqb (length (b ∷ boxes)) 0 (λ e. omega (arith, e))) ∙ none))
 
-pub commands_count : (entries : List (EntryValue SenderValue)) → length (commands entries) ≡ length entries
-commands_count [] = refl
-commands_count (e ∷ entries) = ap suc (commands_count entries)
+-- so many, and so many behind these
+take_sum : {X : Type 0} (k m : ℕ) (xs : List X) → take (k + m) xs ≡ take k xs ++ take m (drop k xs)
+take_sum zero m xs = let none : 0 + m ≡ m = omega arith in ap (λ (n : ℕ). take n xs) none
+take_sum (suc k) m [] = take_all (suc k + m) [] (omega arith) ∙ sym (take_all m [] (omega arith))
+take_sum (suc k) m (x ∷ xs) =
+    let one : suc k + m ≡ suc (k + m) = omega arith in
+    ap (λ (n : ℕ). take n (x ∷ xs)) one ∙ ap (λ (l : List _). x ∷ l) (take_sum k m xs)
 
--- the seat with more taken, all of it published
-abbrev gone_by : FlushSeatValue → List CommandValue → FlushSeatValue
-gone_by seat more = with_mark (with_more seat more) (next_ticket (with_more seat more))
+-- what is no empty list has a first item
+pub first_and_rest : {X : Type 0} (xs : List X) → xs ≢ [] → (x : X) × (rest : List X) × (xs ≡ x ∷ rest)
+first_and_rest [] some = absurd (some refl)
+first_and_rest (x ∷ xs) some = (x, xs, refl)
 
 module _ {D : Type 0} where
-  pub gone_none : (f : Flushed D) → IsIdle f → HasGone f f []
-  gone_none f idle =
+  pub come_none : (f : Flushed D) → IsIdle f → HasCome f f [] 0
+  come_none f idle =
       let same : f.seat.taken ≡ f.seat.taken ++ [] = sym (append-nil f.seat.taken) in
-      let mark : f.seat.published ≡ f.seat.base + length (f.seat.taken ++ []) = idle.marked ∙ ap (λ (l : List CommandValue). f.seat.base + length l) same in
+      let mark : f.seat.published ≡ f.stored = idle.marked ∙ sym idle.stored in
       record {
-        idle = idle;
+        calm = record { whole = idle.whole; executed = idle.executed ∙ sym idle.stored; marked = mark; waiting = idle.waiting; state = idle.state ∙ sym (all_at f.opening f.seat f.stored idle.stored) };
+        few = omega arith;
+        stored = omega arith;
         seat = λ i. flushing f.seat.ring f.seat.base (same i) (mark i) f.seat.stopped f.seat.seats;
         opening = refl;
         state = refl;
         left = sym (append-nil f.left);
       }
 
-  pub gone_turn : (f g : Flushed D) (more : List (EntryValue SenderValue)) → IsIdle f → g.broken ≡ false → g.boxes ≡ [] → g.stored ≡ next_ticket g.seat → IsTurned f g more → HasGone f g (commands more)
-  gone_turn f g more idle whole boxless all turned =
-      let cs : List CommandValue = commands more in
-      let seat : g.seat ≡ gone_by f.seat cs = turned.seat ∙ ap (λ (n : ℕ). with_mark (with_more f.seat cs) n) (all ∙ ap next_ticket turned.seat) in
-      let begun : g.seat.base ≤ f.stored = omega (arith, idle.stored, ap (λ (s : FlushSeatValue). s.base) seat) in
-      let rest : between g.seat f.stored g.stored ≡ cs = between_all g.seat f.stored g.stored all begun
-      ∙ (ap (λ (s : FlushSeatValue). from_on s f.stored) seat
-      ∙ (from_more f.seat cs f.stored (omega (arith, idle.stored)) ∙ ap (λ (l : List CommandValue). l ++ cs) (from_end f.seat f.stored idle.stored))) in
-      let state : g.broker.state ≡ state_taken g.opening g.seat = ap (λ (b : BrokerValue). b.state) turned.broker ∙ all_at g.opening g.seat g.stored all in
-      let outs_are : turned_outs f g ≡ outs_of f.broker.state cs = λ i. idle.waiting i ++ outs_of f.broker.state (rest i) in
-      let all_left : unboxed (turned_boxes f g more) (turned_outs f g) ≡ turned_outs f g =
-      all_unboxed (turned_boxes f g more) (turned_outs f g) (none_boxed (turned_outs f g) (turned_boxes f g more) (subst (AreGiven (turned_outs f g) (turned_boxes f g more)) boxless turned.given)) in
-      record {
-        idle = record { whole = whole; stored = all; executed = turned.executed ∙ all; marked = ap (λ (s : FlushSeatValue). s.published) turned.seat ∙ all; waiting = turned.waiting; state = state };
-        seat = seat;
-        opening = turned.opening;
-        state = state ∙ ((λ i. state_after (turned.opening i) ((seat i).taken)) ∙ (after-append f.seat.taken f.opening cs ∙ ap (λ (s : State). state_after s cs) (sym idle.state)));
-        left = turned.left ∙ ap (λ (l : List OutValue). f.left ++ l) (all_left ∙ outs_are);
-      }
+  module _ (f g h : Flushed D) (more : List CommandValue) (k : ℕ) (entries : List (EntryValue SenderValue)) (idle : IsIdle f) (come : HasCome f g more k) (turned : IsTurned g h entries) where
+    abbrev new : List CommandValue
+    new = commands entries
 
-  pub gone_on : (f g h : Flushed D) (one two : List CommandValue) → HasGone f g one → HasGone g h two → HasGone f h (one ++ two)
-  gone_on f g h one two before after =
-      let assoc : (f.seat.taken ++ one) ++ two ≡ f.seat.taken ++ (one ++ two) = append_assoc f.seat.taken one two in
-      record {
-        idle = after.idle;
-        seat = after.seat ∙ (ap (λ (s : FlushSeatValue). gone_by s two) before.seat ∙ (λ i. flushing f.seat.ring f.seat.base (assoc i) (f.seat.base + length (assoc i)) f.seat.stopped f.seat.seats));
-        opening = after.opening ∙ before.opening;
-        state = after.state ∙ (ap (λ (s : State). state_after s two) before.state ∙ sym (after-append one f.broker.state two));
-        left = after.left ∙ ((λ i. before.left i ++ outs_of (before.state i) two) ∙ (append_assoc f.left (outs_of f.broker.state one) (outs_of (state_after f.broker.state one) two) ∙ ap (λ (l : List OutValue). f.left ++ l) (sym (outs_append one f.broker.state two))));
-      }
+    abbrev all : List CommandValue
+    all = more ++ new
+
+    abbrev now : ℕ
+    now = h.stored - f.stored
+
+    seat_is : h.seat ≡ with_mark (with_more f.seat all) h.stored
+    seat_is =
+        let assoc : (f.seat.taken ++ more) ++ commands entries ≡ f.seat.taken ++ (more ++ commands entries) = append_assoc f.seat.taken more (commands entries) in
+        turned.seat ∙ (ap (λ (s : FlushSeatValue). with_mark (with_more s (commands entries)) h.stored) come.seat ∙ (λ i. flushing f.seat.ring f.seat.base (assoc i) h.stored f.seat.stopped f.seat.seats))
+
+    taken_is : h.seat.taken ≡ f.seat.taken ++ all
+    taken_is = ap (λ (s : FlushSeatValue). s.taken) seat_is
+
+    base_is : h.seat.base ≡ f.seat.base
+    base_is = ap (λ (s : FlushSeatValue). s.base) seat_is
+
+    begun : f.stored ≡ f.seat.base + length f.seat.taken
+    begun = idle.stored
+
+    few_now : now ≤ length all
+    few_now = omega (arith, turned.within.1, base_is, ap length taken_is, length-append f.seat.taken all, begun)
+
+    stored_now : h.stored ≡ f.stored + now
+    stored_now = omega (arith, turned.within.0, come.stored)
+
+    state_now : h.broker.state ≡ state_after f.broker.state (take now all)
+    state_now =
+        let long : h.stored - h.seat.base ≡ length f.seat.taken + now = omega (arith, stored_now, begun, base_is) in
+        let cut : take (h.stored - h.seat.base) h.seat.taken ≡ f.seat.taken ++ take now all = (λ i. take (long i) (taken_is i)) ∙ take-append-add f.seat.taken all now in
+        ap (λ (b : BrokerValue). b.state) turned.broker
+        ∙ ((λ i. state_after ((turned.opening ∙ come.opening) i) (cut i))
+        ∙ (after-append f.seat.taken f.opening (take now all) ∙ ap (λ (s : State). state_after s (take now all)) (sym idle.state)))
+
+    first_are : take k more ≡ take k all
+    first_are = sym (take-append-le k more new come.few)
+
+    -- what this turn stored
+    between_are : between h.seat g.stored h.stored ≡ take (h.stored - g.stored) (drop k all)
+    between_are =
+        let long : g.stored - h.seat.base ≡ length f.seat.taken + k = omega (arith, come.stored, begun, base_is) in
+        (λ i. take (h.stored - g.stored) (drop (long i) (taken_is i))) ∙ ap (λ (l : List CommandValue). take (h.stored - g.stored) l) (drop-append-add f.seat.taken all k)
+
+    whole_are : take k all ++ take (h.stored - g.stored) (drop k all) ≡ take now all
+    whole_are =
+        let sum : k + (h.stored - g.stored) ≡ h.stored - f.stored = omega (arith, come.stored, turned.within.0) in
+        sym (take_sum k (h.stored - g.stored) all) ∙ ap (λ (n : ℕ). take n all) sum
+
+    outs_are : outs_of f.broker.state (take k more) ++ turned_outs g h ≡ outs_of f.broker.state (take now all)
+    outs_are =
+        let s = f.broker.state in
+        let m = take (h.stored - g.stored) (drop k all) in
+        let told : turned_outs g h ≡ outs_of (state_after s (take k all)) m = (λ i. come.calm.waiting i ++ outs_of ((come.state ∙ ap (λ (l : List CommandValue). state_after s l) first_are) i) (between_are i)) in
+        (λ i. outs_of s (first_are i) ++ told i) ∙ (sym (outs_append (take k all) s m) ∙ ap (λ (l : List CommandValue). outs_of s l) whole_are)
+
+    pub come_turn : h.broken ≡ false → h.boxes ≡ [] → HasCome f h (more ++ commands entries) (h.stored - f.stored)
+    come_turn whole boxless =
+        let unsent : unboxed (turned_boxes g h entries) (turned_outs g h) ≡ turned_outs g h =
+        all_unboxed (turned_boxes g h entries) (turned_outs g h) (none_boxed (turned_outs g h) (turned_boxes g h entries) (subst (AreGiven (turned_outs g h) (turned_boxes g h entries)) boxless turned.given)) in
+        record {
+          calm = record { whole = whole; executed = turned.executed; marked = ap (λ (s : FlushSeatValue). s.published) turned.seat; waiting = turned.waiting; state = ap (λ (b : BrokerValue). b.state) turned.broker };
+          few = few_now;
+          stored = stored_now;
+          seat = seat_is;
+          opening = turned.opening ∙ come.opening;
+          state = state_now;
+          left = turned.left ∙ ((λ i. come.left i ++ unsent i) ∙ (append_assoc f.left (outs_of f.broker.state (take k more)) (turned_outs g h) ∙ ap (λ (l : List OutValue). f.left ++ l) outs_are));
+        }
+
+    -- and more were taken, whether some box is left or not
+    pub turned_some_way : HasGoneSomeWay f h
+    turned_some_way = record {
+      ring = ap (λ (s : FlushSeatValue). s.ring) seat_is;
+      opening = turned.opening ∙ come.opening;
+      more = all;
+      taken = taken_is;
+      published = omega (arith, idle.marked, idle.stored, ap (λ (s : FlushSeatValue). s.published) turned.seat, stored_now);
+    }
+
+  -- all that was taken is stored
+  pub come_all : (f g : Flushed D) (more : List CommandValue) (k : ℕ) → IsIdle f → HasCome f g more k → g.stored ≡ next_ticket g.seat → (length more ≡ k) × HasGone f g more
+  come_all f g more k idle come all =
+      let many : length more ≡ k = omega (arith, come.stored, idle.stored, all, ap next_ticket come.seat, length-append f.seat.taken more) in
+      let whole : take k more ≡ more = take_all k more (omega (arith, many)) in (
+        many,
+        record {
+          idle = record {
+            whole = come.calm.whole;
+            stored = all;
+            executed = come.calm.executed ∙ all;
+            marked = come.calm.marked ∙ all;
+            waiting = come.calm.waiting;
+            state = come.calm.state ∙ all_at g.opening g.seat g.stored all;
+          };
+          seat = come.seat ∙ ap (λ (n : ℕ). with_mark (with_more f.seat more) n) (all ∙ ap next_ticket come.seat);
+          opening = come.opening;
+          state = come.state ∙ ap (λ (l : List CommandValue). state_after f.broker.state l) whole;
+          left = come.left ∙ ap (λ (l : List CommandValue). f.left ++ outs_of f.broker.state l) whole;
+        },
+      )
 
   pub some_way : (f g : Flushed D) (more : List CommandValue) → IsIdle f → HasGone f g more → HasGoneSomeWay f g
   some_way f g more idle gone = record {
@@ -108,23 +189,29 @@ module _ {D : Type 0} where
     published = omega (arith, idle.marked, ap (λ (s : FlushSeatValue). s.published) gone.seat, length-append f.seat.taken more);
   }
 
-  falls_some_way : (f g h : Flushed D) (more : List CommandValue) → IsIdle f → HasGone f g more → TurnFalls g h → HasGoneSomeWay f h
-  unfolding some_way
-  falls_some_way f g h more idle gone fell =
-      let way = some_way f g more idle gone in
-      record {
-        ring = fell.ring ∙ way.ring;
-        opening = fell.opening ∙ way.opening;
-        more = more ++ fell.taken.0;
-        taken = fell.taken.1 ∙ (ap (λ (l : List CommandValue). l ++ fell.taken.0) way.taken ∙ append_assoc f.seat.taken more fell.taken.0);
-        published = omega (arith, way.published, fell.published);
-      }
+  falls_some_way : (f g h : Flushed D) (more : List CommandValue) (k : ℕ) → IsIdle f → HasCome f g more k → TurnFalls g h → HasGoneSomeWay f h
+  falls_some_way f g h more k idle come fell = record {
+    ring = fell.ring ∙ ap (λ (s : FlushSeatValue). s.ring) come.seat;
+    opening = fell.opening ∙ come.opening;
+    more = more ++ fell.taken.0;
+    taken = fell.taken.1 ∙ (ap (λ (s : FlushSeatValue). s.taken ++ fell.taken.0) come.seat ∙ append_assoc f.seat.taken more fell.taken.0);
+    published = omega (arith, idle.marked, idle.stored, come.calm.marked, come.stored, fell.published);
+  }
 
-  pub failed_some_way : (X : Type 0) (f g h : Flushed D) (more : List CommandValue) (fault : FlushFault) → IsIdle f → HasGone f g more → IsTurn {X = X} g h (Err fault) → HasGoneSomeWay f h
-  failed_some_way X f g h more Device idle gone fell = falls_some_way f g h more idle gone fell
-  failed_some_way X f g h more Full idle gone fell = falls_some_way f g h more idle gone fell
-  failed_some_way X f g h more Broken idle gone was = absurd (false≢true (sym gone.idle.whole ∙ was.0))
-  failed_some_way X f g h more (Memory refused) idle gone fell = falls_some_way f g h more idle gone fell
+  pub come_some_way : (f g : Flushed D) (more : List CommandValue) (k : ℕ) → IsIdle f → HasCome f g more k → HasGoneSomeWay f g
+  come_some_way f g more k idle come = record {
+    ring = ap (λ (s : FlushSeatValue). s.ring) come.seat;
+    opening = come.opening;
+    more = more;
+    taken = ap (λ (s : FlushSeatValue). s.taken) come.seat;
+    published = omega (arith, idle.marked, idle.stored, come.calm.marked, come.stored);
+  }
+
+  pub failed_some_way : (X : Type 0) (f g h : Flushed D) (more : List CommandValue) (k : ℕ) (fault : FlushFault) → IsIdle f → HasCome f g more k → IsTurn {X = X} g h (Err fault) → HasGoneSomeWay f h
+  failed_some_way X f g h more k Device idle come fell = falls_some_way f g h more k idle come fell
+  failed_some_way X f g h more k Full idle come fell = falls_some_way f g h more k idle come fell
+  failed_some_way X f g h more k Broken idle come was = absurd (false≢true (sym come.calm.whole ∙ was.0))
+  failed_some_way X f g h more k (Memory refused) idle come fell = falls_some_way f g h more k idle come fell
 
   -- what has gone is what the seats have there
   pub gone_all : (f g : Flushed D) (first : ℕ) (seats : List SessionSeatValue) (more : List CommandValue) (waiting : List Waiting) → first ≡ next_ticket f.seat → HasGone f g more → length more ≡ length (commands_of waiting)
@@ -153,24 +240,26 @@ module _ {D : Type 0} where
         published = way.published;
       }
 
-  -- a turn whose block has no room, behind those that went
-  pub filled : (f g h : Flushed D) (more : List CommandValue) (was now : List ℕ) → HasGone f g more → TurnFalls g h → now ≡ was → IsBatch BATCH BATCH_BYTES (from_on h.seat g.stored) → from_on h.seat g.stored ≢ []
-      → HasNoRoom was (state_at g.opening g.seat g.stored) (from_on h.seat g.stored) → HasFilled f h now
-  filled f g h more was now gone fell same batch some room =
-      let next = fell.taken.0 in
-      let few : g.stored ≤ next_ticket g.seat = omega (arith, gone.idle.stored) in
-      let rest : from_on h.seat g.stored ≡ next = (λ i. drop (g.stored - fell.base i) (fell.taken.1 i))
-      ∙ (from_more g.seat next g.stored few ∙ ap (λ (l : List CommandValue). l ++ next) (from_end g.seat g.stored gone.idle.stored)) in
-      let state : state_at g.opening g.seat g.stored ≡ state_after f.broker.state more = all_at g.opening g.seat g.stored gone.idle.stored ∙ (sym gone.idle.state ∙ gone.state) in
+  -- a turn whose next command has no room, behind those that came
+  pub filled : (f g h : Flushed D) (more : List CommandValue) (k : ℕ) (image : List ℕ) → IsIdle f → HasCome f g more k → TurnFalls g h → from_on h.seat g.stored ≢ []
+      → HasNoRoomLeft image (state_at g.opening g.seat g.stored) (take 1 (from_on h.seat g.stored)) → HasFilled f h image
+  filled f g h more k image idle come fell some room =
+      let all = more ++ fell.taken.0 in
+      let base : h.seat.base ≡ f.seat.base = fell.base ∙ ap (λ (s : FlushSeatValue). s.base) come.seat in
+      let taken : h.seat.taken ≡ f.seat.taken ++ all = fell.taken.1 ∙ (ap (λ (s : FlushSeatValue). s.taken ++ fell.taken.0) come.seat ∙ append_assoc f.seat.taken more fell.taken.0) in
+      let long : g.stored - h.seat.base ≡ length f.seat.taken + k = omega (arith, come.stored, idle.stored, base) in
+      let rest : from_on h.seat g.stored ≡ drop k all = (λ i. drop (long i) (taken i)) ∙ drop-append-add f.seat.taken all k in
+      let next = first_and_rest (drop k all) (λ none. some (rest ∙ none)) in
+      let state : state_at g.opening g.seat g.stored ≡ state_after f.broker.state (take k all) = sym come.calm.state ∙ (come.state ∙ ap (λ (l : List CommandValue). state_after f.broker.state l) (sym (take-append-le k more fell.taken.0 come.few))) in
+      let one : take 1 (from_on h.seat g.stored) ≡ next.0 ∷ [] = ap (λ (l : List CommandValue). take 1 l) (rest ∙ next.2) in
+      let parts : all ≡ take k all ++ next.0 ∷ next.1 = sym (take-append-drop k all) ∙ ap (λ (l : List CommandValue). take k all ++ l) next.2 in
       record {
-        done = more;
-        batch = next;
-        base = fell.base ∙ ap (λ (s : FlushSeatValue). s.base) gone.seat;
-        taken = fell.taken.1 ∙ (ap (λ (s : FlushSeatValue). s.taken ++ next) gone.seat ∙ append_assoc f.seat.taken more next);
-        is_batch = subst (IsBatch BATCH BATCH_BYTES) rest batch;
-        some = λ none. some (rest ∙ none);
-        no_room = subst (λ (image : List ℕ). HasNoRoom image (state_after f.broker.state more) next) (sym same)
-            (subst (λ (z : State × List CommandValue). HasNoRoom was z.0 z.1) (λ i. (state i, rest i)) room);
+        done = take k all;
+        next = next.0;
+        behind = next.1;
+        base = base;
+        taken = taken ∙ ap (λ (l : List CommandValue). f.seat.taken ++ l) parts;
+        no_room = subst (λ (z : State × List CommandValue). HasNoRoomLeft image z.0 z.1) (λ i. (state i, one i)) room;
       }
 
   -- and these are of what the seats have there
@@ -178,16 +267,14 @@ module _ {D : Type 0} where
       → HasFilled f g image → ArePlaced first seats waiting → AgreeAll g.seat seats → IsFull f.broker.state (commands_of waiting) image
   filled_full f g first last count seats waiting image begins ends few many filled placed agree =
       let cs = commands_of waiting in
-      let both = filled.done ++ filled.batch in
+      let both = filled.done ++ filled.next ∷ filled.behind in
       let long : length g.seat.taken ≡ length f.seat.taken + length both = ap length filled.taken ∙ length-append f.seat.taken both in
       let fits : length both ≤ length cs = omega (arith, begins, ends, few, many, filled.base, long) in
       let front : both ≡ take (length both) cs = took_front first seats g.seat f.seat.taken both waiting (omega (arith, begins, filled.base)) filled.taken placed agree fits in
       record {
         done = filled.done;
-        batch = filled.batch;
-        behind = drop (length both) cs;
-        split = sym (ap (λ (l : List CommandValue). l ++ drop (length both) cs) front ∙ take-append-drop (length both) cs);
-        is_batch = filled.is_batch;
-        some = filled.some;
+        next = filled.next;
+        behind = filled.behind ++ drop (length both) cs;
+        split = sym (ap (λ (l : List CommandValue). l ++ drop (length both) cs) front ∙ take-append-drop (length both) cs) ∙ append_assoc filled.done (filled.next ∷ filled.behind) (drop (length both) cs);
         no_room = filled.no_room;
       }

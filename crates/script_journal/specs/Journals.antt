@@ -1,14 +1,12 @@
 -- What a script's journal keeps.
-use Rattle.std.specs.Prelude.{◌≡◌, ◌≢◌, ◌≤◌, ◌++◌, ℕ, Bool, List, [], length, take, true}
+use Rattle.std.specs.Prelude.{◌≡◌, ◌≤◌, ◌++◌, ◌∷◌, ℕ, Bool, List, [], length, take, true}
 use Rattle.atomic_table.specs.Seated.{TableId}
 use Rattle.command_core.specs.Commands.{CommandValue}
 use Rattle.broker_core.specs.States.{State}
 use Rattle.broker_core.specs.Steps.{state_after}
 use Rattle.claim_core.specs.Seats.{SessionSeatValue}
-use Rattle.flush_core.specs.Batches.{IsBatch}
-use Rattle.script_journal.specs.declared.sizes.TheConstants.{BATCH, BATCH_BYTES}
 use Rattle.flush_core.specs.Flushed.{Flushed}
-use Rattle.flush_core.specs.Room.{HasNoRoom}
+use Rattle.flush_core.specs.Room.{HasNoRoomLeft}
 use Rattle.recover_core.specs.Standing.{Stands}
 use Rattle.script_journal.specs.Going.{IsIdle}
 use Rattle.script_journal.specs.Placed.{AreSeatsOf}
@@ -44,13 +42,11 @@ pub record StandsAfterFront (s : State) (commands : List CommandValue) (image : 
 abbrev pub KeepFront : (List ℕ → Type 0) → State → List CommandValue → Type 0
 KeepFront images s commands = (c : List ℕ) → images c → ∥ StandsAfterFront s commands c ∥₁
 
--- The image stands for the state after the first of these commands, and the block of the next ones, which are a batch and not
--- none, has no room there.
+-- The journal is compacted, as far as that goes: the image stands for the state after the first of these commands. And it has no room for a
+-- block of the next one alone, or for a snapshot of that state.
 pub record IsFull (s : State) (commands : List CommandValue) (image : List ℕ) : Type 0 where
   pub done : List CommandValue
-  pub batch : List CommandValue
+  pub next : CommandValue
   pub behind : List CommandValue
-  pub split : commands ≡ (done ++ batch) ++ behind
-  pub is_batch : IsBatch BATCH BATCH_BYTES batch
-  pub some : batch ≢ []
-  pub no_room : HasNoRoom image (state_after s done) batch
+  pub split : commands ≡ done ++ next ∷ behind
+  pub no_room : HasNoRoomLeft image (state_after s done) (next ∷ [])

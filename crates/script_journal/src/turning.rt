@@ -16,10 +16,10 @@ use disk_core::Disk;
 use flush_core::FlushFault;
 use std::alloc::Global;
 
-// Turns until so many commands are taken, which are then stored, carried out and published.
+// Turns until so many commands are taken, stored, carried out and published.
 //
-// `Full` where the block of the last turn's commands has no room on the disk, `Broken` where a turn takes none of them, or
-// more, or where a session has a box: none does whose commands are all in the ring, without boxes.
+// `Full` where no block of the next command has room behind a fresh snapshot, or no such snapshot has any. `Broken` where so many turns
+// take others than these, or where a session has a box: none does whose commands are all in the ring, without boxes.
 fn take_all<D: Disk>(
     alloc: Global,
     ring: &ScriptRing,
@@ -34,18 +34,17 @@ fn take_all<D: Disk>(
     ensures calm { OnOk result (D.failures flusher.new.disk ≡ D.failures flusher.old.disk) }
     ensures cause { IfErr result (IsCausedBy (D.failures flusher.old.disk) (D.failures flusher.new.disk)) }
 {
-    let mut left = count;
+    let end = flusher.mark().saturating_add(count);
     for _turn in 0..count {
-        if left == 0 {
+        if flusher.mark() >= end {
             break;
         }
-        let taken = flusher.append_turn(alloc, ring)?;
-        if taken == 0 || taken > left || !flusher.has_no_box() {
+        flusher.turn(alloc, ring)?;
+        if !flusher.has_no_box() {
             return Err(FlushFault::Broken);
         }
-        left -= taken;
     }
-    if left > 0 {
+    if flusher.mark() != end || flusher.next() != end {
         return Err(FlushFault::Broken);
     }
     Ok(())
@@ -90,7 +89,8 @@ fn out_of_step(went: Result<bool, FlushFault>) -> FlushFault
 }
 
 /// Has waiting commands go into the ring and through the flusher, and answers whether all did; they do not where the disk
-/// fails, and then the first so many did. `Full` where the block of some of them has no room behind those before. Where more
+/// fails, and then the first so many did. The journal is compacted where a block has no room; `Full` where one of the next command has none
+/// then either. Where more
 /// was taken than waited, which is not so of a ring whose seats are all here, it is `Device` in place of that, or `Broken`
 /// where the disk did not fail.
 pub fn go<D: Disk>(

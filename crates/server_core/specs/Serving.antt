@@ -1,6 +1,7 @@
 -- What contracts see of a server and of its workers.
-use Rattle.std.specs.Prelude.{◌≡◌, ◌+◌, ◌≤◌, ℕ, List, [], ◌∷◌, ◌++◌, Option, Bool, true, false, codes, length}
-use Rattle.std.specs.List.{AllByRecursion}
+use Rattle.std.specs.Prelude.{◌≡◌, ◌+◌, ◌≤◌, ℕ, List, [], ◌∷◌, ◌++◌, Vec, codes, false, length, true}
+use Rattle.std.specs.declared.alloc.Global.{Global}
+use Rattle.std.specs.List.{All, AllByRecursion}
 use Rattle.std.specs.Fmt.{decimal}
 use Rattle.std.specs.declared.thread.PromisedHandle.{PromisedHandle}
 use Rattle.atomic_table.specs.Seated.{TableId}
@@ -15,11 +16,12 @@ use Rattle.hub_core.specs.Closings.{end_of}
 use Rattle.hub_core.specs.declared.closed.Closed.{Closed}
 use Rattle.hub_core.specs.declared.hub.SeatRoom.{SeatRoom}
 use Rattle.serve_faults.specs.declared.fault.ServeFault.TheVariants.{Output, Flushing}
-use Rattle.server_core.specs.declared.post.BellRope.{BellRope}
+use Rattle.server_core.specs.declared.mailbox.BellRope.{BellRope}
+use Rattle.server_core.specs.declared.service.Service.{Service}
 use Rattle.server_core.specs.declared.serving.ServeEnd.{ServeEnd}
 use Rattle.server_core.specs.declared.serving.ServeEnd.TheVariants.{Asked, Fault}
-use Rattle.server_core.specs.declared.station.Station.{Station}
-use Rattle.server_core.specs.declared.worker.SeatBack.{SeatBack}
+use Rattle.server_core.specs.declared.worker_setup.WorkerSetup.{WorkerSetup}
+use Rattle.server_core.specs.declared.worker.SeatsBack.{SeatsBack}
 
 -- The port; the ring at which all meet; the seats that no worker has yet; and the flusher.
 pub record ServerValue : Type 0 where
@@ -31,14 +33,36 @@ pub record ServerValue : Type 0 where
 abbrev pub server : ℕ → TableId → List SessionSeatValue → Flushed FileDisk → ServerValue
 server port ring seats flusher = record { port = port; ring = ring; seats = seats; flusher = flusher }
 
--- a worker's ring, and its seat
+-- a worker's ring, and its seats
 pub record WorkerValue : Type 0 where
   pub ring : TableId
-  pub seat : SessionSeatValue
+  pub seats : List SessionSeatValue
 
 -- the seats are at this ring
 abbrev pub AreAt : TableId → List SessionSeatValue → Type 0
 AreAt ring seats = AllByRecursion (λ (seat : SessionSeatValue). seat.ring ≡ ring) seats
+
+-- so are the seats of each of these lists
+abbrev pub AreAllAt : TableId → List (Vec SessionSeatValue Global) → Type 0
+AreAllAt ring lists = All (λ (seats : Vec SessionSeatValue Global). AreAt ring seats.items) lists
+
+-- the desks at which these services are have seats at this ring
+abbrev pub AreServed : {R : Type 0} → TableId → List (Service R) → Type 0
+AreServed {R = R} ring services = All (λ (service : Service R). service.shared.now.ring ≡ ring) services
+
+-- how many desks these workers have
+abbrev pub count_mailboxes : List WorkerSetup → ℕ
+count_mailboxes [] = 0
+count_mailboxes (setup ∷ setups) = length setup.mailboxes.items + count_mailboxes setups
+
+-- the ring at which a worker's desks have their seats, and how many seats it has
+pub record LoopValue : Type 0 where
+  pub ring : TableId
+  pub count : ℕ
+
+-- so many seats have come back, at this ring
+abbrev pub AreBack : TableId → ℕ → List SessionSeatValue → Type 0
+AreBack ring count seats = AreAt ring seats × (length seats ≡ count)
 
 -- the flusher is at this ring, and has carried out all that it has stored, unless a step has failed
 pub record IsReady {D : Type 0} (ring : TableId) (flusher : Flushed D) : Type 0 where
@@ -59,28 +83,21 @@ pub record IsOpened (port : ℕ) (s : ServerValue) : Type 0 where
   pub seats : length s.seats ≡ SEATS
   pub fresh : s.flusher.seat.taken ≡ []
 
--- a worker got one of the seats, which wait no more
-pub record HandsOut (old new : ServerValue) (worker : WorkerValue) : Type 0 where
-  pub seats : old.seats ≡ new.seats ++ worker.seat ∷ []
-  pub ring : worker.ring ≡ old.ring
-  pub same : new ≡ record old { seats = new.seats }
-
 -- what a server writes once it listens
 abbrev pub announced : ℕ → List ℕ
 announced port = codes "listening " ++ (decimal port ++ 10 ∷ [])
 
--- each of these threads hands back a seat at this ring
-abbrev pub ArePromised : TableId → List (PromisedHandle SessionSeatValue SeatBack) → Type 0
-ArePromised ring threads = AllByRecursion (λ (thread : PromisedHandle SessionSeatValue SeatBack). thread.promise.before.value.ring ≡ ring) threads
+-- each of these threads hands back seats at this ring
+abbrev pub ArePromised : TableId → List (PromisedHandle (Vec SessionSeatValue Global) SeatsBack) → Type 0
+ArePromised ring threads = All (λ (thread : PromisedHandle (Vec SessionSeatValue Global) SeatsBack). thread.promise.ring.value ≡ ring) threads
 
--- What a server keeps: it has a station for each seat that it has, and no seat is lost while it is whole.
-pub record KeepsServer (s : ServerValue) (stations : List Station) (room : SeatRoom BellRope) (workers : List (PromisedHandle SessionSeatValue SeatBack)) (is_whole : Bool) : Type 0 where
+-- What a server keeps: for each seat that it has, a desk of a worker that is not started.
+pub record KeepsServer (s : ServerValue) (setups : List WorkerSetup) (room : SeatRoom BellRope) (workers : List (PromisedHandle (Vec SessionSeatValue Global) SeatsBack)) : Type 0 where
   pub server_is : IsServer s
-  pub manned : length stations ≡ length s.seats
+  pub desks : count_mailboxes setups ≡ length s.seats
   pub empty : room.seats.items ≡ []
   pub promised : ArePromised s.ring workers
   pub count : s.flusher.seat.seats ≡ SEATS
-  pub all : is_whole ≡ true → length s.seats + length workers ≡ SEATS
 
 -- nothing of a server has changed but its flusher, whose ring is stopped
 pub record IsStopped (old new : ServerValue) : Type 0 where

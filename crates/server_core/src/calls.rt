@@ -2,7 +2,7 @@
 
 ghost use Rattle.std.specs.Prelude.{◌≡◌, IsNone};
 
-use clients_core::CLIENTS;
+use client_schedule::CLIENTS;
 use std::sync::atomic::{AtomicU64, Ordering};
 
 /// How many clients have their bits in one word.
@@ -13,7 +13,7 @@ pub(crate) const WORDS: usize = 8;
 
 const _: () = prove!(BITS * WORDS == CLIENTS);
 
-/// For which clients of a worker somebody called since it looked: a bit for each, by their numbers. So a look costs as much as there
+/// For which clients of a desk somebody called since it looked: a bit for each, by their numbers. So a look costs as much as there
 /// were calls, and a glance at each word.
 #[derive(Drop)]
 pub(crate) struct Calls {

@@ -1,16 +1,15 @@
 //! What wakes a worker that waits for its sockets.
 
-use crate::calls::{Called, Calls};
 use mio::{Registry, Token, Waker};
 use std::io;
 use std::sync::atomic::{AtomicBool, Ordering};
 
-/// Ends the wait of one worker, and says for which of its clients.
+/// Ends the wait of one worker; for which of its clients is said at the mailbox of each of its desks.
 ///
 /// No ring is lost. A call sets its client's bit, then says that there was a ring, then looks whether the worker sleeps;
 /// the worker says that it sleeps, then looks whether there was a ring, and once it is awake takes the ring back before it
-/// takes the bits. All of these steps stand in one order. So a call whose bit the worker has not taken comes to its
-/// second step after the worker took the ring back: the worker finds that ring before it sleeps the next time, or else has
+/// takes the bits of all its desks. All of these steps stand in one order. So a call whose bit the worker has not taken comes to
+/// its second step after the worker took the ring back: the worker finds that ring before it sleeps the next time, or else has
 /// said by then that it sleeps, and is woken. Only a ring of a sleeping worker costs a call of the system.
 ///
 /// A number that was a client's and is another's by now may still be called for the one that is gone. Then the other gets a
@@ -20,8 +19,8 @@ pub struct Doorbell {
     waker: Waker,
     asleep: AtomicBool,
     rung: AtomicBool,
-    // Who was called for since the worker looked.
-    calls: Calls,
+    // Whether the worker waits for a greater mark.
+    awaits_mark: AtomicBool,
 }
 
 impl Doorbell {
@@ -31,7 +30,7 @@ impl Doorbell {
             waker: Waker::new(registry, token)?,
             asleep: AtomicBool::new(false),
             rung: AtomicBool::new(false),
-            calls: Calls::new(),
+            awaits_mark: AtomicBool::new(false),
         })
     }
 
@@ -43,20 +42,16 @@ impl Doorbell {
         }
     }
 
-    /// Notes that client, for whom it will be rung: a worker that looks before that finds it too.
-    pub(crate) fn note(&self, client: usize) {
-        self.calls.call(client);
+    /// Says whether the worker waits for a greater mark.
+    pub(crate) fn await_mark(&self, awaits: bool) {
+        self.awaits_mark.store(awaits, Ordering::SeqCst);
     }
 
-    /// Rings for that client.
-    pub(crate) fn call(&self, client: usize) {
-        self.calls.call(client);
-        self.ring();
-    }
-
-    /// Takes the calls of one word of clients, of whom there are `WORDS`.
-    pub(crate) fn take_calls(&self, word: usize) -> Called {
-        self.calls.take(word)
+    /// Rings if the worker waits for a greater mark.
+    pub(crate) fn tell_mark(&self) {
+        if self.awaits_mark.load(Ordering::SeqCst) {
+            self.ring();
+        }
     }
 
     /// Says that the worker is about to wait, and answers whether it may: it may not where the bell was rung since it last

@@ -1,15 +1,48 @@
 //! Where clients come into a server: what is opened before its journal.
 
-ghost use Rattle.std.specs.Prelude.{◌≡◌, IfOk, length};
+ghost use Rattle.std.specs.Prelude.{◌≡◌, ◌≤◌, ◌<◌, IfOk, length};
 ghost use Rattle.limits_core.specs.declared.TheConstants.{SEATS};
+ghost use Rattle.server_core.specs.Serving.{count_mailboxes};
+ghost use Rattle.server_core.specs.declared.serving.TheConstants.{MOST_CLIENTS, MOST_MEMORY};
 
-use crate::door::listen;
-use crate::post::Post;
-use crate::station::{Station, man};
+use crate::acceptor::listen;
+use crate::doorbell::Doorbell;
+use crate::mailbox::Mailbox;
+use crate::serving::{MOST_CLIENTS, MOST_MEMORY};
+use crate::worker_setup::{WorkerSetup, man};
+use limits_core::SEATS;
 use serve_faults::ServeFault;
 use std::alloc::{AllocError, Global};
 use std::net::{Net, TcpListener, TcpStream};
 use std::sync::Arc;
+
+/// Whom a server takes, how many, by how many threads it serves them, and how much memory they may hold.
+#[derive(Drop)]
+pub struct Reception {
+    /// The origins whose pages are served; all, if none is named.
+    pub origins: Vec<Vec<u8>>,
+    /// How many clients it takes at a time. One more is told so (503).
+    pub most_clients: u64,
+    /// How many threads serve them: one at least, and 64 at most, whatever is said here.
+    pub threads: usize,
+    /// How many bytes they may hold together: what waits to be sent to them, and what they have not finished. Beyond that whoever holds
+    /// most is given up.
+    pub memory: u64,
+}
+
+impl Reception {
+    /// That of a server which takes as many clients as one can, and lets them hold 1 GiB together.
+    pub fn new(origins: Vec<Vec<u8>>, threads: usize) -> Reception
+        ensures { result ≡ record { origins = origins; most_clients = MOST_CLIENTS; threads = threads; memory = MOST_MEMORY } }
+    {
+        Reception {
+            origins,
+            most_clients: MOST_CLIENTS,
+            threads,
+            memory: MOST_MEMORY,
+        }
+    }
+}
 
 /// A port that is open, for whom, and what the workers wait by that will have its clients.
 #[derive(Drop)]
@@ -18,9 +51,11 @@ pub(crate) struct Entrance {
     pub(crate) port: u16,
     pub(crate) origins: Arc<Vec<Vec<u8>>>,
     pub(crate) most_clients: u64,
-    pub(crate) posts: Vec<Arc<Post>>,
-    pub(crate) stations: Vec<Station>,
-    ghost manned: { length stations.items ≡ SEATS },
+    pub(crate) memory: u64,
+    pub(crate) mailboxes: Vec<Arc<Mailbox>>,
+    // One for each worker.
+    pub(crate) setups: Vec<WorkerSetup>,
+    ghost manned: { count_mailboxes setups.items ≡ SEATS },
 }
 
 impl Entrance {
@@ -29,18 +64,14 @@ impl Entrance {
         alloc: Global,
         net: &R,
         port: u16,
-        origins: Vec<Vec<u8>>,
-        most_clients: u64,
+        reception: Reception,
     ) -> Result<Entrance, ServeFault>
         ensures { IfOk result (λ entrance. entrance.port ≡ port) }
     {
-        let Ok(origins) = Arc::new(alloc, origins) else {
-            return Err(ServeFault::Memory);
-        };
         match listen(net, port) {
-            Ok(listener) => Entrance::man(alloc, net, port, origins, most_clients, listener),
+            Ok(listener) => Entrance::man(alloc, net, port, reception, listener),
             Err(fault) => {
-                drop(origins);
+                drop(reception);
                 Err(fault)
             }
         }
@@ -51,26 +82,42 @@ impl Entrance {
         alloc: Global,
         net: &R,
         port: u16,
-        origins: Arc<Vec<Vec<u8>>>,
-        most_clients: u64,
+        reception: Reception,
         listener: TcpListener,
     ) -> Result<Entrance, ServeFault>
         ensures { IfOk result (λ entrance. entrance.port ≡ port) }
     {
-        let mut stations = Vec::new(alloc);
-        let mut posts = Vec::new(alloc);
-        match man(alloc, net, &mut stations, &mut posts) {
+        let Reception {
+            origins,
+            most_clients,
+            threads,
+            memory,
+        } = reception;
+        let Ok(origins) = Arc::new(alloc, origins) else {
+            drop(listener);
+            return Err(ServeFault::Memory);
+        };
+        let mut setups = Vec::new(alloc);
+        let mut mailboxes = Vec::new(alloc);
+        match man(
+            alloc,
+            net,
+            threads.clamp(1, SEATS),
+            &mut setups,
+            &mut mailboxes,
+        ) {
             Ok(()) => Ok(Entrance {
                 listener,
                 port,
                 origins,
                 most_clients,
-                posts,
-                stations,
+                memory,
+                mailboxes,
+                setups,
             }),
             Err(fault) => {
-                drop(stations);
-                drop(posts);
+                drop(setups);
+                drop(mailboxes);
                 drop(origins);
                 drop(listener);
                 Err(fault)
@@ -79,11 +126,26 @@ impl Entrance {
     }
 }
 
-/// The same posts once more.
-pub(crate) fn posts_of(alloc: Global, posts: &[Arc<Post>]) -> Result<Vec<Arc<Post>>, AllocError> {
-    let mut same = Vec::new(alloc);
-    for post in posts {
-        same.push(post.clone()?)?;
+/// The mailboxes once more, for others who share them.
+pub(crate) fn mailboxes_again(
+    alloc: Global,
+    mailboxes: &[Arc<Mailbox>],
+) -> Result<Vec<Arc<Mailbox>>, AllocError> {
+    let mut again = Vec::new(alloc);
+    for mailbox in mailboxes {
+        again.push(mailbox.clone()?)?;
     }
-    Ok(same)
+    Ok(again)
+}
+
+/// The bells of the workers.
+pub(crate) fn bells_of(
+    alloc: Global,
+    setups: &[WorkerSetup],
+) -> Result<Vec<Arc<Doorbell>>, AllocError> {
+    let mut bells = Vec::new(alloc);
+    for setup in setups {
+        bells.push(setup.bell.clone()?)?;
+    }
+    Ok(bells)
 }

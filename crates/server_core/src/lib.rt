@@ -2,22 +2,26 @@
 
 #![tactic(auto)]
 
+mod acceptor;
 mod calls;
 mod descriptors;
-mod door;
 mod doorbell;
 mod ending;
 mod entrance;
-mod pace;
-mod post;
+mod event_loop;
+mod keeping;
+mod log_thread;
+mod mailbox;
+mod memory;
+mod service;
 mod serving;
 mod shared;
-mod shift;
 mod starting;
-mod station;
-mod teller;
+mod wakeups;
 mod worker;
+mod worker_setup;
 
-pub use post::BellRope;
+pub use entrance::Reception;
+pub use mailbox::BellRope;
 pub use serve_faults::{ServeFault, Unopened};
-pub use serving::{Ender, MOST_CLIENTS, ServeEnd, Server};
+pub use serving::{Ender, MOST_CLIENTS, MOST_MEMORY, ServeEnd, Server};

@@ -6,16 +6,17 @@ ghost use Rattle.std.specs.Io.KnownBytes.{Appends};
 ghost use Rattle.serve_faults.specs.Faults.{IsNotStarted};
 ghost use Rattle.server_core.specs.Serving.{AreAt, IsReady, IsNewHub, IsOpened, IsEnd, announced};
 
+use crate::acceptor::Acceptor;
 use crate::descriptors::clients_allowed;
-use crate::door::Door;
 use crate::ending::Ending;
-use crate::entrance::{Entrance, posts_of};
-use crate::pace::Pace;
-use crate::post::BellRope;
+use crate::entrance::{Entrance, Reception, bells_of, mailboxes_again};
+use crate::log_thread::LogThread;
+use crate::mailbox::BellRope;
+use crate::memory::Memory;
 use crate::shared::{ServerRing, ServerSeat, Shared};
-use crate::station::Station;
-use crate::teller::Teller;
+use crate::wakeups::Wakeups;
 use crate::worker::WorkerThread;
+use crate::worker_setup::WorkerSetup;
 use connection_core::SESSION_BYTES;
 use disk_core::FileDisk;
 use event_log::{Event, Start};
@@ -38,6 +39,9 @@ pub(crate) type ServerFlusher = HubFlusher<FileDisk, BellRope>;
 /// How many clients a server takes at a time.
 pub const MOST_CLIENTS: u64 = 16_384;
 
+/// How many bytes its clients may hold together, if nothing else is said.
+pub const MOST_MEMORY: u64 = 1_073_741_824;
+
 /// How many bytes of an area all that may be held takes at most, with a block of commands and what a snapshot has besides.
 const HELD_BYTES: u64 = 25_300_000;
 
@@ -55,16 +59,14 @@ pub enum ServeEnd {
 pub struct Server<R: Drop> {
     pub(crate) shared: Arc<Shared<R>>,
     pub(crate) port: u16,
-    pub(crate) door: Arc<Door<R>>,
+    pub(crate) acceptor: Arc<Acceptor<R>>,
     pub(crate) seats: Vec<ServerSeat>,
-    // One for each seat.
-    pub(crate) stations: Vec<Station>,
+    // One for each worker that was not started, with as many desks as there are seats.
+    pub(crate) setups: Vec<WorkerSetup>,
     // Where the seats of workers that have ended come back to.
     pub(crate) room: SeatRoom<BellRope>,
     pub(crate) flusher: ServerFlusher,
     pub(crate) workers: Vec<WorkerThread>,
-    // Whether each seat is here, or with a worker that was started.
-    pub(crate) is_whole: bool,
 }
 
 impl<R: Drop> Model for Server<R> {
@@ -75,7 +77,7 @@ impl<R: Drop> Model for Server<R> {
 
     ghost view = { λ a. server a.port (arc_value a.shared).ring a.seats.items a.flusher };
 
-    ghost invariant = { λ a. KeepsServer (server a.port (arc_value a.shared).ring a.seats.items a.flusher) a.stations.items a.room a.workers.items a.is_whole };
+    ghost invariant = { λ a. KeepsServer (server a.port (arc_value a.shared).ring a.seats.items a.flusher) a.setups.items a.room a.workers.items };
 }
 
 impl<R> Server<R>
@@ -83,38 +85,24 @@ where
     R: Files<File = File> + Net<Listener = TcpListener, Stream = TcpStream> + Wait + Clone + Drop,
 {
     /// Opens the port at 127.0.0.1, and then the journal in a file, whose lock the server has from then on until its flusher is gone.
-    /// Pages of these origins are served alone; if none is named, all are. `Port` if the port can't be opened, `Threads` if the
-    /// system refuses what workers wait by, and `File` if the file can't be opened, or another server has its lock: nothing of it
-    /// is read or written then. `Opening` if the journal is refused: what opening a journal leaves is said there. No lock is kept of
-    /// a refusal. It takes `MOST_CLIENTS` clients at a time, or as many as the process may have descriptors for, if these are fewer.
+    /// `Port` if the port can't be opened, `Threads` if the system refuses what workers wait by, and `File` if the file can't be opened,
+    /// or another server has its lock: nothing of it is read or written then. `Opening` if the journal is refused: what opening a
+    /// journal leaves is said there. No lock is kept of a refusal. It takes as many clients at a time as `reception` says, or as the
+    /// process may have descriptors for, if these are fewer.
     pub fn open(
         alloc: Global,
         rt: &R,
         path: &str,
         port: u16,
-        origins: Vec<Vec<u8>>,
+        reception: Reception,
     ) -> Result<Server<R>, ServeFault>
         ensures { IfOk result (IsOpened port) }
     {
-        let most_clients = match clients_allowed(alloc, rt) {
-            Some(allowed) => allowed.min(MOST_CLIENTS),
-            None => MOST_CLIENTS,
-        };
-        Server::open_for(alloc, rt, path, port, origins, most_clients)
-    }
-
-    /// The same of a server that takes so many clients at a time. One more is told so (503).
-    pub fn open_for(
-        alloc: Global,
-        rt: &R,
-        path: &str,
-        port: u16,
-        origins: Vec<Vec<u8>>,
-        most_clients: u64,
-    ) -> Result<Server<R>, ServeFault>
-        ensures { IfOk result (IsOpened port) }
-    {
-        match Entrance::open(alloc, rt, port, origins, most_clients) {
+        let mut reception = reception;
+        if let Some(allowed) = clients_allowed(alloc, rt) {
+            reception.most_clients = reception.most_clients.min(allowed);
+        }
+        match Entrance::open(alloc, rt, port, reception) {
             Ok(entrance) => Server::behind(alloc, rt, path, entrance),
             Err(fault) => Err(fault),
         }
@@ -165,16 +153,15 @@ impl<R: Wait + Clone + Drop> Server<R> {
         let (ring, room) = hub.into_ring();
         let port = entrance.port;
         match share(alloc, rt, ring, entrance, flusher.mark()) {
-            Ok((shared, door, stations)) => Ok(Server {
+            Ok((shared, acceptor, setups)) => Ok(Server {
                 shared,
                 port,
-                door,
+                acceptor,
                 seats,
-                stations,
+                setups,
                 room,
                 flusher,
                 workers: Vec::new(alloc),
-                is_whole: true,
             }),
             Err(fault) => {
                 drop(seats);
@@ -207,14 +194,15 @@ impl<R: Wait + Clock + Drop> Server<R> {
 
     // Tells the operator with what the server starts, and whether its journal may be too small.
     fn tell_start(&self) {
-        let clients = self.door.most_clients();
+        let clients = self.acceptor.most_clients();
         let area = self.flusher.size();
         let start = Start {
             area,
             messages: self.flusher.broker().held().messages,
             clients,
+            memory: self.shared.memory.budget(),
         };
-        let (log, rt) = (self.shared.pace.log(), &self.shared.rt);
+        let (log, rt) = (self.shared.wakeups.log(), &self.shared.rt);
         log.note(rt, Event::Started(start));
         let needed = clients
             .saturating_mul(SESSION_BYTES)
@@ -226,7 +214,7 @@ impl<R: Wait + Clock + Drop> Server<R> {
 
     /// What asks the server to end, in good order.
     pub fn ender(&self) -> Result<Ender, ServeFault> {
-        match self.shared.pace.ending() {
+        match self.shared.wakeups.ending() {
             Ok(ending) => Ok(Ender { ending }),
             Err(_) => Err(ServeFault::Memory),
         }
@@ -303,48 +291,51 @@ fn share<R: Wait + Clone + Drop>(
     ring: ServerRing,
     entrance: Entrance,
     mark: u64,
-) -> Result<(Arc<Shared<R>>, Arc<Door<R>>, Vec<Station>), ServeFault>
+) -> Result<(Arc<Shared<R>>, Arc<Acceptor<R>>, Vec<WorkerSetup>), ServeFault>
     ensures ring { IfOk result (λ shares. (arc_value shares.0).ring ≡ ring) }
-    ensures stations { IfOk result (λ shares. shares.2 ≡ entrance.stations) }
+    ensures setups { IfOk result (λ shares. shares.2 ≡ entrance.setups) }
 {
     let Entrance {
         listener,
         port: _,
         origins,
         most_clients,
-        posts,
-        stations,
+        memory,
+        mailboxes,
+        setups,
     } = entrance;
-    let log = shared_by(alloc, Teller::new(alloc)?)?;
+    let log = shared_by(alloc, LogThread::new(alloc)?)?;
     let ending = shared_by(alloc, Ending::new())?;
-    let known = posts_of(alloc, &posts)?;
-    let door = Door::new(
+    let bells = bells_of(alloc, &setups)?;
+    let memory = Memory::new(memory, mailboxes_again(alloc, &mailboxes)?);
+    let acceptor = Acceptor::new(
         rt.clone()?,
         listener,
-        known,
+        mailboxes,
         most_clients,
         ending.clone()?,
         log.clone()?,
     );
-    let pace = Pace::new(rt.clone()?, mark, ending, log, posts);
+    let wakeups = Wakeups::new(rt.clone()?, mark, ending, log, bells);
     let shared = Shared {
         rt: rt.clone()?,
         ring,
         origins,
-        pace,
+        wakeups,
+        memory,
     };
-    let door = shared_by(alloc, door)?;
+    let acceptor = shared_by(alloc, acceptor)?;
     let shared = shared_by(alloc, shared)?;
-    Ok((shared, door, stations))
+    Ok((shared, acceptor, setups))
 }
 
 // Says how the server does, and whether a compaction has left little room.
 fn tell_figures<R: Wait>(shared: &Shared<R>, flusher: &ServerFlusher, commands: u64) {
     let (used, area) = (flusher.used(), flusher.size());
     let held = flusher.broker().held().bytes;
-    let log = shared.pace.log();
+    let log = shared.wakeups.log();
     log.figures(commands, flusher.tally(), held, used);
-    if shared.pace.has_compacted() && used / 3 > area / 4 {
+    if shared.wakeups.has_compacted() && used / 3 > area / 4 {
         log.note(&shared.rt, Event::NearlyFull { used, area });
     }
 }
@@ -374,9 +365,9 @@ fn flush<R: Wait + Clock + Drop>(
     // Once the server was asked to end, a number over all that was claimed by then.
     let mut last = None;
     for _round in shared.rt.forever() {
-        match flush_loop(alloc, &shared.ring, flusher, &shared.pace, 1) {
+        match flush_loop(alloc, &shared.ring, flusher, &shared.wakeups, 1) {
             Ok(mark) if is_last(shared, &mut last, mark) => {
-                shared.pace.log().note(&shared.rt, Event::Ending);
+                shared.wakeups.log().note(&shared.rt, Event::Ending);
                 flusher.stop(&shared.ring);
                 return Ok(());
             }
@@ -390,7 +381,7 @@ fn flush<R: Wait + Clock + Drop>(
 // Whether the server was asked to end, and all that was claimed by then is published: the last turn took nothing, or the mark has come
 // over as many commands as the ring has places, and those that the flusher had taken.
 fn is_last<R>(shared: &Shared<R>, last: &mut Option<u64>, mark: u64) -> bool {
-    if !shared.pace.is_asked_to_end() {
+    if !shared.wakeups.is_asked_to_end() {
         return false;
     }
     let end = match *last {
@@ -398,5 +389,5 @@ fn is_last<R>(shared: &Shared<R>, last: &mut Option<u64>, mark: u64) -> bool {
         None => mark.saturating_add(2 * PLACES as u64),
     };
     *last = Some(end);
-    mark >= end || !shared.pace.has_taken()
+    mark >= end || !shared.wakeups.has_taken()
 }

@@ -1,7 +1,8 @@
 //! What the threads of a server share.
 
-use crate::pace::Pace;
-use crate::post::BellRope;
+use crate::mailbox::BellRope;
+use crate::memory::Memory;
+use crate::wakeups::Wakeups;
 use claim_core::{BrokerRing, BrokerSeat};
 use outbox_core::OutSender;
 use std::sync::Arc;
@@ -18,7 +19,8 @@ pub struct Shared<R> {
     pub(crate) ring: ServerRing,
     /// The origins whose pages are served; all, if none is named.
     pub(crate) origins: Arc<Vec<Vec<u8>>>,
-    pub(crate) pace: Pace<R>,
+    pub(crate) wakeups: Wakeups<R>,
+    pub(crate) memory: Memory,
 }
 
 impl<R: Clock> Shared<R> {

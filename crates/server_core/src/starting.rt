@@ -1,20 +1,22 @@
 //! How the threads of a server begin, and how they end.
 
-ghost use Rattle.std.specs.Prelude.{◌≡◌, ◌+◌, ◌≢◌, [], length, IfErr, IfOk, IfSome, OnOk};
+ghost use Rattle.std.specs.Prelude.{◌≡◌, ◌+◌, ◌≢◌, ◌<◌, ◌≤◌, [], length, vec_capacity, vec_len, IfErr, IfOk, IfSome, OnOk};
+ghost use Rattle.atomic_table.specs.Seated.{TableId};
 ghost use Rattle.std.specs.Arc.{arc_value};
 ghost use Rattle.limits_core.specs.declared.TheConstants.{SEATS};
 ghost use Rattle.serve_faults.specs.Faults.{IsNotStarted};
-ghost use Rattle.server_core.specs.Serving.{AreAt, ArePromised, IsClosed};
+ghost use Rattle.server_core.specs.Serving.{AreAllAt, AreAt, ArePromised, IsClosed, count_mailboxes};
 
-use crate::door::Door;
-use crate::post::BellRope;
+use crate::acceptor::Acceptor;
+use crate::log_thread::LogThread;
+use crate::mailbox::BellRope;
 use crate::serving::{Server, ServerFlusher, ServerHub};
 use crate::shared::{ServerRing, ServerSeat, Shared};
-use crate::station::Station;
-use crate::teller::Teller;
 use crate::worker::{Worker, WorkerThread, start};
+use crate::worker_setup::WorkerSetup;
 use disk_core::FileDisk;
 use hub_core::{Closed, Hub, SeatRoom};
+use limits_core::SEATS;
 use serve_faults::ServeFault;
 use std::alloc::{AllocError, Global};
 use std::io::Write;
@@ -27,24 +29,21 @@ impl<R> Server<R>
 where
     R: Threads + Wait + Clock + Clone + Drop + Send + Sync + 'static,
 {
-    /// Starts all workers, each in a thread of its own, and a thread that accepts clients and hands them to workers. `Threads`
-    /// if the system starts no more, and `Memory` if that is refused: those that were started go on.
+    /// Starts all workers, each in a thread of its own, with all seats, and a thread that accepts clients and hands them to workers.
+    /// `Threads` if the system starts no more, and `Memory` if that is refused: those that were started go on.
     pub fn start_workers(&mut self, rt: &R, alloc: Global) -> Result<(), ServeFault>
         ensures all { OnOk result (self.new.seats ≡ []) }
         ensures same { self.new ≡ record self.old { seats = self.new.seats } }
         ensures refused { IfErr result IsNotStarted }
     {
-        let was_whole = self.is_whole;
-        self.is_whole = false;
         start_all(
             rt,
             alloc,
             &self.shared,
             &mut self.seats,
-            &mut self.stations,
+            &mut self.setups,
             &mut self.workers,
         )?;
-        self.is_whole = was_whole;
         self.start_accepting(rt)
     }
 
@@ -52,8 +51,8 @@ where
     fn start_accepting(&self, rt: &R) -> Result<(), ServeFault>
         ensures { IfErr result IsNotStarted }
     {
-        let door = self.door.clone().map_err(|_| ServeFault::Memory)?;
-        match thread::spawn(rt, move || door.accept_all()) {
+        let acceptor = self.acceptor.clone().map_err(|_| ServeFault::Memory)?;
+        match thread::spawn(rt, move || acceptor.accept_all()) {
             Ok(_) => Ok(()),
             Err(_) => Err(ServeFault::Threads),
         }
@@ -62,7 +61,7 @@ where
     /// Starts the thread that tells an operator what happens, a line each, and first with what the server starts. No other thread waits
     /// for it; if the writer takes nothing, up to 64 lines wait, and more are left out and counted. `Threads` if the system starts no
     /// more, and `Memory` if that is refused: nothing was written then.
-    pub fn start_teller<W: Write + Drop + Send + 'static>(
+    pub fn start_log_thread<W: Write + Drop + Send + 'static>(
         &self,
         rt: &R,
         alloc: Global,
@@ -70,65 +69,65 @@ where
     ) -> Result<(), ServeFault>
         ensures { IfErr result IsNotStarted }
     {
-        let log: Result<Arc<Teller>, AllocError> = self.shared.pace.log().clone();
-        let door: Result<Arc<Door<R>>, AllocError> = self.door.clone();
+        let log: Result<Arc<LogThread>, AllocError> = self.shared.wakeups.log().clone();
+        let acceptor: Result<Arc<Acceptor<R>>, AllocError> = self.acceptor.clone();
         let its: Result<R, AllocError> = rt.clone();
-        let (Ok(log), Ok(door), Ok(its)) = (log, door, its) else {
+        let (Ok(log), Ok(acceptor), Ok(its)) = (log, acceptor, its) else {
             drop(writer);
             return Err(ServeFault::Memory);
         };
         let mut writer = writer;
-        match thread::spawn(rt, move || log.run(alloc, &its, &door, &mut writer)) {
+        match thread::spawn(rt, move || log.run(alloc, &its, &acceptor, &mut writer)) {
             Ok(_) => Ok(()),
             Err(_) => Err(ServeFault::Threads),
         }
     }
 }
 
-// Starts a worker for each seat.
+// Starts a worker for each setup.
 fn start_all<R>(
     rt: &R,
     alloc: Global,
     shared: &Arc<Shared<R>>,
     seats: &mut Vec<ServerSeat>,
-    stations: &mut Vec<Station>,
+    setups: &mut Vec<WorkerSetup>,
     workers: &mut Vec<WorkerThread>,
 ) -> Result<(), ServeFault>
 where
     R: Threads + Wait + Clock + Clone + Drop + Send + Sync + 'static,
     requires seats { AreAt (arc_value shared.now).ring seats.old.items }
-    requires stations { length stations.old.items ≡ length seats.old.items }
+    requires desks { count_mailboxes setups.old.items ≡ length seats.old.items }
     requires workers { ArePromised (arc_value shared.now).ring workers.old.items }
     ensures all { OnOk result (seats.new.items ≡ []) }
-    ensures stations { length stations.new.items ≡ length seats.new.items }
-    ensures count { OnOk result (length workers.new.items ≡ length workers.old.items + length seats.old.items) }
+    ensures desks { count_mailboxes setups.new.items ≡ length seats.new.items }
+    ensures count { OnOk result (length workers.new.items ≡ length workers.old.items + length setups.old.items) }
     ensures at { AreAt (arc_value shared.now).ring seats.new.items }
     ensures promised { ArePromised (arc_value shared.now).ring workers.new.items }
     ensures refused { IfErr result IsNotStarted }
 {
-    for _seat in 0..seats.len() {
-        start_one(rt, alloc, shared, seats, stations, workers)?;
+    for _worker in 0..setups.len() {
+        start_one(rt, alloc, shared, seats, setups, workers)?;
     }
     Ok(())
 }
 
-// Starts a worker for the last seat. A refusal loses that seat.
+// Starts the worker of the last setup, with a seat for each of its desks. A refusal loses these seats, or changes nothing.
 fn start_one<R>(
     rt: &R,
     alloc: Global,
     shared: &Arc<Shared<R>>,
     seats: &mut Vec<ServerSeat>,
-    stations: &mut Vec<Station>,
+    setups: &mut Vec<WorkerSetup>,
     workers: &mut Vec<WorkerThread>,
 ) -> Result<(), ServeFault>
 where
     R: Threads + Wait + Clock + Clone + Drop + Send + Sync + 'static,
-    requires some { seats.old.items ≢ [] }
+    requires some { setups.old.items ≢ [] }
     requires seats { AreAt (arc_value shared.now).ring seats.old.items }
-    requires stations { length stations.old.items ≡ length seats.old.items }
+    requires desks { count_mailboxes setups.old.items ≡ length seats.old.items }
     requires workers { ArePromised (arc_value shared.now).ring workers.old.items }
-    ensures one { OnOk result (length seats.old.items ≡ length seats.new.items + 1) }
-    ensures stations { length stations.new.items ≡ length seats.new.items }
+    ensures one { OnOk result (length setups.old.items ≡ length setups.new.items + 1) }
+    ensures desks { count_mailboxes setups.new.items ≡ length seats.new.items }
     ensures count { OnOk result (length workers.new.items ≡ length workers.old.items + 1) }
     ensures at { AreAt (arc_value shared.now).ring seats.new.items }
     ensures promised { ArePromised (arc_value shared.now).ring workers.new.items }
@@ -140,13 +139,10 @@ where
     let Ok(shared) = shared.clone() else {
         return Err(ServeFault::Memory);
     };
-    let seat = seats.pop().unwrap();
-    let station = stations.pop().unwrap();
-    let worker = Worker {
-        shared,
-        seat,
-        station,
+    let Ok(room) = Vec::with_capacity(alloc, seats.len()) else {
+        return Err(ServeFault::Memory);
     };
+    let worker = last_worker(shared, room, seats, setups);
     match start(rt, alloc, worker) {
         Ok(thread) => {
             workers.push_reserved(thread);
@@ -154,6 +150,61 @@ where
         }
         Err(fault) => Err(fault),
     }
+}
+
+// The worker of the last setup, with a seat for each of its desks, in room that is there.
+fn last_worker<R>(
+    shared: Arc<Shared<R>>,
+    room: Vec<ServerSeat>,
+    seats: &mut Vec<ServerSeat>,
+    setups: &mut Vec<WorkerSetup>,
+) -> Worker<R>
+where
+    R: Drop,
+    requires some { setups.old.items ≢ [] }
+    requires at { AreAt (arc_value shared).ring seats.old.items }
+    requires desks { count_mailboxes setups.old.items ≡ length seats.old.items }
+    requires room { (room.items ≡ []) × (length seats.old.items ≤ vec_capacity room) }
+    ensures one { length setups.old.items ≡ length setups.new.items + 1 }
+    ensures desks { count_mailboxes setups.new.items ≡ length seats.new.items }
+    ensures at { AreAt (arc_value shared).ring seats.new.items }
+    ensures ring { result.ring ≡ (arc_value shared).ring }
+{
+    let mut its = room;
+    let setup = setups.pop().unwrap();
+    move_last(seats, &mut its, setup.mailboxes.len());
+    Worker {
+        shared,
+        seats: its,
+        setup,
+    }
+}
+
+// Moves the last seats, so many of them, into room that is there.
+fn move_last(seats: &mut Vec<ServerSeat>, its: &mut Vec<ServerSeat>, count: usize)
+    requires enough { count ≤ length seats.old.items }
+    requires room { (its.old.items ≡ []) × (count ≤ vec_capacity its.old) }
+    ensures count { length seats.new.items + count ≡ length seats.old.items }
+    ensures rest { (ring : TableId) → AreAt ring seats.old.items → AreAt ring seats.new.items }
+    ensures moved { (ring : TableId) → AreAt ring seats.old.items → AreAt ring its.new.items }
+{
+    for _seat in 0..count {
+        move_one(seats, its);
+    }
+}
+
+// Moves the last seat into room that is there.
+fn move_one(seats: &mut Vec<ServerSeat>, its: &mut Vec<ServerSeat>)
+    requires some { seats.old.items ≢ [] }
+    requires room { vec_len its.old < vec_capacity its.old }
+    ensures count { length seats.old.items ≡ length seats.new.items + 1 }
+    ensures more { vec_len its.new ≡ vec_len its.old + 1 }
+    ensures room { vec_capacity its.new ≡ vec_capacity its.old }
+    ensures rest { (ring : TableId) → AreAt ring seats.old.items → AreAt ring seats.new.items }
+    ensures moved { (ring : TableId) → AreAt ring seats.old.items → AreAt ring its.old.items → AreAt ring its.new.items }
+{
+    let seat = seats.pop().unwrap();
+    its.push_reserved(seat);
 }
 
 impl<R: Threads + Wait + Drop> Server<R> {
@@ -166,20 +217,19 @@ impl<R: Threads + Wait + Drop> Server<R> {
         let Server {
             shared,
             port: _,
-            door,
+            acceptor,
             seats,
-            stations,
+            setups,
             room,
             flusher,
             workers,
-            is_whole,
         } = self;
-        shared.pace.end();
-        drop(door);
-        drop(stations);
+        shared.wakeups.end();
+        drop(acceptor);
+        drop(setups);
         match join_promised(rt, workers) {
-            Ok(back) if is_whole => finish(shared, room, seats, back, flusher),
-            _ => {
+            Ok(back) => finish(shared, room, seats, back, flusher),
+            Err(_) => {
                 drop(shared);
                 drop(seats);
                 drop(room);
@@ -190,35 +240,36 @@ impl<R: Threads + Wait + Drop> Server<R> {
     }
 }
 
-// Closes the hub of a ring that nobody shares any more.
+// Closes the hub of a ring that nobody shares any more, if all seats have come back.
 fn finish<R: Drop>(
     shared: Arc<Shared<R>>,
     room: SeatRoom<BellRope>,
     seats: Vec<ServerSeat>,
-    back: Vec<ServerSeat>,
+    back: Vec<Vec<ServerSeat>>,
     flusher: ServerFlusher,
 ) -> Option<Closed<FileDisk>>
     requires flusher { flusher.seat.ring ≡ (arc_value shared).ring }
     requires seats { AreAt (arc_value shared).ring seats.items }
-    requires back { AreAt (arc_value shared).ring back.items }
+    requires back { AreAllAt (arc_value shared).ring back.items }
     requires room { room.seats.items ≡ [] }
-    requires all { length seats.items + length back.items ≡ flusher.seat.seats }
+    requires all { flusher.seat.seats ≡ SEATS }
     ensures { IfSome result (IsClosed flusher) }
 {
-    let (mut all, mut back) = (seats, back);
-    let joined = all.append(&mut back);
-    drop(back);
+    let mut all = seats;
+    let joined = join_all(&mut all, back);
     match (joined, Arc::try_unwrap(shared)) {
-        (Ok(()), Ok(shared)) => {
+        (Ok(()), Ok(shared)) if all.len() == SEATS => {
             let Shared {
                 rt,
                 ring,
                 origins,
-                pace,
+                wakeups,
+                memory,
             } = shared;
             drop(rt);
             drop(origins);
-            drop(pace);
+            drop(wakeups);
+            drop(memory);
             close(ring, room, all, flusher)
         }
         (_, shared) => {
@@ -229,6 +280,19 @@ fn finish<R: Drop>(
             None
         }
     }
+}
+
+// Adds the seats that have come back. If memory is refused, the rest is let go.
+fn join_all(all: &mut Vec<ServerSeat>, back: Vec<Vec<ServerSeat>>) -> Result<(), AllocError>
+    ensures { (ring : TableId) → AreAt ring all.old.items → AreAllAt ring back.items → AreAt ring all.new.items }
+{
+    for seats in back {
+        let mut seats = seats;
+        let joined = all.append(&mut seats);
+        drop(seats);
+        joined?;
+    }
+    Ok(())
 }
 
 fn close(

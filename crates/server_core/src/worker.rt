@@ -1,11 +1,13 @@
 //! The workers of a server.
 
-ghost use Rattle.std.specs.Prelude.{◌≡◌, IfErr, IfOk};
+ghost use Rattle.std.specs.Prelude.{◌≡◌, IfErr, IfOk, length};
+ghost use Rattle.std.specs.Arc.{arc_value};
 ghost use Rattle.serve_faults.specs.Faults.{IsNotStarted};
+ghost use Rattle.server_core.specs.Serving.{AreBack};
 
-use crate::shared::{ServerSeat, Shared};
-use crate::shift::Shift;
-use crate::station::{Room, Station};
+use crate::event_loop::EventLoop;
+use crate::shared::{ServerRing, ServerSeat, Shared};
+use crate::worker_setup::WorkerSetup;
 use serve_faults::ServeFault;
 use std::alloc::Global;
 use std::marker::Model;
@@ -13,77 +15,76 @@ use std::snapshot::Snapshot;
 use std::sync::{Arc, Wait};
 use std::thread;
 use std::thread::{Promise, PromisedHandle, Threads};
-use std::time::{Clock, Duration};
+use std::time::Clock;
 
-/// For how many milliseconds a worker rests to which memory was refused for its clients, before it tries again.
-const SHORTAGE: u64 = 20;
-
-/// A worker of a server, which serves many clients at one desk, with a seat of its own.
+/// A worker of a server, which serves the clients of several desks, with a seat at each.
 #[derive(Drop)]
 pub(crate) struct Worker<R: Drop> {
     pub(crate) shared: Arc<Shared<R>>,
-    pub(crate) seat: ServerSeat,
-    pub(crate) station: Station,
+    pub(crate) seats: Vec<ServerSeat>,
+    pub(crate) setup: WorkerSetup,
 }
 
 impl<R: Drop> Model for Worker<R> {
-    ghost use Rattle.std.specs.Prelude.{◌≡◌};
     ghost use Rattle.std.specs.Arc.{arc_value};
-    ghost use Rattle.server_core.specs.Serving.{WorkerValue};
+    ghost use Rattle.server_core.specs.Serving.{AreAt, WorkerValue};
 
     ghost Value = { WorkerValue };
 
-    ghost view = { λ a. record { ring = (arc_value a.shared).ring; seat = a.seat } };
+    ghost view = { λ a. record { ring = (arc_value a.shared).ring; seats = a.seats.items } };
 
-    ghost invariant = { λ a. a.seat.ring ≡ (arc_value a.shared).ring };
+    ghost invariant = { λ a. AreAt (arc_value a.shared).ring a.seats.items };
 }
 
 impl<R: Wait + Clock + Drop> Worker<R> {
-    /// Serves the clients that are handed to it, until the server ends: then it parts with them, and its seat comes back.
-    pub(crate) fn run(self, alloc: Global) -> ServerSeat
-        ensures { result.ring ≡ self.seat.ring }
+    /// Serves the clients that are handed to it, until the server ends: then it parts with them, and its seats come back.
+    pub(crate) fn run(self, alloc: Global) -> Vec<ServerSeat>
+        ensures { AreBack self.ring (length self.seats) result.items }
     {
         let Worker {
             shared,
-            seat,
-            station,
+            seats,
+            setup,
         } = self;
-        let room = room_for(alloc, &shared.rt);
-        let mut shift = Shift::new(alloc, &shared, seat, station, room);
+        let mut rounds = EventLoop::new(alloc, &shared, seats, setup);
         for _round in shared.rt.forever() {
-            if shift.is_over() {
+            if rounds.is_over() {
                 break;
             }
-            shift.round();
+            rounds.round();
         }
-        shift.into_seat()
+        rounds.into_seats()
     }
 }
 
-/// What is known of the seat that comes back from a worker: it is of the same ring.
+/// What is known of the seats that come back from a worker: they are of its ring, and as many as it was given.
 #[derive(Drop)]
-pub(crate) struct SeatBack {
-    before: Snapshot<ServerSeat>,
+pub(crate) struct SeatsBack {
+    ring: Snapshot<ServerRing>,
+    seats: Snapshot<Vec<ServerSeat>>,
 }
 
-impl Promise<ServerSeat> for SeatBack {
-    ghost use Rattle.std.specs.Prelude.{◌≡◌};
+impl Promise<Vec<ServerSeat>> for SeatsBack {
+    ghost use Rattle.std.specs.Prelude.{length};
+    ghost use Rattle.server_core.specs.Serving.{AreBack};
 
-    ghost kept_by = { λ promise seat. seat.ring ≡ promise.before.value.ring };
+    ghost kept_by = { λ promise seats. AreBack promise.ring.value (length promise.seats.value.items) seats.items };
 }
 
 /// The thread of a worker.
-pub(crate) type WorkerThread = PromisedHandle<ServerSeat, SeatBack>;
+pub(crate) type WorkerThread = PromisedHandle<Vec<ServerSeat>, SeatsBack>;
 
-/// Starts a worker in a thread of its own. `Threads` if the system starts no more: its seat is lost then.
+/// Starts a worker in a thread of its own. `Threads` if the system starts no more: its seats are lost then.
 pub(crate) fn start<R>(rt: &R, alloc: Global, worker: Worker<R>) -> Result<WorkerThread, ServeFault>
 where
     R: Threads + Wait + Clock + Drop + Send + Sync + 'static,
-    ensures ok { IfOk result (λ thread. thread.promise.before.value.ring ≡ worker.ring) }
+    ensures ring { IfOk result (λ thread. thread.promise.ring.value ≡ worker.ring) }
+    ensures seats { IfOk result (λ thread. thread.promise.seats.value.items ≡ worker.seats) }
     ensures refused { IfErr result IsNotStarted }
 {
-    let promise = SeatBack {
-        before: Snapshot::of(&worker.seat),
+    let promise = SeatsBack {
+        ring: Snapshot::of(&worker.shared.ring),
+        seats: Snapshot::of(&worker.seats),
     };
     match thread::spawn_with(rt, promise, move || worker.run(alloc)) {
         Ok(thread) => Ok(thread),
@@ -92,15 +93,4 @@ where
             Err(ServeFault::Threads)
         }
     }
-}
-
-// The room for a worker's clients. Where memory is refused for it, it tries again in a while.
-fn room_for<R: Wait + Clock>(alloc: Global, rt: &R) -> Room {
-    for _attempt in rt.forever() {
-        match Room::new(alloc) {
-            Ok(room) => return room,
-            Err(_) => thread::sleep(rt, Duration::from_millis(SHORTAGE)),
-        }
-    }
-    unreachable!()
 }

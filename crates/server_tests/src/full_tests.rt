@@ -1,7 +1,7 @@
 use crate::journals::make_journal;
 use crate::servers::{fill, greeted, serve};
 use crate::writers::Buffered;
-use server_core::Server;
+use server_core::{Reception, Server};
 use std::alloc::Global;
 use std::fs::{self, File, Files};
 use std::io::{Read, Write};
@@ -84,7 +84,9 @@ where
         + Sync
         + 'static,
 {
-    match Server::open_for(alloc, rt, JOURNAL, PORT, Vec::new(alloc), 2) {
+    let mut reception = Reception::new(Vec::new(alloc), 2);
+    reception.most_clients = 2;
+    match Server::open(alloc, rt, JOURNAL, PORT, reception) {
         Ok(mut server) => {
             let mut written = Buffered::new(alloc);
             let started = server.start_workers(rt, alloc).is_ok();

@@ -1,6 +1,6 @@
 use crate::journals::make_journal;
 use crate::writers::Failing;
-use server_core::{ServeEnd, ServeFault, Server};
+use server_core::{Reception, ServeEnd, ServeFault, Server};
 use std::alloc::Global;
 use std::fs::{File, Files};
 use std::io::{Read, Write};
@@ -88,7 +88,7 @@ where
         + Sync
         + 'static,
 {
-    match Server::open(alloc, rt, path, PORT, Vec::new(alloc)) {
+    match Server::open(alloc, rt, path, PORT, Reception::new(Vec::new(alloc), 4)) {
         Ok(mut server) => {
             let started = server.start_workers(rt, alloc).is_ok();
             let ended = matches!(

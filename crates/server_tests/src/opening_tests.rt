@@ -1,7 +1,7 @@
 use crate::journals::make_journal;
 use disk_core::OpenError;
 use recover_core::OpenFault;
-use server_core::{ServeFault, Server, Unopened};
+use server_core::{Reception, ServeFault, Server, Unopened};
 use std::alloc::Global;
 use std::fs;
 use std::fs::File;
@@ -17,7 +17,7 @@ fn fault_at<R>(rt: &R, alloc: Global, path: &str, port: u16) -> Option<ServeFaul
 where
     R: Files<File = File> + Net<Listener = TcpListener, Stream = TcpStream> + Wait + Clone + Drop,
 {
-    match Server::open(alloc, rt, path, port, Vec::new(alloc)) {
+    match Server::open(alloc, rt, path, port, Reception::new(Vec::new(alloc), 4)) {
         Ok(server) => {
             drop(server);
             None
@@ -38,7 +38,7 @@ fn second_fault<R>(rt: &R, alloc: Global, path: &str) -> Option<ServeFault>
 where
     R: Files<File = File> + Net<Listener = TcpListener, Stream = TcpStream> + Wait + Clone + Drop,
 {
-    match Server::open(alloc, rt, path, PORT, Vec::new(alloc)) {
+    match Server::open(alloc, rt, path, PORT, Reception::new(Vec::new(alloc), 4)) {
         Ok(first) => {
             let fault = fault_at(rt, alloc, path, PORT + 4);
             drop(first);
@@ -96,7 +96,13 @@ fn reached<R>(rt: &R, alloc: Global, path: &str) -> Option<(bool, bool)>
 where
     R: Files<File = File> + Net<Listener = TcpListener, Stream = TcpStream> + Wait + Clone + Drop,
 {
-    match Server::open(alloc, rt, path, PORT + 8, Vec::new(alloc)) {
+    match Server::open(
+        alloc,
+        rt,
+        path,
+        PORT + 8,
+        Reception::new(Vec::new(alloc), 4),
+    ) {
         Ok(server) => {
             let here = TcpStream::connect(rt, ("127.0.0.1", PORT + 8)).is_ok();
             let there = TcpStream::connect(rt, ("127.0.0.2", PORT + 8)).is_ok();

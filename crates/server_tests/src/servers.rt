@@ -4,7 +4,7 @@ use crate::client::Client;
 use crate::journals::{SMALLEST, make_journal_of};
 use crate::writers::Buffered;
 use flush_core::FlushFault;
-use server_core::{ServeEnd, ServeFault, Server};
+use server_core::{Reception, ServeEnd, ServeFault, Server};
 use std::alloc::Global;
 use std::fs::{File, Files};
 use std::net::{Net, TcpListener, TcpStream};
@@ -36,7 +36,7 @@ where
     if !make_journal_of(rt, alloc, path, area) {
         return None;
     }
-    Server::open(alloc, rt, path, port, Vec::new(alloc)).ok()
+    Server::open(alloc, rt, path, port, Reception::new(Vec::new(alloc), 4)).ok()
 }
 
 /// A client that is CONNECTED. It waits for ten seconds at most.

@@ -13,7 +13,7 @@ use Rattle.command_core.specs.Faults.{fault_of}
 use Rattle.command_core.specs.Operations.{IsOp, op_of}
 use Rattle.command_core.specs.Replies.{error_frame}
 use Rattle.tx_core.specs.Refusals.{refusal_of_add, refusal_of_begin, refusal_of_end}
-use Rattle.tx_core.specs.Transactions.{added, begun, members_of, without}
+use Rattle.tx_core.specs.Transactions.{added, begun, bytes_of_all, members_of, without}
 use Rattle.session_core.specs.declared.act.Act.{Act}
 use Rattle.session_core.specs.declared.act.Act.TheVariants.{Do, Direct, Close}
 use Rattle.session_core.specs.declared.act.CloseCode.TheVariants.{NormalClosure, ProtocolError}
@@ -104,6 +104,11 @@ abbrev pub IsOver : Phase → Type 0
 IsOver New = ⊥
 IsOver (Open transactions) = ⊥
 IsOver _ = Unit {0}
+
+-- how many bytes the members of open transactions take there
+abbrev pub held_in : Phase → ℕ
+held_in (Open transactions) = bytes_of_all transactions
+held_in _ = 0
 
 -- what a session keeps: the bytes of the frame that isn't finished, and where it stands
 pub record Hearing : Type 0 where

@@ -7,7 +7,8 @@ ghost use Rattle.frame_core.specs.Writable.{Writable};
 use frame_core::Frame;
 use std::marker::Model;
 
-/// An ERROR frame for the client, which can be written. Contracts see the frame.
+/// An ERROR frame that a session tells its client at once, which can be written. Contracts see the frame. Sessions alone make these: an
+/// ERROR of the broker is none, and so waits for the mark.
 #[derive(Drop)]
 pub struct Notice {
     frame: Frame,
@@ -27,8 +28,8 @@ impl Model for Notice {
 }
 
 impl Notice {
-    /// An ERROR frame that can be written, which moves: no memory is taken.
-    pub fn new(frame: Frame) -> Notice
+    // An ERROR frame that can be written, which moves: no memory is taken.
+    pub(crate) fn new(frame: Frame) -> Notice
         requires form { Writable frame }
         requires error { frame.verb ≡ verbs.Error }
         ensures { result ≡ frame }

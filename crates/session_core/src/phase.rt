@@ -20,7 +20,7 @@ pub enum Phase {
 
 impl Phase {
     ghost use Rattle.std.specs.Prelude.{◌≡◌};
-    ghost use Rattle.session_core.specs.Sessions.{after_loss, is_held};
+    ghost use Rattle.session_core.specs.Sessions.{after_loss, held_in, is_held};
 
     /// Whether the broker was asked to open it, and not to end it.
     pub(crate) fn is_held(&self) -> bool
@@ -30,6 +30,16 @@ impl Phase {
             Phase::New | Phase::Ended => false,
             Phase::Open(_) => true,
             Phase::Failed { is_held } => *is_held,
+        }
+    }
+
+    /// How many bytes the members of open transactions take.
+    pub(crate) fn held(&self) -> u64
+        ensures { result ≡ held_in self.now }
+    {
+        match self {
+            Phase::Open(transactions) => transactions.bytes(),
+            Phase::New | Phase::Ended | Phase::Failed { .. } => 0,
         }
     }
 

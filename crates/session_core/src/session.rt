@@ -42,9 +42,9 @@ impl Model for Session {
 }
 
 impl Session {
-    ghost use Rattle.std.specs.Prelude.{◌≡◌, Bool, Err, IfOk, IfErr, IfSome, IsOk, OnErr};
+    ghost use Rattle.std.specs.Prelude.{◌≡◌, ◌≤◌, Bool, Err, IfOk, IfErr, IfSome, IsOk, OnErr};
     ghost use Rattle.std.specs.List.{AllByRecursion};
-    ghost use Rattle.session_core.specs.Sessions.{Hears, HasForm, after_loss, fresh, is_held, loss_of};
+    ghost use Rattle.session_core.specs.Sessions.{Hears, HasForm, after_loss, fresh, held_in, is_held, loss_of};
     ghost use Rattle.session_core.specs.declared.phase.Phase.TheVariants as phases;
 
     /// A session that has heard nothing yet. No memory is taken.
@@ -88,6 +88,13 @@ impl Session {
         refuse(alloc, phase, Fault::from(fault), &mut acts).map_err(|_| SessionFault::Memory)?;
         self.phase = Phase::Ended;
         Ok(acts)
+    }
+
+    /// How many bytes it keeps of what its client said: those of the frame that isn't finished, and of the members of open transactions.
+    pub fn held(&self) -> u64
+        ensures { held_in self.now.phase ≤ result }
+    {
+        self.phase.held().saturating_add(self.reader.len() as u64)
     }
 
     /// Hears that the connection is gone, and says what is to be done then: the session's end, where the broker was asked

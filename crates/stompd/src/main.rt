@@ -2,8 +2,10 @@
 
 #![tactic(auto)]
 
+use command_line::{Subcommand, subcommand_of};
 use engine_core::ScriptFault;
-use server_core::{Ender, ServeEnd, ServeFault, Server, Unopened};
+use ping_client::ping;
+use server_core::{Ender, Reception, ServeEnd, ServeFault, Server, Unopened};
 use std::alloc::{AllocError, Global};
 use std::fs::{File, Files, OpenOptions};
 use std::io::{ErrorKind, Lock, Read, Write};
@@ -13,8 +15,7 @@ use std::sync::Wait;
 use std::thread::Threads;
 use std::time::Clock;
 use std::{env, io, mem, thread};
-use tool_core::{BAD_COMMAND_LINE, DONE, Failure, end_by, tool};
-use words_core::{Subcommand, subcommand_of};
+use subcommands::{BAD_COMMAND_LINE, DONE, Failure, end_by, end_ping, tool};
 
 /// Runs the program on its arguments, standard input, standard output and standard error.
 fn main(rt: HostRuntime) -> ExitCode {
@@ -33,7 +34,7 @@ fn main(rt: HostRuntime) -> ExitCode {
             let end = serve(&rt, rt.alloc(), asked, input, errors, &mut writer);
             status_of(&rt, end)
         }
-        None => run_tool(&rt, words.as_slice()),
+        None => run_other(&rt, words.as_slice()),
     };
     ExitCode::from(status)
 }
@@ -73,28 +74,18 @@ fn status_of(rt: &HostRuntime, end: ServeEnd) -> u8 {
     }
 }
 
-/// Opens `/dev/null` as often as there are standard streams. A file gets the least number that is free, so whichever of the three
-/// streams are closed, these files have their numbers from now on, and nothing that is opened later gets them: what the program
-/// writes to a closed stream is lost, and in no file.
-fn standard_streams(rt: &HostRuntime) -> io::Result<[File; 3]> {
-    Ok([null(rt)?, null(rt)?, null(rt)?])
-}
-
-fn null(rt: &HostRuntime) -> io::Result<File> {
-    OpenOptions::new()
-        .read(true)
-        .write(true)
-        .open(rt, "/dev/null")
-}
-
 /// What is asked of a server.
 #[derive(Drop)]
 struct Asked<'a> {
     /// The file of its journal.
     file: &'a str,
     port: u16,
-    /// The origins whose pages are served; where there are none, all are.
+    /// The origins whose pages are served; if there are none, all are.
     origins: Vec<&'a [u8]>,
+    /// By how many threads clients are served; as many as there are processors, if it isn't said.
+    threads: Option<u16>,
+    /// How many bytes clients may hold together; 1 GiB, if it isn't said.
+    memory: Option<u64>,
     /// Whether it ends in good order once its input ends.
     until_eof: bool,
 }
@@ -139,11 +130,29 @@ where
 fn opened<R>(rt: &R, alloc: Global, asked: Asked<'_>) -> Result<Server<R>, ServeFault>
 where
     R: Files<File = File> + Net<Listener = TcpListener, Stream = TcpStream>,
-    R: Wait + Clone + Drop,
+    R: Threads + Wait + Clone + Drop,
 {
+    let threads = threads_for(rt, asked.threads);
     match owned(alloc, asked.origins.as_slice()) {
-        Ok(origins) => Server::open(alloc, rt, asked.file, asked.port, origins),
+        Ok(origins) => {
+            let mut reception = Reception::new(origins, threads);
+            if let Some(memory) = asked.memory {
+                reception.memory = memory;
+            }
+            Server::open(alloc, rt, asked.file, asked.port, reception)
+        }
         Err(_) => Err(ServeFault::Memory),
+    }
+}
+
+/// How many threads serve clients: as many as are asked for, or else as there are processors for the program.
+fn threads_for(rt: &impl Threads, asked: Option<u16>) -> usize {
+    match asked {
+        Some(threads) => usize::from(threads),
+        None => match thread::available_parallelism(rt) {
+            Ok(processors) => processors.get(),
+            Err(_) => 1,
+        },
     }
 }
 
@@ -172,16 +181,44 @@ fn served(alloc: Global, words: &[String]) -> Option<Asked<'_>> {
                 file,
                 port,
                 origins,
+                threads,
+                memory,
                 until_eof,
             },
         ) => Some(Asked {
             file,
             port,
             origins,
+            threads,
+            memory,
             until_eof,
         }),
         _ => None,
     }
+}
+
+/// What the words ask for that is no server, and the status.
+fn run_other(rt: &HostRuntime, words: &[String]) -> u8 {
+    match pinged(rt.alloc(), words) {
+        Some(port) => run_ping(rt, port),
+        None => run_tool(rt, words),
+    }
+}
+
+/// The port of the server that is to be pinged, if the words ask for that.
+fn pinged(alloc: Global, words: &[String]) -> Option<u16> {
+    match subcommand_of(alloc, words) {
+        Ok(Subcommand::Ping { port }) => Some(port),
+        _ => None,
+    }
+}
+
+/// Pings the server at that port, tells what that came to, and answers the status.
+fn run_ping(rt: &HostRuntime, port: u16) -> u8 {
+    let mut writer = rt.stdout().lock();
+    let mut errors = rt.stderr().lock();
+    let pinged = ping(rt, rt.alloc(), port);
+    end_ping(pinged, &mut writer, &mut errors).status
 }
 
 /// The origins, as the server's threads have them.
@@ -193,7 +230,7 @@ fn owned(alloc: Global, origins: &[&[u8]]) -> Result<Vec<Vec<u8>>, AllocError> {
     Ok(owned)
 }
 
-/// What the words ask for that is no server, and the status.
+/// What the words ask for that opens no socket, and the status.
 fn run_tool(rt: &HostRuntime, words: &[String]) -> u8 {
     let mut reader = rt.stdin().lock();
     let mut writer = rt.stdout().lock();
@@ -244,7 +281,7 @@ where
             return Err(fault);
         }
     }
-    match server.start_teller(rt, alloc, errors) {
+    match server.start_log_thread(rt, alloc, errors) {
         Ok(()) if until_eof => end_with(rt, server.ender(), input),
         started => {
             drop(input);

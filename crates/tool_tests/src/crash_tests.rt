@@ -384,7 +384,9 @@ const NO_LINES: [&str; 15] = [
 
 // The disk's 2,097,184 bytes leave 1,048,576 for each area. Its snapshot and first gate have 41, the block of a CONNECT 20
 // more, and that of a message 37 and its body, the closed gate behind it counted and the one before it not. Behind 15 messages
-// of 65,536 bytes there are 64,920 bytes left.
+// of 65,536 bytes there are 64,920 bytes left: a body of 64,883 has room. One byte more, and the journal is compacted first. The snapshot
+// of a session and a queue has 57 bytes, 30 more for each message and its body, and 9 of length and gate: 983,556, so that a body of
+// 64,983 has room behind it, and no longer one.
 fn expect_last(
     rt: &(impl Abort + Files<File = File> + Clock),
     alloc: Global,
@@ -415,17 +417,57 @@ const FULL: &str = "stompd: J4 journal full\n";
 
 #[test]
 fn the_last_byte_of_the_disk_is_written(rt: HostRuntime) -> Result<(), Fail> {
-    expect_last(&rt, rt.alloc(), 64_883, true)?;
-    expect_last(&rt, rt.alloc(), 64_884, false)
+    expect_last(&rt, rt.alloc(), 64_883, true)
+}
+
+#[test]
+fn a_journal_without_room_is_compacted_first(rt: HostRuntime) -> Result<(), Fail> {
+    expect_last(&rt, rt.alloc(), 64_884, true)?;
+    expect_last(&rt, rt.alloc(), 64_983, true)?;
+    expect_last(&rt, rt.alloc(), 64_984, false)
+}
+
+// 48 messages of 65,000 bytes that nobody hears are three times what an area has room for, and nothing of them is held.
+#[test]
+fn a_script_goes_on_over_a_journal_full_of_what_is_done(rt: HostRuntime) -> Result<(), Fail> {
+    expect_done(&rt, rt.alloc(), "flush\nopen\n")
+}
+
+fn expect_done(
+    rt: &(impl Abort + Files<File = File> + Clock),
+    alloc: Global,
+    end: &str,
+) -> Result<(), Fail> {
+    let message = text_of_parts(
+        alloc,
+        &[
+            ("0 SEND%0Adestination:/topic/t%0A%0A", 1),
+            ("x", 65_000),
+            ("%00\n", 1),
+        ],
+    )?;
+    let script = [(CON_0, 1), ("\n", 1), (message.as_str(), 48), (end, 1)];
+    let same = expect_parts(
+        rt,
+        alloc,
+        &script,
+        0,
+        &[(CONNECTED, 1), ("\n", 1), ("open 49 0\n", 1)],
+        "",
+    );
+    drop(message);
+    same
 }
 
 #[test]
 fn a_journal_that_is_full_ends_the_script(rt: HostRuntime) -> Result<(), Fail> {
-    // 15 messages of 65,000 bytes fit in the area's 1,048,576 bytes, and the next batch of five does not.
-    for end in ["flush\n", "crash 0\n"] {
-        expect_full(&rt, rt.alloc(), end, FULL)?;
+    // 15 messages of 65,000 bytes fit in the area's 1,048,576 bytes, one more behind a fresh snapshot of them, and no other one behind
+    // that of 16. So far some 40 calls of the disk are made.
+    for end in ["flush\n", "crash 99\n"] {
+        expect_full(&rt, rt.alloc(), end, 1, FULL)?;
     }
-    Ok(())
+    // The first call of the compaction is the stop.
+    expect_full(&rt, rt.alloc(), "crash 0\n", 0, "")
 }
 
 // A CONNECT, 23 messages and an end.
@@ -433,6 +475,7 @@ fn expect_full(
     rt: &(impl Abort + Files<File = File> + Clock),
     alloc: Global,
     end: &str,
+    status: u8,
     told: &str,
 ) -> Result<(), Fail> {
     let message = text_of_parts(
@@ -444,7 +487,14 @@ fn expect_full(
         ],
     )?;
     let script = [(CON_0, 1), ("\n", 1), (message.as_str(), 23), (end, 1)];
-    let same = expect_parts(rt, alloc, &script, 1, &[(CONNECTED, 1), ("\n", 1)], told);
+    let same = expect_parts(
+        rt,
+        alloc,
+        &script,
+        status,
+        &[(CONNECTED, 1), ("\n", 1)],
+        told,
+    );
     drop(message);
     same
 }

@@ -1,4 +1,4 @@
-//! A script while memory is refused. In an ordinary run none is, and it prints all; `tests/no_memory.py` has each growth refused in
+//! A script while memory is refused. In an ordinary run none is, and it prints all; `tests/program/no_memory.py` has each growth refused in
 //! turn, and reads what this test says of it.
 
 ghost use Rattle.std.specs.Prelude.{◌≤◌, length};

@@ -9,7 +9,7 @@ use std::process::Abort;
 use std::rt::Files;
 use std::test::Fail;
 use std::time::Clock;
-use tool_core::tool;
+use subcommands::tool;
 
 /// A stream that cannot be read or written.
 #[derive(Drop)]

@@ -9,6 +9,10 @@ use Rattle.command_core.specs.Sizes.{member_size}
 abbrev pub bytes_of : List Member → ℕ
 bytes_of members = sum_by member_size members
 
+-- those of the members of all transactions
+abbrev pub bytes_of_all : List (List ℕ × List Member) → ℕ
+bytes_of_all transactions = sum_by (λ (t : List ℕ × List Member). bytes_of t.1) transactions
+
 -- at most 64 members, of at most 262,144 bytes
 pub record IsTransaction (members : List Member) : Type 0 where
   pub few : length members ≤ 64

@@ -46,8 +46,8 @@ fn put(all: &mut Vec<Transaction>, transaction: Transaction) -> Result<(), Alloc
 }
 
 impl OpenTx {
-    ghost use Rattle.std.specs.Prelude.{◌≡◌, [], Some, None, IfOk, IfErr, OnOk, OnErr, length};
-    ghost use Rattle.tx_core.specs.Transactions.{AreOpen, IsTransaction, members_of, begun, added, without};
+    ghost use Rattle.std.specs.Prelude.{◌≡◌, ◌≤◌, [], Some, None, IfOk, IfErr, OnOk, OnErr, length};
+    ghost use Rattle.tx_core.specs.Transactions.{AreOpen, IsTransaction, bytes_of_all, members_of, begun, added, without};
     ghost use Rattle.tx_core.specs.Refusals.{refusal_of_begin, refusal_of_add, refusal_of_end};
     ghost use Rattle.tx_core.specs.TxFaults.{fault_of};
 
@@ -132,6 +132,18 @@ impl OpenTx {
         ensures { self.new ≡ [] }
     {
         self.all.clear();
+    }
+
+    /// How many bytes the members of all of them take, 1,048,576 at most.
+    pub fn bytes(&self) -> u64
+        ensures value { result ≡ bytes_of_all self.now }
+        ensures most { result ≤ 1048576 }
+    {
+        let mut sum = 0;
+        for transaction in self.all.iter() {
+            sum += transaction.bytes();
+        }
+        sum
     }
 
     /// How many there are.

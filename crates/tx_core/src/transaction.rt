@@ -1,8 +1,8 @@
 //! One open transaction.
 
-ghost use Rattle.std.specs.Prelude.{◌≡◌, ◌++◌, ◌∷◌, [], Some, None, IfErr, OnOk, OnErr};
+ghost use Rattle.std.specs.Prelude.{◌≡◌, ◌≤◌, ◌++◌, ◌∷◌, [], Some, None, IfErr, OnOk, OnErr};
 ghost use Rattle.std.specs.Str.{bytes_eq};
-ghost use Rattle.tx_core.specs.Transactions.{IsTransaction};
+ghost use Rattle.tx_core.specs.Transactions.{IsTransaction, bytes_of};
 ghost use Rattle.tx_core.specs.Refusals.{refusal_to_join};
 ghost use Rattle.tx_core.specs.TxFaults.{fault_of};
 
@@ -48,6 +48,14 @@ impl Transaction {
         ensures { result ≡ bytes_eq name.now self.now.0 }
     {
         name == self.name.as_str()
+    }
+
+    /// How many bytes its members take.
+    pub fn bytes(&self) -> u64
+        ensures value { result ≡ bytes_of self.now.1 }
+        ensures most { result ≤ 262144 }
+    {
+        self.bytes
     }
 
     /// Puts the member behind the others.

@@ -17,7 +17,6 @@ use disk_core::{is_image, release};
 use frame_core::Bytes;
 use limits_core::WINDOW;
 use std::alloc::{AllocError, Global};
-use std::mem;
 
 // A seat that saw a mark so high claims nothing more.
 const FAR: u64 = 1 << 60;
@@ -250,7 +249,7 @@ impl Parts {
             drop(image);
             return false;
         }
-        drop(mem::replace(&mut self.content, image.into_vec()));
+        self.content.copy_from_slice(image.as_slice());
         release(&mut self.held);
         self.phase = Phase::Crashed;
         self.place = Place::Broken;

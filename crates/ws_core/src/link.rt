@@ -1,7 +1,6 @@
 //! What the broker asks of a connection.
 
 ghost use Rattle.std.specs.Prelude.{◌≡◌, ℕ, List, Bool, false, not, Option, None, IfOk, OnOk, OnErr, IfErr, ⊤};
-ghost use Rattle.frame_core.specs.Writable.{Writable};
 ghost use Rattle.frame_core.specs.Written.{written};
 ghost use Rattle.ws_core.specs.Receiving.{with_received};
 ghost use Rattle.ws_core.specs.Sending.{with_message};
@@ -9,7 +8,7 @@ ghost use Rattle.ws_core.specs.Sending.{with_message};
 use crate::closing::CloseReason;
 use crate::fault::LinkFault;
 use claim_core::Released;
-use frame_core::{Frame, Verb};
+use session_core::Notice;
 use std::alloc::Global;
 
 /// What one read of a link gave.
@@ -84,11 +83,9 @@ pub trait Link: Outgoing {
         ensures told { Self.sent self.new ≡ Self.sent self.old }
         ensures read { Self.received self.new ≡ with_received result (Self.received self.old) };
 
-    /// Sends an ERROR that doesn't wait for the broker, as `send` does.
-    fn send_direct(&mut self, alloc: Global, frame: &Frame) -> Result<(), LinkFault>
-        requires error { frame.now.verb ≡ Verb.Error }
-        requires writable { Writable frame.now }
-        ensures told { OnOk result (Self.sent self.new ≡ with_message (written frame.now) (Self.sent self.old)) }
+    /// Sends an ERROR that doesn't wait for the broker, as `send` does: one that a session made, and none of the broker's.
+    fn send_direct(&mut self, alloc: Global, notice: &Notice) -> Result<(), LinkFault>
+        ensures told { OnOk result (Self.sent self.new ≡ with_message (written notice.now) (Self.sent self.old)) }
         ensures untold { OnErr result (Self.sent self.new ≡ Self.sent self.old) }
         ensures unread { Self.received self.new ≡ Self.received self.old }
         ensures memory { IfErr result (λ fault. fault ≡ LinkFault.Memory → self.new ≡ self.old) };
@@ -98,6 +95,11 @@ pub trait Link: Outgoing {
         ensures told { Self.sent self.new ≡ Self.sent self.old }
         ensures unread { Self.received self.new ≡ Self.received self.old }
         ensures memory { IfErr result (λ fault. fault ≡ LinkFault.Memory → self.new ≡ self.old) };
+
+    /// How many bytes it keeps, as far as it knows: those that wait to be written, and those that came of a message that isn't whole.
+    fn held(&self) -> u64 {
+        0
+    }
 
     /// Says the close with that reason, behind all that was sent, as far as the stream takes it; the rest leaves by later calls.
     /// From then on the link sends nothing, and `receive` hears the peer's close. One that has answered `Failed` says nothing more

@@ -7,7 +7,8 @@ use crate::closing::CloseReason;
 use crate::fault::LinkFault;
 use crate::link::{Link, Outgoing, Received};
 use claim_core::Released;
-use frame_core::{Frame, Verb, write_frame};
+use frame_core::{Frame, write_frame};
+use session_core::Notice;
 use std::alloc::Global;
 use std::collections::VecDeque;
 use std::marker::Model;
@@ -123,7 +124,6 @@ impl Outgoing for MemLink {
 
 impl Link for MemLink {
     ghost use Rattle.std.specs.Prelude.{◌≡◌, Err, OnOk, OnErr, IsOk, IfErr, true, false};
-    ghost use Rattle.frame_core.specs.Writable.{Writable};
     ghost use Rattle.frame_core.specs.Written.{written};
     ghost use Rattle.ws_core.specs.Memory.{Recalls, with_sent, ended};
 
@@ -139,15 +139,13 @@ impl Link for MemLink {
         Received::Bytes(message)
     }
 
-    fn send_direct(&mut self, alloc: Global, frame: &Frame) -> Result<(), LinkFault>
-        requires error { frame.now.verb ≡ Verb.Error }
-        requires writable { Writable frame.now }
-        ensures ok { OnOk result ((self.old.over ≡ false) × (self.new ≡ with_sent self.old (written frame.now))) }
+    fn send_direct(&mut self, alloc: Global, notice: &Notice) -> Result<(), LinkFault>
+        ensures ok { OnOk result ((self.old.over ≡ false) × (self.new ≡ with_sent self.old (written notice.now))) }
         ensures refused { OnErr result (self.new ≡ self.old) }
         ensures gone { self.old.over ≡ true → result ≡ Err LinkFault.Gone }
         ensures memory { self.old.over ≡ false → IfErr result (λ fault. fault ≡ LinkFault.Memory) }
     {
-        self.keep(alloc, frame)
+        self.keep(alloc, notice.frame())
     }
 
     fn ping(&mut self) -> Result<(), LinkFault>

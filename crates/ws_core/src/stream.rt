@@ -11,4 +11,9 @@ pub trait Ending {
 
     /// Says that nothing more will be written. The peer finds the stream's end behind what was.
     fn shut_down(&self) -> io::Result<()>;
+
+    /// How many bytes its reads gave in all, those that were dropped not counted; 0 if it counts none.
+    fn given(&self) -> u64 {
+        0
+    }
 }

@@ -10,7 +10,8 @@ use crate::messages::{count_dropped, flush, hear, hear_close, message_of, put, s
 use crate::phase::Phase;
 use crate::stream::Ending;
 use claim_core::Released;
-use frame_core::{Frame, Verb, write_frame};
+use frame_core::{Frame, write_frame};
+use session_core::Notice;
 use std::alloc::Global;
 use std::io::{Read, Write};
 use std::marker::Model;
@@ -24,6 +25,8 @@ const WAITING_BYTES: usize = 1_048_576;
 const WRITING_BYTES: usize = 65_536;
 // What one read of the stream asks for.
 const READ_BYTES: usize = 16_384;
+// The most bytes that a ping or a pong of a client takes (RFC 6455, section 5.5): its head, its mask and what it says.
+const CONTROL_BYTES: u64 = 131;
 
 /// A WebSocket over a stream, after its handshake. Of a stream that has nothing to give, or takes nothing, a read or a write fails
 /// with `WouldBlock`; any other failure but `Interrupted` ends the link. Contracts see the socket, how far the link has come, whether
@@ -41,6 +44,10 @@ pub struct WsLink<S> {
     phase: Phase,
     held_up: bool,
     dropped: u64,
+    // How many bytes of messages were put into the socket since nothing waited there.
+    unsent: u64,
+    // How many bytes the stream had given when the last message was whole.
+    whole: u64,
 }
 
 impl<S> Model for WsLink<S> {
@@ -86,6 +93,8 @@ impl<S: Read + Write + Drop> WsLink<S> {
             phase: Phase::Open,
             held_up: false,
             dropped: 0,
+            unsent: 0,
+            whole: 0,
         }
     }
 
@@ -96,8 +105,9 @@ impl<S: Read + Write + Drop> WsLink<S> {
         self.socket.get_ref()
     }
 
-    // Sends a frame as one message.
-    fn send_frame(&mut self, alloc: Global, frame: &Frame) -> Result<(), LinkFault>
+    /// Sends a frame as one message, as `Outgoing::send` does, whoever made it: for whoever has a link and no broker. What a desk sends
+    /// goes by the traits alone.
+    pub fn send_frame(&mut self, alloc: Global, frame: &Frame) -> Result<(), LinkFault>
         requires { Writable frame.now }
         ensures sends { OnOk result (Sends S.contents (written frame.now) self.old self.new) }
         ensures refuses { IfErr result (Refuses self.old self.new) }
@@ -116,14 +126,30 @@ impl<S: Read + Write + Drop> WsLink<S> {
         ensures puts { OnOk result (Puts S.contents (content_of message) self.old self.new) }
         ensures refuses { IfErr result (Refuses self.old self.new) }
     {
+        let bytes = message.len() as u64;
         match put(&mut self.socket, message) {
-            Ok(true) => Ok(()),
-            Ok(false) => {
-                self.held_up = true;
+            Ok(all) => {
+                if !all {
+                    self.held_up = true;
+                }
+                self.count_unsent(bytes);
                 Ok(())
             }
             Err(error) => Err(self.refuse(&error)),
         }
+    }
+
+    // Counts a message that was put into the socket. From `WRITING_BYTES` on all was offered to the stream, which has taken it unless it
+    // is held up.
+    fn count_unsent(&mut self, bytes: u64)
+        ensures { self.new ≡ self.old }
+    {
+        let unsent = self.unsent.saturating_add(bytes);
+        self.unsent = if unsent >= WRITING_BYTES as u64 && !self.held_up {
+            0
+        } else {
+            unsent
+        };
     }
 
     // What a failed write leaves: a link that is over, but for want of memory.
@@ -165,6 +191,9 @@ impl<S: Read + Write + Drop> Outgoing for WsLink<S> {
         match flush(&mut self.socket) {
             Ok(all) => {
                 self.held_up = !all;
+                if all {
+                    self.unsent = 0;
+                }
                 Ok(all)
             }
             Err(_) => {
@@ -183,7 +212,6 @@ impl<S: Read + Write + Drop> Outgoing for WsLink<S> {
 
 impl<S: Read + Write + Ending + Drop> Link for WsLink<S> {
     ghost use Rattle.std.specs.Prelude.{◌≡◌, OnOk, IfErr};
-    ghost use Rattle.frame_core.specs.Writable.{Writable};
     ghost use Rattle.frame_core.specs.Written.{written};
     ghost use Rattle.ws_core.specs.Links.{IsEnded};
     ghost use Rattle.ws_core.specs.Receiving.{Receives};
@@ -201,18 +229,27 @@ impl<S: Read + Write + Ending + Drop> Link for WsLink<S> {
         match received {
             Received::Failed => self.phase = Phase::Failed,
             Received::Closed => self.phase = Phase::Over,
-            Received::Bytes(_) | Received::Skipped | Received::Nothing => {}
+            Received::Bytes(_) => self.whole = self.socket.get_ref().given(),
+            Received::Skipped => self.skip_control(),
+            Received::Nothing => {}
         }
         received
     }
 
-    fn send_direct(&mut self, alloc: Global, frame: &Frame) -> Result<(), LinkFault>
-        requires error { frame.now.verb ≡ Verb.Error }
-        requires writable { Writable frame.now }
-        ensures sends { OnOk result (Sends S.contents (written frame.now) self.old self.new) }
+    // Both are counted for more than they are: messages of up to 64 KiB that the stream has taken, until a flush, and of a message that isn't
+    // whole the heads of its fragments.
+    fn held(&self) -> u64 {
+        let given = self.socket.get_ref().given();
+        let most = (MESSAGE_BYTES + READ_BYTES) as u64;
+        let unread = given.saturating_sub(self.whole).min(most);
+        self.unsent.saturating_add(unread)
+    }
+
+    fn send_direct(&mut self, alloc: Global, notice: &Notice) -> Result<(), LinkFault>
+        ensures sends { OnOk result (Sends S.contents (written notice.now) self.old self.new) }
         ensures refuses { IfErr result (Refuses self.old self.new) }
     {
-        self.send_frame(alloc, frame)
+        self.send_frame(alloc, notice.frame())
     }
 
     fn ping(&mut self) -> Result<(), LinkFault>
@@ -250,6 +287,14 @@ impl<S: Read + Write + Ending + Drop> WsLink<S> {
     ghost use Rattle.ws_core.specs.Links.{HasFailed};
     ghost use Rattle.ws_core.specs.Receiving.{Leaves};
     ghost use Rattle.ws_core.specs.declared.phase.Phase.TheVariants.{Failed, Shut};
+
+    // A ping or a pong came, which is no part of a message.
+    fn skip_control(&mut self)
+        ensures { self.new ≡ self.old }
+    {
+        let given = self.socket.get_ref().given();
+        self.whole = self.whole.saturating_add(CONTROL_BYTES).min(given);
+    }
 
     // Has what was said go to the stream, shuts that once nothing waits any more, and drops what comes.
     fn leave(&mut self) -> Received

@@ -102,10 +102,10 @@ fn send(
     body: &[u8],
 ) -> Result<Result<(), LinkFault>, Fail> {
     let frame = error(alloc, body)?;
-    if frame.verb != Verb::Error || !writable(&frame) {
+    if !writable(&frame) {
         return Err(Fail::from("no frame to send"));
     }
-    Ok(link.send_direct(alloc, &frame))
+    Ok(link.send_frame(alloc, &frame))
 }
 
 fn send_long(

@@ -1,9 +1,9 @@
-use Rattle.std.proofs.Common.{rules, ◌≡◌, ◌+◌, ◌*◌, ◌<◌, ◌≤◌, ◌^◌, ◌++◌, [], ℕ, List, length, replicate, sym, ◌∙◌, ap, subst}
+use Rattle.std.proofs.Common.{rules, ◌≡◌, ◌+◌, ◌*◌, ◌<◌, ◌≤◌, ◌^◌, ◌++◌, [], ℕ, List, length, replicate, sym, take, ◌∙◌, ap, subst}
 use Rattle.disk_core.specs.Images.{patched}
 use Rattle.area_core.specs.declared.version.Version.TheVariants.{Two}
 use Rattle.area_core.specs.Areas.{closed_snapshot, first_snapshot}
-use Rattle.area_core.specs.Journals.{header, Reads}
-use Rattle.area_core.proofs.Formatted.{formatted}
+use Rattle.area_core.specs.Journals.{header, new_header, Reads}
+use Rattle.area_core.proofs.Formatted.{begins_new, formatted}
 use Rattle.area_core.proofs.formatting.format.Goals as goal
 
 pub returns-clause-formatted : goal.returns-clause-formatted
@@ -28,3 +28,14 @@ pub returns-clause-only : goal.returns-clause-only
 returns-clause-only g c honest image is =
     let honest_2 = c.write_at-2.ensures.honest (c.write_at.ensures.honest honest) in
     c.in_ok-sync.ensures.stable honest_2 image is ∙ sym (c.sync.ensures.content honest_2)
+
+pub returns-clause-begins : goal.returns-clause-begins
+returns-clause-begins g c honest image is =
+    let size = c.args.area_bytes in
+    let head = c.deref-2.result.now in
+    let honest_1 = c.write_at.ensures.honest honest in
+    let honest_2 = c.write_at-2.ensures.honest honest_1 in
+    let second : g.D.Disk.content c.write_at-2.new.self ≡ patched 0 head (g.D.Disk.content c.write_at.new.self) = c.in_ok-write_at-2.ensures.written honest_1 in
+    let is_head : head ≡ new_header size = search rules in
+    subst (λ (l : List ℕ). take 32 l ≡ new_header size) (sym (c.in_ok-sync.ensures.stable honest_2 image is ∙ second))
+    (begins_new size (g.D.Disk.content c.write_at.new.self) head is_head)

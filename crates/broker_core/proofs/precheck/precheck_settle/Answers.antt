@@ -6,7 +6,7 @@ use Rattle.broker_state.specs.Parts.{IsFirst, NonePass}
 use Rattle.broker_core.specs.Prechecks.{has, left_by}
 use Rattle.broker_state.proofs.Firsts.{any_first, any_none, changed_first, picked_first}
 use Rattle.broker_core.proofs.Flights.{settled_counts, with_first-none}
-use Rattle.broker_operations.proofs.Operating.{item_at}
+use Rattle.broker_tables.proofs.Operating.{item_at}
 use Rattle.broker_core.proofs.precheck.precheck_settle.Goals as goal
 
 pub returns-in_default-clause-found : goal.returns-in_default-clause-found

@@ -1,4 +1,4 @@
-use Rattle.desk_core.specs.Goings.{GoesOn}
+use Rattle.desk_core.specs.Steps.{GoesOn}
 use Rattle.desk_core.proofs.working.serve.Given as goal
 
 abbrev pub invariant-loop-turn : goal.invariant-loop-turn

@@ -1,6 +1,6 @@
 use Rattle.std.proofs.Common.{◌≡◌}
 use Rattle.desk_core.specs.Answers.{Appended, Leaves}
-use Rattle.desk_core.specs.Goings.{GoesOn}
+use Rattle.desk_core.specs.Steps.{GoesOn}
 use Rattle.desk_core.proofs.slot.Slot.execute.Given as goal
 
 abbrev pub invariant-loop : goal.invariant-loop

@@ -1,5 +1,5 @@
 use Rattle.std.proofs.Common.{◌≡◌}
-use Rattle.desk_core.specs.Goings.{GoesOn}
+use Rattle.desk_core.specs.Steps.{GoesOn}
 use Rattle.desk_core.proofs.slot.Slot.pass_on.Given as goal
 
 abbrev pub invariant-loop : goal.invariant-loop

@@ -1,12 +1,9 @@
 use Rattle.std.proofs.Common.{◌∙◌, inr, refl, subst, sym, ap}
-use Rattle.frame_core.specs.declared.frame.Frame.{Frame}
-use Rattle.frame_core.specs.Written.{written}
-use Rattle.ws_core.specs.Sending.{with_message}
 use Rattle.connection_core.specs.Connections.{ConnectionValue}
 use Rattle.connection_core.specs.declared.said.Wanted.TheVariants.{Tell}
 use Rattle.session_core.specs.declared.act.Act.TheVariants.{Direct}
 use Rattle.desk_core.specs.Halting.{HasHalted}
-use Rattle.desk_core.specs.Lives.{HasTold}
+use Rattle.desk_core.specs.Histories.{HasTold}
 use Rattle.desk_core.proofs.Going.{again_so, tells_later, tells_nobody, tells_told}
 use Rattle.desk_core.proofs.Living.{closes_over, loses, none_told_leaving, none_told_lost, same_stage, told_where}
 use Rattle.desk_core.proofs.Messages.{quiet, still, told_one}
@@ -21,8 +18,8 @@ pub returns-in-Ok-clause-tells : goal.returns-in-Ok-clause-tells
 returns-in-Ok-clause-tells g c =
     tells_told g.L.Outgoing.sent c.args.notice c.args.self.now _ _ _ c.requires.nothing refl
     (λ executes. closes_over _ _ (told_where c.args.self.now.connection.stage executes (λ leaving. c.is_cut_off.ensures.no c.if-is_cut_off.false (c.stage.ensures ∙ leaving))) c.told.ensures)
-    (told_one g.L.Outgoing.sent _ _ _ _ c.args.notice c.frame.ensures.error (inr (ap (λ (x : ConnectionValue). x.progress) c.told.ensures)) refl refl
-    (c.in-Ok.ensures.told ∙ ap (λ (f : Frame). with_message (written f) (g.L.Outgoing.sent c.args.link.now)) c.frame.ensures.value))
+    (told_one g.L.Outgoing.sent _ _ _ _ c.args.notice c.frame-form.ensures.error (inr (ap (λ (x : ConnectionValue). x.progress) c.told.ensures)) refl refl
+    c.in-Ok.ensures.told)
 
 pub returns-in-Err-Gone-clause-tells : goal.returns-in-Err-Gone-clause-tells
 returns-in-Err-Gone-clause-tells g c =

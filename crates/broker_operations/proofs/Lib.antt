@@ -1,4 +1,0 @@
-pub mod Dues
-pub mod Nexts
-pub mod Operating
-pub mod SettledSums

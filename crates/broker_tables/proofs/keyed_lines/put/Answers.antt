@@ -1,0 +1,16 @@
+use Rattle.std.proofs.Common.{◌≡◌}
+use Rattle.std.proofs.lemmas.Result.{on_ok_weaker}
+use Rattle.broker_state.specs.Waiting.{with_message}
+use Rattle.broker_state.proofs.KeyedLines.{put_more, weight_of-with_message}
+use Rattle.broker_tables.proofs.keyed_lines.put.Goals as goal
+
+pub returns-clause-weight : goal.returns-clause-weight
+returns-clause-weight g c =
+    let cmp = g.K.Ord.cmp in
+    let es = c.args.lines.now.entries in
+    let absent = rw c.take_line-line.ensures.others at c.take_line-line.ensures.absent in
+    let sorted = rw c.take_line-line.ensures.others at c.take_line-line.ensures.ordered in
+    on_ok_weaker c.put_line.result
+    (λ put. let is : c.put_line.new.lines.entries ≡ with_message cmp c.args.key c.args.message es = put_more cmp c.args.key c.args.message c.take_line-line.result c.put_into.new.line es c.take_line-line.new.lines.entries c.put_line.new.lines.entries c.take_line-line.ensures.others c.take_line-line.ensures.line c.in_ok-put_into.ensures.ok put in
+    rw is (λ weight. weight_of-with_message weight cmp g.met.K.Ord.total c.args.key c.args.message es absent sorted))
+    c.put_line.ensures.entries

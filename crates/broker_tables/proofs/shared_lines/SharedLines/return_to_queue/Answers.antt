@@ -1,0 +1,27 @@
+use Rattle.std.proofs.Common.{◌∙◌, List, ℕ, ap, arith, sym, cond}
+use Rattle.std.specs.List.{sum_by}
+use Rattle.line_core.specs.declared.message.Message.{Message}
+use Rattle.broker_state.specs.Names.{text_cmp}
+use Rattle.broker_state.specs.Waiting.{Lines, Shared, weight_of_shared, with_deliveries}
+use Rattle.broker_tables.proofs.shared_lines.SharedLines.return_to_queue.Goals as goal
+use Rattle.broker_tables.proofs.shared_lines.SharedLines.return_to_queue.Goals.{in-Ok, in-Err}
+
+pub returns-clause-shared : goal.returns-clause-shared
+returns-clause-shared c =
+    let view : Shared = record { names = c.self.inside.names.entries; queues = c.self.inside.queues.entries } in
+    let with = λ (s : Shared). record s { queues = with_deliveries text_cmp c.args.destination.now c.args.deliveries.items s.queues } in
+    elim c.match-put_back.branch [
+      | in-Ok w ↦ rw w.result-is
+          (ap (λ (l : Lines (List ℕ)). record view { queues = l }) w.in-Ok.ensures.entries
+          ∙ ap with c.self.view_is
+          ∙ ap (λ b. cond b (with c.args.self.now) c.args.self.now) (sym c.if-not-is_queue.false ∙ c.is_queue.ensures))
+      | in-Err w ↦ rw w.result-is tt
+    ]
+
+pub returns-clause-weight : goal.returns-clause-weight
+returns-clause-weight c =
+    elim c.match-put_back.branch [
+      | in-Ok w ↦ rw w.result-is
+          (λ weight. omega (arith, w.in-Ok.ensures.weight weight, ap (weight_of_shared weight) c.self.view_is, ap (sum_by (λ (delivery : ℕ × Message). weight delivery.1)) w.new.ensures.items))
+      | in-Err w ↦ rw w.result-is tt
+    ]

@@ -1,0 +1,43 @@
+use Rattle.std.proofs.Common.{◌∙◌, ap, arith, refl, remove, subst, sym}
+use Rattle.std.specs.List.{AllByRecursion, sum_by}
+use Rattle.std.proofs.lemmas.Option.{same_Some}
+use Rattle.line_core.specs.Flights.{IsOver}
+use Rattle.broker_state.specs.States.{bytes, one, weight_of_subscription}
+use Rattle.broker_tables.specs.Tables.{shown}
+use Rattle.broker_tables.proofs.Operating.{without_one}
+use Rattle.broker_state.proofs.Weights.{all_removed, sum_by-removed}
+use Rattle.broker_state.specs.Waiting.{Shared, line_for}
+use Rattle.broker_tables.proofs.Dues.{due_left}
+use Rattle.broker_tables.proofs.tables.Tables.end_one.Goals as goal
+
+pub let_go-requires-clause-messages : goal.let_go-requires-clause-messages
+let_go-requires-clause-messages c =
+    omega (arith, c.self.invariant.messages, sum_by-removed (weight_of_subscription one) c.self.inside.order c.args.at c.remove-sub.result c.remove-sub.ensures.taken)
+
+pub let_go-requires-clause-bytes : goal.let_go-requires-clause-bytes
+let_go-requires-clause-bytes c =
+    omega (arith, c.self.invariant.bytes, sum_by-removed (weight_of_subscription bytes) c.self.inside.order c.args.at c.remove-sub.result c.remove-sub.ensures.taken)
+
+pub invariant_of-self : goal.invariant_of-self
+invariant_of-self c =
+    let subs = c.self.inside.order in
+    let tallied = c.self.invariant in
+    let done = c.in-Ok.ensures in
+    record {
+      messages = omega (arith, tallied.messages, sum_by-removed (weight_of_subscription one) subs c.args.at c.remove-sub.result c.remove-sub.ensures.taken, ap (sum_by (weight_of_subscription one)) c.remove-sub.ensures.others, done.messages);
+      bytes = omega (arith, tallied.bytes, sum_by-removed (weight_of_subscription bytes) subs c.args.at c.remove-sub.result c.remove-sub.ensures.taken, ap (sum_by (weight_of_subscription bytes)) c.remove-sub.ensures.others, done.bytes);
+      few = omega (arith, tallied.few, done.fewer);
+      small = omega (arith, tallied.small, done.lighter);
+      next = subst (AllByRecursion (λ sub. IsOver c.self.inside.next_delivery sub.unacknowledged)) (sym c.remove-sub.ensures.others) (all_removed (λ sub. IsOver c.self.inside.next_delivery sub.unacknowledged) subs c.args.at tallied.next);
+      deliveries = tallied.deliveries;
+      ready =
+          let a = c.self.inside in
+          let s = shown a.count a.next_delivery a.sessions.entries a.durables a.shared a.order in
+          let t = shown a.count a.next_delivery a.sessions.entries a.durables c.let_go.new.shared c.remove-sub.new.self in
+          due_left a.due.items s tallied.ready t c.let_go.new.due.items done.kept refl (λ x other. ap (λ (h : Shared). line_for h x) done.lines ∙ done.marked a.shared x other) c.args.at c.remove-sub.ensures.others;
+    }
+
+pub returns-in-Ok : goal.returns-in-Ok
+returns-in-Ok c = record {
+  ended = rw (← c.self.view_is) (λ sub is. without_one (shown c.self.inside.count c.self.inside.next_delivery c.self.inside.sessions.entries c.self.inside.durables c.self.inside.shared c.self.inside.order) c.remove-sub.result sub (remove c.self.inside.order c.args.at) c.remove-sub.new.self c.let_go.new.shared (same_Some c.remove-sub.result sub (sym c.remove-sub.ensures.taken ∙ is)) c.remove-sub.ensures.others c.in-Ok.ensures.lines);
+}

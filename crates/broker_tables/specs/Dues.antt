@@ -1,0 +1,32 @@
+use Rattle.std.specs.Prelude.{◌≡◌, List, Bool, true, Option, Some, None}
+use Rattle.std.specs.List.{AllByRecursion, list_any}
+use Rattle.broker_state.specs.declared.subscription.Subscription.{Subscription}
+use Rattle.broker_state.specs.HandOut.{can_take}
+use Rattle.broker_state.specs.Names.{Name}
+use Rattle.broker_state.specs.Operations.{is_of, uses}
+use Rattle.broker_state.specs.States.{State}
+use Rattle.broker_order.specs.Directories.{is_plain_at}
+use Rattle.broker_tables.specs.declared.due.Key.{Key}
+use Rattle.broker_tables.specs.declared.due.Key.TheVariants.{Session, Destination, Durable}
+
+-- whether a subscription is one of those under a key
+abbrev pub is_under : Key → Subscription → Bool
+is_under (Session session) sub = is_of session sub
+is_under (Destination to) sub = is_plain_at to sub
+is_under (Durable name) sub = uses name sub
+
+-- the key of the line that a subscription is served from
+abbrev pub key_from : Subscription → Option Name → Key
+key_from sub None = Destination sub.destination
+key_from sub (Some name) = Durable name
+
+abbrev pub line_key : Subscription → Key
+line_key sub = key_from sub sub.durable
+
+-- whether a subscription is under one of the keys
+abbrev pub is_due : List Key → Subscription → Bool
+is_due due sub = list_any (λ key. is_under key sub) due
+
+-- who can be served is due
+abbrev pub AreDue : List Key → State → Type 0
+AreDue due s = AllByRecursion (λ sub. can_take s sub ≡ true → is_due due sub ≡ true) s.subscriptions

@@ -1,0 +1,20 @@
+//! What operations do to sessions, subscriptions and lines of messages, and what is handed out.
+
+#![tactic(auto)]
+
+mod acknowledging;
+mod cursors;
+mod due;
+mod durable_names;
+mod hand_out;
+mod keyed_lines;
+mod refusing;
+mod sending;
+mod shared_lines;
+mod subscribing;
+mod tables;
+
+pub use refusing::{is_dropped, refused_size};
+pub use sending::{copies_to, find_room};
+pub use shared_lines::SharedLines;
+pub use tables::Tables;

@@ -1,0 +1,292 @@
+//! Deliveries are refused.
+
+ghost use Rattle.std.specs.Prelude.{◌≡◌, ◌+◌, ◌-◌, ◌<◌, ◌≤◌, ◌^◌, IfOk, IsErr, OnOk, Some, if◌then◌else◌, length, nat_le, slice_get, true};
+ghost use Rattle.std.specs.List.{sum_by};
+ghost use Rattle.line_core.specs.Flights.{has_delivery, settled};
+ghost use Rattle.line_core.specs.Messages.{size_of};
+ghost use Rattle.broker_state.specs.declared.nack_rule.NackRule.TheVariants.{Keeps};
+ghost use Rattle.broker_state.specs.Dead.{dead_queue, is_dropped, nacked, refused, refused_from, with_refused};
+ghost use Rattle.broker_state.specs.Parts.{leaving};
+ghost use Rattle.broker_state.specs.declared.subscription.Subscription.{Subscription};
+ghost use Rattle.broker_state.specs.Lists.{changed};
+ghost use Rattle.broker_state.specs.Operations.{is_of, settled_by};
+ghost use Rattle.broker_state.specs.States.{bytes, one};
+ghost use Rattle.broker_state.specs.Names.{text_cmp};
+ghost use Rattle.broker_state.specs.Waiting.{is_own, with_message};
+ghost use Rattle.broker_tables.specs.Dues.{is_due};
+ghost use Rattle.broker_order.specs.Directories.{is_plain_at};
+ghost use Rattle.broker_tables.specs.Refusals.{all_kept, all_kept_bytes, kept_bytes, kept_one};
+
+use crate::acknowledging::find_awaiting;
+use crate::due::{Key, mark};
+use crate::shared_lines::SharedLines;
+use crate::subscribing::let_deliveries_go;
+use crate::tables::Tables;
+use broker_order::Order;
+use broker_state::{Held, MOST_BYTES, NackRule, Subscription};
+use command_core::{AckMode, Dest, DestFault, Fault, Sending};
+use line_core::{Message, MessageNumber, settles, size};
+use std::alloc::{AllocError, Global};
+
+/// The queue of the messages that were refused.
+const DEAD_QUEUE: &str = "/queue/dead";
+
+/// That queue as a destination.
+fn dead_queue(alloc: Global) -> Result<Dest, AllocError>
+    ensures { IfOk result (λ destination. destination ≡ dead_queue) }
+{
+    match Dest::read(alloc, DEAD_QUEUE) {
+        Ok(destination) => Ok(destination),
+        Err(DestFault::Memory(refused)) => Err(refused),
+        Err(DestFault::Bad) => unreachable!(),
+    }
+}
+
+/// Whether a refused message is dropped: where its subscription has a line of its own, which `own` says, since it is a
+/// plain one of a topic; and where it was refused before, so that its destination is `/queue/dead` already.
+pub fn is_dropped(own: bool, message: &Message) -> bool
+    ensures { result ≡ is_dropped own message.now }
+{
+    own || message.sending.destination().as_str() == DEAD_QUEUE
+}
+
+/// The bytes that what was sent counts for once it was refused and has gone to `/queue/dead`.
+pub fn refused_size(sending: &Sending) -> u64
+    ensures size { result ≡ size_of (record sending.now { destination = dead_queue }) }
+    ensures small { result < 2 ^ 22 }
+{
+    let others = size(sending) - sending.destination().as_str().len();
+    (others + DEAD_QUEUE.len()) as u64
+}
+
+/// A refused message as it goes to the queue of those, under that number.
+fn refused(alloc: Global, number: MessageNumber, message: Message) -> Result<Message, AllocError>
+    ensures { IfOk result (λ kept. kept ≡ refused number.command number.place message) }
+{
+    let destination = dead_queue(alloc)?;
+    let (_, headers, body) = message.sending.into_parts();
+    let sending = Sending::new(destination, headers, body);
+    Ok(Message { number, sending })
+}
+
+/// The bytes of those of some deliveries that the NACK of one settles.
+fn settled_bytes(mode: AckMode, delivery: u64, deliveries: &[(u64, Message)]) -> u64
+    requires { length deliveries.now ≤ 4096 }
+    ensures bytes { result ≡ sum_by (λ delivery. bytes delivery.1) (settled mode delivery deliveries.now) }
+    ensures small { result < 2 ^ 34 }
+{
+    let mut bytes = 0;
+    for (number, message) in deliveries {
+        if settles(mode, delivery, *number) {
+            bytes += size(&message.sending) as u64;
+        }
+    }
+    bytes
+}
+
+/// The bytes that a refused message counts for in the queue of those: none where it is dropped.
+fn kept_bytes(own: bool, message: &Message) -> u64
+    ensures bytes { result ≡ kept_bytes own message.now }
+    ensures small { result < 2 ^ 22 }
+{
+    if is_dropped(own, message) {
+        return 0;
+    }
+    refused_size(&message.sending)
+}
+
+/// The bytes that those of some deliveries which the NACK of one settles count for in the queue of refused messages.
+fn bytes_to_keep(own: bool, mode: AckMode, delivery: u64, deliveries: &[(u64, Message)]) -> u64
+    requires { length deliveries.now ≤ 4096 }
+    ensures bytes { result ≡ all_kept_bytes own (settled mode delivery deliveries.now) }
+    ensures small { result < 2 ^ 35 }
+{
+    let mut bytes = 0;
+    for (number, message) in deliveries {
+        if settles(mode, delivery, *number) {
+            bytes += kept_bytes(own, message);
+        }
+    }
+    bytes
+}
+
+/// Whether what the NACK of a delivery keeps finds room, once all that it settles has gone.
+fn finds_room(held: &Held, sub: &Subscription, delivery: u64) -> bool
+    requires small { held.now.bytes ≤ 16777216 }
+    requires few { length sub.now.unacknowledged ≤ 4096 }
+    requires part { sum_by (λ delivery. bytes delivery.1) (settled sub.now.mode delivery sub.now.unacknowledged) ≤ held.now.bytes }
+    ensures { result ≡ nat_le (held.now.bytes
+        - sum_by (λ delivery. bytes delivery.1) (settled sub.now.mode delivery sub.now.unacknowledged)
+        + all_kept_bytes (is_own sub.now) (settled sub.now.mode delivery sub.now.unacknowledged)) 16777216 }
+{
+    let deliveries = sub.unacknowledged.as_slice();
+    let gone = settled_bytes(sub.mode, delivery, deliveries);
+    let kept = bytes_to_keep(sub.has_own_line(), sub.mode, delivery, deliveries);
+    held.bytes - gone + kept <= MOST_BYTES
+}
+
+/// A settled message goes to the queue of refused ones, under that number, and is held there, unless it is dropped. Where
+/// memory is refused, the line of that queue may be gone.
+fn keep_one(
+    alloc: Global,
+    shared: &mut SharedLines,
+    held: &mut Held,
+    own: bool,
+    number: MessageNumber,
+    message: Message,
+) -> Result<(), AllocError>
+    requires few { held.old.messages + kept_one own message ≤ 4096 }
+    requires small { held.old.bytes + kept_bytes own message ≤ 16777216 }
+    ensures lines { OnOk result (shared.new ≡ record shared.old {
+      queues = if is_dropped own message then shared.old.queues
+          else with_message text_cmp dead_queue (refused number.command number.place message) shared.old.queues;
+    }) }
+    ensures messages { OnOk result (held.new.messages ≡ held.old.messages + kept_one own message) }
+    ensures bytes { OnOk result (held.new.bytes ≡ held.old.bytes + kept_bytes own message) }
+{
+    if is_dropped(own, &message) {
+        return Ok(());
+    }
+    held.messages += 1;
+    held.bytes += refused_size(&message.sending);
+    shared.put_in_queue(alloc, refused(alloc, number, message)?)
+}
+
+/// Settled messages that are kept go to the queue of refused ones, and are held there. The first that is settled has that
+/// number, and each further one the next place, dropped or not. Where memory is refused, part of it may be done.
+fn keep(
+    alloc: Global,
+    shared: &mut SharedLines,
+    held: &mut Held,
+    own: bool,
+    first: MessageNumber,
+    settled: Vec<(u64, Message)>,
+) -> Result<(), AllocError>
+    requires places { first.place + length settled.items < 2 ^ 32 }
+    requires few { held.old.messages + length settled.items ≤ 4096 }
+    requires small { held.old.bytes + all_kept_bytes own settled.items ≤ 16777216 }
+    ensures lines { OnOk result (shared.new ≡ record shared.old {
+      queues = with_refused (refused_from (is_dropped own) first.command first.place settled.items) shared.old.queues;
+    }) }
+    ensures messages { OnOk result (held.new.messages ≡ held.old.messages + all_kept own settled.items) }
+    ensures bytes { OnOk result (held.new.bytes ≡ held.old.bytes + all_kept_bytes own settled.items) }
+{
+    let mut number = first;
+    for (_, message) in settled {
+        keep_one(alloc, shared, held, own, number, message)?;
+        number.place += 1;
+    }
+    Ok(())
+}
+
+/// What the refusal of a delivery settles leaves the subscription in that place; those of the session are due, and those of
+/// the queue of refused messages. Where memory is refused, some of them may be.
+fn take_refused(
+    alloc: Global,
+    due: &mut Vec<Key>,
+    order: &mut Order,
+    at: usize,
+    session: u64,
+    delivery: u64,
+) -> Result<Vec<(u64, Message)>, AllocError>
+    requires place { at < length order.old }
+    requires known { (sub : Subscription) → slice_get order.old at ≡ Some sub → has_delivery delivery sub.unacknowledged ≡ true }
+    ensures kept { OnOk result ((sub : Subscription) → is_due due.old.items sub ≡ true → is_due due.new.items sub ≡ true) }
+    ensures session { OnOk result ((sub : Subscription) → is_of session sub ≡ true → is_due due.new.items sub ≡ true) }
+    ensures dead { OnOk result ((sub : Subscription) → is_plain_at dead_queue sub ≡ true → is_due due.new.items sub ≡ true) }
+    ensures settled { IfOk result (λ out. (sub : Subscription) → slice_get order.old at ≡ Some sub
+        → out.items ≡ settled sub.mode delivery sub.unacknowledged) }
+    ensures unsettled { OnOk result (order.new ≡ changed at (settled_by delivery) order.old) }
+{
+    mark(due, Key::Session(session))?;
+    let dead = dead_queue(alloc)?;
+    mark(due, Key::Destination(dead))?;
+    order.settle(at, delivery)
+}
+
+/// Settled messages are held no more where they were, and those that are kept go to the queue of refused ones, from that
+/// number on. Where memory is refused, part of it may be done.
+fn move_refused(
+    alloc: Global,
+    shared: &mut SharedLines,
+    held: &mut Held,
+    own: bool,
+    first: MessageNumber,
+    settled: Vec<(u64, Message)>,
+) -> Result<(), AllocError>
+    requires within { (held.old.messages ≤ 4096) × (held.old.bytes ≤ 16777216) }
+    requires places { first.place + length settled.items < 2 ^ 32 }
+    requires messages { sum_by (λ delivery. one delivery.1) settled.items ≤ held.old.messages }
+    requires bytes { sum_by (λ delivery. bytes delivery.1) settled.items ≤ held.old.bytes }
+    requires small { held.old.bytes - sum_by (λ delivery. bytes delivery.1) settled.items + all_kept_bytes own settled.items ≤ 16777216 }
+    ensures lines { OnOk result (shared.new ≡ record shared.old {
+      queues = with_refused (refused_from (is_dropped own) first.command first.place settled.items) shared.old.queues;
+    }) }
+    ensures messages { OnOk result (held.new.messages + sum_by (λ delivery. one delivery.1) settled.items
+        ≡ held.old.messages + all_kept own settled.items) }
+    ensures bytes { OnOk result (held.new.bytes + sum_by (λ delivery. bytes delivery.1) settled.items
+        ≡ held.old.bytes + all_kept_bytes own settled.items) }
+{
+    let_deliveries_go(held, settled.as_slice());
+    keep(alloc, shared, held, own, first, settled)
+}
+
+impl Tables {
+    /// A delivery of a session is refused, with those that the mode of its subscription settles besides, by that place among
+    /// the members of the command that is being carried out, which is 0 for a plain NACK. By the rule that keeps, those go
+    /// to `/queue/dead` that are not dropped. Refused where the session has no such delivery, or where what is kept finds no
+    /// room, and then the tables are as they were. Where memory is refused, nothing is left of them.
+    pub fn nack(
+        self,
+        alloc: Global,
+        rule: NackRule,
+        member: u32,
+        session: u64,
+        delivery: u64,
+    ) -> Result<(Tables, Result<(), Fault>), AllocError>
+        requires { member < 64 }
+        ensures nacked { IfOk result (λ r. nacked rule self session member delivery ≡ leaving r.1 r.0) }
+        ensures same { IfOk result (λ r. IsErr r.1 → r.0 ≡ self) }
+    {
+        match rule {
+            NackRule::Drops => self.acknowledge(session, delivery),
+            NackRule::Keeps => self.refuse(alloc, member, session, delivery),
+        }
+    }
+
+    /// A delivery is refused by the rule that keeps.
+    fn refuse(
+        mut self,
+        alloc: Global,
+        member: u32,
+        session: u64,
+        delivery: u64,
+    ) -> Result<(Tables, Result<(), Fault>), AllocError>
+        requires { member < 64 }
+        ensures nacked { IfOk result (λ r. nacked Keeps self session member delivery ≡ leaving r.1 r.0) }
+        ensures same { IfOk result (λ r. IsErr r.1 → r.0 ≡ self) }
+    {
+        self.shared.stand_in_order();
+        let Some(at) = find_awaiting(&self.order, session, delivery) else {
+            return Ok((self, Err(Fault::UnknownAcknowledgement)));
+        };
+        if !finds_room(&self.held, self.order.get(at), delivery) {
+            return Ok((self, Err(Fault::NoRoom)));
+        }
+        let own = self.order.get(at).has_own_line();
+        let first = MessageNumber {
+            command: self.count,
+            place: 64 + 16 * member,
+        };
+        let taken = take_refused(alloc, &mut self.due, &mut self.order, at, session, delivery);
+        match taken {
+            Ok(settled) => {
+                match move_refused(alloc, &mut self.shared, &mut self.held, own, first, settled) {
+                    Ok(()) => Ok((self, Ok(()))),
+                    Err(refused) => Err(refused),
+                }
+            }
+            Err(refused) => Err(refused),
+        }
+    }
+}

@@ -1,0 +1,258 @@
+//! The lines that stay when a subscription ends.
+
+ghost use Rattle.std.specs.Prelude.{◌≡◌, ◌+◌, [], IfOk, None, OnErr, OnOk, Some, drop, false, not, ℕ};
+ghost use Rattle.std.specs.BTreeMap.{is_at};
+ghost use Rattle.std.specs.List.{sum_by};
+ghost use Rattle.std.specs.List.Sorted.{IsStrictlySortedBy};
+ghost use Rattle.std.specs.Map.{keys_of, remove_entry};
+ghost use Rattle.line_core.specs.declared.message.Message.{Message};
+ghost use Rattle.line_core.specs.Lines.{first_of};
+ghost use Rattle.broker_state.specs.Lists.{is_none};
+ghost use Rattle.broker_state.specs.Names.{name_cmp, text_cmp};
+ghost use Rattle.broker_state.specs.States.{weight_of_subscription};
+ghost use Rattle.broker_tables.specs.Returns.{KeepsWeight, returned_to};
+ghost use Rattle.broker_state.specs.Waiting.{left_line, left_shared, line_at, line_for, returned, weight_of_lines, weight_of_shared, with_line, with_message};
+
+use crate::keyed_lines::{self, Side};
+use broker_state::{DurableName, Subscription, has_waiting, stand_in_order};
+use command_core::Dest;
+use line_core::{Line, Message};
+use std::alloc::{AllocError, Global};
+use std::collections::BTreeMap;
+use std::marker::Model;
+
+/// The lines that stay when a subscription ends: those of durable names, and those of queues. Contracts see both lists of
+/// lines by rising key.
+#[derive(Drop)]
+pub struct SharedLines {
+    names: BTreeMap<DurableName, Line>,
+    queues: BTreeMap<Dest, Line>,
+}
+
+impl Model for SharedLines {
+    ghost use Rattle.broker_state.specs.Waiting.{Shared};
+
+    ghost Value = { Shared };
+
+    ghost view = { λ a. record { names = a.names.entries; queues = a.queues.entries } };
+}
+
+/// What vanishes with a subscription that ends: what waited in its own line, and what it has not acknowledged of it.
+#[derive(Drop)]
+pub(crate) struct Gone {
+    pub line: Line,
+    pub deliveries: Vec<(u64, Message)>,
+}
+
+/// Takes the least message out of the line of that queue. Where memory is refused, that line is gone, and the others stand.
+fn take_from_queue(
+    queues: &mut BTreeMap<Dest, Line>,
+    destination: &Dest,
+) -> Result<Option<Message>, AllocError>
+    ensures taken { IfOk result (λ m. m ≡ first_of (line_at text_cmp destination.now queues.old.entries)) }
+    ensures err { OnErr result (queues.new.entries ≡ remove_entry (is_at (text_cmp destination.now)) queues.old.entries) }
+    ensures rest { OnOk result (queues.new.entries
+        ≡ with_line text_cmp destination.now (drop 1 (line_at text_cmp destination.now queues.old.entries)) queues.old.entries) }
+    ensures weight { OnOk result ((weight : Message → ℕ) → weight_of_lines weight queues.new.entries
+        + sum_by weight (line_at text_cmp destination.now queues.old.entries)
+        ≡ weight_of_lines weight queues.old.entries + sum_by weight (drop 1 (line_at text_cmp destination.now queues.old.entries))) }
+{
+    keyed_lines::take(queues, destination)
+}
+
+impl SharedLines {
+    /// No lines. No memory is taken.
+    pub(crate) fn new(alloc: Global) -> SharedLines
+        ensures { result ≡ record { names = []; queues = [] } }
+    {
+        SharedLines {
+            names: BTreeMap::new(alloc),
+            queues: BTreeMap::new(alloc),
+        }
+    }
+
+    /// These lines of durable names and of queues. No memory is taken.
+    pub(crate) fn of(
+        names: BTreeMap<DurableName, Line>,
+        queues: BTreeMap<Dest, Line>,
+    ) -> SharedLines
+        ensures { result ≡ record { names = names.entries; queues = queues.entries } }
+    {
+        SharedLines { names, queues }
+    }
+
+    /// The lines of durable names that have messages.
+    pub fn names(&self) -> &BTreeMap<DurableName, Line>
+        ensures { result.now.entries ≡ self.now.names }
+    {
+        &self.names
+    }
+
+    /// The lines of queues that have messages.
+    pub fn queues(&self) -> &BTreeMap<Dest, Line>
+        ensures { result.now.entries ≡ self.now.queues }
+    {
+        &self.queues
+    }
+
+    /// The lines stand by rising key, each once. Nothing changes.
+    pub(crate) fn stand_in_order(&self)
+        ensures names { IsStrictlySortedBy name_cmp (keys_of self.now.names) }
+        ensures queues { IsStrictlySortedBy text_cmp (keys_of self.now.queues) }
+    {
+        stand_in_order(&self.names);
+        stand_in_order(&self.queues);
+    }
+
+    /// Whether a message waits for a subscription.
+    pub(crate) fn has_message(&self, sub: &Subscription) -> bool
+        ensures { result ≡ not (is_none (line_for self.now sub.now)) }
+    {
+        has_waiting(&self.names, &self.queues, sub)
+    }
+
+    /// Takes the least message for a subscription out of its line, which has one. Where memory is refused, that line is
+    /// gone, and the others stand.
+    pub(crate) fn take_for(&mut self, sub: &mut Subscription) -> Result<Message, AllocError>
+        requires { is_none (line_for self.old sub.old) ≡ false }
+        ensures taken { IfOk result (λ m. first_of (line_for self.old sub.old) ≡ Some m) }
+        ensures shared { OnOk result (self.new ≡ left_shared self.old sub.old (drop 1 (line_for self.old sub.old))) }
+        ensures weight { OnOk result ((weight : Message → ℕ) → weight_of_shared weight self.new + sum_by weight sub.new.line
+            + sum_by weight (line_for self.old sub.old)
+            ≡ weight_of_shared weight self.old + sum_by weight sub.old.line
+            + sum_by weight (drop 1 (line_for self.old sub.old))) }
+        ensures line { OnOk result (sub.new ≡ left_line sub.old (drop 1 (line_for self.old sub.old))) }
+    {
+        let message = match &sub.durable {
+            Some(name) => keyed_lines::take(&mut self.names, name)?,
+            None if sub.destination.is_queue() => take_from_queue(
+                &mut self.queues,
+                &sub.destination,
+            )?,
+            None => sub.line.take(),
+        };
+        Ok(message.unwrap())
+    }
+
+    /// Puts a message into the line of the queue that it was sent to. Where memory is refused, that line may be gone, and
+    /// the others stand.
+    pub(crate) fn put_in_queue(&mut self, alloc: Global, message: Message) -> Result<(), AllocError>
+        ensures shared { OnOk result (self.new
+            ≡ record self.old { queues = with_message text_cmp message.sending.destination message self.old.queues }) }
+        ensures weight { OnOk result ((weight : Message → ℕ) → weight_of_shared weight self.new ≡ weight_of_shared weight self.old + weight message) }
+    {
+        let to = message.sending.destination().clone()?;
+        keyed_lines::put(alloc, &mut self.queues, to, message, Side::Back)
+    }
+
+    /// Puts a message into the line under that durable name. Where memory is refused, that line is gone, and the others
+    /// stand.
+    pub(crate) fn put_under(
+        &mut self,
+        alloc: Global,
+        name: DurableName,
+        message: Message,
+    ) -> Result<(), AllocError>
+        ensures shared { OnOk result (self.new ≡ record self.old { names = with_message name_cmp name message self.old.names }) }
+        ensures weight { OnOk result ((weight : Message → ℕ) → weight_of_shared weight self.new ≡ weight_of_shared weight self.old + weight message) }
+    {
+        keyed_lines::put(alloc, &mut self.names, name, message, Side::Back)
+    }
+
+    /// A subscription has ended: what it has not acknowledged stands in its line again, unless the line was its own; gives
+    /// what vanishes with it. Where memory is refused, its line may be gone, and the others stand.
+    pub(crate) fn take_back(&mut self, alloc: Global, sub: Subscription) -> Result<Gone, AllocError>
+        ensures shared { OnOk result (self.new ≡ returned self.old sub) }
+        ensures weight { IfOk result (λ gone. (weight : Message → ℕ) → weight_of_shared weight self.new + sum_by weight gone.line
+            + sum_by (λ delivery. weight delivery.1) gone.deliveries.items
+            ≡ weight_of_shared weight self.old + weight_of_subscription weight sub) }
+    {
+        let Subscription {
+            id,
+            destination,
+            durable,
+            line,
+            unacknowledged,
+            ..
+        } = sub;
+        drop(id);
+        let returned = self.return_deliveries(
+            alloc,
+            &durable,
+            &destination,
+            unacknowledged.into_vec(),
+        );
+        drop(durable);
+        drop(destination);
+        match returned {
+            Ok(deliveries) => Ok(Gone { line, deliveries }),
+            Err(refused) => Err(refused),
+        }
+    }
+
+    /// The messages of deliveries stand in the line of that durable name or else of that queue again; gives those of a
+    /// line of a subscription's own, which stays as it is. Where memory is refused, the line may be gone, and the others
+    /// stand.
+    fn return_deliveries(
+        &mut self,
+        alloc: Global,
+        durable: &Option<DurableName>,
+        destination: &Dest,
+        deliveries: Vec<(u64, Message)>,
+    ) -> Result<Vec<(u64, Message)>, AllocError>
+        ensures shared { OnOk result (self.new ≡ returned_to self.old durable.now destination.now deliveries.items) }
+        ensures weight { IfOk result (λ gone. KeepsWeight self.old deliveries.items self.new gone.items) }
+    {
+        match durable {
+            Some(name) => self.return_to_name(alloc, name, deliveries),
+            None => self.return_to_queue(alloc, destination, deliveries),
+        }
+    }
+
+    /// The messages of deliveries stand in the line of that durable name again; nothing is given. Where memory is refused,
+    /// the line may be gone, and the others stand.
+    fn return_to_name(
+        &mut self,
+        alloc: Global,
+        name: &DurableName,
+        deliveries: Vec<(u64, Message)>,
+    ) -> Result<Vec<(u64, Message)>, AllocError>
+        ensures shared { OnOk result (self.new ≡ returned_to self.old (Some name.now) [] deliveries.items) }
+        ensures weight { IfOk result (λ gone. KeepsWeight self.old deliveries.items self.new gone.items) }
+    {
+        match keyed_lines::put_back(alloc, &mut self.names, name, deliveries) {
+            Ok(()) => Ok(Vec::new(alloc)),
+            Err(refused) => Err(refused),
+        }
+    }
+
+    /// The messages of deliveries stand in the line of that queue again; gives those of a topic, whose lines stay as they
+    /// are. Where memory is refused, the line may be gone, and the others stand.
+    fn return_to_queue(
+        &mut self,
+        alloc: Global,
+        destination: &Dest,
+        deliveries: Vec<(u64, Message)>,
+    ) -> Result<Vec<(u64, Message)>, AllocError>
+        ensures shared { OnOk result (self.new ≡ returned_to self.old None destination.now deliveries.items) }
+        ensures weight { IfOk result (λ gone. KeepsWeight self.old deliveries.items self.new gone.items) }
+    {
+        if !destination.is_queue() {
+            return Ok(deliveries);
+        }
+        match keyed_lines::put_back(alloc, &mut self.queues, destination, deliveries) {
+            Ok(()) => Ok(Vec::new(alloc)),
+            Err(refused) => Err(refused),
+        }
+    }
+
+    /// Takes the line under that durable name out, where there is one.
+    pub(crate) fn forget(&mut self, alloc: Global, name: &DurableName) -> Line
+        ensures line { result ≡ line_at name_cmp name.now self.old.names }
+        ensures empty { line_at name_cmp name.now self.new.names ≡ [] }
+        ensures shared { self.new ≡ record self.old { names = remove_entry (is_at (name_cmp name.now)) self.old.names } }
+        ensures weight { (weight : Message → ℕ) → weight_of_shared weight self.new + sum_by weight result ≡ weight_of_shared weight self.old }
+    {
+        keyed_lines::take_line(alloc, &mut self.names, name)
+    }
+}

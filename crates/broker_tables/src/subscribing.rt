@@ -1,0 +1,500 @@
+//! Subscriptions and sessions begin and end.
+
+ghost use Rattle.std.specs.Prelude.{◌≡◌, ◌+◌, ◌-◌, ◌<◌, ◌≤◌, ◌^◌, ◌&&◌, ◌++◌, ◌∷◌, [], ℕ, IfOk, IfSome, IsErr, MatchOption, OnOk, Some, count_by, drop, false, length, nat_le, not, remove, slice_get, take, true};
+ghost use Rattle.std.specs.BTreeMap.{insert_entry};
+ghost use Rattle.std.specs.List.{list_any, sum_by};
+ghost use Rattle.std.specs.Str.{bytes_eq};
+ghost use Rattle.line_core.specs.declared.message.Message.{Message};
+ghost use Rattle.record_core.specs.Texts.{IsGiven};
+ghost use Rattle.record_core.specs.declared.ack_mode.AckMode.{AckMode};
+ghost use Rattle.broker_state.specs.Names.{name_cmp};
+ghost use Rattle.broker_state.specs.Operations.{begun, begun_for, client_in, ended, forgotten, given_up, given_up_for, is_named, is_of, name_for, restarted, subscribed, unsubscribed_by, uses, with_subscription, without};
+ghost use Rattle.broker_state.specs.Parts.{IsFirst, IsGivenAt, NonePass, but_at, leaving, without_at};
+ghost use Rattle.broker_state.specs.States.{bytes, one, weight_of_subscription};
+ghost use Rattle.broker_state.specs.Waiting.{Shared, line_for, returned, weight_of_shared};
+ghost use Rattle.broker_tables.specs.Dues.{is_due};
+ghost use Rattle.broker_tables.specs.Places.{place_for};
+ghost use Rattle.broker_state.specs.declared.subscription.Subscription.{Subscription};
+
+use crate::due::{Key, mark, mark_line};
+use crate::shared_lines::SharedLines;
+use crate::tables::Tables;
+use broker_order::Order;
+use broker_state::{DurableName, GivenName, Held, MOST_NAMES, MOST_SUBSCRIPTIONS, Subscription};
+use command_core::{AckMode, Dest, Fault, HeaderText};
+use line_core::{Flight, Line, Message, size};
+use std::alloc::{AllocError, Global};
+use std::collections::BTreeMap;
+
+/// Where the subscription of that session and id waits.
+fn find_named(order: &Order, session: u64, id: &HeaderText) -> Option<usize>
+    ensures { MatchOption result (NonePass (is_named session id.now) order.now)
+        (λ at. IsFirst (is_named session id.now) order.now at) }
+{
+    let mut at = order.next_of(session, 0);
+    while at < order.len() {
+        if *id == order.get(at).id {
+            return Some(at);
+        }
+        at = order.next_of(session, at + 1);
+    }
+    None
+}
+
+/// Where the subscription of that session and id waits, where an id is given.
+fn find_given(order: &Order, session: u64, id: &Option<HeaderText>) -> Option<usize>
+    ensures { IsGivenAt session id.now order.now result }
+{
+    match id {
+        Some(id) => find_named(order, session, id),
+        None => None,
+    }
+}
+
+/// Whether a session may have one more subscription, of that id: refused where it has one of that id, or 16.
+fn find_place(order: &Order, session: u64, id: &HeaderText) -> Result<(), Fault>
+    ensures { result ≡ place_for order.now session id.now }
+{
+    if let Some(_taken) = find_named(order, session, id) {
+        return Err(Fault::SubscriptionIdInUse);
+    }
+    if order.count_of(session) >= MOST_SUBSCRIPTIONS {
+        return Err(Fault::TooManyEntries);
+    }
+    Ok(())
+}
+
+/// Whether a subscription in a place from `from` on and before `to` has the durable name.
+fn is_used_between(order: &Order, name: &DurableName, from: usize, to: usize) -> bool
+    requires { (from ≤ to) × (to ≤ length order.now) }
+    ensures { result ≡ list_any (uses name.now) (drop from (take to order.now)) }
+{
+    order.next_under(name, from) < to
+}
+
+/// Whether a subscription has the durable name, other than the one in that place where a place is given.
+fn is_used(order: &Order, name: &DurableName, but: Option<usize>) -> bool
+    requires { IfSome but (λ at. at < length order.now) }
+    ensures { result ≡ list_any (uses name.now) (but_at order.now but) }
+{
+    let end = order.len();
+    match but {
+        None => is_used_between(order, name, 0, end),
+        Some(at) => {
+            is_used_between(order, name, 0, at) || is_used_between(order, name, at + 1, end)
+        }
+    }
+}
+
+/// Whether a durable name that is bound to that topic may be used for a subscription of that destination: it has to be the
+/// same topic, and nobody else may use the name.
+fn may_be_used(order: &Order, name: &DurableName, topic: &Dest, destination: &Dest) -> bool
+    ensures { result ≡ (bytes_eq topic.now destination.now && not (list_any (uses name.now) order.now)) }
+{
+    *topic == *destination && !is_used(order, name, None)
+}
+
+/// Whether as many durable names are bound as there may be.
+fn are_full(durables: &BTreeMap<DurableName, Dest>) -> bool
+    ensures { result ≡ nat_le 256 (length durables.now.entries) }
+{
+    durables.len() >= MOST_NAMES
+}
+
+/// The messages of a line are held no more.
+fn let_line_go(held: &mut Held, line: Line)
+    requires messages { sum_by one line ≤ held.old.messages }
+    requires bytes { sum_by bytes line ≤ held.old.bytes }
+    ensures messages { held.new.messages + sum_by one line ≡ held.old.messages }
+    ensures bytes { held.new.bytes + sum_by bytes line ≡ held.old.bytes }
+{
+    let mut line = line;
+    while let Some(message) = line.take() {
+        held.messages -= 1;
+        held.bytes -= size(&message.sending) as u64;
+    }
+}
+
+/// The bytes of deliveries, which are held.
+fn bytes_of_deliveries(deliveries: &[(u64, Message)]) -> u64
+    requires { sum_by (λ delivery. bytes delivery.1) deliveries.now ≤ 16777216 }
+    ensures { result ≡ sum_by (λ delivery. bytes delivery.1) deliveries.now }
+{
+    let mut bytes = 0;
+    for (_, message) in deliveries {
+        bytes += size(&message.sending) as u64;
+    }
+    bytes
+}
+
+/// Deliveries are held no more.
+pub fn let_deliveries_go(held: &mut Held, deliveries: &[(u64, Message)])
+    requires within { held.old.bytes ≤ 16777216 }
+    requires messages { sum_by (λ delivery. one delivery.1) deliveries.now ≤ held.old.messages }
+    requires bytes { sum_by (λ delivery. bytes delivery.1) deliveries.now ≤ held.old.bytes }
+    ensures messages { held.new.messages + sum_by (λ delivery. one delivery.1) deliveries.now ≡ held.old.messages }
+    ensures bytes { held.new.bytes + sum_by (λ delivery. bytes delivery.1) deliveries.now ≡ held.old.bytes }
+{
+    held.messages -= deliveries.len() as u64;
+    held.bytes -= bytes_of_deliveries(deliveries);
+}
+
+/// The same subscription, whose id is shared by all messages that it gets. If memory is refused for that, it is gone.
+fn with_shared_id(alloc: Global, sub: Subscription) -> Result<Subscription, AllocError>
+    ensures { IfOk result (λ same. same ≡ sub) }
+{
+    let Subscription {
+        session,
+        id,
+        destination,
+        mode,
+        durable,
+        line,
+        unacknowledged,
+    } = sub;
+    match id.share(alloc) {
+        Ok(id) => Ok(Subscription {
+            session,
+            id,
+            destination,
+            mode,
+            durable,
+            line,
+            unacknowledged,
+        }),
+        Err(refused) => Err(refused),
+    }
+}
+
+/// A subscription that begins waits last, and those of its session are due. Where memory is refused, they may be.
+fn enter(
+    alloc: Global,
+    due: &mut Vec<Key>,
+    order: &mut Order,
+    sub: Subscription,
+) -> Result<(), AllocError>
+    ensures kept { OnOk result ((other : Subscription) → is_due due.old.items other ≡ true → is_due due.new.items other ≡ true) }
+    ensures marked { OnOk result ((other : Subscription) → is_of sub.session other ≡ true → is_due due.new.items other ≡ true) }
+    ensures waits { OnOk result (order.new ≡ order.old ++ sub ∷ []) }
+{
+    match mark(due, Key::Session(sub.session)) {
+        Ok(()) => {
+            let sub = with_shared_id(alloc, sub)?;
+            order.add(alloc, sub)
+        }
+        Err(refused) => Err(refused),
+    }
+}
+
+/// What a subscription that has ended has not acknowledged stands in its line again, and those are due that are served from
+/// it, unless the line was its own; what vanishes with it is held no more. Where memory is refused, part of it may be done.
+fn let_go(
+    alloc: Global,
+    due: &mut Vec<Key>,
+    shared: &mut SharedLines,
+    held: &mut Held,
+    sub: Subscription,
+) -> Result<(), AllocError>
+    requires within { held.old.bytes ≤ 16777216 }
+    requires messages { weight_of_shared one shared.old + weight_of_subscription one sub ≤ held.old.messages }
+    requires bytes { weight_of_shared bytes shared.old + weight_of_subscription bytes sub ≤ held.old.bytes }
+    ensures kept { OnOk result ((other : Subscription) → is_due due.old.items other ≡ true → is_due due.new.items other ≡ true) }
+    ensures marked { OnOk result ((lines : Shared) (other : Subscription) → is_due due.new.items other ≡ false
+        → line_for (returned lines sub) other ≡ line_for lines other) }
+    ensures lines { OnOk result (shared.new ≡ returned shared.old sub) }
+    ensures messages { OnOk result (held.new.messages + weight_of_shared one shared.old + weight_of_subscription one sub
+        ≡ held.old.messages + weight_of_shared one shared.new) }
+    ensures bytes { OnOk result (held.new.bytes + weight_of_shared bytes shared.old + weight_of_subscription bytes sub
+        ≡ held.old.bytes + weight_of_shared bytes shared.new) }
+    ensures fewer { OnOk result (held.new.messages ≤ held.old.messages) }
+    ensures lighter { OnOk result (held.new.bytes ≤ held.old.bytes) }
+{
+    mark_line(due, &sub)?;
+    let gone = shared.take_back(alloc, sub)?;
+    let_line_go(held, gone.line);
+    let_deliveries_go(held, gone.deliveries.as_slice());
+    Ok(())
+}
+
+impl Tables {
+    /// The name of a session's client, where it has one.
+    fn client_of(&self, session: u64) -> Result<Option<GivenName>, AllocError>
+        ensures { IfOk result (λ client. client ≡ client_in self.now.sessions session) }
+    {
+        match self.sessions.get(&session) {
+            Some(Some(client)) => Ok(Some(client.clone()?)),
+            _ => Ok(None),
+        }
+    }
+
+    /// The durable name of a session's subscription, where one is given; on a queue it is left away. Refused where the
+    /// session's client has no name.
+    fn name_for(
+        &self,
+        session: u64,
+        destination: &Dest,
+        durable: Option<HeaderText>,
+    ) -> Result<Result<Option<DurableName>, Fault>, AllocError>
+        requires { IsGiven durable }
+        ensures { IfOk result (λ r. r ≡ name_for (client_in self.now.sessions session) destination.now durable) }
+    {
+        match durable {
+            Some(name) if !destination.is_queue() => match self.client_of(session)? {
+                Some(client) => Ok(Ok(Some(DurableName::new(client, GivenName::new(name))))),
+                None => Ok(Err(Fault::NoClientId)),
+            },
+            _ => Ok(Ok(None)),
+        }
+    }
+
+    /// The durable name of a session's subscription of that id, which is to begin, where one is given. Refused where the
+    /// session has one of that id, or 16, and with a durable name where the session's client has no name.
+    fn find_name(
+        &self,
+        session: u64,
+        id: &HeaderText,
+        destination: &Dest,
+        durable: Option<HeaderText>,
+    ) -> Result<Result<Option<DurableName>, Fault>, AllocError>
+        requires form { IsGiven durable }
+        ensures { IfOk result (λ r. (mode : AckMode) → subscribed self.now session id.now destination.now mode durable
+            ≡ begun_for self.now session id.now destination.now mode r) }
+    {
+        match find_place(&self.order, session, id) {
+            Ok(()) => self.name_for(session, destination, durable),
+            Err(fault) => Ok(Err(fault)),
+        }
+    }
+
+    /// A subscription begins and waits last, under a durable name where one is given. Refused where the session has one of
+    /// that id, or 16; with a durable name, where the session's client has no name, where somebody uses the durable name or
+    /// it is another topic's, and where it were the 257th. The tables are as they were then. Where memory is refused, nothing
+    /// is left of them.
+    pub fn subscribe(
+        self,
+        alloc: Global,
+        session: u64,
+        id: HeaderText,
+        destination: Dest,
+        mode: AckMode,
+        durable: Option<HeaderText>,
+    ) -> Result<(Tables, Result<(), Fault>), AllocError>
+        requires form { IsGiven durable }
+        ensures subscribed { IfOk result (λ r. subscribed self session id destination mode durable ≡ leaving r.1 r.0) }
+        ensures same { IfOk result (λ r. IsErr r.1 → r.0 ≡ self) }
+    {
+        match self.find_name(session, &id, &destination, durable) {
+            Ok(Ok(durable)) => self.begin(
+                alloc,
+                Subscription {
+                    session,
+                    id,
+                    destination,
+                    mode,
+                    durable,
+                    line: Line::new(alloc),
+                    unacknowledged: Flight::new(alloc),
+                },
+            ),
+            Ok(Err(fault)) => {
+                drop(id);
+                drop(destination);
+                Ok((self, Err(fault)))
+            }
+            Err(refused) => Err(refused),
+        }
+    }
+
+    /// A subscription begins and waits last. Refused where it has a durable name that somebody uses or that is another
+    /// topic's, or that were the 257th, and then the tables are as they were.
+    fn begin(
+        mut self,
+        alloc: Global,
+        sub: Subscription,
+    ) -> Result<(Tables, Result<(), Fault>), AllocError>
+        requires fresh { (sub.line ≡ []) × (sub.unacknowledged ≡ []) }
+        ensures begun { IfOk result (λ r. begun self sub ≡ leaving r.1 r.0) }
+        ensures same { IfOk result (λ r. IsErr r.1 → r.0 ≡ self) }
+    {
+        match self.bind(alloc, &sub) {
+            Ok(Ok(())) => match enter(alloc, &mut self.due, &mut self.order, sub) {
+                Ok(()) => Ok((self, Ok(()))),
+                Err(refused) => Err(refused),
+            },
+            Ok(Err(fault)) => {
+                drop(sub);
+                Ok((self, Err(fault)))
+            }
+            Err(refused) => {
+                drop(sub);
+                Err(refused)
+            }
+        }
+    }
+
+    /// The durable name of a subscription that is to begin is bound to its topic, unless it has none or the name is bound so
+    /// already. Refused where somebody uses the name or it is another topic's, or it were the 257th, and then nothing
+    /// changes.
+    fn bind(&mut self, alloc: Global, sub: &Subscription) -> Result<Result<(), Fault>, AllocError>
+        ensures begun { IfOk result (λ r. begun self.old sub.now ≡ leaving r (with_subscription self.new sub.now)) }
+        ensures same { IfOk result (λ r. IsErr r → self.new ≡ self.old) }
+    {
+        let Some(name) = &sub.durable else {
+            return Ok(Ok(()));
+        };
+        match self.durables.topics().get(name) {
+            Some(topic) => {
+                if !may_be_used(&self.order, name, topic, &sub.destination) {
+                    return Ok(Err(Fault::DurableSubscription));
+                }
+                Ok(Ok(()))
+            }
+            None => {
+                if are_full(self.durables.topics()) {
+                    return Ok(Err(Fault::TooManyEntries));
+                }
+                self.durables.bind(alloc, name, &sub.destination)?;
+                Ok(Ok(()))
+            }
+        }
+    }
+
+    /// The subscription of that id ends, or a durable name of the session's client is given up, with its line; where both
+    /// are given, a subscription of that id ends first, if there is one. Refused where no name is given and the session has
+    /// no subscription of that id; with a name, where the client has none itself, and where the durable name is unknown or
+    /// somebody uses it. The tables are as they were then. Where memory is refused, nothing is left of them.
+    pub fn unsubscribe(
+        self,
+        alloc: Global,
+        session: u64,
+        id: Option<HeaderText>,
+        durable: Option<HeaderText>,
+    ) -> Result<(Tables, Result<(), Fault>), AllocError>
+        requires form { IsGiven durable }
+        ensures executed { IfOk result (λ r. unsubscribed_by self session id durable ≡ leaving r.1 r.0) }
+        ensures same { IfOk result (λ r. IsErr r.1 → r.0 ≡ self) }
+    {
+        let at = find_given(&self.order, session, &id);
+        if let Some(name) = durable {
+            return self.give_up(alloc, session, at, GivenName::new(name));
+        }
+        match at {
+            None => Ok((self, Err(Fault::UnknownSubscription))),
+            Some(at) => match self.end_one(alloc, at) {
+                Ok(tables) => Ok((tables, Ok(()))),
+                Err(refused) => Err(refused),
+            },
+        }
+    }
+
+    /// The subscription in that place ends, where one is given, and then a durable name of the session's client is given
+    /// up, with its line. Refused where the client has no name itself, and where the durable name is unknown or another
+    /// subscription uses it; the tables are as they were then.
+    fn give_up(
+        self,
+        alloc: Global,
+        session: u64,
+        at: Option<usize>,
+        name: GivenName,
+    ) -> Result<(Tables, Result<(), Fault>), AllocError>
+        requires place { IfSome at (λ i. i < length self.subscriptions) }
+        ensures given_up { IfOk result (λ r. given_up_for (without_at self at) (client_in self.sessions session) name ≡ leaving r.1 r.0) }
+        ensures same { IfOk result (λ r. IsErr r.1 → r.0 ≡ self) }
+    {
+        match self.client_of(session) {
+            Ok(Some(client)) => {
+                let name = DurableName::new(client, name);
+                self.give_up_name(alloc, at, &name)
+            }
+            Ok(None) => {
+                drop(name);
+                Ok((self, Err(Fault::NoClientId)))
+            }
+            Err(refused) => Err(refused),
+        }
+    }
+
+    /// The subscription in that place ends, where one is given, and then a durable name is given up, with its line.
+    /// Refused where the name is unknown or another subscription uses it; the tables are as they were then.
+    fn give_up_name(
+        self,
+        alloc: Global,
+        at: Option<usize>,
+        name: &DurableName,
+    ) -> Result<(Tables, Result<(), Fault>), AllocError>
+        requires place { IfSome at (λ i. i < length self.subscriptions) }
+        ensures given_up { IfOk result (λ r. given_up (without_at self at) name.now ≡ leaving r.1 r.0) }
+        ensures same { IfOk result (λ r. IsErr r.1 → r.0 ≡ self) }
+    {
+        if !self.durables.topics().contains_key(name) {
+            return Ok((self, Err(Fault::DurableSubscription)));
+        }
+        if is_used(&self.order, name, at) {
+            return Ok((self, Err(Fault::DurableSubscription)));
+        }
+        let mut tables = self.end_given(alloc, at)?;
+        tables.forget(alloc, name);
+        Ok((tables, Ok(())))
+    }
+
+    /// The subscription in that place ends, where a place is given.
+    fn end_given(self, alloc: Global, at: Option<usize>) -> Result<Tables, AllocError>
+        requires place { IfSome at (λ i. i < length self.subscriptions) }
+        ensures ended { IfOk result (λ tables. tables ≡ without_at self at) }
+    {
+        match at {
+            Some(at) => self.end_one(alloc, at),
+            None => Ok(self),
+        }
+    }
+
+    /// A durable name is known no more, and what waits in its line is held no more.
+    fn forget(&mut self, alloc: Global, name: &DurableName)
+        ensures { self.new ≡ forgotten self.old name.now }
+    {
+        self.durables.forget(name);
+        let line = self.shared.forget(alloc, name);
+        let_line_go(&mut self.held, line);
+    }
+
+    /// The subscription in that place ends: what it has not acknowledged stands in its line again, unless the line was its
+    /// own; what vanishes with it is held no more.
+    fn end_one(mut self, alloc: Global, at: usize) -> Result<Tables, AllocError>
+        requires place { at < length self.subscriptions }
+        ensures ended { IfOk result (λ tables. (sub : Subscription) → slice_get self.subscriptions at ≡ Some sub
+            → tables ≡ without self sub (remove self.subscriptions at)) }
+    {
+        let sub = self.order.remove(at);
+        match let_go(alloc, &mut self.due, &mut self.shared, &mut self.held, sub) {
+            Ok(()) => Ok(self),
+            Err(refused) => Err(refused),
+        }
+    }
+
+    /// The session ends, with all its subscriptions. Where memory is refused, nothing is left of the tables.
+    pub fn end(self, alloc: Global, session: u64) -> Result<Tables, AllocError>
+        ensures ended { IfOk result (λ tables. tables ≡ ended self session) }
+    {
+        let mut tables = self;
+        let mut at = tables.order().next_of(session, 0);
+        while at < tables.order().len() {
+            tables = tables.end_one(alloc, at)?;
+            at = tables.order().next_of(session, at);
+        }
+        tables.sessions.remove(&session);
+        Ok(tables)
+    }
+
+    /// Every session ends, with all subscriptions. Where memory is refused, nothing is left of the tables.
+    pub fn restart(self, alloc: Global) -> Result<Tables, AllocError>
+        ensures restarted { IfOk result (λ tables. tables ≡ restarted self) }
+    {
+        let mut tables = self;
+        while tables.order().len() > 0 {
+            tables = tables.end_one(alloc, 0)?;
+        }
+        tables.sessions = BTreeMap::new(alloc);
+        tables.due.clear();
+        Ok(tables)
+    }
+}

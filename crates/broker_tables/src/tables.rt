@@ -1,0 +1,158 @@
+//! What the broker keeps: sessions, durable names, lines and subscriptions, and how much is held.
+
+ghost use Rattle.std.specs.Prelude.{◌≡◌, IfOk, OnOk};
+ghost use Rattle.record_core.specs.Texts.{IsGiven};
+ghost use Rattle.broker_state.specs.Operations.{opened};
+ghost use Rattle.broker_state.specs.States.{empty_state, held_bytes, held_messages};
+ghost use Rattle.broker_state.specs.PartsOf.{state_of_parts};
+ghost use Rattle.broker_state.specs.Sound.{IsSound};
+ghost use Rattle.broker_tables.specs.Tables.{IsTallied};
+
+use crate::due::Key;
+use crate::durable_names::DurableNames;
+use crate::shared_lines::SharedLines;
+use broker_order::Order;
+use broker_state::{DurableName, GivenName, Held, Parts};
+use command_core::{Dest, HeaderText};
+use std::alloc::{AllocError, Global};
+use std::collections::BTreeMap;
+use std::marker::Model;
+
+/// How many commands were carried out, the open sessions, the durable names, the lines that stay and the subscriptions,
+/// and how much is held, so that nobody needs to count it. Contracts see the state that they show; what is counted as held
+/// is what that state holds. The operations take the tables and give them back: one that is refused memory when part of it
+/// is done has let them go, and so leaves none whose count is wrong.
+#[derive(Drop)]
+pub struct Tables {
+    pub(crate) count: u64,
+    pub(crate) next_delivery: u64,
+    pub(crate) sessions: BTreeMap<u64, Option<GivenName>>,
+    /// The durable names, each with its topic.
+    pub(crate) durables: DurableNames,
+    pub(crate) shared: SharedLines,
+    pub(crate) order: Order,
+    pub(crate) held: Held,
+    /// Who can be served is under one of these keys: they grow with what a command touches, and none is left once all is
+    /// handed out.
+    pub(crate) due: Vec<Key>,
+}
+
+impl Model for Tables {
+    ghost use Rattle.broker_state.specs.States.{State};
+    ghost use Rattle.broker_tables.specs.Tables.{IsKept, shown};
+
+    ghost Value = { State };
+
+    ghost view = { λ a. shown a.count a.next_delivery a.sessions.entries a.durables a.shared a.order };
+
+    ghost invariant = { λ a. IsKept (shown a.count a.next_delivery a.sessions.entries a.durables a.shared a.order) a.held a.due.items };
+}
+
+impl Tables {
+    /// Empty tables, once so many commands were carried out. No memory is taken.
+    pub fn new(alloc: Global, count: u64) -> Tables
+        ensures { result ≡ record empty_state { count = count } }
+    {
+        Tables {
+            count,
+            next_delivery: 0,
+            sessions: BTreeMap::new(alloc),
+            durables: DurableNames::new(alloc),
+            shared: SharedLines::new(alloc),
+            order: Order::new(alloc),
+            held: Held {
+                messages: 0,
+                bytes: 0,
+            },
+            due: Vec::new(alloc),
+        }
+    }
+
+    /// The tables of a state that a broker can have, which holds so much. Where memory is refused, nothing is left.
+    pub fn of(alloc: Global, parts: Parts, held: Held) -> Result<Tables, AllocError>
+        requires sound { IsSound (state_of_parts parts) }
+        requires messages { held.messages ≡ held_messages (state_of_parts parts) }
+        requires bytes { held.bytes ≡ held_bytes (state_of_parts parts) }
+        ensures { IfOk result (λ tables. tables ≡ state_of_parts parts) }
+    {
+        let durables = DurableNames::of(alloc, parts.durables)?;
+        let order = Order::of(alloc, parts.subscriptions)?;
+        Ok(Tables {
+            count: parts.count,
+            next_delivery: parts.next_delivery,
+            sessions: parts.sessions,
+            durables,
+            shared: SharedLines::of(parts.names, parts.queues),
+            order,
+            held,
+            due: Vec::new(alloc),
+        })
+    }
+
+    /// How many commands were carried out.
+    pub fn count(&self) -> u64
+        ensures { result ≡ self.now.count }
+    {
+        self.count
+    }
+
+    /// The number of the next delivery.
+    pub fn next_delivery(&self) -> u64
+        ensures { result ≡ self.now.next_delivery }
+    {
+        self.next_delivery
+    }
+
+    /// The open sessions, each with the name of its client where it has one.
+    pub fn sessions(&self) -> &BTreeMap<u64, Option<GivenName>>
+        ensures { result.now.entries ≡ self.now.sessions }
+    {
+        &self.sessions
+    }
+
+    /// The topic of each durable name.
+    pub fn durables(&self) -> &BTreeMap<DurableName, Dest>
+        ensures { result.now.entries ≡ self.now.durables }
+    {
+        self.durables.topics()
+    }
+
+    /// The lines that stay when a subscription ends.
+    pub fn shared(&self) -> &SharedLines
+        ensures { result.now ≡ self.now.shared }
+    {
+        &self.shared
+    }
+
+    /// The subscriptions in waiting order.
+    pub fn order(&self) -> &Order
+        ensures { result.now ≡ self.now.subscriptions }
+    {
+        &self.order
+    }
+
+    /// How much is held.
+    pub fn held(&self) -> Held
+        ensures tallied { IsTallied self.now result }
+    {
+        self.held
+    }
+
+    /// So many commands were carried out. The operations leave that number as it is.
+    pub fn set_count(&mut self, count: u64)
+        ensures { self.new ≡ record self.old { count = count } }
+    {
+        self.count = count;
+    }
+
+    /// The session opens whose number is that of the command that is being carried out. Where memory is refused, the
+    /// sessions may have changed, and what is held has not.
+    pub fn open(&mut self, client_id: Option<HeaderText>) -> Result<(), AllocError>
+        requires { IsGiven client_id }
+        ensures { OnOk result (self.new ≡ opened self.old client_id) }
+    {
+        self.sessions
+            .insert(self.count, GivenName::optional(client_id))?;
+        Ok(())
+    }
+}

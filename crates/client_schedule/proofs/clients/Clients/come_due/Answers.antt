@@ -1,0 +1,25 @@
+use Rattle.std.proofs.Common.{MatchOption, ◌∙◌, Some, ap, option_map, rules, subst}
+use Rattle.slab.specs.Slab.{with_value}
+use Rattle.client_schedule.specs.Clients.{ComesDue}
+use Rattle.client_schedule.specs.declared.clients.Client.{Client}
+use Rattle.client_schedule.specs.declared.deadlines.Deadlines.{Deadlines}
+use Rattle.client_schedule.proofs.Holding.{changed}
+use Rattle.client_schedule.proofs.clients.Clients.come_due.Goals as goal
+
+pub returns-clause-due : goal.returns-clause-due
+returns-clause-due c =
+    let old = c.args.self.now in
+    subst
+    (λ found. MatchOption found (Unit {0})
+    (ComesDue c.args.number c.args.phase c.args.now c.come_due-due.result old (record old { all = with_value old.all c.args.number c.come_due-due.new.self; timers = c.set.new.self })))
+    c.in-Some.ensures.value
+    (record {
+      is = c.come_due-due.ensures.due;
+      done =
+          ap (option_map (λ (client : Client). client.deadlines)) (changed old.all.slots c.args.number c.in-Some.client.now c.come_due-due.new.self c.in-Some.ensures.value)
+          ∙ ap (λ (client : Client). Some client.deadlines) c.come_due-due.ensures.done;
+      then = c.due-then.result;
+      next = search rules;
+      timers = search rules;
+      same = search rules;
+    })

@@ -1,0 +1,175 @@
+-- What contracts see of a worker's clients.
+use Rattle.std.specs.Prelude.{◌≡◌, ◌||◌, ◌+◌, ◌-◌, ◌^◌, not, ℕ, Bool, true, false, Option, Some, None, MatchOption, cond, length, min, option_map, suc, zero}
+use Rattle.std.specs.Option.{is_some}
+use Rattle.desk_core.specs.declared.turned.Turned.{Turned}
+use Rattle.desk_core.specs.declared.turned.Next.{Next}
+use Rattle.desk_core.specs.declared.turned.Next.TheVariants.{Read, Write, Output, Close, Memory}
+use Rattle.client_schedule.specs.Deadlines.{IsDue, freed_by, heard_by, held_up_by, parting_by, pinged_by, taken_by}
+use Rattle.client_schedule.specs.declared.deadlines.Due.{Due}
+use Rattle.client_schedule.specs.declared.deadlines.Due.TheVariants as dues
+use Rattle.client_schedule.specs.declared.deadlines.Deadlines.{Deadlines}
+use Rattle.client_schedule.specs.declared.deadlines.Phase.{Phase}
+use Rattle.client_schedule.specs.declared.deadlines.Phase.TheVariants.{Open}
+use Rattle.client_schedule.specs.declared.supply.Told.{Told}
+use Rattle.client_schedule.specs.declared.supply.Told.TheVariants.{Bytes, End}
+use Rattle.client_schedule.specs.declared.clients.Standing.{Standing}
+use Rattle.client_schedule.specs.declared.clients.Standing.TheVariants.{Greeting, Seated, Away}
+use Rattle.client_schedule.specs.declared.lines.Lines.{Lines}
+use Rattle.slab.specs.Slab.{get, Updates}
+use Rattle.client_schedule.specs.Timers.{with_earlier, with_moment}
+use Rattle.client_schedule.specs.Turns.{IsNobody, woken}
+use Rattle.client_schedule.specs.declared.clients.Client.{Client}
+use Rattle.client_schedule.specs.declared.clients.Clients.{Clients}
+use Rattle.client_schedule.specs.declared.limits.TheConstants.{CLIENTS, SHORTAGE}
+use Rattle.client_schedule.specs.declared.timers.TheConstants.{NEVER}
+
+-- the client that has a number
+abbrev pub client_at : ℕ → Clients → Option Client
+client_at n c = get c.all n
+
+-- no client yet, nobody in a line, and nothing to come
+pub record IsEmpty (c : Clients) : Type 0 where
+  pub nobody : (n : ℕ) → client_at n c ≡ None
+  pub lines : IsNobody c.lines
+  pub timers : (length c.timers.all ≡ CLIENTS) × (c.timers.earliest ≡ NEVER)
+  pub retry : c.retry ≡ NEVER
+
+-- a client has come, under the next number, and stands in line for a turn; it is to be looked at now
+pub record Admits (now : ℕ) (old new : Clients) (client : Client) : Type 0 where
+  pub all : Updates old.all new.all old.all.vacant_key (Some client)
+  pub lines : new.lines ≡ woken old.all.vacant_key old.lines
+  pub timers : new.timers ≡ with_moment old.all.vacant_key now old.timers
+  pub retry : new.retry ≡ old.retry
+
+-- a client has gone, and is not to be looked at; in lines its number may stand yet
+pub record Removes (old new : Clients) (n : ℕ) : Type 0 where
+  pub all : Updates old.all new.all n None
+  pub lines : new.lines ≡ old.lines
+  pub timers : new.timers ≡ with_moment n NEVER old.timers
+  pub retry : new.retry ≡ old.retry
+
+-- where one is at the desk
+abbrev pub place_of : Standing → Option ℕ
+place_of (Seated place) = Some place
+place_of (Greeting greeting) = None
+place_of Away = None
+
+-- where the client is that has a number
+abbrev pub standing_of : Option Client → Standing
+standing_of None = Away
+standing_of (Some client) = client.standing
+
+abbrev pub standing_at : ℕ → Clients → Standing
+standing_at n c = standing_of (client_at n c)
+
+-- one at the desk stays there while its turn lasts, and a handshake is taken out
+abbrev pub in_turn : Standing → Standing
+in_turn (Seated place) = Seated place
+in_turn (Greeting greeting) = Away
+in_turn Away = Away
+
+-- a client whose turn begins
+abbrev pub begun : Client → Client
+begun client = record client { standing = in_turn client.standing; is_short = false }
+
+-- that client's turn has begun
+abbrev pub Begins : ℕ → Clients → Clients → Type 0
+Begins n old new = client_at n new ≡ option_map begun (client_at n old)
+
+-- so many milliseconds later; where no clock can tell that, a moment that does not come
+abbrev pub later : ℕ → ℕ → ℕ
+later now millis = min (now + millis) (2 ^ 64 - 1)
+
+-- where something came of it in its turn, that is known
+abbrev pub heard_if : Bool → ℕ → Deadlines → Deadlines
+heard_if true now p = heard_by now p
+heard_if false now p = p
+
+-- what a client is waited for behind a turn that came to this
+abbrev pub waited_by : Next → ℕ → Deadlines → Deadlines
+waited_by Write now p = held_up_by now p
+waited_by Close now p = parting_by now (freed_by now p)
+waited_by _ now p = freed_by now p
+
+-- what is known of a client behind a turn, where its socket has taken so many bytes
+abbrev pub waited_for : Turned → ℕ → ℕ → Client → Deadlines
+waited_for turned taken now client = waited_by turned.next now (taken_by taken now (heard_if turned.heard now client.deadlines))
+
+-- its close was not waited for until now
+abbrev pub parts_now : Option Client → Bool
+parts_now None = false
+parts_now (Some client) = not (is_some client.deadlines.parting)
+
+-- More of its bytes may be there of which the poll tells no more: a turn that came to this has read its client last, at the end of a portion,
+-- or has closed it, before which nothing was heard.
+abbrev pub has_more : Bool → Next → Option Client → Bool
+has_more has_rest Read client = has_rest
+has_more has_rest (Output mark) client = has_rest
+has_more has_rest Close client = has_rest || parts_now client
+has_more has_rest _ client = false
+
+-- when it is to be looked at: once what is due then has come, or else now
+abbrev pub look_at : Due → ℕ → ℕ
+look_at (dues.In millis) now = later now millis
+look_at _ now = now
+
+-- when it is to be looked at behind a turn that came to this, at the latest
+abbrev pub LooksBy : Next → Deadlines → ℕ → ℕ → Type 0
+LooksBy Write p now at = (due : Due) × IsDue Open p now due × (at ≡ look_at due now)
+LooksBy Close p now at = (due : Due) × IsDue Open p now due × (at ≡ look_at due now)
+LooksBy _ p now at = at ≡ NEVER
+
+-- when they try again to whom memory was refused, behind a turn that came to this
+abbrev pub retry_by : Next → ℕ → ℕ → ℕ
+retry_by Memory retry now = min retry (later now SHORTAGE)
+retry_by _ retry now = retry
+
+-- that client is looked at by a moment that its turn asks for, or before
+abbrev pub IsLookedAtBy : ℕ → Next → Deadlines → ℕ → Clients → Clients → Type 0
+IsLookedAtBy n next p now old new = (at : ℕ) × LooksBy next p now at × (new.timers ≡ with_earlier n at old.timers)
+
+-- behind a turn a client is waited for as the turn says; of one that is gone nothing is
+pub record IsWaitedFor (n : ℕ) (turned : Turned) (taken now : ℕ) (old new : Clients) : Type 0 where
+  pub timers : MatchOption (client_at n old) (new.timers ≡ old.timers) (λ client. IsLookedAtBy n turned.next (waited_for turned taken now client) now old new)
+  pub retry : MatchOption (client_at n old) (new.retry ≡ old.retry) (λ client. new.retry ≡ retry_by turned.next old.retry now)
+  pub client : MatchOption (client_at n old) (new.all ≡ old.all) (λ client. option_map (λ (c : Client). c.deadlines) (client_at n new) ≡ Some (waited_for turned taken now client))
+
+-- what is known of a client once what was due is done
+abbrev pub done_by : Due → ℕ → Deadlines → Deadlines
+done_by dues.Ping now p = pinged_by now p
+done_by _ now p = p
+
+-- When a client is to be looked at of which this is due: behind its next turn where something is done, and never where it is given up.
+abbrev pub moment_of : Due → ℕ → ℕ
+moment_of dues.GivenUp now = NEVER
+moment_of dues.Write now = later now 1
+moment_of dues.Ping now = later now 1
+moment_of (dues.In millis) now = later now millis
+
+-- That is due of a client, each ping counts, and it is looked at next when something is due then.
+pub record ComesDue (n : ℕ) (phase : Phase) (now : ℕ) (due : Due) (old new : Clients) (client : Client) : Type 0 where
+  pub is : IsDue phase client.deadlines now due
+  pub done : option_map (λ (c : Client). c.deadlines) (client_at n new) ≡ Some (done_by due now client.deadlines)
+  pub then : Due
+  pub next : IsDue phase (done_by due now client.deadlines) now then
+  pub timers : new.timers ≡ with_moment n (moment_of then now) old.timers
+  pub same : new ≡ record old { all = new.all; timers = new.timers }
+
+-- something comes of a client while its handshake is under way: the poll tells of bytes, or of the end
+abbrev pub heard_in : Told → Standing → ℕ → Deadlines → Deadlines
+heard_in Bytes (Greeting greeting) now p = heard_by now p
+heard_in End (Greeting greeting) now p = heard_by now p
+heard_in _ _ now p = p
+
+abbrev pub heard_greeting : Told → ℕ → Client → Client
+heard_greeting told now client = record client { deadlines = heard_in told client.standing now client.deadlines }
+
+-- memory was refused in the last turn of the client that has a number
+abbrev pub is_short : Option Client → Bool
+is_short None = false
+is_short (Some client) = client.is_short
+
+-- those of so many numbers to whom memory was refused stand in line for a turn, the lowest first
+unfoldable pub woken_short : ℕ → Clients → Lines → Lines
+woken_short zero c l = l
+woken_short (suc n) c l = cond (is_short (client_at n c)) (woken n (woken_short n c l)) (woken_short n c l)

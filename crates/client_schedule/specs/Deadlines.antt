@@ -1,0 +1,125 @@
+-- For how long a worker waits for a client, by what has happened to it. Moments are in milliseconds of the worker's own clock.
+use Rattle.std.specs.Prelude.{◌≡◌, ◌⊎◌, ℕ, Bool, true, false, Option, Some, None, ◌+◌, ◌-◌, ◌*◌, ◌/◌, ◌^◌, ◌≤◌, ◌<◌, ◌==◌, nat_lt, min, cond, unwrap_or}
+use Rattle.client_schedule.specs.declared.deadlines.TheConstants.{LONGEST_PART, LONGEST_GREETING, QUIET, PINGS, SLOWEST, MOST_UNREAD, LONGEST_WRITE, LONGEST_CLOSE}
+use Rattle.client_schedule.specs.declared.deadlines.Due.{Due}
+use Rattle.client_schedule.specs.declared.deadlines.Due.TheVariants.{GivenUp, Write, Ping, In}
+use Rattle.client_schedule.specs.declared.deadlines.Deadlines.{Deadlines}
+use Rattle.client_schedule.specs.declared.deadlines.Phase.{Phase}
+use Rattle.client_schedule.specs.declared.deadlines.Phase.TheVariants.{Greeting, Unopened, Open}
+
+-- so long have passed since then
+abbrev pub Passed : ℕ → ℕ → ℕ → Type 0
+Passed span since now = since + span ≤ now
+
+-- it says nothing between two parts of its handshake
+abbrev pub SaysNoPart : Phase → Deadlines → ℕ → Type 0
+SaysNoPart Greeting p now = Passed LONGEST_PART p.heard now
+SaysNoPart Unopened p now = ⊥
+SaysNoPart Open p now = ⊥
+
+-- it is connected and opens no session
+abbrev pub OpensNothing : Phase → Deadlines → ℕ → Type 0
+OpensNothing Greeting p now = Passed LONGEST_GREETING p.connected now
+OpensNothing Unopened p now = Passed LONGEST_GREETING p.connected now
+OpensNothing Open p now = ⊥
+
+-- Something has waited for it, and its socket took nothing, for so long before it was offered that the last time.
+abbrev pub TakesNothing : Option ℕ → Deadlines → Type 0
+TakesNothing None p = ⊥
+TakesNothing (Some since) p = Passed LONGEST_WRITE since p.offered × Passed LONGEST_WRITE p.took p.offered
+
+-- its close is waited for and doesn't come
+abbrev pub NeverCloses : Option ℕ → ℕ → Type 0
+NeverCloses None now = ⊥
+NeverCloses (Some since) now = Passed LONGEST_CLOSE since now
+
+-- Its silence counts: it has its WebSocket, so that it answers pings, nothing waits to be written, and no close is waited for.
+abbrev pub counts : Phase → Option ℕ → Option ℕ → Bool
+counts Greeting held_up parting = false
+counts Unopened None None = true
+counts Open None None = true
+counts _ _ _ = false
+
+-- in how many milliseconds a client reads so many bytes that reads as slowly as it may: 300,000 at most
+abbrev pub reading_time : ℕ → ℕ
+reading_time bytes = min bytes MOST_UNREAD * 1000 / SLOWEST
+
+-- For how long it may be silent before a ping, and behind one: then it has to read first what its socket took before.
+abbrev pub wait_of : Deadlines → ℕ
+wait_of p = cond (p.pings == 0) QUIET (QUIET + reading_time p.unanswered)
+
+-- since when it is silent: since something came from it, or else since it was sent the last ping
+abbrev pub silent_since : Deadlines → ℕ
+silent_since p = cond (p.pings == 0) p.heard p.pinged
+
+-- it has been silent for so long, and in that time nothing waited to be written
+abbrev pub IsQuiet : Deadlines → ℕ → Type 0
+IsQuiet p now = Passed (wait_of p) (silent_since p) now × Passed (wait_of p) p.freed now
+
+-- it was sent all pings, and has answered none
+abbrev pub IsSilent : Phase → Deadlines → ℕ → Type 0
+IsSilent phase p now = (counts phase p.held_up p.parting ≡ true) × (PINGS ≤ p.pings) × IsQuiet p now
+
+-- It is to be given up.
+abbrev pub IsGivenUp : Phase → Deadlines → ℕ → Type 0
+IsGivenUp phase p now = SaysNoPart phase p now ⊎ OpensNothing phase p now ⊎ TakesNothing p.held_up p ⊎ NeverCloses p.parting now ⊎ IsSilent phase p now
+
+-- Something has waited for it, and its socket took nothing, for so long: that is to be offered once more.
+abbrev pub IsWriteDue : Option ℕ → Deadlines → ℕ → Type 0
+IsWriteDue None p now = ⊥
+IsWriteDue (Some since) p now = Passed LONGEST_WRITE since now × Passed LONGEST_WRITE p.took now
+
+-- it has been silent, and not all pings were sent
+abbrev pub IsPingDue : Phase → Deadlines → ℕ → Type 0
+IsPingDue phase p now = (counts phase p.held_up p.parting ≡ true) × (p.pings < PINGS) × IsQuiet p now
+
+-- something is to be done
+abbrev pub IsSomethingDue : Phase → Deadlines → ℕ → Type 0
+IsSomethingDue phase p now = IsGivenUp phase p now ⊎ IsWriteDue p.held_up p now ⊎ IsPingDue phase p now
+
+-- From now on that is not so for so long, and then it is; where no clock can tell that moment, it need not be.
+pub record Until (Holds : ℕ → Type 0) (now left : ℕ) : Type 0 where
+  pub at_once : left ≡ 0 → Holds now
+  pub not_before : (then : ℕ) → now ≤ then → then < now + left → Holds then → ⊥
+  pub by_then : Holds (now + left) ⊎ (2 ^ 64 - 1 ≤ now + left)
+
+-- What is due of a client: it is given up just where it is to be; or else what waits is offered, or a ping is sent, just where that is
+-- to be; or else nothing is due, and for so long nothing will be.
+abbrev pub IsDue : Phase → Deadlines → ℕ → Due → Type 0
+IsDue phase p now GivenUp = IsGivenUp phase p now
+IsDue phase p now Write = IsWriteDue p.held_up p now × (IsGivenUp phase p now → ⊥)
+IsDue phase p now Ping = IsPingDue phase p now × (IsGivenUp phase p now → ⊥) × (IsWriteDue p.held_up p now → ⊥)
+IsDue phase p now (In millis) = (0 < millis) × Until (IsSomethingDue phase p) now millis
+
+-- a client was connected just now
+abbrev pub fresh : ℕ → Deadlines
+fresh now = record { connected = now; heard = now; pings = 0; pinged = now; took = now; unanswered = 0; taken = 0; held_up = None; freed = now; offered = now; parting = None }
+
+-- something came from it
+abbrev pub heard_by : ℕ → Deadlines → Deadlines
+heard_by now p = record p { heard = now; pings = 0; unanswered = 0 }
+
+-- it was sent a ping
+abbrev pub pinged_by : ℕ → Deadlines → Deadlines
+pinged_by now p = record p { pings = min (p.pings + 1) (2 ^ 64 - 1); pinged = now }
+
+-- its socket has taken so many bytes in all
+abbrev pub taken_by : ℕ → ℕ → Deadlines → Deadlines
+taken_by taken now p = cond (nat_lt p.taken taken) (record p { took = now; unanswered = min (p.unanswered + (taken - p.taken)) (2 ^ 64 - 1); taken = taken }) p
+
+-- something waits to be written, and was offered to its socket
+abbrev pub held_up_by : ℕ → Deadlines → Deadlines
+held_up_by now p = record p { held_up = Some (unwrap_or p.held_up now); offered = now }
+
+-- when nothing waited any more
+abbrev pub freed_at : Option ℕ → ℕ → ℕ → ℕ
+freed_at None now freed = freed
+freed_at (Some since) now freed = now
+
+-- nothing waits to be written
+abbrev pub freed_by : ℕ → Deadlines → Deadlines
+freed_by now p = record p { held_up = None; freed = freed_at p.held_up now p.freed }
+
+-- its close is waited for
+abbrev pub parting_by : ℕ → Deadlines → Deadlines
+parting_by now p = record p { parting = Some (unwrap_or p.parting now) }

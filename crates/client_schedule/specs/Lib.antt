@@ -1,0 +1,9 @@
+pub mod Clients
+pub mod Kept
+pub mod Lines
+pub mod Deadlines
+pub mod ReadBudget
+pub mod Supplies
+pub mod Timers
+pub mod Turns
+pub mod Watches

@@ -1,0 +1,242 @@
+//! The clients of a desk.
+
+ghost use Rattle.std.specs.Prelude.{◌≡◌, ◌<◌, ◌+◌, ◌≤◌, ◌||◌, ◌∷◌, [], None, false, IfOk, IfSome, IsNone, MatchOption, Some, OnOk, OnErr, length, option_map, slice_set};
+ghost use Rattle.std.specs.Option.{option_copied};
+ghost use Rattle.client_schedule.specs.declared.limits.TheConstants.{CLIENTS};
+ghost use Rattle.client_schedule.specs.declared.timers.TheConstants.{NEVER};
+ghost use Rattle.client_schedule.specs.Lines.{is_over};
+ghost use Rattle.client_schedule.specs.Clients.{begun, place_of};
+ghost use Rattle.client_schedule.specs.Deadlines.{fresh};
+ghost use Rattle.client_schedule.specs.Timers.{IsDue, IsNotDue, looked_through};
+
+use crate::deadlines::Deadlines;
+use crate::limits::CLIENTS;
+use crate::lines::Lines;
+use crate::read_budget::ReadBudget;
+use crate::timers::{NEVER, Timers};
+use mio::net::TcpStream;
+use slab::Slab;
+use std::alloc::{AllocError, Global};
+use std::mem;
+use ws_core::Greeting;
+
+/// Where a client is.
+#[derive(Drop)]
+pub enum Standing {
+    /// Its handshake is under way.
+    Greeting(Greeting<ReadBudget<TcpStream>>),
+    /// It sits at that place of its worker's desk.
+    Seated(usize),
+    /// Its handshake is just gone on with, or it is gone.
+    Away,
+}
+
+/// A client of a worker.
+#[derive(Drop)]
+pub struct Client {
+    pub(crate) standing: Standing,
+    pub(crate) deadlines: Deadlines,
+    // Whether memory was refused in its last turn.
+    pub(crate) is_short: bool,
+}
+
+impl Client {
+    /// Its place at the desk, once it has one.
+    pub fn place(&self) -> Option<usize>
+        ensures { result ≡ place_of self.now.standing }
+    {
+        match self.standing {
+            Standing::Seated(place) => Some(place),
+            Standing::Greeting(_) | Standing::Away => None,
+        }
+    }
+
+    // Where it is whose turn begins. A handshake is taken out, to be gone on with.
+    fn begin_turn(&mut self) -> Standing
+        ensures whose { result ≡ self.old.standing }
+        ensures begins { self.new ≡ begun self.old }
+    {
+        self.is_short = false;
+        match self.standing {
+            Standing::Seated(place) => Standing::Seated(place),
+            _ => mem::replace(&mut self.standing, Standing::Away),
+        }
+    }
+}
+
+/// The clients of a desk, by their numbers; the lines in which they stand; and when each is to be looked at.
+///
+/// A number may stand in a line whose client has gone. Then there is a turn for which nobody is there, or in which the client that has the
+/// number now finds nothing.
+#[derive(Drop)]
+pub struct Clients {
+    pub(crate) all: Slab<Client>,
+    // No client has had a number that is not under this.
+    pub(crate) reach: usize,
+    pub(crate) lines: Lines,
+    pub(crate) timers: Timers,
+    // When those are to try again to whom memory was refused.
+    pub(crate) retry: u64,
+}
+
+impl Clients {
+    ghost use Rattle.client_schedule.specs.Clients.{Admits, Begins, IsEmpty, Removes, client_at, standing_at};
+    ghost use Rattle.client_schedule.specs.Turns.{after_let_in, gone_on, let_in, woken};
+
+    /// None yet.
+    pub fn new(alloc: Global) -> Result<Clients, AllocError>
+        ensures { IfOk result IsEmpty }
+    {
+        Ok(Clients {
+            all: Slab::new(alloc),
+            reach: 0,
+            lines: Lines::new(alloc)?,
+            timers: Timers::new(alloc, CLIENTS)?,
+            retry: NEVER,
+        })
+    }
+
+    /// The number of the next client; `None` where there are as many as there may be.
+    pub fn next_number(&self) -> Option<usize>
+        ensures number { IfSome result (λ number. (number ≡ self.now.all.vacant_key) × (number < CLIENTS)) }
+        ensures full { IsNone result → CLIENTS ≤ self.now.all.vacant_key }
+    {
+        let number = self.all.vacant_key();
+        if number < CLIENTS { Some(number) } else { None }
+    }
+
+    /// Takes a client in, under the next number. It has a turn next.
+    pub fn admit(
+        &mut self,
+        greeting: Greeting<ReadBudget<TcpStream>>,
+        now: u64,
+    ) -> Result<(), AllocError>
+        ensures ok { OnOk result (Admits now self.old self.new (record { standing = Standing.Greeting greeting; deadlines = fresh now; is_short = false })) }
+        ensures err { OnErr result (self.new ≡ record self.old { all = self.new.all }) }
+    {
+        let client = Client {
+            standing: Standing::Greeting(greeting),
+            deadlines: Deadlines::new(now),
+            is_short: false,
+        };
+        let number = self.all.insert(client)?;
+        self.reach = self.reach.max(number.saturating_add(1));
+        self.timers.set(number, now);
+        self.wake(number);
+        Ok(())
+    }
+
+    /// Lets a client go.
+    pub fn remove(&mut self, number: usize)
+        ensures { Removes self.old self.new number }
+    {
+        drop(self.all.try_remove(number));
+        self.timers.set(number, NEVER);
+    }
+
+    /// That client.
+    pub fn get(&self, number: usize) -> Option<&Client>
+        ensures { option_copied result ≡ client_at number self.now }
+    {
+        self.all.get(number)
+    }
+
+    /// No client has had a number that is not under this.
+    pub fn reach(&self) -> usize
+        ensures { result ≡ self.now.reach }
+    {
+        self.reach
+    }
+
+    /// A client whose moment has come to be looked at. It has none until `come_due` sets one.
+    pub fn take_due(&mut self, now: u64) -> Option<usize>
+        ensures due { IfSome result (λ client. IsDue now client self.old.timers.all × (self.new ≡ record self.old { timers = record self.old.timers { all = slice_set self.old.timers.all client NEVER } })) }
+        ensures none { IsNone result → IsNotDue now self.old.timers.all × (self.new ≡ record self.old { timers = looked_through now self.old.timers }) }
+    {
+        self.timers.take_due(now)
+    }
+
+    /// Has a client stand in line for a turn, behind all others. Who stands there keeps its place.
+    pub fn wake(&mut self, number: usize)
+        ensures { self.new ≡ record self.old { lines = woken number self.old.lines } }
+    {
+        self.lines.wake(number);
+    }
+
+    /// How many stand in line for a turn.
+    pub fn count_ready(&self) -> usize
+        ensures { result ≡ length self.now.lines.ready }
+    {
+        self.lines.count_ready()
+    }
+
+    /// How many wait for the mark: for room, or for their next output to come under it.
+    pub fn count_waiting(&self) -> usize
+        ensures { result ≡ length self.now.lines.room.line + length self.now.lines.outputs.line }
+    {
+        self.lines.count_waiting()
+    }
+
+    /// Whether somebody is let in where the mark is this.
+    pub fn is_over(&self, mark: u64) -> bool
+        ensures { result ≡ (is_over mark self.now.lines.room || is_over mark self.now.lines.outputs) }
+    {
+        self.lines.is_over(mark)
+    }
+
+    /// The next that has a turn, and where it is. It stands in line no more.
+    pub fn next(&mut self) -> Option<(usize, Standing)>
+        ensures none { IsNone result → self.old.lines.ready ≡ [] }
+        ensures first { IfSome result (λ turn. self.old.lines.ready ≡ turn.0 ∷ self.new.lines.ready) }
+        ensures rest { self.new.lines ≡ record self.old.lines { ready = self.new.lines.ready; let_in = None } }
+        ensures whose { IfSome result (λ turn. turn.1 ≡ standing_at turn.0 self.old) }
+        ensures begins { IfSome result (λ turn. Begins turn.0 self.old self.new) }
+    {
+        let number = self.lines.next()?;
+        Some((number, self.begin_turn(number)))
+    }
+
+    /// Who is let in where the mark is this, and where it is: the first that waits for room, or else the first whose output waits. It
+    /// has a turn before all that stand in line for one, and waits no more.
+    pub fn let_in(&mut self, mark: u64) -> Option<(usize, Standing)>
+        ensures who { option_map (λ turn. turn.0) result ≡ let_in mark self.old.lines }
+        ensures after { self.new.lines ≡ after_let_in mark self.old.lines }
+        ensures whose { IfSome result (λ turn. turn.1 ≡ standing_at turn.0 self.old) }
+        ensures begins { IfSome result (λ turn. Begins turn.0 self.old self.new) }
+    {
+        let number = self.lines.let_in(mark)?;
+        Some((number, self.begin_turn(number)))
+    }
+
+    // Where a client is whose turn begins.
+    fn begin_turn(&mut self, number: usize) -> Standing
+        ensures whose { result ≡ standing_at number self.old }
+        ensures begins { Begins number self.old self.new }
+        ensures rest { self.new ≡ record self.old { all = self.new.all } }
+    {
+        match self.all.get_mut(number) {
+            Some(client) => client.begin_turn(),
+            None => Standing::Away,
+        }
+    }
+
+    /// A client is where it is said to be now. It stands in line again if more of its bytes may be there.
+    pub fn stand(&mut self, number: usize, standing: Standing, has_rest: bool)
+        ensures there { MatchOption (client_at number self.old) (self.new.all ≡ self.old.all) (λ _. option_map (λ client. client.standing) (client_at number self.new) ≡ Some standing) }
+        ensures rest { self.new ≡ record self.old { all = self.new.all; lines = gone_on has_rest number self.old.lines } }
+    {
+        if let Some(client) = self.all.get_mut(number) {
+            drop(mem::replace(&mut client.standing, standing));
+        }
+        self.go_on(number, has_rest);
+    }
+
+    // Has a client stand in line whose last turn left bytes that may be there.
+    pub(crate) fn go_on(&mut self, number: usize, has_rest: bool)
+        ensures { self.new ≡ record self.old { lines = gone_on has_rest number self.old.lines } }
+    {
+        if has_rest {
+            self.wake(number);
+        }
+    }
+}

@@ -1,0 +1,107 @@
+//! The lines in which a desk's clients stand.
+
+ghost use Rattle.std.specs.Prelude.{◌≡◌, ◌+◌, [], ◌∷◌, None, IfOk, MatchOption, length};
+ghost use Rattle.client_schedule.specs.Lines.{is_over};
+ghost use Rattle.client_schedule.specs.Turns.{woken, let_in, after_let_in, settled};
+
+use crate::line::Line;
+use crate::waiting::Waiting;
+use desk_core::{Next, Turned};
+use std::alloc::{AllocError, Global};
+
+/// The lines in which a desk's clients stand, by their numbers.
+#[derive(Drop)]
+pub struct Lines {
+    // Those that have a turn next.
+    pub(crate) ready: Line,
+    // Those that found the window full, in the order in which they were refused.
+    pub(crate) room: Waiting,
+    // Those whose next output waits for the mark.
+    pub(crate) outputs: Waiting,
+    // Who was let in to room, while its turn lasts.
+    pub(crate) let_in: Option<usize>,
+}
+
+impl Lines {
+    ghost use Rattle.std.specs.Prelude.{◌||◌};
+    ghost use Rattle.client_schedule.specs.Turns.{IsNobody};
+
+    /// Nobody stands in any.
+    pub(crate) fn new(alloc: Global) -> Result<Lines, AllocError>
+        ensures { IfOk result IsNobody }
+    {
+        Ok(Lines {
+            ready: Line::new(alloc)?,
+            room: Waiting::new(alloc)?,
+            outputs: Waiting::new(alloc)?,
+            let_in: None,
+        })
+    }
+
+    /// How many stand in line for a turn.
+    pub(crate) fn count_ready(&self) -> usize
+        ensures { result ≡ length self.now.ready }
+    {
+        self.ready.len()
+    }
+
+    /// How many wait for the mark.
+    pub(crate) fn count_waiting(&self) -> usize
+        ensures { result ≡ length self.now.room.line + length self.now.outputs.line }
+    {
+        self.room.len() + self.outputs.len()
+    }
+
+    /// Whether somebody is let in where the mark is this.
+    pub(crate) fn is_over(&self, mark: u64) -> bool
+        ensures { result ≡ (is_over mark self.now.room || is_over mark self.now.outputs) }
+    {
+        self.room.is_over(mark) || self.outputs.is_over(mark)
+    }
+
+    /// That client stands in line for a turn.
+    pub(crate) fn wake(&mut self, client: usize)
+        ensures { self.new ≡ woken client self.old }
+    {
+        self.ready.join(client);
+    }
+
+    /// The first that stands in line for a turn. It stands there no more.
+    pub(crate) fn next(&mut self) -> Option<usize>
+        ensures first { MatchOption result ((self.old.ready ≡ []) × (self.new.ready ≡ [])) (λ client. self.old.ready ≡ client ∷ self.new.ready) }
+        ensures rest { self.new ≡ record self.old { ready = self.new.ready; let_in = None } }
+    {
+        self.let_in = None;
+        self.ready.next()
+    }
+
+    /// Who is let in where the mark is this: the first that waits for room, or else the first whose output waits. It waits no more.
+    pub(crate) fn let_in(&mut self, mark: u64) -> Option<usize>
+        ensures who { result ≡ let_in mark self.old }
+        ensures after { self.new ≡ after_let_in mark self.old }
+    {
+        self.let_in = self.room.next(mark);
+        if self.let_in.is_some() {
+            self.let_in
+        } else {
+            self.outputs.next(mark)
+        }
+    }
+
+    /// What comes of a client's turn.
+    pub(crate) fn settle(&mut self, client: usize, turned: Turned)
+        ensures { self.new ≡ settled client turned self.old }
+    {
+        let was_let_in = self.let_in.take() == Some(client);
+        match turned.next {
+            Next::Go => self.ready.join(client),
+            Next::Close if turned.heard => self.ready.join(client),
+            Next::Room(mark) if was_let_in && !turned.appended => {
+                self.room.join_first(client, mark);
+            }
+            Next::Room(mark) => self.room.join(client, mark),
+            Next::Output(mark) => self.outputs.join(client, mark),
+            Next::Read | Next::Write | Next::Close | Next::Memory | Next::Over(_) => {}
+        }
+    }
+}

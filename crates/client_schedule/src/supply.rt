@@ -1,0 +1,83 @@
+//! What there may be to read of a socket.
+
+ghost use Rattle.std.specs.Prelude.{◌≡◌};
+ghost use Rattle.client_schedule.specs.Supplies.{drained, is_dry, leaves_nothing, told_by, with_told};
+
+use mio::event::Event;
+use std::io;
+use std::io::ErrorKind;
+
+/// What the poll has told of a socket since it was read last.
+#[derive(Clone, Copy)]
+pub enum Told {
+    /// Nothing of which a read would tell.
+    Nothing,
+    /// That there are bytes.
+    Bytes,
+    /// That its peer sends no more, or that it has failed. A read tells that behind the bytes that came before.
+    End,
+}
+
+/// What there may be to read.
+#[derive(Clone, Copy)]
+pub enum Supply {
+    /// Bytes perhaps, of which the poll need not tell again.
+    Unknown,
+    /// Nothing, until the poll tells of it.
+    Dry,
+    /// Bytes, and then the end, of neither of which the poll tells again.
+    Ending,
+}
+
+/// What the poll tells of a socket that is to be read. Each flag that a read may answer to counts, whether the poll says that there are bytes or
+/// not.
+pub fn told_by(event: &Event) -> Told
+    ensures { result ≡ told_by event.now }
+{
+    if event.is_read_closed() || event.is_write_closed() || event.is_error() {
+        Told::End
+    } else if event.is_readable() {
+        Told::Bytes
+    } else {
+        Told::Nothing
+    }
+}
+
+/// What there may be to read once the poll has told this.
+pub(crate) fn supply_with(supply: Supply, told: Told) -> Supply
+    ensures { result ≡ with_told told supply }
+{
+    match (supply, told) {
+        (Supply::Ending, _) | (_, Told::End) => Supply::Ending,
+        (_, Told::Bytes) => Supply::Unknown,
+        (supply, Told::Nothing) => supply,
+    }
+}
+
+/// Whether a read does not ask the socket.
+pub(crate) fn is_dry(supply: Supply) -> bool
+    ensures { result ≡ is_dry supply }
+{
+    matches!(supply, Supply::Dry)
+}
+
+/// What there may be to read behind a read that asked for so many bytes and came to this.
+pub(crate) fn supply_behind(supply: Supply, asked: usize, outcome: &io::Result<usize>) -> Supply
+    ensures { result ≡ drained asked outcome.now supply }
+{
+    if matches!(supply, Supply::Unknown) && leaves_nothing(asked, outcome) {
+        Supply::Dry
+    } else {
+        supply
+    }
+}
+
+// Whether a read that asked for so many bytes has found that there are no more now. One that gave none has found the end.
+fn leaves_nothing(asked: usize, outcome: &io::Result<usize>) -> bool
+    ensures { result ≡ leaves_nothing asked outcome.now }
+{
+    match outcome {
+        Ok(count) => 0 < *count && *count < asked,
+        Err(error) => matches!(error.kind(), ErrorKind::WouldBlock),
+    }
+}

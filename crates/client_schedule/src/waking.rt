@@ -1,0 +1,196 @@
+//! How a desk's clients come to stand in line for a turn, and what they wait for behind one.
+
+ghost use Rattle.std.specs.Prelude.{◌≡◌, MatchOption, cond, min, nat_lt, option_map};
+ghost use Rattle.client_schedule.specs.declared.timers.TheConstants.{NEVER};
+ghost use Rattle.client_schedule.specs.Clients.{ComesDue, IsWaitedFor, LooksBy, client_at, has_more, heard_greeting, is_short, moment_of, parts_now, place_of, standing_at, waited_by, woken_short};
+
+use crate::clients::{Client, Clients, Standing};
+use crate::deadlines::{Due, Phase};
+use crate::limits::SHORTAGE;
+use crate::read_budget::Flow;
+use crate::supply::Told;
+use crate::timers::NEVER;
+use desk_core::{Next, Turned};
+
+impl Clients {
+    ghost use Rattle.client_schedule.specs.Turns.{gone_on, settled, woken};
+
+    /// The poll told this of a client's socket. It stands in line for a turn; its stream hears it if its handshake is under way. If it sits
+    /// at the desk its place is the answer, and its stream is to hear it there.
+    pub fn hear_of(&mut self, number: usize, told: Told, now: u64) -> Option<usize>
+        ensures client { client_at number self.new ≡ option_map (heard_greeting told now) (client_at number self.old) }
+        ensures rest { self.new ≡ record self.old { all = self.new.all; lines = woken number self.old.lines } }
+        ensures place { result ≡ place_of (standing_at number self.old) }
+    {
+        self.wake(number);
+        match self.all.get_mut(number) {
+            Some(client) => {
+                client.hear_of(told, now);
+                client.place()
+            }
+            None => None,
+        }
+    }
+
+    /// Has those stand in line to whom memory was refused, once they are to try again.
+    pub fn retry(&mut self, now: u64)
+        ensures { self.new ≡ cond (nat_lt now self.old.retry) self.old (record self.old { lines = woken_short self.old.reach self.old self.old.lines; retry = NEVER }) }
+    {
+        if now < self.retry {
+            return;
+        }
+        self.retry = NEVER;
+        for number in 0..self.reach {
+            if self.is_short(number) {
+                self.wake(number);
+            }
+        }
+    }
+
+    // Whether memory was refused in a client's last turn.
+    fn is_short(&self, number: usize) -> bool
+        ensures { result ≡ is_short (client_at number self.now) }
+    {
+        match self.all.get(number) {
+            Some(client) => client.is_short,
+            None => false,
+        }
+    }
+
+    /// Until when there is nothing to do of which neither the poll nor the doorbell tells.
+    pub fn until(&self) -> u64
+        ensures { result ≡ min self.now.timers.earliest self.now.retry }
+    {
+        self.timers.earliest().min(self.retry)
+    }
+
+    /// What is to come of a client that had a turn and has not ended, and whose stream tells this.
+    pub fn settle(&mut self, number: usize, turned: Turned, flow: Flow, now: u64)
+        ensures lines { self.new.lines ≡ gone_on (has_more flow.has_rest turned.next (client_at number self.old)) number (settled number turned self.old.lines) }
+        ensures rest { IsWaitedFor number turned flow.taken now self.old self.new }
+    {
+        let has_more = self.has_more(number, flow.has_rest, turned.next);
+        self.lines.settle(number, turned);
+        self.await_client(number, turned, flow.taken, now);
+        self.go_on(number, has_more);
+    }
+
+    // Whether more of a client's bytes may be there, of which the poll tells no more, behind a turn that came to this. While it
+    // was to be closed nothing of it was heard.
+    fn has_more(&self, number: usize, has_rest: bool, next: Next) -> bool
+        ensures { result ≡ has_more has_rest next (client_at number self.now) }
+    {
+        match next {
+            Next::Read | Next::Output(_) => has_rest,
+            Next::Close => has_rest || self.parts_now(number),
+            _ => false,
+        }
+    }
+
+    // Whether a client's close was not waited for until now.
+    fn parts_now(&self, number: usize) -> bool
+        ensures { result ≡ parts_now (client_at number self.now) }
+    {
+        match self.all.get(number) {
+            Some(client) => !client.deadlines.is_parting(),
+            None => false,
+        }
+    }
+
+    // Begins to wait for what a client is waited for behind a turn.
+    fn await_client(&mut self, number: usize, turned: Turned, taken: u64, now: u64)
+        ensures lines { self.new.lines ≡ self.old.lines }
+        ensures rest { IsWaitedFor number turned taken now self.old self.new }
+    {
+        let Some(client) = self.all.get_mut(number) else {
+            return;
+        };
+        if turned.heard {
+            client.deadlines.heard(now);
+        }
+        client.deadlines.took(taken, now);
+        client.is_short = matches!(turned.next, Next::Memory);
+        let at = client.wait(turned.next, now);
+        self.timers.set_earlier(number, at);
+        if let Next::Memory = turned.next {
+            self.retry = self.retry.min(now.saturating_add(SHORTAGE));
+        }
+    }
+
+    /// What is due of a client whose moment has come and which has come so far, and where it is. Each ping counts as sent, and its next
+    /// moment is set, unless it is to be given up.
+    pub fn come_due(&mut self, number: usize, phase: Phase, now: u64) -> Due
+        ensures none { MatchOption (client_at number self.old) ((result ≡ Due.In NEVER) × (self.new ≡ self.old)) (λ _. Unit {0}) }
+        ensures due { MatchOption (client_at number self.old) (Unit {0}) (ComesDue number phase now result self.old self.new) }
+    {
+        let Some(client) = self.all.get_mut(number) else {
+            return Due::In(NEVER);
+        };
+        let due = client.come_due(phase, now);
+        let then = client.deadlines.due(phase, now);
+        self.timers.set(number, moment_of(then, now));
+        due
+    }
+}
+
+impl Client {
+    ghost use Rattle.client_schedule.specs.Deadlines.{IsDue};
+    ghost use Rattle.client_schedule.specs.Clients.{done_by};
+
+    // The poll told this of its socket.
+    fn hear_of(&mut self, told: Told, now: u64)
+        ensures { self.new ≡ heard_greeting told now self.old }
+    {
+        if let Standing::Greeting(greeting) = &self.standing {
+            greeting.stream().tell(told);
+            if !matches!(told, Told::Nothing) {
+                self.deadlines.heard(now);
+            }
+        }
+    }
+
+    // Begins to wait, and answers the moment at which that is to be looked at: any later one has been set before.
+    fn wait(&mut self, next: Next, now: u64) -> u64
+        ensures deadlines { self.new ≡ record self.old { deadlines = waited_by next now self.old.deadlines } }
+        ensures moment { LooksBy next (waited_by next now self.old.deadlines) now result }
+    {
+        match next {
+            Next::Write => self.deadlines.held_up(now),
+            Next::Close => {
+                self.deadlines.freed(now);
+                self.deadlines.parting(now);
+            }
+            _ => {
+                self.deadlines.freed(now);
+                return NEVER;
+            }
+        }
+        match self.deadlines.due(Phase::Open, now) {
+            Due::In(millis) => now.saturating_add(millis),
+            Due::Write | Due::Ping | Due::GivenUp => now,
+        }
+    }
+
+    // What is due of it. A ping counts as sent.
+    fn come_due(&mut self, phase: Phase, now: u64) -> Due
+        ensures due { IsDue phase self.old.deadlines now result }
+        ensures done { self.new ≡ record self.old { deadlines = done_by result now self.old.deadlines } }
+    {
+        let due = self.deadlines.due(phase, now);
+        if let Due::Ping = due {
+            self.deadlines.pinged(now);
+        }
+        due
+    }
+}
+
+// When a client is to be looked at of which this is due. Where something is done, that is behind its next turn.
+fn moment_of(due: Due, now: u64) -> u64
+    ensures { result ≡ moment_of due now }
+{
+    match due {
+        Due::In(millis) => now.saturating_add(millis),
+        Due::Write | Due::Ping => now.saturating_add(1),
+        Due::GivenUp => NEVER,
+    }
+}

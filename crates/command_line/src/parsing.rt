@@ -1,0 +1,409 @@
+//! What the words of a command line ask for.
+
+ghost use Rattle.std.specs.Prelude.{◌≡◌, ◌≢◌, ◌<◌, ◌≤◌, ◌^◌, ◌∷◌, ◌↔◌, [], List, Option, ℕ, IfNone, IfOk, IfSome, IsErrOf, IsNone, IsTrue, codes, length, true, map, Ok};
+ghost use Rattle.command_line.specs.CommandLines.{AreFileAndNumber, AskFor, AskForAlone, AskForMemory, AskForNothing, AskForThreads, AskNothingWith, AskWith, AsksForScript, HasOtherMemory, HasOtherOrigin, HasOtherThreads, HaveOtherMemory, HaveOtherOrigin, HaveOtherThreads, IsNumber, words_of};
+ghost use Rattle.std.specs.List.{list_all};
+ghost use Rattle.command_line.specs.Origins.{is_origin};
+ghost use Rattle.command_line.specs.declared.parsing.Subcommand.TheVariants.{Script, Version};
+
+use crate::given::{Given, given_by};
+use crate::origins::is_origin;
+use crate::usage::matches_of;
+use clap::Error;
+use std::alloc::Global;
+use std::convert::AsStr;
+
+// How many threads may serve clients.
+const MOST_THREADS: u64 = 64;
+
+// How many bytes clients may hold together at least: a server is of little use that has to give up all who wait for a large message.
+const LEAST_MEMORY: u64 = 16_777_216;
+
+/// A subcommand that the program has.
+#[derive(Drop)]
+pub enum Subcommand<'a> {
+    /// Runs a script from standard input.
+    Script,
+    /// Says which version the program is of.
+    Version,
+    /// Finds out whether the server at a port answers.
+    Ping {
+        port: u16,
+    },
+    /// Makes a file of so many bytes with an empty journal. Its room is taken on the device, unless it is to be sparse.
+    Format {
+        file: &'a str,
+        bytes: u64,
+        is_sparse: bool,
+    },
+    /// Shows what the journal in a file shows of itself.
+    Show {
+        file: &'a str,
+    },
+    /// Shows which queues and durable names of the journal in a file hold messages.
+    Held {
+        file: &'a str,
+    },
+    /// Serves the broker of the journal in a file at a port, to pages of these origins, or of all if none is named, by so many
+    /// threads, 1 to 64, if their number is given, to clients that may hold so many bytes together, 16,777,216 at least, if that is
+    /// given; on request until standard input ends.
+    Serve {
+        file: &'a str,
+        port: u16,
+        origins: Vec<&'a [u8]>,
+        threads: Option<u16>,
+        memory: Option<u64>,
+        until_eof: bool,
+    },
+}
+
+/// Why the words ask for nothing that the program does.
+#[derive(Drop)]
+pub enum Refused {
+    /// A mistake in the words, the help that they ask for, or want of memory. It holds the text for the user.
+    Words(Error),
+    /// A number of bytes of a file, or of a port, that is none: it has other than decimal digits, or is too large; a port may not be 0
+    /// either. Nor have the words then another of the program's forms.
+    Number,
+    /// A number of threads that is none from 1 to 64.
+    Threads,
+    /// A number of bytes for clients that is none from 16,777,216 on and under 2^64.
+    Memory,
+    /// An origin that no browser sends: no page would be served.
+    Origin,
+}
+
+/// The subcommand that the words ask for, of which the first is the program's name. Where `clap` refuses the words, its error
+/// is the answer; what it takes has one of the program's forms, and is refused as a number that is none where it hasn't.
+/// Words that are refused for a number or an origin ask for nothing that the program does. Of several that are wrong the first is
+/// told: file and port, threads, memory, origins.
+pub fn subcommand_of<'a, S: AsStr>(alloc: Global, words: &'a [S]) -> Result<Subcommand<'a>, Refused>
+    ensures script { AsksForScript (map S.text words.now) → result ≡ Ok Script }
+    ensures ok { IfOk result (AskFor (map S.text words.now)) }
+    ensures number { IsErrOf result Refused.Number → (asked : Subcommand) → AskFor (map S.text words.now) asked → ⊥ }
+    ensures threads { IsErrOf result Refused.Threads → HaveOtherThreads (map S.text words.now) }
+    ensures memory { IsErrOf result Refused.Memory → HaveOtherMemory (map S.text words.now) }
+    ensures origin { IsErrOf result Refused.Origin → HaveOtherOrigin (map S.text words.now) }
+{
+    // These words have nothing to parse, and take no memory.
+    if is_alone(words, "script") {
+        return Ok(Subcommand::Script);
+    }
+    if is_alone(words, "--version") {
+        return Ok(Subcommand::Version);
+    }
+    match matches_of(alloc, words) {
+        Ok(matches) => {
+            drop(matches);
+            asked_of(alloc, words)
+        }
+        Err(error) => Err(Refused::Words(error)),
+    }
+}
+
+/// Whether the words are the program's name and this one.
+fn is_alone<S: AsStr>(words: &[S], wanted: &str) -> bool
+    ensures asked { AskForAlone wanted.now (map S.text words.now) → result ≡ true }
+    ensures found { result ≡ true → AskForAlone wanted.now (map S.text words.now) }
+{
+    match words {
+        [_, word] => is_word(word.as_str(), wanted),
+        _ => false,
+    }
+}
+
+fn is_word(word: &str, wanted: &str) -> bool
+    ensures { IsTrue result ↔ (word.now ≡ wanted.now) }
+{
+    word == wanted
+}
+
+/// The subcommand that words ask for which `clap` takes.
+fn asked_of<'a, S: AsStr>(alloc: Global, words: &'a [S]) -> Result<Subcommand<'a>, Refused>
+    ensures ok { IfOk result (AskFor (map S.text words.now)) }
+    ensures number { IsErrOf result Refused.Number → AskForNothing (map S.text words.now) }
+    ensures threads { IsErrOf result Refused.Threads → HaveOtherThreads (map S.text words.now) }
+    ensures memory { IsErrOf result Refused.Memory → HaveOtherMemory (map S.text words.now) }
+    ensures origin { IsErrOf result Refused.Origin → HaveOtherOrigin (map S.text words.now) }
+{
+    let Some((name, rest)) = named(words) else {
+        return Err(Refused::Number);
+    };
+    match given_by(alloc, rest) {
+        Ok(given) => asked_with(name, given),
+        Err(refused) => Err(Refused::Words(Error::from(refused))),
+    }
+}
+
+/// The word behind the program's name, and the words behind that.
+fn named<'a, S: AsStr>(words: &'a [S]) -> Option<(&'a str, &'a [S])>
+    ensures some { IfSome result (λ it. (program : List ℕ) × (map S.text words.now ≡ program ∷ it.0.now ∷ map S.text it.1.now)) }
+    ensures none { IfNone result (length words.now < 2) }
+{
+    if words.len() < 2 {
+        return None;
+    }
+    Some((words[1].as_str(), &words[2..]))
+}
+
+/// What this word and what those behind it give ask for.
+fn asked_with<'a>(name: &str, given: Given<'a>) -> Result<Subcommand<'a>, Refused>
+    ensures ok { IfOk result (AskWith name.now (words_of given.entry)) }
+    ensures number { IsErrOf result Refused.Number → AskNothingWith name.now (words_of given.entry) }
+    ensures threads { IsErrOf result Refused.Threads → (name.now ≡ codes "serve") × HasOtherThreads (words_of given.entry) }
+    ensures memory { IsErrOf result Refused.Memory → (name.now ≡ codes "serve") × HasOtherMemory (words_of given.entry) }
+    ensures origin { IsErrOf result Refused.Origin → (name.now ≡ codes "serve") × HasOtherOrigin (words_of given.entry) }
+{
+    if name == "serve" {
+        return serve_asked(given);
+    }
+    let asked = other_asked(name, &given);
+    drop(given);
+    match asked {
+        Some(asked) => Ok(asked),
+        None => Err(Refused::Number),
+    }
+}
+
+/// The same of a word that is not `serve`.
+fn other_asked<'a>(name: &str, given: &Given<'a>) -> Option<Subcommand<'a>>
+    requires { name.now ≢ codes "serve" }
+    ensures some { IfSome result (AskWith name.now (words_of given.now)) }
+    ensures none { IsNone result → AskNothingWith name.now (words_of given.now) }
+{
+    match name {
+        "script" => asked_alone(given, Subcommand::Script),
+        "--version" => asked_alone(given, Subcommand::Version),
+        "ping" => ping_asked(given),
+        "format" => format_asked(given),
+        "show" => show_asked(given),
+        "held" => held_asked(given),
+        _ => None,
+    }
+}
+
+/// What a word alone asks for, behind which no argument may stand.
+fn asked_alone<'a>(given: &Given<'_>, asked: Subcommand<'a>) -> Option<Subcommand<'a>>
+    ensures some { IfSome result (λ it. (it ≡ asked.entry) × ((words_of given.now).arguments ≡ [])) }
+    ensures none { IsNone result → (words_of given.now).arguments ≢ [] }
+{
+    if given.arguments.is_empty() {
+        Some(asked)
+    } else {
+        None
+    }
+}
+
+fn ping_asked<'a>(given: &Given<'_>) -> Option<Subcommand<'a>>
+    ensures some { IfSome result (AskWith (codes "ping") (words_of given.now)) }
+    ensures none { IsNone result → AskNothingWith (codes "ping") (words_of given.now) }
+{
+    let text = one_in(&given.arguments)?;
+    let port = port_of(text)?;
+    Some(Subcommand::Ping { port })
+}
+
+fn format_asked<'a>(given: &Given<'a>) -> Option<Subcommand<'a>>
+    ensures some { IfSome result (AskWith (codes "format") (words_of given.now)) }
+    ensures none { IsNone result → AskNothingWith (codes "format") (words_of given.now) }
+{
+    let (file, text) = two_in(&given.arguments)?;
+    let bytes = number_of(text)?;
+    Some(Subcommand::Format {
+        file,
+        bytes,
+        is_sparse: given.is_sparse,
+    })
+}
+
+fn show_asked<'a>(given: &Given<'a>) -> Option<Subcommand<'a>>
+    ensures some { IfSome result (AskWith (codes "show") (words_of given.now)) }
+    ensures none { IsNone result → AskNothingWith (codes "show") (words_of given.now) }
+{
+    let file = one_in(&given.arguments)?;
+    Some(Subcommand::Show { file })
+}
+
+fn held_asked<'a>(given: &Given<'a>) -> Option<Subcommand<'a>>
+    ensures some { IfSome result (AskWith (codes "held") (words_of given.now)) }
+    ensures none { IsNone result → AskNothingWith (codes "held") (words_of given.now) }
+{
+    let file = one_in(&given.arguments)?;
+    Some(Subcommand::Held { file })
+}
+
+fn serve_asked<'a>(given: Given<'a>) -> Result<Subcommand<'a>, Refused>
+    ensures ok { IfOk result (AskWith (codes "serve") (words_of given.entry)) }
+    ensures number { IsErrOf result Refused.Number → AskNothingWith (codes "serve") (words_of given.entry) }
+    ensures threads { IsErrOf result Refused.Threads → HasOtherThreads (words_of given.entry) }
+    ensures memory { IsErrOf result Refused.Memory → HasOtherMemory (words_of given.entry) }
+    ensures origin { IsErrOf result Refused.Origin → HasOtherOrigin (words_of given.entry) }
+{
+    let are_served = are_origins(&given.origins);
+    match numbers_in(&given) {
+        Ok((file, port, threads, memory)) if are_served => {
+            let Given {
+                arguments,
+                origins,
+                threads: texts,
+                memory: bytes,
+                is_sparse: _,
+                until_eof,
+            } = given;
+            drop(arguments);
+            drop(texts);
+            drop(bytes);
+            Ok(Subcommand::Serve {
+                file,
+                port,
+                origins,
+                threads,
+                memory,
+                until_eof,
+            })
+        }
+        Ok(_) => {
+            drop(given);
+            Err(Refused::Origin)
+        }
+        Err(refused) => {
+            drop(given);
+            Err(refused)
+        }
+    }
+}
+
+fn are_origins(origins: &[&[u8]]) -> bool
+    ensures { result ≡ list_all is_origin (map (λ origin. origin.now) origins.now) }
+{
+    for origin in origins {
+        if !is_origin(origin) {
+            return false;
+        }
+    }
+    true
+}
+
+/// The file of a server, its port, how many threads it is to have, and how many bytes its clients may hold.
+fn numbers_in<'a>(given: &Given<'a>) -> Result<(&'a str, u16, Option<u16>, Option<u64>), Refused>
+    ensures file { IfOk result (λ it. AreFileAndNumber (words_of given.now).arguments it.0.now it.1 × (0 < it.1) × (it.1 < 2 ^ 16)) }
+    ensures ok { IfOk result (λ it. AskForThreads (words_of given.now).threads it.2 × AskForMemory (words_of given.now).memory it.3) }
+    ensures number { IsErrOf result Refused.Number → AskNothingWith (codes "serve") (words_of given.now) }
+    ensures threads { IsErrOf result Refused.Threads → HasOtherThreads (words_of given.now) }
+    ensures memory { IsErrOf result Refused.Memory → HasOtherMemory (words_of given.now) }
+    ensures origin { IsErrOf result Refused.Origin → ⊥ }
+{
+    let Some((file, port)) = file_and_port(&given.arguments) else {
+        return Err(Refused::Number);
+    };
+    let Some(threads) = threads_in(&given.threads) else {
+        return Err(Refused::Threads);
+    };
+    let Some(memory) = memory_in(&given.memory) else {
+        return Err(Refused::Memory);
+    };
+    Ok((file, port, threads, memory))
+}
+
+fn file_and_port<'a>(arguments: &[&'a str]) -> Option<(&'a str, u16)>
+    ensures some { IfSome result (λ it. AreFileAndNumber (map (λ word. word.now) arguments.now) it.0.now it.1 × (0 < it.1) × (it.1 < 2 ^ 16)) }
+    ensures none { IsNone result → (file : List ℕ) (port : ℕ) → AreFileAndNumber (map (λ word. word.now) arguments.now) file port → 0 < port → port < 2 ^ 16 → ⊥ }
+{
+    let (file, text) = two_in(arguments)?;
+    let port = port_of(text)?;
+    Some((file, port))
+}
+
+/// How many threads the texts ask for that are given for their number.
+fn threads_in(texts: &[&str]) -> Option<Option<u16>>
+    ensures some { IfSome result (AskForThreads (map (λ text. text.now) texts.now)) }
+    ensures none { IsNone result → (threads : Option ℕ) → AskForThreads (map (λ text. text.now) texts.now) threads → ⊥ }
+{
+    if texts.is_empty() {
+        return Some(None);
+    }
+    let text = one_in(texts)?;
+    let number = thread_number_of(text)?;
+    Some(Some(number))
+}
+
+/// How many bytes the texts ask for that are given for the memory of clients.
+fn memory_in(texts: &[&str]) -> Option<Option<u64>>
+    ensures some { IfSome result (AskForMemory (map (λ text. text.now) texts.now)) }
+    ensures none { IsNone result → (memory : Option ℕ) → AskForMemory (map (λ text. text.now) texts.now) memory → ⊥ }
+{
+    if texts.is_empty() {
+        return Some(None);
+    }
+    let only = one_in(texts)?;
+    let number = memory_number_of(only)?;
+    Some(Some(number))
+}
+
+/// The one argument.
+fn one_in<'a>(arguments: &[&'a str]) -> Option<&'a str>
+    ensures some { IfSome result (λ one. map (λ word. word.now) arguments.now ≡ one.now ∷ []) }
+    ensures none { IsNone result → length arguments.now ≢ 1 }
+{
+    if arguments.len() == 1 {
+        Some(arguments[0])
+    } else {
+        None
+    }
+}
+
+/// The two arguments.
+fn two_in<'a>(arguments: &[&'a str]) -> Option<(&'a str, &'a str)>
+    ensures some { IfSome result (λ two. map (λ word. word.now) arguments.now ≡ two.0.now ∷ two.1.now ∷ []) }
+    ensures none { IsNone result → length arguments.now ≢ 2 }
+{
+    if arguments.len() == 2 {
+        Some((arguments[0], arguments[1]))
+    } else {
+        None
+    }
+}
+
+/// The port that a text of decimal digits means: from 1 to 65,535.
+fn port_of(text: &str) -> Option<u16>
+    ensures some { IfSome result (λ port. IsNumber text.now port × (0 < port) × (port < 2 ^ 16)) }
+    ensures none { IfNone result ((port : ℕ) → IsNumber text.now port → 0 < port → 2 ^ 16 ≤ port) }
+{
+    match number_of(text) {
+        Some(number) if number > 0 => u16::try_from(number).ok(),
+        _ => None,
+    }
+}
+
+/// The number of threads that a text of decimal digits means: from 1 to 64.
+fn thread_number_of(text: &str) -> Option<u16>
+    ensures some { IfSome result (λ number. IsNumber text.now number × (0 < number) × (number ≤ 64)) }
+    ensures none { IfNone result ((number : ℕ) → IsNumber text.now number → 0 < number → 64 < number) }
+{
+    match number_of(text) {
+        Some(number) if number > 0 && number <= MOST_THREADS => u16::try_from(number).ok(),
+        _ => None,
+    }
+}
+
+/// The number of bytes for clients that a text of decimal digits means: 16,777,216 at least.
+fn memory_number_of(text: &str) -> Option<u64>
+    ensures some { IfSome result (λ number. IsNumber text.now number × (16777216 ≤ number) × (number < 2 ^ 64)) }
+    ensures none { IfNone result ((number : ℕ) → IsNumber text.now number → 16777216 ≤ number → 2 ^ 64 ≤ number) }
+{
+    match number_of(text) {
+        Some(number) if number >= LEAST_MEMORY => Some(number),
+        _ => None,
+    }
+}
+
+/// The number that a text of decimal digits means.
+fn number_of(text: &str) -> Option<u64>
+    ensures some { IfSome result (λ number. IsNumber text.now number × (number < 2 ^ 64)) }
+    ensures none { IfNone result ((number : ℕ) → IsNumber text.now number → 2 ^ 64 ≤ number) }
+{
+    match text.as_bytes() {
+        [b'+', ..] => None,
+        _ => text.parse::<u64>().ok(),
+    }
+}

@@ -1,0 +1,178 @@
+-- What a connection at a seat has appended of all that its client's bytes ask for.
+use Rattle.std.specs.Prelude.{◌≡◌, ◌⊎◌, ◌∷◌, ◌++◌, ℕ, List, [], Option, Some, None, option_map}
+use Rattle.std.specs.List.{AllByRecursion}
+use Rattle.command_core.specs.declared.command.Op.{Op}
+use Rattle.command_core.specs.declared.command.Op.TheVariants as ops
+use Rattle.command_core.specs.declared.command.End.TheVariants as ends
+use Rattle.claim_core.specs.Seats.{SessionSeatValue}
+use Rattle.session_core.specs.declared.act.Act.{Act}
+use Rattle.session_core.specs.declared.act.Act.TheVariants.{Do, Direct}
+use Rattle.session_core.specs.Sessions.{Hearing, Hears, IsOver, fresh}
+use Rattle.connection_core.specs.Connections.{ConnectionValue}
+use Rattle.connection_core.specs.Conversations.{IsDone, IsFinished, IsNext, asked}
+use Rattle.connection_core.specs.Footprints.{IsWithin}
+use Rattle.connection_core.specs.Stages.{Executes, IsEnding}
+use Rattle.connection_core.specs.Tasks.{all_of}
+use Rattle.connection_core.specs.declared.progress.Progress.{Progress}
+use Rattle.connection_core.specs.declared.progress.Progress.TheVariants.{New}
+use Rattle.connection_core.specs.declared.said.Wanted.{Wanted}
+use Rattle.connection_core.specs.declared.said.Wanted.TheVariants.{Append, Tell, Done, Rest}
+use Rattle.connection_core.specs.declared.ended.Ended.{Ended}
+use Rattle.connection_core.specs.declared.ended.Ended.TheVariants.{Bye, Lost, Bad, Stopped, Turns}
+use Rattle.connection_core.specs.declared.stage.Stage.{Stage}
+use Rattle.connection_core.specs.declared.stage.Stage.TheVariants.{Running, GivingUp, Closing, Parting, Leaving, Over}
+use Rattle.desk_core.specs.Conversations.{StaysOrEnds}
+use Rattle.desk_core.specs.Effects.{Effect, Does, commands_of, told_of, untold_of}
+use Rattle.desk_core.specs.Halting.{FindsEnd, HasHalted}
+use Rattle.desk_core.specs.Spending.{IsCut, Spends, ops_of, waiting_of}
+use Rattle.desk_core.specs.declared.pending.Pending.{Pending}
+use Rattle.desk_core.specs.declared.slot.Slot.{Slot}
+
+-- the session's end, which a connection asks for that is lost
+abbrev pub IsLoss : Act → Type 0
+IsLoss act = act ≡ Do (ops.End ends.Lost) None
+
+-- the act of what was wanted and is not done yet
+abbrev pub act_of : Wanted → List Act
+act_of (Append c) = Do c.op c.receipt ∷ []
+act_of (Tell frame) = Direct frame ∷ []
+act_of Done = []
+act_of Rest = []
+
+-- a command that is wanted is what the conversation has next
+abbrev pub IsAsked : Progress → Wanted → Type 0
+IsAsked p (Append c) = IsNext p c × (c ≡ asked p c.op c.receipt)
+IsAsked p wanted = Unit {0}
+
+-- it ends behind an ERROR
+abbrev pub IsBad : Ended → Type 0
+IsBad Bad = Unit {0}
+IsBad Bye = ⊥
+IsBad Lost = ⊥
+IsBad Stopped = ⊥
+IsBad Turns = ⊥
+
+-- it runs or is given up, or it ends since an ERROR was sent
+abbrev pub HasTold : Stage → Type 0
+HasTold Running = Unit {0}
+HasTold GivingUp = Unit {0}
+HasTold (Closing ended) = IsBad ended
+HasTold (Parting ended) = IsBad ended
+HasTold Leaving = ⊥
+HasTold (Over ended) = IsBad ended
+
+-- the RECEIPT of its DISCONNECT is waited for only once nothing more is appended
+abbrev pub IsLast : ConnectionValue → Type 0
+IsLast c = (c.last ≡ None) ⊎ IsFinished c.progress
+
+-- These bytes came of its client, and of all that they ask for this was done: what the first acts ask for, and where the connection
+-- was lost its session's end. While it runs no byte is left out, and while it may append no act is, but for those that are cut off
+-- since its session would pass its bytes; the others wait, the one that is wanted first. While it runs or is given up, and where
+-- it ends since an ERROR was sent, no frame was left untold. Where it ends, its session has: none was opened, its End was
+-- appended, or its client was sent an ERROR.
+pub record Lives (bytes : List ℕ) (effects : List Effect) (c : ConnectionValue) (wanted : Wanted) : Type 0 where
+  pub heard : List ℕ
+  pub unheard : List ℕ
+  pub whole : bytes ≡ heard ++ unheard
+  pub all : List Act
+  pub session : Hearing
+  pub hears : Hears fresh heard all session
+  pub asked_for : List Act
+  pub cut : List Act
+  pub halves : all ≡ asked_for ++ cut
+  pub losses : List Act
+  pub are_losses : AllByRecursion IsLoss losses
+  pub done : List Act
+  pub left : List Act
+  pub split : asked_for ++ losses ≡ done ++ (act_of wanted ++ (left ++ all_of c.acts))
+  pub cut_for : IsCut asked_for cut done (commands_of effects)
+  pub reached : Progress
+  pub does : Does New done effects reached
+  pub none_untold : HasTold c.stage → untold_of effects ≡ []
+  pub none_unheard : c.stage ≡ Running → unheard ≡ []
+  pub none_lost : c.stage ≡ Running → losses ≡ []
+  pub none_cut : c.stage ≡ Running → cut ≡ []
+  pub phase : c.stage ≡ Running → session.phase ≡ c.session.phase
+  pub rest : c.stage ≡ Running → (IsOver c.session.phase → ⊥) → session ≡ c.session
+  pub none_left : Executes c.stage → left ≡ []
+  pub stands : Executes c.stage → c.progress ≡ reached
+  pub next : Executes c.stage → IsAsked reached wanted
+  pub stood : StaysOrEnds reached c.progress
+  pub last : IsLast c
+  pub ended : IsEnding c.stage → IsDone c.progress
+
+-- what a slot's connection wants, where an entry waits for room
+abbrev pub wanted_of : {B : Type 0} → Option (Pending B) → Wanted
+wanted_of None = Rest
+wanted_of (Some pending) = Append pending.entry.command
+
+-- a slot has come so far, and keeps within its session's bytes
+abbrev pub LivesAt : {B : Type 0} → List ℕ → List Effect → Slot B → Type 0
+LivesAt bytes effects slot = Lives bytes effects slot.connection (wanted_of slot.pending) × Spends effects slot.connection (waiting_of slot.pending)
+
+-- Nothing of what is to be done has changed, and the connection neither runs nor appends where it did not before, nor ends before its
+-- session has.
+pub record Restaged (old new : ConnectionValue) : Type 0 where
+  pub acts : new.acts ≡ old.acts
+  pub session : new.stage ≡ Running → new.session ≡ old.session
+  pub runs : new.stage ≡ Running → old.stage ≡ Running
+  pub told : HasTold new.stage → HasTold old.stage
+  pub executes : Executes new.stage → Executes old.stage
+  pub progress : Executes new.stage → new.progress ≡ old.progress
+  pub footprint : new.footprint ≡ old.footprint
+  pub last : new.last ≡ old.last
+  pub stood : StaysOrEnds old.progress new.progress
+  pub ended : IsLast old → (IsEnding old.stage → IsDone old.progress) → IsEnding new.stage → IsDone new.progress
+
+-- the same, and it is not stopped where it was not before
+pub record Steady (old new : ConnectionValue) : Type 0 where
+  pub restaged : Restaged old new
+  pub halts : HasHalted new.stage → HasHalted old.stage
+
+-- A slot goes on so, with the bytes that its link says it received, and these effects.
+pub record Heeds {B L : Type 0} (received : L → Option (List ℕ)) (was : Slot B) (from : L) (is : Slot B) (to : L) (effects : List Effect) : Type 0 where
+  pub got : List ℕ
+  pub read : received to ≡ option_map (λ bytes. bytes ++ got) (received from)
+  pub lives : (bytes : List ℕ) (before : List Effect) → LivesAt bytes before was → LivesAt (bytes ++ got) (before ++ effects) is
+
+-- it goes on so with no effect, and is not stopped where it was not before
+pub record Idles {B L : Type 0} (received : L → Option (List ℕ)) (was : Slot B) (from : L) (is : Slot B) (to : L) : Type 0 where
+  pub heeds : Heeds received was from is to []
+  pub halts : HasHalted is.connection.stage → HasHalted was.connection.stage
+
+-- This is what the first of all acts ask for that those bytes ask for: of the first bytes, where the others came once
+-- nothing more was heard; and behind them the session's end, where the connection was lost. Behind each command the session keeps
+-- within its bytes, and acts are cut off only from a command on that would have it pass them.
+pub record Did (bytes : List ℕ) (effects : List Effect) : Type 0 where
+  pub heard : List ℕ
+  pub unheard : List ℕ
+  pub whole : bytes ≡ heard ++ unheard
+  pub all : List Act
+  pub session : Hearing
+  pub hears : Hears fresh heard all session
+  pub asked_for : List Act
+  pub cut : List Act
+  pub halves : all ≡ asked_for ++ cut
+  pub losses : List Act
+  pub are_losses : AllByRecursion IsLoss losses
+  pub done : List Act
+  pub left : List Act
+  pub split : asked_for ++ losses ≡ done ++ left
+  pub cut_for : IsCut asked_for cut done (commands_of effects)
+  pub within : IsWithin (ops_of (commands_of effects))
+  pub reached : Progress
+  pub does : Does New done effects reached
+
+-- it goes on so from where it wants this, and this is counted beside what was appended, with these effects
+abbrev pub LivesOn : {B : Type 0} → Wanted → List Op → ConnectionValue → ConnectionValue → Option (Pending B) → List Effect → Type 0
+LivesOn wanted waiting old new pending effects =
+    (bytes : List ℕ) (before : List Effect) → Lives bytes before old wanted → Spends before old waiting
+    → Lives bytes (before ++ effects) new (wanted_of pending) × Spends (before ++ effects) new (waiting_of pending)
+
+-- with the commands that its seat got, and no frame
+pub record DoesWanted {B : Type 0} (wanted : Wanted) (waiting : List Op) (old : ConnectionValue) (was : SessionSeatValue) (new : ConnectionValue) (pending : Option (Pending B)) (is : SessionSeatValue) : Type 0 where
+  pub effects : List Effect
+  pub added : is.own ≡ was.own ++ commands_of effects
+  pub none_told : told_of effects ≡ []
+  pub halts : HasHalted new.stage → HasHalted old.stage ⊎ FindsEnd is
+  pub lives : LivesOn wanted waiting old new pending effects

@@ -1,0 +1,65 @@
+//! A socket whose reads and writes end with the step.
+
+use std::io;
+use std::io::{ErrorKind, Read, Write};
+use std::net::TcpStream;
+use std::time::{Clock, Duration, Instant};
+
+/// How many seconds a step may take.
+pub const STEP_SECONDS: u64 = 5;
+
+/// A socket whose reads and writes fail once five seconds of its step have passed: with `WouldBlock` if they waited until then, else
+/// with `TimedOut`. So a peer that says one byte after the other gets no more time.
+#[derive(Drop)]
+pub struct Timed<R> {
+    socket: TcpStream,
+    clock: R,
+    began: Instant,
+}
+
+impl<R: Clock + Drop> Timed<R> {
+    /// That socket, whose step begins now.
+    pub fn new(clock: R, socket: TcpStream) -> io::Result<Timed<R>> {
+        let began = Instant::now(&clock)?;
+        Ok(Timed {
+            socket,
+            clock,
+            began,
+        })
+    }
+
+    /// Begins another step.
+    pub fn begin(&mut self) -> io::Result<()> {
+        self.began = Instant::now(&self.clock)?;
+        Ok(())
+    }
+
+    // What is left of the step's time. The system takes no time of zero.
+    fn left(&self) -> io::Result<Duration> {
+        let passed = self.began.elapsed(&self.clock)?;
+        match Duration::from_secs(STEP_SECONDS).checked_sub(passed) {
+            Some(left) if !left.is_zero() => Ok(left),
+            _ => Err(io::Error::from(ErrorKind::TimedOut)),
+        }
+    }
+}
+
+impl<R: Clock + Drop> Read for Timed<R> {
+    fn read(&mut self, buf: &mut [u8]) -> io::Result<usize> {
+        let left = self.left()?;
+        self.socket.set_read_timeout(Some(left))?;
+        self.socket.read(buf)
+    }
+}
+
+impl<R: Clock + Drop> Write for Timed<R> {
+    fn write(&mut self, buf: &[u8]) -> io::Result<usize> {
+        let left = self.left()?;
+        self.socket.set_write_timeout(Some(left))?;
+        self.socket.write(buf)
+    }
+
+    fn flush(&mut self) -> io::Result<()> {
+        self.socket.flush()
+    }
+}

@@ -1,0 +1,3 @@
+pub mod Answers
+pub mod Talks
+pub mod Texts

@@ -1,0 +1,64 @@
+-- What a ping and its peer say to each other.
+use Rattle.std.specs.Prelude.{◌≡◌, List, [], ◌∷◌, ◌++◌, ℕ, Option, None, Some, true, map, ⊤}
+use Rattle.std.specs.List.{flat_map}
+use Rattle.ping_core.specs.Answers.{Breaks, Hears, said, step_of}
+use Rattle.ping_core.specs.declared.fault.Cause.{Cause}
+use Rattle.ping_core.specs.declared.fault.Cause.TheVariants.{Error, Other, NotStomp}
+use Rattle.ping_core.specs.declared.fault.PingFault.{PingFault}
+use Rattle.ping_core.specs.declared.stage.Stage.{Stage}
+use Rattle.ping_core.specs.declared.stage.Stage.TheVariants.{Connect, Send, Disconnect}
+
+-- the ping has said a frame, or heard a piece of what the peer says
+pub data Spoken : Type 0 where
+  Said : List ℕ → Spoken
+  Heard : List ℕ → Spoken
+
+-- a talk that is told goes on by this
+abbrev pub Adds : List Spoken → Option (List Spoken) → Option (List Spoken) → Type 0
+Adds more None after = ⊤
+Adds more (Some before) None = ⊥
+Adds more (Some before) (Some after) = after ≡ before ++ more
+
+-- the cause is none that a frame is, or bytes that are no frame
+abbrev pub IsOfPeer : Cause → Type 0
+IsOfPeer (Error text) = ⊥
+IsOfPeer (Other verb) = ⊥
+IsOfPeer NotStomp = ⊥
+IsOfPeer _ = Unit {0}
+
+-- the bytes of pieces
+abbrev pub all_of : List (List ℕ) → List ℕ
+all_of pieces = flat_map (λ piece. piece) pieces
+
+-- the pieces are one frame, which answers, and perhaps the beginning of one more, however they are cut
+abbrev pub IsAnswered : Stage → List (List ℕ) → Type 0
+IsAnswered stage pieces = (rest : List ℕ) × Hears stage (all_of pieces) rest true
+
+-- what is said at a stage, and the pieces that are heard then
+abbrev pub turn : Stage → List (List ℕ) → List Spoken
+turn stage pieces = Said (said stage) ∷ map Heard pieces
+
+-- what is said at that stage is answered
+abbrev pub Answers : Stage → Option (List Spoken) → Option (List Spoken) → Type 0
+Answers stage before after = (pieces : List (List ℕ)) × Adds (turn stage pieces) before after × IsAnswered stage pieces
+
+-- what is said at that stage is not answered, for that cause, which the pieces are
+abbrev pub Refuses : Stage → Cause → Option (List Spoken) → Option (List Spoken) → Type 0
+Refuses stage cause before after = (pieces : List (List ℕ)) × Adds (turn stage pieces) before after × Breaks stage (all_of pieces) cause
+
+-- the talk that leads to a stage: what is said before it is answered
+abbrev pub Leads : Stage → List Spoken → Type 0
+Leads Connect talk = talk ≡ []
+Leads Send talk = (one : List (List ℕ)) × (talk ≡ turn Connect one) × IsAnswered Connect one
+Leads Disconnect talk = (one : List (List ℕ)) × (two : List (List ℕ)) × (talk ≡ turn Connect one ++ turn Send two) × IsAnswered Connect one × IsAnswered Send two
+
+-- the whole conversation: CONNECT, SEND and DISCONNECT, each said once the one before is answered, and answered
+abbrev pub Converses : Option (List Spoken) → Option (List Spoken) → Type 0
+Converses before after =
+    (talk : List Spoken) × (last : List (List ℕ)) × Leads Disconnect talk × Adds (talk ++ turn Disconnect last) before after × IsAnswered Disconnect last
+
+-- At the stage of a fault's step what was heard is no answer, for the fault's cause; all that was said before is answered.
+abbrev pub BreaksOff : PingFault → Option (List Spoken) → Option (List Spoken) → Type 0
+BreaksOff fault before after =
+    (stage : Stage) × (talk : List Spoken) × (last : List (List ℕ)) × (fault.step ≡ step_of stage) × Leads stage talk
+    × Adds (talk ++ turn stage last) before after × Breaks stage (all_of last) fault.cause

@@ -1,0 +1,35 @@
+-- What is told of a ping that was not answered.
+use Rattle.std.specs.Prelude.{List, ℕ, ◌++◌, codes}
+use Rattle.std.specs.Fmt.{decimal}
+use Rattle.frame_core.specs.Verbs.{name_of}
+use Rattle.ping_core.specs.declared.fault.Cause.{Cause}
+use Rattle.ping_core.specs.declared.fault.Cause.TheVariants.{Unserved, Late, Status, NotWebSocket, Closed, Ended, Error, Other, NotStomp, Memory, System}
+use Rattle.ping_core.specs.declared.fault.PingFault.{PingFault}
+use Rattle.ping_core.specs.declared.fault.Step.{Step}
+use Rattle.ping_core.specs.declared.fault.Step.TheVariants.{Connection, Handshake, Connected, Receipt, Farewell, Close}
+
+-- what did not come
+abbrev pub step_text : Step → List ℕ
+step_text Connection = codes "no connection: "
+step_text Handshake = codes "no handshake: "
+step_text Connected = codes "no CONNECTED: "
+step_text Receipt = codes "no RECEIPT: "
+step_text Farewell = codes "no RECEIPT of the DISCONNECT: "
+step_text Close = codes "no close: "
+
+-- why it did not come
+abbrev pub cause_text : Cause → List ℕ
+cause_text Unserved = codes "nobody listens there"
+cause_text Late = codes "no answer within 5 s"
+cause_text (Status status) = codes "HTTP status " ++ decimal status
+cause_text NotWebSocket = codes "what came is no WebSocket"
+cause_text (Closed code) = codes "closed with " ++ decimal code
+cause_text Ended = codes "the connection has ended"
+cause_text (Error text) = codes "ERROR: " ++ text
+cause_text (Other verb) = name_of verb ++ codes " came"
+cause_text NotStomp = codes "what came is no STOMP"
+cause_text Memory = codes "out of memory"
+cause_text System = codes "the system refuses it"
+
+abbrev pub ping_text : PingFault → List ℕ
+ping_text fault = step_text fault.step ++ cause_text fault.cause

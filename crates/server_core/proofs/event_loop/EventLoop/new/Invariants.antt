@@ -1,0 +1,12 @@
+use Rattle.std.proofs.Common.{◌≡◌, ◌+◌, ◌≤◌, vec_capacity, vec_len}
+use Rattle.server_core.specs.Serving.{AreAt, AreServed}
+use Rattle.server_core.proofs.event_loop.EventLoop.new.Given as goal
+
+abbrev pub invariant-loop-desk : goal.invariant-loop-desk
+invariant-loop-desk g l = record {
+  at : AreAt l.shared.ring l.seats.items;
+  served : AreServed l.shared.ring l.services.items;
+  here : vec_len l.services + vec_len l.seats ≤ vec_capacity l.services;
+  count : vec_len l.services + vec_len l.seats ≡ vec_len l.fn.seats;
+  room : vec_len l.services + vec_len l.seats ≤ vec_capacity l.seats;
+}

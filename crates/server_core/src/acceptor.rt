@@ -1,0 +1,131 @@
+//! Where clients come in, and how they are handed to desks.
+
+ghost use Rattle.std.specs.Prelude.{◌≡◌, [], IfSome, IsNone};
+ghost use Rattle.server_core.specs.Handing.{IsFewest};
+
+use crate::ending::Ending;
+use crate::log_thread::LogThread;
+use crate::mailbox::{Arrival, Mailbox};
+use event_log::Kind;
+use limits_core::SEATS;
+use serve_faults::{ServeFault, Unopened};
+use std::net::{Net, TcpListener, TcpStream};
+use std::sync::{Arc, Wait};
+use std::thread;
+use std::time::{Clock, Duration};
+
+/// For how many milliseconds nobody is accepted where a connection was not.
+const REST: u64 = 20;
+
+/// Where clients come in, the mailboxes of the desks that get them, and how many clients the server takes.
+#[derive(Drop)]
+pub(crate) struct Acceptor<R> {
+    rt: R,
+    listener: TcpListener,
+    mailboxes: Vec<Arc<Mailbox>>,
+    most_clients: u64,
+    ending: Arc<Ending>,
+    log: Arc<LogThread>,
+}
+
+impl<R> Acceptor<R> {
+    /// Where clients come in by this listener.
+    pub(crate) fn new(
+        rt: R,
+        listener: TcpListener,
+        mailboxes: Vec<Arc<Mailbox>>,
+        most_clients: u64,
+        ending: Arc<Ending>,
+        log: Arc<LogThread>,
+    ) -> Acceptor<R> {
+        Acceptor {
+            rt,
+            listener,
+            mailboxes,
+            most_clients,
+            ending,
+            log,
+        }
+    }
+
+    /// How many clients the server takes.
+    pub(crate) fn most_clients(&self) -> u64 {
+        self.most_clients
+    }
+
+    /// How many clients there are.
+    pub(crate) fn clients(&self) -> u64 {
+        let mut total = 0u64;
+        for mailbox in &self.mailboxes {
+            total = total.saturating_add(mailbox.clients());
+        }
+        total
+    }
+}
+
+/// Opens the port at 127.0.0.1. `Port` if the system refuses it.
+pub(crate) fn listen<R: Net<Listener = TcpListener, Stream = TcpStream>>(
+    net: &R,
+    port: u16,
+) -> Result<TcpListener, ServeFault> {
+    match TcpListener::bind(net, ("127.0.0.1", port)) {
+        Ok(listener) => Ok(listener),
+        Err(error) => Err(ServeFault::Port(Unopened::by(error.kind()))),
+    }
+}
+
+impl<R: Wait + Clock> Acceptor<R> {
+    /// Accepts clients and hands each to the desk that has the fewest, until the server is asked to end: whoever comes then is let
+    /// go.
+    pub(crate) fn accept_all(&self) {
+        for _client in self.rt.forever() {
+            match self.listener.accept() {
+                Ok((socket, _)) if self.ending.is_asked() => drop(socket),
+                Ok((socket, _)) => self.hand_out(socket),
+                Err(_) => {
+                    self.log.count(Kind::NotAccepted);
+                    thread::sleep(&self.rt, Duration::from_millis(REST));
+                }
+            }
+        }
+    }
+
+    // Hands a client to the desk that has the fewest. If as many are there as the server takes, it is only to be told that.
+    fn hand_out(&self, socket: TcpStream) {
+        let mut counts = [0u64; SEATS];
+        let total = count(&self.mailboxes, &mut counts);
+        let workers = self.mailboxes.len().min(SEATS);
+        let is_full = total >= self.most_clients;
+        let Some(at) = fewest(&counts[..workers]) else {
+            drop(socket);
+            return;
+        };
+        self.mailboxes[at].hand(&self.rt, Arrival { socket, is_full });
+    }
+}
+
+// Counts the clients of each desk, and answers how many all have.
+fn count(mailboxes: &[Arc<Mailbox>], counts: &mut [u64; SEATS]) -> u64 {
+    let mut total = 0u64;
+    for (mailbox, count) in mailboxes.iter().zip(counts.iter_mut()) {
+        *count = mailbox.clients();
+        total = total.saturating_add(*count);
+    }
+    total
+}
+
+// The place of the least of these counts, the first of several; `None` where there are none.
+fn fewest(counts: &[u64]) -> Option<usize>
+    ensures fewest { IfSome result (IsFewest counts.now) }
+    ensures none { IsNone result → counts.now ≡ [] }
+{
+    let mut least = *counts.first()?;
+    let mut at = 0;
+    for (place, count) in counts.iter().enumerate() {
+        if *count < least {
+            least = *count;
+            at = place;
+        }
+    }
+    Some(at)
+}

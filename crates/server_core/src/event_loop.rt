@@ -1,0 +1,349 @@
+//! What a worker does: it waits for the clients of its desks, and serves them in turn.
+
+ghost use Rattle.std.specs.Prelude.{◌≡◌, ◌<◌, ◌≤◌, ◌+◌, [], IfOk, length, vec_len, vec_capacity};
+ghost use Rattle.atomic_table.specs.Seated.{TableId};
+ghost use Rattle.server_core.specs.Serving.{AreAt, AreBack, AreServed};
+
+use crate::doorbell::Doorbell;
+use crate::mailbox::Mailbox;
+use crate::service::{Service, client_of};
+use crate::shared::{ServerSeat, Shared};
+use crate::worker_setup::{WorkerSetup, room_for_events};
+use client_schedule::{Clients, Watch, told_by};
+use mio::{Events, Poll, Registry};
+use std::alloc::{AllocError, Global};
+use std::marker::Model;
+use std::sync::{Arc, Wait};
+use std::thread;
+use std::time::{Clock, Duration};
+
+/// For how many milliseconds a worker waits at most before it looks again. Nothing waits for this to end.
+const LONGEST_SLEEP: u64 = 10_000;
+
+/// For how many milliseconds a worker waits at most, once the server ends, for clients to take what is theirs and to close.
+const LONGEST_FAREWELL: u64 = 2_000;
+
+/// For how many milliseconds it waits at most before it looks again whether that time is over, or, while all clients together hold more
+/// memory than they may, whether one of its own holds most.
+const LONGEST_LOOK: u64 = 250;
+
+/// For how many milliseconds a worker rests to which memory was refused before it has begun, before it tries again.
+const SHORTAGE: u64 = 20;
+
+/// A worker at work: the desks that it serves, and what it waits by. Contracts see the ring, and how many seats it has.
+#[derive(Drop)]
+pub(crate) struct EventLoop<'a, R: Drop> {
+    shared: &'a Shared<R>,
+    bell: Arc<Doorbell>,
+    poll: Poll,
+    events: Events<Global>,
+    services: Vec<Service<'a, R>>,
+    // Seats that no desk has, and room for all the others.
+    seats: Vec<ServerSeat>,
+    watch: Watch,
+    // The moment of this round, in milliseconds of the watch.
+    now: u64,
+    // Since when it parts with its clients, once the server ends.
+    parting: Option<u64>,
+}
+
+impl<'a, R: Drop> Model for EventLoop<'a, R> {
+    ghost use Rattle.std.specs.Prelude.{◌≤◌, ◌+◌, vec_len, vec_capacity};
+    ghost use Rattle.server_core.specs.Serving.{AreAt, AreServed, LoopValue};
+
+    ghost Value = { LoopValue };
+
+    ghost view = { λ a. record { ring = a.shared.now.ring; count = vec_len a.services + vec_len a.seats } };
+
+    ghost invariant = { λ a. AreServed a.shared.now.ring a.services.items × AreAt a.shared.now.ring a.seats.items × (vec_len a.services + vec_len a.seats ≤ vec_capacity a.seats) };
+}
+
+impl<'a, R: Wait + Clock + Drop> EventLoop<'a, R> {
+    /// That of the worker with these seats and this setup. If memory is refused, it tries again in a while.
+    pub(crate) fn new(
+        alloc: Global,
+        shared: &'a Shared<R>,
+        seats: Vec<ServerSeat>,
+        setup: WorkerSetup,
+    ) -> EventLoop<'a, R>
+        requires { AreAt shared.now.ring seats.items }
+        ensures { result ≡ record { ring = shared.now.ring; count = vec_len seats } }
+    {
+        let WorkerSetup {
+            poll,
+            bell,
+            mailboxes,
+        } = setup;
+        let (mut seats, mut mailboxes) = (seats, mailboxes);
+        let Room {
+            events,
+            clients,
+            services,
+        } = room_for(alloc, &shared.rt, seats.len());
+        let (mut clients, mut services) = (clients, services);
+        for _desk in 0..seats.len() {
+            let (Some(mailbox), Some(clients)) = (mailboxes.pop(), clients.pop()) else {
+                break;
+            };
+            add_service(alloc, shared, &mut services, &mut seats, mailbox, clients);
+        }
+        drop(mailboxes);
+        drop(clients);
+        let now = shared.moment();
+        EventLoop {
+            shared,
+            bell,
+            poll,
+            events,
+            services,
+            seats,
+            watch: Watch::new(now),
+            now,
+            parting: None,
+        }
+    }
+
+    /// The seats, with all that was said at them. Clients that are left are let go.
+    pub(crate) fn into_seats(self) -> Vec<ServerSeat>
+        ensures { AreBack self.entry.ring self.entry.count result.items }
+    {
+        let EventLoop {
+            shared: _,
+            bell,
+            poll,
+            events,
+            services,
+            seats,
+            watch: _,
+            now: _,
+            parting: _,
+        } = self;
+        drop(events);
+        drop(poll);
+        drop(bell);
+        let (mut seats, mut services) = (seats, services);
+        for _desk in 0..services.len() {
+            take_back(&mut services, &mut seats);
+        }
+        drop(services);
+        seats
+    }
+
+    /// Whether the server has ended for it: it parts with its clients, and has none any more, or has waited for them long enough.
+    pub(crate) fn is_over(&self) -> bool {
+        match self.parting {
+            Some(since) => {
+                self.now.saturating_sub(since) >= LONGEST_FAREWELL
+                    || self.services.iter().all(|service| service.is_empty())
+            }
+            None => false,
+        }
+    }
+
+    /// Waits until there is something to do, gives each client that is ready its turns, and then looks who took too long: what has come
+    /// from a client is heard before that.
+    pub(crate) fn round(&mut self)
+        ensures { self.new ≡ self.old }
+    {
+        self.wait();
+        let was_rung = self.bell.wakes_up();
+        hear_events(&self.events, &mut self.services, self.now);
+        begin_all(&mut self.services, self.poll.registry(), was_rung, self.now);
+        self.serve();
+        end_all(&mut self.services);
+        if self.parting.is_none() && self.shared.wakeups.has_end_begun() {
+            self.parting = Some(self.now);
+            part_with_all(&mut self.services);
+        }
+    }
+
+    // Waits for its sockets and its bell, unless a client is ready.
+    fn wait(&mut self)
+        ensures { self.new ≡ self.old }
+    {
+        let awaits_mark = self.services.iter().any(|service| service.awaits_mark());
+        if awaits_mark {
+            self.shared.wakeups.begin_to_wait(&self.bell);
+        }
+        let longest = self.longest_wait();
+        let _ = self
+            .poll
+            .poll(&mut self.events, Some(Duration::from_millis(longest)));
+        if awaits_mark {
+            self.shared.wakeups.end_to_wait(&self.bell);
+        }
+        self.watch.go_on(self.shared.moment(), longest);
+        self.now = self.watch.now();
+    }
+
+    // For how many milliseconds it may wait. Whoever has something for it from then on, wakes it.
+    fn longest_wait(&self) -> u64 {
+        if self.is_ready() || !self.bell.falls_asleep() {
+            return 0;
+        }
+        // The mark is read once the flusher can see that it is waited for.
+        let mark = self.shared.wakeups.mark();
+        let mut until = u64::MAX;
+        for service in &self.services {
+            if service.is_over(mark) {
+                return 0;
+            }
+            until = until.min(service.until());
+        }
+        let longest = if self.parting.is_some() || self.shared.memory.is_over() {
+            LONGEST_LOOK
+        } else {
+            LONGEST_SLEEP
+        };
+        longest.min(until.saturating_sub(self.now).saturating_add(1))
+    }
+
+    // Whether a client stands in line for a turn.
+    fn is_ready(&self) -> bool {
+        self.services.iter().any(|service| service.is_ready())
+    }
+
+    // Gives those that stand in line their turns.
+    fn serve(&mut self)
+        ensures { self.new ≡ self.old }
+    {
+        pass_all(&mut self.services);
+    }
+}
+
+/// The room that a worker needs, which it makes itself: no other thread ever has it.
+#[derive(Drop)]
+struct Room<'a, R: Drop> {
+    events: Events<Global>,
+    // Those of each desk: there are none yet.
+    clients: Vec<Clients>,
+    // Room for the services of all desks.
+    services: Vec<Service<'a, R>>,
+}
+
+impl<'a, R: Drop> Room<'a, R> {
+    // That of a worker with so many desks.
+    fn new(alloc: Global, desks: usize) -> Result<Room<'a, R>, AllocError>
+        ensures { IfOk result (λ room. (room.services.items ≡ []) × (desks ≤ vec_capacity room.services)) }
+    {
+        let mut clients = Vec::with_capacity(alloc, desks)?;
+        for _desk in 0..desks {
+            clients.push(Clients::new(alloc)?)?;
+        }
+        Ok(Room {
+            events: room_for_events(alloc)?,
+            clients,
+            services: Vec::with_capacity(alloc, desks)?,
+        })
+    }
+}
+
+// The room of a worker with so many desks. If memory is refused for it, it tries again in a while.
+fn room_for<'a, R: Wait + Clock + Drop>(alloc: Global, rt: &R, desks: usize) -> Room<'a, R>
+    ensures { (result.services.items ≡ []) × (desks ≤ vec_capacity result.services) }
+{
+    for _attempt in rt.forever() {
+        match Room::new(alloc, desks) {
+            Ok(room) => return room,
+            Err(_) => thread::sleep(rt, Duration::from_millis(SHORTAGE)),
+        }
+    }
+    unreachable!()
+}
+
+// The next seat has a desk with this mailbox and these clients, if there is a seat.
+fn add_service<'a, R: Wait + Clock + Drop>(
+    alloc: Global,
+    shared: &'a Shared<R>,
+    services: &mut Vec<Service<'a, R>>,
+    seats: &mut Vec<ServerSeat>,
+    mailbox: Arc<Mailbox>,
+    clients: Clients,
+)
+    requires at { AreAt shared.now.ring seats.old.items }
+    requires room { vec_len services.old + vec_len seats.old ≤ vec_capacity services.old }
+    ensures at { AreAt shared.now.ring seats.new.items }
+    ensures served { AreServed shared.now.ring services.old.items → AreServed shared.now.ring services.new.items }
+    ensures count { vec_len services.new + vec_len seats.new ≡ vec_len services.old + vec_len seats.old }
+    ensures room { (vec_capacity services.new ≡ vec_capacity services.old) × (vec_capacity seats.new ≡ vec_capacity seats.old) }
+{
+    let number = services.len();
+    if let Some(seat) = seats.pop() {
+        services.push_reserved(Service::new(alloc, shared, seat, mailbox, number, clients));
+    }
+}
+
+// The seat of the last desk comes back, if there is one.
+fn take_back<R: Wait + Clock + Drop>(
+    services: &mut Vec<Service<'_, R>>,
+    seats: &mut Vec<ServerSeat>,
+)
+    requires room { vec_len services.old + vec_len seats.old ≤ vec_capacity seats.old }
+    ensures count { vec_len services.new + vec_len seats.new ≡ vec_len services.old + vec_len seats.old }
+    ensures one { 0 < vec_len services.old → vec_len services.old ≡ vec_len services.new + 1 }
+    ensures room { vec_capacity seats.new ≡ vec_capacity seats.old }
+    ensures served { (ring : TableId) → AreServed ring services.old.items → AreServed ring services.new.items }
+    ensures at { (ring : TableId) → AreServed ring services.old.items → AreAt ring seats.old.items → AreAt ring seats.new.items }
+{
+    if let Some(service) = services.pop() {
+        seats.push_reserved(service.into_seat());
+    }
+}
+
+// Has those stand in line of whose sockets the poll told anything, and their streams hear it.
+fn hear_events<R: Wait + Clock + Drop>(
+    events: &Events<Global>,
+    services: &mut Vec<Service<'_, R>>,
+    now: u64,
+)
+    ensures ring { (ring : TableId) → AreServed ring services.old.items → AreServed ring services.new.items }
+    ensures count { vec_len services.new ≡ vec_len services.old }
+{
+    for event in events.iter() {
+        let (desk, client) = client_of(event.token());
+        if desk < services.len() {
+            services[desk].hear_of(client, told_by(event), now);
+        }
+    }
+}
+
+fn begin_all<R: Wait + Clock + Drop>(
+    services: &mut Vec<Service<'_, R>>,
+    registry: &Registry,
+    was_rung: bool,
+    now: u64,
+)
+    ensures ring { (ring : TableId) → AreServed ring services.old.items → AreServed ring services.new.items }
+    ensures count { vec_len services.new ≡ vec_len services.old }
+{
+    for desk in 0..services.len() {
+        services[desk].begin(registry, was_rung, now);
+    }
+}
+
+fn pass_all<R: Wait + Clock + Drop>(services: &mut Vec<Service<'_, R>>)
+    ensures ring { (ring : TableId) → AreServed ring services.old.items → AreServed ring services.new.items }
+    ensures count { vec_len services.new ≡ vec_len services.old }
+{
+    for desk in 0..services.len() {
+        services[desk].pass();
+    }
+}
+
+fn end_all<R: Wait + Clock + Drop>(services: &mut Vec<Service<'_, R>>)
+    ensures ring { (ring : TableId) → AreServed ring services.old.items → AreServed ring services.new.items }
+    ensures count { vec_len services.new ≡ vec_len services.old }
+{
+    for desk in 0..services.len() {
+        services[desk].end();
+    }
+}
+
+fn part_with_all<R: Wait + Clock + Drop>(services: &mut Vec<Service<'_, R>>)
+    ensures ring { (ring : TableId) → AreServed ring services.old.items → AreServed ring services.new.items }
+    ensures count { vec_len services.new ≡ vec_len services.old }
+{
+    for desk in 0..services.len() {
+        services[desk].part_with_all();
+    }
+}

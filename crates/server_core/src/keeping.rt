@@ -1,0 +1,57 @@
+//! How the clients of a desk keep to the memory that all may hold together.
+
+ghost use Rattle.std.specs.Prelude.{◌≡◌};
+
+use crate::service::Service;
+use client_schedule::CLIENTS;
+use event_log::Kind;
+use memory_budget::PLACES;
+use std::sync::Wait;
+use std::time::Clock;
+
+const _: () = prove!(PLACES == CLIENTS);
+
+impl<'a, R: Wait + Clock + Drop> Service<'a, R> {
+    /// Counts that a client holds so many bytes. If all clients hold more than they may by this, each worker looks whether it is one of its
+    /// own that holds most.
+    pub(crate) fn count(&mut self, number: usize, holds: u64)
+        ensures shared { self.new.shared ≡ self.old.shared }
+    {
+        if number >= PLACES {
+            return;
+        }
+        let held = self.held.set(number, holds);
+        if held == holds {
+            return;
+        }
+        if self.shared.memory.count(held, holds) {
+            self.shared.wakeups.ring_all();
+        }
+        self.mailbox.say_most(self.held.most());
+    }
+
+    /// Gives up the client that holds most of all, if it is one of its own. It counts for nothing from then on. The workers look again if
+    /// all clients still hold more than they may.
+    pub(crate) fn give_up_most(&mut self)
+        ensures shared { self.new.shared ≡ self.old.shared }
+    {
+        let holdings = self.shared.memory.holdings(self.mailbox.desk());
+        let Some(number) = holdings.given_up(self.held.bytes()) else {
+            return;
+        };
+        self.count(number, 0);
+        if let Some(place) = self.place_of(number) {
+            self.shared.wakeups.log().count(Kind::TookMost);
+            self.desk.lose(place);
+            self.clients.wake(number);
+        }
+        if self.shared.memory.is_over() {
+            self.shared.wakeups.ring_all();
+        }
+    }
+
+    // The place at the desk of a client that has one.
+    fn place_of(&self, number: usize) -> Option<usize> {
+        self.clients.get(number)?.place()
+    }
+}

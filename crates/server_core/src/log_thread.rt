@@ -1,0 +1,187 @@
+//! What takes lines for the operator, and writes them in a thread of its own.
+
+use crate::acceptor::Acceptor;
+use crossbeam_queue::ArrayQueue;
+use event_log::{Event, Figures, KINDS, Kind, Rhythm, write_line};
+use flush_core::Tally;
+use std::alloc::{AllocError, Global};
+use std::io::Write;
+use std::sync::Wait;
+use std::sync::atomic::{AtomicU64, Ordering};
+use std::thread::Parker;
+use std::time::{Clock, Duration};
+
+/// How many lines wait at most to be told. If nobody reads what is told, the later ones are left out, and counted.
+const UNTOLD: usize = 64;
+
+/// For how many milliseconds it waits at most while something is counted that was not told yet, and while nothing is.
+const SHORT: u64 = 1_000;
+
+const LONG: u64 = 60_000;
+
+/// Takes what happens from the other threads, which never wait for it, and tells it in a thread of its own: events at once, what is
+/// counted once a second at most, and how the server does once a minute at most, if it did something.
+#[derive(Drop)]
+pub(crate) struct LogThread {
+    untold: ArrayQueue<Event>,
+    counts: [AtomicU64; KINDS],
+    // What the flusher said last: how many commands the journal counts, how many frames were published, how many of these say that there
+    // is no room, and how many bytes are held, and used.
+    commands: AtomicU64,
+    frames: AtomicU64,
+    no_room: AtomicU64,
+    held: AtomicU64,
+    used: AtomicU64,
+    thread: Parker,
+}
+
+impl LogThread {
+    pub(crate) fn new(alloc: Global) -> Result<LogThread, AllocError> {
+        Ok(LogThread {
+            untold: ArrayQueue::new(alloc, UNTOLD)?,
+            counts: [
+                AtomicU64::new(0),
+                AtomicU64::new(0),
+                AtomicU64::new(0),
+                AtomicU64::new(0),
+                AtomicU64::new(0),
+                AtomicU64::new(0),
+                AtomicU64::new(0),
+                AtomicU64::new(0),
+                AtomicU64::new(0),
+                AtomicU64::new(0),
+                AtomicU64::new(0),
+                AtomicU64::new(0),
+                AtomicU64::new(0),
+                AtomicU64::new(0),
+                AtomicU64::new(0),
+            ],
+            commands: AtomicU64::new(0),
+            frames: AtomicU64::new(0),
+            no_room: AtomicU64::new(0),
+            held: AtomicU64::new(0),
+            used: AtomicU64::new(0),
+            thread: Parker::new(),
+        })
+    }
+
+    /// Has an event told, unless as many wait as can.
+    pub(crate) fn note<R: Wait>(&self, rt: &R, event: Event) {
+        match self.untold.push(rt, event) {
+            Ok(()) => self.thread.unpark(),
+            Err(_) => self.count(Kind::LeftOut),
+        }
+    }
+
+    /// Counts something.
+    pub(crate) fn count(&self, kind: Kind) {
+        self.count_more(kind, 1);
+    }
+
+    fn count_more(&self, kind: Kind, more: u64) {
+        if more > 0 && self.counts[kind.place()].fetch_add(more, Ordering::SeqCst) == 0 {
+            self.thread.unpark();
+        }
+    }
+
+    /// Says how many commands the journal counts, what was published so far, how many bytes of messages are held, and how many of its
+    /// area are used.
+    pub(crate) fn figures(&self, commands: u64, tally: Tally, held: u64, used: u64) {
+        self.commands.store(commands, Ordering::SeqCst);
+        self.frames.store(tally.frames, Ordering::SeqCst);
+        self.held.store(held, Ordering::SeqCst);
+        self.used.store(used, Ordering::SeqCst);
+        let before = self.no_room.swap(tally.no_room, Ordering::SeqCst);
+        self.count_more(Kind::NoRoom, tally.no_room.saturating_sub(before));
+    }
+
+    /// Tells what comes. It does not return. A line that can't be written is left out.
+    pub(crate) fn run<R: Wait + Clock, W: Write>(
+        &self,
+        alloc: Global,
+        rt: &R,
+        acceptor: &Acceptor<R>,
+        writer: &mut W,
+    ) {
+        let mut rhythm = Rhythm::new(moment(rt));
+        let mut told = 0;
+        for _ in rt.forever() {
+            self.tell_events(alloc, rt, writer);
+            let now = moment(rt);
+            if self.has_counts() && rhythm.tells_counts(now) {
+                self.tell_counts(alloc, rt, writer);
+            }
+            if rhythm.tells_doing(now) {
+                told = self.tell_doing(alloc, rt, acceptor.clients(), told, writer);
+            }
+            let longest = if self.has_counts() { SHORT } else { LONG };
+            self.thread.park_timeout(rt, Duration::from_millis(longest));
+        }
+    }
+
+    fn tell_events<R: Wait + Clock, W: Write>(&self, alloc: Global, rt: &R, writer: &mut W) {
+        for _event in 0..UNTOLD {
+            match self.untold.pop(rt) {
+                Some(event) => tell(alloc, rt, event, writer),
+                None => return,
+            }
+        }
+    }
+
+    fn has_counts(&self) -> bool {
+        for count in &self.counts {
+            if count.load(Ordering::SeqCst) > 0 {
+                return true;
+            }
+        }
+        false
+    }
+
+    fn tell_counts<R: Clock, W: Write>(&self, alloc: Global, rt: &R, writer: &mut W) {
+        for place in 0..KINDS {
+            let count = self.counts[place].swap(0, Ordering::SeqCst);
+            if count > 0
+                && let Some(kind) = Kind::at(place)
+            {
+                tell(alloc, rt, Event::Counted { kind, count }, writer);
+            }
+        }
+    }
+
+    // Tells how the server does, if it has done commands since that was told last; answers how many it has done by now.
+    fn tell_doing<R: Clock, W: Write>(
+        &self,
+        alloc: Global,
+        rt: &R,
+        connections: u64,
+        told: u64,
+        writer: &mut W,
+    ) -> u64 {
+        let commands = self.commands.load(Ordering::SeqCst);
+        if commands != told {
+            let figures = Figures {
+                connections,
+                commands,
+                frames: self.frames.load(Ordering::SeqCst),
+                held: self.held.load(Ordering::SeqCst),
+                used: self.used.load(Ordering::SeqCst),
+            };
+            tell(alloc, rt, Event::Doing(figures), writer);
+        }
+        commands
+    }
+}
+
+// Tells an event that comes now.
+fn tell<R: Clock, W: Write>(alloc: Global, rt: &R, event: Event, writer: &mut W) {
+    let since_1970 = rt.since_1970().unwrap_or(Duration::from_secs(0));
+    drop(write_line(alloc, event, since_1970, writer));
+}
+
+// The moment, in milliseconds of the clock; 0 if it can't be read.
+fn moment<R: Clock>(rt: &R) -> u64 {
+    match rt.monotonic() {
+        Ok(time) => u64::try_from(time.as_millis()).unwrap_or(0),
+        Err(_) => 0,
+    }
+}

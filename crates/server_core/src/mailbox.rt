@@ -1,0 +1,147 @@
+//! What others know of a worker's desk: where its clients come in, and who was called for.
+
+ghost use Rattle.std.specs.Prelude.{◌≡◌, IfOk};
+ghost use Rattle.std.specs.Arc.{arc_value};
+ghost use Rattle.server_core.specs.Bells.{called_by, called_for};
+
+use crate::calls::{Called, Calls};
+use crate::doorbell::Doorbell;
+use crossbeam_queue::ArrayQueue;
+use hub_core::Ringers;
+use outbox_core::Bell;
+use std::alloc::{AllocError, Global};
+use std::net::TcpStream;
+use std::sync::atomic::{AtomicU64, Ordering};
+use std::sync::{Arc, Wait};
+
+/// How many sockets wait at most to be looked at by one desk's worker.
+const ARRIVALS: usize = 512;
+
+/// A socket that was just accepted, and whether its client is to be told that the server is full.
+#[derive(Drop)]
+pub(crate) struct Arrival {
+    pub(crate) socket: TcpStream,
+    pub(crate) is_full: bool,
+}
+
+/// What others know of a worker's desk.
+#[derive(Drop)]
+pub struct Mailbox {
+    // What wakes the worker, which has other desks too.
+    bell: Arc<Doorbell>,
+    // Who was called for since the worker looked.
+    calls: Calls,
+    arrivals: ArrayQueue<Arrival>,
+    // How many clients were handed to the desk and are still there.
+    clients: AtomicU64,
+    // The number of the desk among all, and how many bytes the one of its clients holds that holds most.
+    desk: usize,
+    most: AtomicU64,
+}
+
+impl Mailbox {
+    /// The mailbox of the desk of that number, whose worker this wakes.
+    pub(crate) fn new(
+        alloc: Global,
+        bell: Arc<Doorbell>,
+        desk: usize,
+    ) -> Result<Mailbox, AllocError> {
+        Ok(Mailbox {
+            bell,
+            calls: Calls::new(),
+            arrivals: ArrayQueue::new(alloc, ARRIVALS)?,
+            clients: AtomicU64::new(0),
+            desk,
+            most: AtomicU64::new(0),
+        })
+    }
+
+    /// Has the worker look once more before it sleeps.
+    pub(crate) fn ring(&self) {
+        self.bell.ring();
+    }
+
+    /// How many clients the desk has, those counted that its worker has not looked at yet.
+    pub(crate) fn clients(&self) -> u64 {
+        self.clients.load(Ordering::SeqCst)
+    }
+
+    /// The number of the desk among all.
+    pub(crate) fn desk(&self) -> usize {
+        self.desk
+    }
+
+    /// How many bytes the one of its clients holds that holds most.
+    pub(crate) fn most(&self) -> u64 {
+        self.most.load(Ordering::SeqCst)
+    }
+
+    /// Says how many that are.
+    pub(crate) fn say_most(&self, bytes: u64) {
+        self.most.store(bytes, Ordering::SeqCst);
+    }
+
+    /// Hands the desk a client. If too many wait for its worker already, the socket is closed.
+    pub(crate) fn hand<R: Wait>(&self, rt: &R, arrival: Arrival) {
+        self.clients.fetch_add(1, Ordering::SeqCst);
+        match self.arrivals.push(rt, arrival) {
+            Ok(()) => self.bell.ring(),
+            Err(refused) => {
+                drop(refused);
+                self.leaves();
+            }
+        }
+    }
+
+    /// The next client that was handed to the desk.
+    pub(crate) fn next<R: Wait>(&self, rt: &R) -> Option<Arrival> {
+        self.arrivals.pop(rt)
+    }
+
+    /// Says that a client has left the desk.
+    pub(crate) fn leaves(&self) {
+        self.clients.fetch_sub(1, Ordering::SeqCst);
+    }
+
+    /// Takes the calls of one word of clients, of whom there are `WORDS`.
+    pub(crate) fn take_calls(&self, word: usize) -> Called {
+        self.calls.take(word)
+    }
+}
+
+/// What calls a worker from afar for one of a desk's clients: the outbox of a session has one.
+#[derive(Drop)]
+pub struct BellRope {
+    mailbox: Arc<Mailbox>,
+    client: usize,
+}
+
+impl Bell for BellRope {
+    // The worker finds all clients of a batch by the first ring.
+    fn note(&self) {
+        self.mailbox.calls.call(self.client);
+    }
+
+    fn ring(&self) {
+        self.note();
+        self.mailbox.bell.ring();
+    }
+}
+
+/// Makes the ropes of one client of a desk.
+#[derive(Drop)]
+pub(crate) struct Ropes<'a> {
+    pub(crate) mailbox: &'a Arc<Mailbox>,
+    pub(crate) client: usize,
+}
+
+impl Ringers<BellRope> for Ropes<'_> {
+    fn bell(&self) -> Result<BellRope, AllocError>
+        ensures { IfOk result (λ rope. called_by rope ≡ called_for self.now) }
+    {
+        Ok(BellRope {
+            mailbox: self.mailbox.clone()?,
+            client: self.client,
+        })
+    }
+}

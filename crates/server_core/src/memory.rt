@@ -1,0 +1,70 @@
+//! How much memory all clients hold together.
+
+use crate::mailbox::Mailbox;
+use memory_budget::Holdings;
+use std::sync::Arc;
+use std::sync::atomic::{AtomicU64, Ordering};
+
+/// How many bytes all clients may hold together, and what they hold. Each desk counts what its own hold, and says here by how much that
+/// changes, and at its mailbox how much the one holds that holds most.
+#[derive(Drop)]
+pub struct Memory {
+    budget: u64,
+    total: AtomicU64,
+    // Those of all desks.
+    mailboxes: Vec<Arc<Mailbox>>,
+}
+
+impl Memory {
+    /// That of clients at desks with these mailboxes, that hold nothing yet.
+    pub(crate) fn new(budget: u64, mailboxes: Vec<Arc<Mailbox>>) -> Memory {
+        Memory {
+            budget,
+            total: AtomicU64::new(0),
+            mailboxes,
+        }
+    }
+
+    /// How many bytes all clients may hold together.
+    pub(crate) fn budget(&self) -> u64 {
+        self.budget
+    }
+
+    /// Whether they hold more.
+    pub(crate) fn is_over(&self) -> bool {
+        self.total.load(Ordering::SeqCst) > self.budget
+    }
+
+    /// Counts that a client holds so many bytes, which has held so many. Answers whether all together hold more than they may by this, and
+    /// did not before.
+    pub(crate) fn count(&self, held: u64, holds: u64) -> bool {
+        if holds < held {
+            self.total.fetch_sub(held - holds, Ordering::SeqCst);
+            return false;
+        }
+        let more = holds - held;
+        let before = self.total.fetch_add(more, Ordering::SeqCst);
+        before <= self.budget && before.saturating_add(more) > self.budget
+    }
+
+    /// What is known of all clients by the desk of that number. Of clients who hold the same, one at a desk of a lower number counts for a
+    /// byte more, so that one of them is given up and not one of each desk.
+    pub(crate) fn holdings(&self, desk: usize) -> Holdings {
+        let mut elsewhere = 0u64;
+        let mut clients = 0u64;
+        for (number, mailbox) in self.mailboxes.iter().enumerate() {
+            clients = clients.saturating_add(mailbox.clients());
+            if number != desk {
+                let most = mailbox.most().saturating_add(u64::from(number < desk));
+                elsewhere = elsewhere.max(most);
+            }
+        }
+        // The total is read last: a desk that gives somebody up lowers it before it says that its most is less.
+        Holdings {
+            budget: self.budget,
+            total: self.total.load(Ordering::SeqCst),
+            clients,
+            elsewhere,
+        }
+    }
+}

@@ -1,0 +1,491 @@
+//! A desk of a worker, and how its clients are served.
+
+ghost use Rattle.std.specs.Prelude.{◌≡◌};
+
+use crate::calls::{BITS, Called, WORDS};
+use crate::mailbox::{Arrival, BellRope, Mailbox, Ropes};
+use crate::shared::{ServerRing, ServerSeat, Shared};
+use client_schedule::{CLIENTS, Clients, Due, Flow, Phase, ReadBudget, Standing, Told};
+use event_log::Kind;
+use hub_core::{Desk, Next, Pacing, Turned};
+use memory_budget::Held;
+use mio::net::TcpStream;
+use mio::{Interest, Registry, Token};
+use std::alloc::Global;
+use std::io;
+use std::sync::{Arc, Wait};
+use std::time::Clock;
+use ws_core::{Greeted, Greeting, Outgoing, Refusal, WsLink};
+
+/// How many turns a client has one after another at most.
+const TURNS: u32 = 8;
+
+/// How many new clients a desk takes in at most before those that it has are served.
+const NEW_CLIENTS: u32 = 64;
+
+type ClientDesk = Desk<BellRope, WsLink<ReadBudget<TcpStream>>>;
+
+/// A desk of a worker, and its clients.
+#[derive(Drop)]
+pub(crate) struct Service<'a, R: Drop> {
+    alloc: Global,
+    pub(crate) shared: &'a Shared<R>,
+    pub(crate) mailbox: Arc<Mailbox>,
+    // Which of its worker's desks it is: its clients' sockets are registered so.
+    number: usize,
+    pub(crate) desk: ClientDesk,
+    pub(crate) clients: Clients,
+    // The moment of this round, in milliseconds of the worker's watch.
+    now: u64,
+    pub(crate) held: Held,
+    // Whether it parts with its clients, since the server ends.
+    parting: bool,
+    ghost at_ring: { desk.seat.ring ≡ shared.now.ring },
+}
+
+/// The desk and the client of which the poll tells by this token.
+pub(crate) fn client_of(token: Token) -> (usize, usize) {
+    (token.0 / CLIENTS, token.0 % CLIENTS)
+}
+
+// By which token the poll tells of that client.
+fn token_of(desk: usize, client: usize) -> Token {
+    Token(desk.saturating_mul(CLIENTS).saturating_add(client))
+}
+
+impl<'a, R: Wait + Clock + Drop> Service<'a, R> {
+    /// That at the desk of this seat, with this mailbox, which has this number among its worker's.
+    pub(crate) fn new(
+        alloc: Global,
+        shared: &'a Shared<R>,
+        seat: ServerSeat,
+        mailbox: Arc<Mailbox>,
+        number: usize,
+        clients: Clients,
+    ) -> Service<'a, R>
+        requires { seat.ring ≡ shared.now.ring }
+        ensures { result.shared.now ≡ shared.now }
+    {
+        Service {
+            alloc,
+            shared,
+            mailbox,
+            number,
+            desk: Desk::new(alloc, seat),
+            clients,
+            now: 0,
+            held: Held::new(),
+            parting: false,
+        }
+    }
+
+    /// The seat, with all that was said at it. Clients that are left are let go.
+    pub(crate) fn into_seat(self) -> ServerSeat
+        ensures { result.ring ≡ self.entry.shared.now.ring }
+    {
+        let Service {
+            alloc: _,
+            shared: _,
+            mailbox,
+            number: _,
+            desk,
+            clients,
+            now: _,
+            held,
+            parting: _,
+        } = self;
+        drop(held);
+        drop(clients);
+        drop(mailbox);
+        desk.into_seat()
+    }
+
+    /// Whether it has no client.
+    pub(crate) fn is_empty(&self) -> bool {
+        self.mailbox.clients() == 0
+    }
+
+    /// Whether a client stands in line for a turn.
+    pub(crate) fn is_ready(&self) -> bool {
+        self.clients.count_ready() > 0
+    }
+
+    /// Whether a client waits for the mark.
+    pub(crate) fn awaits_mark(&self) -> bool {
+        self.clients.count_waiting() > 0
+    }
+
+    /// Whether somebody is let in if the mark is this.
+    pub(crate) fn is_over(&self, mark: u64) -> bool {
+        self.clients.is_over(mark)
+    }
+
+    /// Until when there is nothing to do of which neither the poll nor the doorbell tells.
+    pub(crate) fn until(&self) -> u64 {
+        self.clients.until()
+    }
+
+    /// The poll told this of a client's socket.
+    pub(crate) fn hear_of(&mut self, number: usize, told: Told, now: u64)
+        ensures shared { self.new.shared ≡ self.old.shared }
+    {
+        let place = self.clients.hear_of(number, told, now);
+        if let Some(place) = place
+            && let Some(link) = self.desk.link(place)
+        {
+            link.stream().tell(told);
+        }
+    }
+
+    /// Begins a round at that moment: finds out which of its clients are ready, and gives those a turn that the mark lets in. New clients'
+    /// sockets are registered there. It is told whether the doorbell was rung.
+    pub(crate) fn begin(&mut self, registry: &Registry, was_rung: bool, now: u64)
+        ensures shared { self.new.shared ≡ self.old.shared }
+    {
+        self.now = now;
+        if was_rung {
+            self.hear_calls(registry);
+        }
+        self.clients.retry(now);
+        self.let_in();
+    }
+
+    /// Begins to part with all clients: each has a turn in which it hears what may leave yet.
+    pub(crate) fn part_with_all(&mut self)
+        ensures shared { self.new.shared ≡ self.old.shared }
+    {
+        self.parting = true;
+        for number in 0..self.clients.reach() {
+            self.clients.wake(number);
+        }
+        self.mailbox.ring();
+    }
+
+    // Finds out for whom the bell was rung: new clients, or those that it has.
+    fn hear_calls(&mut self, registry: &Registry)
+        ensures shared { self.new.shared ≡ self.old.shared }
+    {
+        for word in 0..WORDS {
+            let called = self.mailbox.take_calls(word);
+            self.wake_called(called);
+        }
+        self.take_in(registry);
+    }
+
+    // Has those stand in line who were called for.
+    fn wake_called(&mut self, mut called: Called)
+        ensures shared { self.new.shared ≡ self.old.shared }
+    {
+        for _call in 0..BITS {
+            match called.next() {
+                Some(number) => self.clients.wake(number),
+                None => return,
+            }
+        }
+    }
+
+    // Takes in the clients that were handed to it. If there are more, its worker does not sleep before it has taken in those too.
+    fn take_in(&mut self, registry: &Registry)
+        ensures shared { self.new.shared ≡ self.old.shared }
+    {
+        for _client in 0..NEW_CLIENTS {
+            match self.mailbox.next(&self.shared.rt) {
+                Some(arrival) => self.admit(registry, arrival),
+                None => return,
+            }
+        }
+        self.mailbox.ring();
+    }
+
+    // Takes a client in. If there is no room for it, or the system refuses what it is waited for by, its socket is closed.
+    fn admit(&mut self, registry: &Registry, arrival: Arrival)
+        ensures shared { self.new.shared ≡ self.old.shared }
+    {
+        if self.parting {
+            drop(arrival);
+            self.mailbox.leaves();
+            return;
+        }
+        if self.register(registry, arrival).is_err() {
+            self.mailbox.leaves();
+        }
+    }
+
+    fn register(&mut self, registry: &Registry, arrival: Arrival) -> io::Result<()>
+        ensures shared { self.new.shared ≡ self.old.shared }
+    {
+        let Some(number) = self.clients.next_number() else {
+            drop(arrival);
+            return Err(io::Error::from(io::ErrorKind::OutOfMemory));
+        };
+        let Arrival { socket, is_full } = arrival;
+        socket.set_nodelay(true)?;
+        socket.set_nonblocking(true)?;
+        let mut stream = TcpStream::from_std(socket);
+        let interests = Interest::READABLE | Interest::WRITABLE;
+        let token = token_of(self.number, number);
+        registry.register(&mut stream, token, interests)?;
+        let stream = ReadBudget::new(stream);
+        let origins = self.shared.origins.clone()?;
+        let greeting = if is_full {
+            Greeting::full(self.alloc, stream, origins)
+        } else {
+            Greeting::new(self.alloc, stream, origins)
+        };
+        self.clients.admit(greeting, self.now)?;
+        Ok(())
+    }
+
+    /// Ends a round: does what is due of clients, and sees that they keep to their memory. What has come from a client was heard before
+    /// that.
+    pub(crate) fn end(&mut self)
+        ensures shared { self.new.shared ≡ self.old.shared }
+    {
+        self.look_at_timers();
+        if self.shared.memory.is_over() {
+            self.give_up_most();
+        }
+    }
+
+    fn look_at_timers(&mut self)
+        ensures shared { self.new.shared ≡ self.old.shared }
+    {
+        for _due in 0..self.clients.reach() {
+            match self.clients.take_due(self.now) {
+                Some(number) => self.come_due(number),
+                None => return,
+            }
+        }
+    }
+
+    fn come_due(&mut self, number: usize)
+        ensures shared { self.new.shared ≡ self.old.shared }
+    {
+        let Some(client) = self.clients.get(number) else {
+            return;
+        };
+        let place = client.place();
+        let phase = match place {
+            Some(place) if self.desk.is_open(place) => Phase::Open,
+            Some(_) => Phase::Unopened,
+            None => Phase::Greeting,
+        };
+        match (self.clients.come_due(number, phase, self.now), place) {
+            (Due::Ping, Some(place)) => self.desk.ping(place),
+            // Its turn writes what waits.
+            (Due::Write, Some(_)) => self.clients.wake(number),
+            (Due::GivenUp, Some(place)) => {
+                let kind = self.why_given_up(phase, place);
+                self.shared.wakeups.log().count(kind);
+                self.desk.lose(place);
+                self.clients.wake(number);
+            }
+            (Due::GivenUp, None) => {
+                self.shared.wakeups.log().count(Kind::Unopened);
+                self.leave(number);
+            }
+            _ => {}
+        }
+    }
+
+    // Why a client at the desk is given up that has come so far.
+    fn why_given_up(&self, phase: Phase, place: usize) -> Kind {
+        let takes_nothing = match self.desk.link(place) {
+            Some(link) => link.waits(),
+            None => false,
+        };
+        match phase {
+            Phase::Open if takes_nothing => Kind::TakesNothing,
+            Phase::Open => Kind::Silent,
+            Phase::Greeting | Phase::Unopened => Kind::Unopened,
+        }
+    }
+
+    /// Gives each client that stands in line now its turns. After those of each go those that are let in, so that one that never waits does
+    /// not fill the window before them.
+    pub(crate) fn pass(&mut self)
+        ensures shared { self.new.shared ≡ self.old.shared }
+    {
+        for _client in 0..self.clients.count_ready() {
+            if let Some((number, standing)) = self.clients.next() {
+                self.give_turn(number, standing);
+            }
+            self.let_in();
+        }
+    }
+
+    // Gives those a turn that the mark lets in, each once at most. It is the ring's own: that rises before the wakeups tells of it, and by
+    // the same mark others find room.
+    fn let_in(&mut self)
+        ensures shared { self.new.shared ≡ self.old.shared }
+    {
+        for _client in 0..self.clients.count_waiting() {
+            let mark = self.mark();
+            match self.clients.let_in(mark) {
+                Some((number, standing)) => self.give_turn(number, standing),
+                None => return,
+            }
+        }
+    }
+
+    // The ring's own mark, or a number over every mark once none will be published.
+    fn mark(&mut self) -> u64
+        ensures shared { self.new.shared ≡ self.old.shared }
+    {
+        self.desk
+            .look(&self.shared.ring)
+            .max(self.shared.wakeups.mark())
+    }
+
+    // Gives a client a turn, where it is there.
+    fn give_turn(&mut self, number: usize, standing: Standing)
+        ensures shared { self.new.shared ≡ self.old.shared }
+    {
+        match standing {
+            Standing::Seated(place) => self.turn(number, place),
+            Standing::Greeting(greeting) => self.greet(number, greeting),
+            Standing::Away => {}
+        }
+    }
+
+    // Gives a client at the desk its turns.
+    fn turn(&mut self, number: usize, place: usize)
+        ensures shared { self.new.shared ≡ self.old.shared }
+    {
+        let ropes = Ropes {
+            mailbox: &self.mailbox,
+            client: number,
+        };
+        let desk = &mut self.desk;
+        let Some(turned) = take_turns(self.alloc, &self.shared.ring, desk, place, &ropes) else {
+            return;
+        };
+        if turned.appended {
+            self.shared.wakeups.appended(0);
+        }
+        match turned.next {
+            Next::Over(_) => {
+                drop(self.desk.dismiss(place));
+                self.leave(number);
+            }
+            _ => {
+                let flow = self.flow(place);
+                self.clients.settle(number, turned, flow, self.now);
+                let holds = self.desk.held(place);
+                self.count(number, holds);
+                if self.parting {
+                    self.part(number, place, turned.next);
+                }
+            }
+        }
+    }
+
+    // Parts with a client that has nothing more to do at once: it hears the close.
+    fn part(&mut self, number: usize, place: usize, next: Next)
+        ensures shared { self.new.shared ≡ self.old.shared }
+    {
+        match next {
+            Next::Go | Next::Write | Next::Close | Next::Over(_) => {}
+            Next::Read | Next::Room(_) | Next::Output(_) | Next::Memory => {
+                self.desk.give_up(place);
+                self.clients.wake(number);
+            }
+        }
+    }
+
+    // What the stream of a client at the desk tells.
+    fn flow(&self, place: usize) -> Flow {
+        match self.desk.link(place) {
+            Some(link) => link.stream().flow(),
+            None => Flow {
+                taken: 0,
+                has_rest: false,
+            },
+        }
+    }
+
+    // Goes on with a client's handshake. Once it has its WebSocket, it sits at the desk.
+    fn greet(&mut self, number: usize, greeting: Greeting<ReadBudget<TcpStream>>)
+        ensures shared { self.new.shared ≡ self.old.shared }
+    {
+        match greeting.greet(self.alloc) {
+            Greeted::Waits(greeting) if self.parting => {
+                drop(greeting);
+                self.leave(number);
+            }
+            Greeted::Waits(greeting) => {
+                let has_rest = greeting.stream().flow().has_rest;
+                self.clients
+                    .stand(number, Standing::Greeting(greeting), has_rest);
+            }
+            Greeted::Accepted(link) => match self.desk.admit(self.alloc, link) {
+                Ok(place) => {
+                    self.clients.stand(number, Standing::Seated(place), true);
+                }
+                Err(_) => self.leave(number),
+            },
+            Greeted::Refused(refusal) => {
+                self.shared.wakeups.log().count(kind_of(refusal));
+                self.leave(number);
+            }
+            Greeted::Failed(_) => self.leave(number),
+        }
+    }
+
+    // Lets a client go.
+    fn leave(&mut self, number: usize)
+        ensures shared { self.new.shared ≡ self.old.shared }
+    {
+        self.count(number, 0);
+        self.clients.remove(number);
+        self.mailbox.leaves();
+    }
+}
+
+// The turns of the client at that place: after each that put a command into the ring and left more to do it has another, up to `TURNS`.
+// So what its link has read already comes into one block. They came to what the last of them did; something was heard or appended if it
+// was in one of them. `None` if there is no client.
+fn take_turns(
+    alloc: Global,
+    ring: &ServerRing,
+    desk: &mut ClientDesk,
+    place: usize,
+    ropes: &Ropes<'_>,
+) -> Option<Turned>
+    requires { desk.old.seat.ring ≡ ring.now }
+    ensures { desk.new.seat.ring ≡ desk.old.seat.ring }
+{
+    let mut last = desk.turn(alloc, ring, place, ropes)?;
+    let (appended, mut heard) = (last.appended, last.heard);
+    for _turn in 1..TURNS {
+        if !last.appended || !matches!(last.next, Next::Go) {
+            break;
+        }
+        match desk.turn(alloc, ring, place, ropes) {
+            Some(turned) => {
+                heard |= turned.heard;
+                last = turned;
+            }
+            None => break,
+        }
+    }
+    Some(Turned {
+        appended,
+        heard,
+        next: last.next,
+    })
+}
+
+// What is counted of a refusal.
+fn kind_of(refusal: Refusal) -> Kind {
+    match refusal {
+        Refusal::Malformed => Kind::Malformed,
+        Refusal::OtherProtocol => Kind::OtherProtocol,
+        Refusal::Foreign => Kind::Foreign,
+        Refusal::Method => Kind::Method,
+        Refusal::NoUpgrade => Kind::NoUpgrade,
+        Refusal::Version => Kind::Version,
+        Refusal::TooLarge => Kind::TooLarge,
+        Refusal::Full => Kind::Full,
+    }
+}

@@ -1,0 +1,3 @@
+pub mod Failures
+pub mod Pings
+pub mod Views

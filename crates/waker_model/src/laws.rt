@@ -1,0 +1,24 @@
+//! What is so after whatever steps.
+
+ghost use Rattle.std.specs.Prelude.{◌≡◌, ◌∷◌, [], List, Bool, false, true};
+ghost use Rattle.waker_model.specs.declared.step.Step.{Step};
+ghost use Rattle.waker_model.specs.declared.step.Step.TheVariants.{Check, Look, Note, Return, Ring, SayAsleep, SayAwake, TakeCalls, TakeRing, Wake};
+ghost use Rattle.waker_model.specs.declared.step.Worker.TheVariants.{Waits};
+ghost use Rattle.waker_model.specs.Machines.{Machine, Runs, begin};
+ghost use Rattle.waker_model.specs.Promises.{IsHeard};
+
+/// After any steps of the worker and of any number of callers, in any order, no call is lost: a client that was called for is found by the
+/// worker before it sleeps, or the system was asked to end its wait. A worker may wait and be called for then (`reached`).
+pub fn every_call_is_heard()
+    ensures heard { (steps : List Step) (m : Machine) → Runs begin steps m → IsHeard m }
+    ensures reached { (m : Machine) × (Runs begin (SayAsleep ∷ Check ∷ Note ∷ Ring ∷ Look ∷ Wake ∷ []) m
+        × ((m.worker ≡ Waits) × (m.called ≡ true) × (m.noting ≡ 0))) }
+{}
+
+/// A worker that wakes takes what was called for: after any steps, once its callers are done, the next four steps of the worker alone take it.
+pub fn what_was_called_for_is_taken()
+    ensures taken { (steps : List Step) (m n : Machine) (told : Bool) → Runs begin steps m → m.worker ≡ Waits → m.called ≡ true → m.noting ≡ 0
+        → Runs m (Return told ∷ SayAwake ∷ TakeRing ∷ TakeCalls ∷ []) n → n.called ≡ false }
+    ensures possible { (steps : List Step) (m : Machine) (told : Bool) → Runs begin steps m → m.worker ≡ Waits → m.called ≡ true → m.noting ≡ 0
+        → (n : Machine) × Runs m (Return told ∷ SayAwake ∷ TakeRing ∷ TakeCalls ∷ []) n }
+{}
