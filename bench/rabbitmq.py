@@ -1,14 +1,13 @@
 """A RabbitMQ of its own for the measurements: what it keeps, its ports and its Erlang cookie are nobody else's."""
 
 import os
-import pathlib
 import re
 import shutil
 import subprocess
 import sys
 import time
 
-from serving import cpu_of, free_port
+from lib.scenario import free_port, processor_seconds_of
 
 # Where Debian's package has the server itself. Its /usr/sbin/rabbitmq-server would run it as another user.
 PLACES = "/usr/lib/rabbitmq/bin"
@@ -102,7 +101,7 @@ class RabbitMQ:
 
     def cpu(self):
         """How many seconds of processor time it has taken."""
-        return cpu_of(self.process.pid)
+        return processor_seconds_of(self.process.pid)
 
     def kill(self):
         for process in (self.process, self.mapper):

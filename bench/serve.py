@@ -14,8 +14,9 @@ import struct
 import tempfile
 import time
 
+from lib.stomp_client import Client
 from measuring import MB, arguments, machine, parsed
-from serving import Load, Server, build_load, build_slow_sync, make_journal
+from serving import Load, Server, build_counting, build_load, build_slow_sync, make_journal
 
 AREA = 512 * MB
 HELD = 4_000
@@ -24,10 +25,16 @@ AT_ONCE = 248
 PIECE = 65_536
 
 
+# Durable names online under one topic, as many as may be: 16 of each connection.
+NAMES, PER_CONNECTION = 256, 16
+# How many SENDs to them, and how many COMMITs of how many SENDs.
+SENDS, COMMITS, MEMBERS = 20, 3, 16
+
+
 class Bench:
-    def __init__(self, words, load, slow, folder):
+    def __init__(self, words, load, slow, counting, folder):
         self.program, self.runs, self.seconds = words.program, words.runs, words.seconds
-        self.load, self.slow, self.journal = load, slow, folder / "journal"
+        self.load, self.slow, self.counting, self.journal = load, slow, counting, folder / "journal"
         self.plain, self.seen = folder / "syncs", folder / "seen"
 
     def server(self, environment=None, area=AREA):
@@ -175,7 +182,57 @@ def idle(bench):
     tell("64 idle connections, of one processor", f"{load.server_busy * 100:,.2f}", "%", f" over {load.seconds:.0f} s")
 
 
-CASES = {case.__name__: case for case in (one, many, slow, fanout, queue, latency, starts, compactions, idle)}
+def growths(bench):
+    """How often memory grows, by malloc or realloc, for each thing that is done."""
+    counted = bench.seen.with_name("growths")
+    for text, words, name in (
+        ("growths of memory, a message to 16 subscribers", ("fanout", 16), "messages_a_second"),
+        ("growths of memory, a SEND with its receipt", ("receipts", 31, 8), "receipts_a_second"),
+    ):
+        counted.write_bytes(bytes(8))
+        with bench.server({**os.environ, "LD_PRELOAD": str(bench.counting), "COUNTED": str(counted)}) as server:
+            before = int.from_bytes(counted.read_bytes(), "little")
+            load = Load(bench.load, server, *words, bench.seconds)
+            grown = int.from_bytes(counted.read_bytes(), "little") - before
+        tell(text, f"{grown / (load[name] * bench.seconds):,.1f}", "each", " (the connections' own counted)")
+
+
+def listeners(port):
+    """Connections that have all durable names of a topic among them."""
+    for at in range(NAMES // PER_CONNECTION):
+        client = Client(port, timeout=60).connect(f"client-{at}")
+        for name in range(PER_CONNECTION):
+            client.subscribe(f"{name}", "/topic/named", headers=[("activemq.subscriptionName", f"name-{name}")])
+        yield client
+
+
+def names(bench):
+    """What a SEND to 256 durable names takes of the server's processors, and a COMMIT of 16 of them; and a SEND to another topic."""
+    with bench.server() as server:
+        heard, sender = list(listeners(server.port)), Client(server.port, timeout=60).connect()
+        for text, count, ask in (
+            ("a SEND to a topic with 256 durable names", SENDS, lambda at: sender.publish("/topic/named", f"{at}")),
+            ("a COMMIT of 16 of them", COMMITS, lambda at: commit(sender, at)),
+            ("a SEND to another topic", 50 * SENDS, lambda at: sender.publish("/topic/other", f"{at}")),
+        ):
+            cpu, begun = server.cpu(), time.perf_counter()
+            for at in range(count):
+                ask(at)
+            longest = time.perf_counter() - begun
+            tell(text, f"{(server.cpu() - cpu) / count * 1e3:,.2f}", "ms of a processor", f", {longest / count * 1e3:,.2f} ms until its receipt")
+        for client in (*heard, sender):
+            client.close()
+
+
+def commit(client, at):
+    client.send("BEGIN", [("transaction", f"{at}")])
+    for member in range(MEMBERS):
+        client.send("SEND", [("destination", "/topic/named"), ("transaction", f"{at}")], f"{member}")
+    client.send("COMMIT", [("transaction", f"{at}"), ("receipt", f"commit {at}")])
+    client.receipt(f"commit {at}")
+
+
+CASES = {case.__name__: case for case in (one, many, slow, fanout, queue, latency, names, growths, starts, compactions, idle)}
 
 
 def main():
@@ -187,10 +244,11 @@ def main():
     folders = words.folder or [pathlib.Path("/dev/shm"), pathlib.Path(tempfile.gettempdir())]
     print(machine(), time.strftime("%Y-%m-%d %H:%M UTC", time.gmtime()))
     with tempfile.TemporaryDirectory() as built:
-        load, slower = build_load(pathlib.Path(built)), build_slow_sync(pathlib.Path(built))
+        built = pathlib.Path(built)
+        load, slower, counting = build_load(built), build_slow_sync(built), build_counting(built)
         for folder in folders:
             with tempfile.TemporaryDirectory(dir=folder) as name:
-                bench = Bench(words, load, slower, pathlib.Path(name))
+                bench = Bench(words, load, slower, counting, pathlib.Path(name))
                 print(f"{folder}:")
                 syncs(bench)
                 for case in words.only or CASES:

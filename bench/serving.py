@@ -4,20 +4,14 @@ import os
 import pathlib
 import shutil
 import signal
-import socket
 import subprocess
 import sys
 import time
 
+from lib.scenario import child_of, free_port, processor_seconds_of
 from measuring import HERE, cpu_seconds
 
 HEADER = 32
-
-
-def free_port():
-    with socket.socket() as probe:
-        probe.bind(("127.0.0.1", 0))
-        return probe.getsockname()[1]
 
 
 def build_load(folder):
@@ -36,6 +30,13 @@ def build_slow_sync(folder):
     return built
 
 
+def build_counting(folder):
+    """A library that counts a program's growths of memory."""
+    built = folder / "counting.so"
+    subprocess.run(["cc", "-O2", "-Wall", "-shared", "-fPIC", "-o", built, HERE.parent / "tests" / "program" / "refuse_memory.c"], check=True)
+    return built
+
+
 def make_journal(program, path, area, *, sparse=True):
     """A new journal with areas of so many bytes."""
     pathlib.Path(path).unlink(missing_ok=True)
@@ -49,12 +50,6 @@ def shown(program, path):
     """What `stompd show` says: its numbers by name."""
     done = subprocess.run([program, "show", path], check=True, capture_output=True, text=True)
     return {name: int(value) for name, value in (line.split(" ") for line in done.stdout.splitlines())}
-
-
-def cpu_of(pid):
-    """How many seconds of processor time a process has taken."""
-    fields = pathlib.Path(f"/proc/{pid}/stat").read_text(encoding="ascii").rsplit(") ", 1)[1].split()
-    return (int(fields[11]) + int(fields[12])) / os.sysconf("SC_CLK_TCK")
 
 
 class Server:
@@ -80,13 +75,10 @@ class Server:
 
     def cpu(self):
         """How many seconds of processor time it has taken."""
-        return cpu_of(self.process.pid)
+        return processor_seconds_of(self.process.pid)
 
     def kill(self):
-        served = self.process.pid
-        if self.is_child:
-            served = int(pathlib.Path(f"/proc/{served}/task/{served}/children").read_text(encoding="ascii"))
-        os.kill(served, signal.SIGKILL)
+        os.kill(child_of(self.process.pid) if self.is_child else self.process.pid, signal.SIGKILL)
         self.process.wait()
         self.process.stdout.close()
         self.process.stderr.close()

@@ -20,9 +20,9 @@ import threading
 import time
 import urllib.parse
 
-import scenario
 from chromium import BROWSERS, DOWN, ENTER, TAB, UP, Browser
-from stomp_client import Client
+from lib import scenario
+from lib.stomp_client import Client
 
 TOP = pathlib.Path(__file__).resolve().parent.parent
 PAGE = TOP / "examples" / "rooms.html"
@@ -294,9 +294,9 @@ STEPS = [
 ]
 
 
-def lines_below(document, heading):
-    """The first block of JavaScript below that heading of a document."""
-    return (TOP / document).read_text(encoding="utf-8").split(f"\n## {heading}\n")[1].split("```js\n")[1].split("```")[0]
+def lines_below(document, heading, number=1):
+    """The first block of JavaScript below that heading of a document, or another one by its number."""
+    return (TOP / document).read_text(encoding="utf-8").split(f"\n## {heading}\n")[1].split("```js\n")[number].split("```")[0]
 
 
 def lines_with_no_library(broker, checks, browser):
@@ -313,14 +313,16 @@ def lines_with_no_library(broker, checks, browser):
 
 
 def lines_with_the_module(broker, checks, browser, server):
-    """They do what they say, in a page of their own beside the module."""
-    lines = lines_below("docs/CLIENTS.md", "With stompd.mjs").replace(":8080", f":{broker.port}")
-    page = browser.open(f"http://127.0.0.1:{server.server_address[1]}/{PAGE.name}")
-    begin = "globalThis.heard = []; console.log = (...words) => heard.push(words.join(' ')); "
-    page.value(begin + f"document.body.append(Object.assign(document.createElement('script'), {{ type: 'module', textContent: {json.dumps(lines)} }})); 0")
-    page.comes("heard.length == 3")
-    checks.same("the lines with the module hear what they say", page.value("heard"), ["somebody said: hello", "it is on disk", "somebody said: done: sweep"])
-    checks.same("no exception was thrown", page.exceptions, [])
+    """The README's lines, and those of CLIENTS.md, do what they say, in a page of their own beside the module."""
+    heard = ["somebody said: hello", "it is on disk"]
+    for document, heading, expected in (("README.md", "Connect", heard), ("docs/CLIENTS.md", "With stompd.mjs", [*heard, "somebody said: done: sweep"])):
+        lines = lines_below(document, heading).replace(":8080", f":{broker.port}")
+        page = browser.open(f"http://127.0.0.1:{server.server_address[1]}/{PAGE.name}")
+        begin = "globalThis.heard = []; console.log = (...words) => heard.push(words.join(' ')); "
+        page.value(begin + f"document.body.append(Object.assign(document.createElement('script'), {{ type: 'module', textContent: {json.dumps(lines)} }})); 0")
+        page.comes(f"heard.length == {len(expected)}")
+        checks.same(f"the lines of {document} with the module hear what they say", page.value("heard"), expected)
+        checks.same("no exception was thrown", page.exceptions, [])
 
 
 def lines_with_stomp_js(broker, checks, browser, library):
@@ -328,10 +330,10 @@ def lines_with_stomp_js(broker, checks, browser, library):
     if library is None:
         checks.tell("the lines for stomp.js were not tried: it is not here (Debian has it in rabbitmq-server)")
         return
-    for document, heading in (("README.md", "Connect"), ("docs/CLIENTS.md", "With stomp.js")):
+    for document, heading, number in (("README.md", "Connect", 2), ("docs/CLIENTS.md", "With stomp.js", 1)):
         page = browser.open("about:blank")
         page.value(f"(0, eval)({json.dumps(library.read_text(encoding='utf-8'))}); 0")
-        lines = lines_below(document, heading).replace(":8080", f":{broker.port}")
+        lines = lines_below(document, heading, number).replace(":8080", f":{broker.port}")
         page.value(f"var heard = []; console.log = (...words) => heard.push(words.join(' ')); (0, eval)({json.dumps(lines)}); 0")
         page.comes("heard.length == 2")
         checks.same(f"the lines of {document} for stomp.js hear what they say", page.value("heard"), ["somebody said: hello", "it is on disk: first"])

@@ -6,7 +6,8 @@ import pathlib
 import subprocess
 import time
 
-from stomp_client import TEXT, WebSocket
+from lib.stomp_client import WebSocket
+from lib.wire import TEXT
 
 BROWSERS = ("chromium", "chromium-browser", "google-chrome")
 SWITCHES = ["--headless=new", "--no-sandbox", "--disable-gpu", "--no-first-run", "--remote-debugging-port=0"]

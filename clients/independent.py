@@ -10,7 +10,7 @@ says so and ends with status 2.
 import queue
 import sys
 
-import scenario
+from lib import scenario
 
 try:
     import stomp

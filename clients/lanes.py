@@ -12,8 +12,9 @@ import subprocess
 import sys
 import time
 
-import scenario
-from stomp_client import Client, Closed, handshake
+from lib import scenario
+from lib.stomp_client import Client, Closed
+from lib.wire import handshake
 
 TOP = pathlib.Path(__file__).resolve().parent.parent
 DEPLOY = TOP / "deploy"

@@ -23,9 +23,9 @@ import threading
 import time
 import traceback
 
-import scenario
 from chromium import BROWSERS, Browser
-from stomp_client import Client
+from lib import scenario
+from lib.stomp_client import Client
 
 HERE = pathlib.Path(__file__).resolve().parent
 WS = pathlib.Path("/usr/share/nodejs/ws/index.js")

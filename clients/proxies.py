@@ -5,7 +5,8 @@
 
 Over wss, 200 clients connect to each, hear what one sends, say nothing for 90 seconds, and come back after the broker was killed and started again.
 Who has no login, comes from a foreign page, or comes too often is refused, and so is everybody while there is no broker. nginx is also tried with a
-login by cookie, and with 1,000 rooms on four brokers, and then on five. It takes some three minutes.
+login by cookie, and with 1,000 rooms on four brokers, and then on five; HAProxy also with a check by a handshake, and with one by `stompd ping`. It
+takes some three minutes.
 
 Needs Debian's packages: apt-get install nginx-light haproxy caddy apache2 openssl. What is missing is counted and told at the end; with none of them
 the status is 2. --instead writes NEW for OLD in a recipe first, as a trial of what is checked here: it has to fail with a wrong one.
@@ -26,9 +27,10 @@ import time
 import traceback
 import urllib.parse
 
-import scenario
 from lanes import HERE, PAGE, Lane, SecureClient, login, make_certificate, nginx_places, start_cookie, start_nginx
-from stomp_client import PING, PONG, Client, Closed, Refused
+from lib import scenario
+from lib.stomp_client import Client, Closed, Refused
+from lib.wire import PING, PONG
 
 CROWD, IDLE_SECONDS, MOST_OF_AN_ADDRESS = 200, 90, 250
 FOREIGN = "https://elsewhere.example"
@@ -54,14 +56,18 @@ def nginx(lane, instead):
     start_nginx(lane, "nginx.conf", instead, [("127.0.0.1:8080", f"{HERE}:{lane.brokers[0].port}")])
 
 
-def haproxy(lane, instead):
+def haproxy_places(lane):
     sum_ = subprocess.run(["openssl", "passwd", "-5", "secret"], check=True, capture_output=True, text=True).stdout.strip()
     places = [("bind :443", f"bind {HERE}:{lane.port}"), ("/etc/stompd/", f"{lane.folder.parent}/"), ("HASH-OF-ALICE", sum_)]
     places += [("127.0.0.1:8080", f"{HERE}:{lane.brokers[0].port}"), ("log /dev/log local0", "log stdout format raw local0")]
     # The trial may not have 33,000 descriptors.
-    places += [("maxconn 16500", "maxconn 2000")]
-    lane.start("haproxy", "-f", lane.recipe("haproxy.cfg", [*places, *instead]))
+    return places + [("maxconn 16500", "maxconn 2000")]
+
+
+def haproxy(lane, instead):
+    process = lane.start("haproxy", "-f", lane.recipe("haproxy.cfg", [*haproxy_places(lane), *instead]))
     lane.wait_for(lane.port)
+    return process
 
 
 def caddy(lane, instead):
@@ -333,10 +339,54 @@ def try_rooms(lane, instead):
     lane.check("drained, each room has all that was sent to it, at one broker", {count for it in after for count in it.values()} == {3} and sum(map(len, after)) == 1000)
 
 
+# What the comments of haproxy.cfg have for a check by a handshake.
+CHECK_LINES = ("option httpchk\n", "http-check send ", "http-check expect ", "default-server ")
+IS_DOWN, IS_UP = "Server stompd/broker is DOWN", "Server stompd/broker is UP"
+
+
+def tells(lane, text, act):
+    """Whether a proxy comes to tell that within 20 seconds after this is done."""
+    before, end = lane.told().count(text), time.monotonic() + 20
+    act()
+    while lane.told().count(text) == before and time.monotonic() < end:
+        time.sleep(0.2)
+    return lane.told().count(text) > before
+
+
+def try_a_check(lane, what):
+    """A check finds out when a broker stands still, and when it goes on."""
+    process = lane.brokers[0].process
+    before = lane.told().count(IS_DOWN)
+    time.sleep(8)
+    lane.same(f"{what}: a broker that answers is up", (answer(lane.port), lane.told().count(IS_DOWN)), ("101", before))
+    lane.check(f"{what}: one that stands still is down", tells(lane, IS_DOWN, lambda: process.send_signal(signal.SIGSTOP)), lane.told()[-500:])
+    lane.same(f"{what}: and who comes then is answered 503", answer(lane.port), "503")
+    lane.check(f"{what}: one that goes on is up", tells(lane, IS_UP, lambda: process.send_signal(signal.SIGCONT)), lane.told()[-500:])
+    lane.same(f"{what}: and who comes then is served", answer(lane.port), "101")
+
+
+def try_checks(lane, instead):
+    """HAProxy's checks: by a handshake, and by a ping."""
+    at = f"{HERE}:{lane.add_broker().port}"
+    checked = (f"server broker {at}\n", f"server broker {at} check\n")
+    process = haproxy(lane, [*instead, *((f"    # {line}", f"    {line}") for line in CHECK_LINES), checked])
+    try_a_check(lane, "by a handshake")
+    process.terminate()
+    process.wait()
+    script = lane.folder / "ping"
+    script.write_text(f'#!/bin/sh\nexec {lane.program} ping "$4"\n')
+    script.chmod(0o755)
+    by_ping = ["option external-check", "external-check path /usr/bin:/bin", f"external-check command {script}", "default-server inter 6s fall 1 rise 1"]
+    leave = ("    maxconn 2000\n", "    maxconn 2000\n    external-check\n    insecure-fork-wanted\n")
+    haproxy(lane, [*instead, leave, ("\nbackend stompd\n", "\nbackend stompd\n" + "".join(f"    {line}\n" for line in by_ping)), checked])
+    try_a_check(lane, "by a ping")
+
+
 # Each recipe: its program, its file, and how it is tried.
 RECIPES = {
     "nginx": ("nginx", "nginx.conf", lambda lane, instead: try_proxy(lane, nginx, True, instead)),
     "haproxy": ("haproxy", "haproxy.cfg", lambda lane, instead: try_proxy(lane, haproxy, True, instead)),
+    "checks": ("haproxy", "haproxy.cfg", try_checks),
     "caddy": ("caddy", "Caddyfile", lambda lane, instead: try_proxy(lane, caddy, False, instead)),
     "apache": ("apache2", "apache.conf", lambda lane, instead: try_proxy(lane, apache, False, instead)),
     "cookie": ("nginx", "nginx-cookie.conf", try_cookie),

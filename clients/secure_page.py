@@ -16,7 +16,7 @@ import urllib.parse
 
 import chromium
 import lanes
-import scenario
+from lib import scenario
 
 # The certificate is the trial's own.
 TRUSTING = [*chromium.SWITCHES, "--ignore-certificate-errors"]

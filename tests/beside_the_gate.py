@@ -4,14 +4,15 @@ memory, traces of its system calls, and the clients. Its last line counts what p
 
     python3 tests/beside_the_gate.py [PROGRAM] [--light] [--kills N] [--only WORD]
 
-PROGRAM is the built program; without it, bin/stompd builds it where that is needed. Needs Python 3; strace for the traces, `rt` and a C compiler for
+PROGRAM is the built program; without it, bin/stompd builds it if that is needed. Needs Python 3; strace for the traces, `rt` and a C compiler for
 refused memory, Chromium and Debian's python3-stomp and python3-websocket for two of the clients, Node for the module, dpkg and root for the package,
-and nginx, HAProxy, Caddy and Apache for the recipes of deploy/. It takes some thirty minutes, and ends with status 0
+and nginx, HAProxy, Caddy, Apache and Docker for the recipes of deploy/. It takes some thirty minutes, and ends with status 0
 only if nothing failed. With --light it runs the part that needs none of these, with fewer kills, in less than ten minutes; those that mostly wait run
 side by side.
 """
 
 import argparse
+import dataclasses
 import pathlib
 import subprocess
 import sys
@@ -23,138 +24,123 @@ BUILT = TOP / "crates" / "stompd" / "out" / "stompd"
 # Debian's own Python has Debian's packages.
 DEBIAN_PYTHON = pathlib.Path("/usr/bin/python3")
 
+
+@dataclasses.dataclass(frozen=True)
+class Script:
+    """A script with its further words, of which N is the number of kills. `light` are those with which --light runs it: it needs Python 3 alone then,
+    and ends soon. With `None` it is left out."""
+
+    path: str
+    words: str = ""
+    light: str | None = None
+    # Whether it mostly waits and looks at the clock: those that do run side by side, and with nothing else.
+    waits: bool = False
+
+    def call(self, program, words, kills=0):
+        """How this call is named, and its words."""
+        words = [str(kills) if it == "N" else it for it in words.split()]
+        runs = ["sh"] if self.path.endswith(".sh") else [DEBIAN_PYTHON if self.needs_debian() else sys.executable]
+        return " ".join([self.path, *words]), [*runs, TOP / self.path, program, *words]
+
+    def needs_debian(self):
+        return self.path.endswith("/independent.py") and DEBIAN_PYTHON.exists()
+
+
 SCRIPTS = [
-    "tests/statuses.py",
-    "tests/closed_streams.py",
-    "tests/ending.py",
-    "tests/telling.py",
-    "tests/serve_script.py",
-    "tests/trace_format.sh",
-    "tests/trace_serve.py",
-    "tests/failing_disk.py",
-    "tests/handshakes.py",
-    "tests/closes.py",
-    "tests/pauses.py",
-    "tests/refusals.py",
-    "tests/no_memory.py",
-    "tests/under_attack.py",
-    "tests/soak.py",
-    "tests/waits.py",
-    "tests/packing.py",
-    "clients/rooms.py",
-    "clients/crowd.py",
-    "clients/crowd_10000.py",
-    "clients/slow_reader.py",
-    "clients/steady_readers.py",
-    "clients/waiting_queue.py",
-    "clients/unread.py",
-    "clients/rubbish.py",
-    "clients/holding.py",
-    "clients/independent.py",
-    "clients/full_journal.py",
-    "clients/browser.py",
-    "clients/module.py",
-    "clients/proxies.py",
-    "clients/secure_page.py",
-    "clients/standby.py",
-    "clients/kills.py",
-    "clients/kills_crowd.py",
-    "clients/compactions.py",
-    "clients/migrating.py",
+    Script("tests/program/statuses.py", light=""),
+    Script("tests/program/ping.py", light=""),
+    Script("tests/program/closed_streams.py", light=""),
+    Script("tests/program/ending.py", light=""),
+    Script("tests/program/telling.py", light=""),
+    Script("tests/program/serve_script.py", light="--few"),
+    Script("tests/program/trace_format.sh"),
+    Script("tests/program/trace_serve.py"),
+    Script("tests/program/failing_disk.py"),
+    Script("tests/program/handshakes.py", light=""),
+    Script("tests/program/closes.py", light=""),
+    Script("tests/program/pauses.py", light="", waits=True),
+    Script("tests/program/refusals.py", light=""),
+    Script("tests/program/no_memory.py"),
+    Script("tests/attack/under_attack.py"),
+    Script("tests/program/memory_budget.py"),
+    Script("tests/attack/soak.py", "--minutes 1"),
+    Script("tests/program/waits.py", "--minutes 10", light="--minutes 1"),
+    Script("tests/program/readiness.py"),
+    Script("tests/program/packing.py"),
+    Script("tests/program/rooms.py"),
+    Script("tests/program/crowd.py", light=""),
+    Script("tests/program/crowd.py", "--many"),
+    Script("tests/program/slow_reader.py"),
+    Script("tests/program/steady_readers.py", light="", waits=True),
+    Script("tests/program/waiting_queue.py", light=""),
+    Script("tests/program/unread.py", light=""),
+    Script("tests/program/rubbish.py", light=""),
+    Script("tests/program/holding.py", light="", waits=True),
+    Script("clients/independent.py"),
+    Script("tests/program/full_journal.py", light=""),
+    Script("clients/browser.py"),
+    Script("clients/module.py"),
+    Script("clients/proxies.py"),
+    Script("clients/secure_page.py"),
+    Script("clients/containers.py"),
+    Script("clients/standby.py"),
+    Script("tests/kills/kills.py", "--rounds N", light="--rounds 20"),
+    Script("tests/kills/kills.py", "--crowd --rounds N"),
+    Script("tests/kills/compactions.py", "--kills N"),
+    Script("tests/program/compaction_memory.py", light=""),
+    Script("tests/kills/migrating.py", "--kills N"),
 ]
-
-# These kill the broker so often as is said.
-KILLING = {"clients/kills.py": "--rounds", "clients/kills_crowd.py": "--rounds", "clients/compactions.py": "--kills", "clients/migrating.py": "--kills"}
-
-# How else these are run.
-MORE = {"tests/soak.py": ["--minutes", "1"], "tests/waits.py": ["--minutes", "10"]}
-
-# Those that need Python 3 alone, with so few kills and minutes that they end soon.
-LIGHT = [
-    "tests/statuses.py",
-    "tests/closed_streams.py",
-    "tests/ending.py",
-    "tests/telling.py",
-    "tests/serve_script.py",
-    "tests/handshakes.py",
-    "tests/closes.py",
-    "tests/refusals.py",
-    "clients/crowd.py",
-    "clients/waiting_queue.py",
-    "clients/unread.py",
-    "clients/rubbish.py",
-    "clients/full_journal.py",
-    "clients/kills.py",
-    "tests/waits.py",
-]
-LESS = {"tests/serve_script.py": ["--few"], "clients/kills.py": ["--rounds", "20"], "tests/waits.py": ["--minutes", "1"]}
-
-# These mostly wait, so that they run side by side, and with nothing else, since they look at the clock.
-WAITING = ["clients/steady_readers.py", "clients/holding.py", "tests/pauses.py"]
 
 # With this status a script says that it lacks a package.
 LACKS = 2
 
 
-def words_for(script, program, kills):
-    if script.endswith(".sh"):
-        return ["sh", TOP / script, program]
-    python = DEBIAN_PYTHON if script.endswith("/independent.py") and DEBIAN_PYTHON.exists() else sys.executable
-    more = [KILLING[script], str(kills)] if script in KILLING else MORE.get(script, [])
-    return [python, TOP / script, program, *more]
-
-
 def built_program():
-    """The program of this checkout, built where it is missing or older than its sources."""
+    """The program of this checkout, built if it is missing or older than its sources."""
     subprocess.run([TOP / "bin" / "stompd", "script"], stdin=subprocess.DEVNULL, check=True)
     return BUILT
 
 
-def run_alone(program, scripts, kills, endings):
+def run_alone(calls, endings):
     """Runs these, one after another."""
-    for script in scripts:
-        print(f"\n== {script}", flush=True)
+    for name, words in calls:
+        print(f"\n== {name}", flush=True)
         start = time.monotonic()
-        words = words_for(script, program, kills)
         status = subprocess.run(words).returncode
-        endings.append((script, status, time.monotonic() - start))
+        endings.append((name, status, time.monotonic() - start))
 
 
-def run_light(program, only, endings):
-    """Runs the light ones, and then those that wait, side by side."""
-    for script in [it for it in LIGHT if only in it]:
-        print(f"\n== {script}", flush=True)
-        begun = time.monotonic()
-        status = subprocess.run([sys.executable, TOP / script, program, *LESS.get(script, [])]).returncode
-        endings.append((script, status, time.monotonic() - begun))
+def run_side_by_side(calls, endings):
     start = time.monotonic()
-    waiting = [(it, subprocess.Popen(words_for(it, program, 0), stdout=subprocess.PIPE, stderr=subprocess.STDOUT)) for it in WAITING if only in it]
-    for script, process in waiting:
+    waiting = [(name, subprocess.Popen(words, stdout=subprocess.PIPE, stderr=subprocess.STDOUT)) for name, words in calls]
+    for name, process in waiting:
         told, _ = process.communicate()
-        print(f"\n== {script}\n{told.decode(errors='replace')}", flush=True)
-        endings.append((script, process.returncode, time.monotonic() - start))
+        print(f"\n== {name}\n{told.decode(errors='replace')}", flush=True)
+        endings.append((name, process.returncode, time.monotonic() - start))
 
 
 def main():
     parser = argparse.ArgumentParser(description=__doc__, formatter_class=argparse.RawDescriptionHelpFormatter)
     parser.add_argument("program", nargs="?", type=pathlib.Path)
     parser.add_argument("--light", action="store_true", help="the part that needs Python 3 alone, in less than ten minutes")
-    parser.add_argument("--kills", type=int, default=100, help="how often each of the clients that kill the broker does so (100)")
-    parser.add_argument("--only", default="", metavar="WORD", help="only the scripts whose path has this word")
+    parser.add_argument("--kills", type=int, default=100, help="how often each of those that kill the broker does so (100)")
+    parser.add_argument("--only", default="", metavar="WORD", help="only the scripts in whose path or words this stands")
     words = parser.parse_args()
     program = words.program.resolve() if words.program else built_program()
-    endings, start = [], time.monotonic()
+    scripts, endings, start = [it for it in SCRIPTS if words.only in f"{it.path} {it.words}"], [], time.monotonic()
     if words.light:
-        run_light(program, words.only, endings)
+        light = [it for it in scripts if it.light is not None]
+        run_alone([it.call(program, it.light) for it in light if not it.waits], endings)
+        run_side_by_side([it.call(program, it.light) for it in light if it.waits], endings)
     else:
-        run_alone(program, [it for it in SCRIPTS if words.only in it], words.kills, endings)
+        run_alone([it.call(program, it.words, words.kills) for it in scripts], endings)
     print()
-    for script, status, seconds in endings:
+    for name, status, seconds in endings:
         how = "ok" if status == 0 else "LACKS A PACKAGE" if status == LACKS else f"FAILED with status {status}"
-        print(f"{script:26} {how} in {seconds:.0f} s")
+        print(f"{name:46} {how} in {seconds:.0f} s")
     statuses = [status for _, status, _ in endings]
     passed, lacking = statuses.count(0), statuses.count(LACKS)
-    left_out = [it for it in SCRIPTS if words.light and it not in LIGHT + WAITING]
+    left_out = [it for it in SCRIPTS if words.light and it.light is None]
     print(f"{passed} passed, {len(statuses) - passed - lacking} failed, {lacking} not run for want of a package, {len(left_out)} left out by --light")
     print(f"{time.monotonic() - start:.0f} s")
     return 0 if passed == len(statuses) else 1

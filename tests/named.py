@@ -3,6 +3,8 @@
 
     python3 tests/named.py
 
+It looks too whether the crates of docs/ARCHITECTURE.md are those of crates.txt.
+
 A file in backquotes is looked for by the end of its path, since a document names `src/turning.rt` beside its crate. A name of four words or more, joined
 by underscores, is a test, a mutant or a definition: it has to stand in some file of the repository that is no document.
 """
@@ -54,9 +56,27 @@ def missing(files):
                 yield document, name
 
 
+def listed_crates():
+    lines = [it.partition("#")[0] for it in (TOP / "crates.txt").read_text(encoding="utf-8").splitlines()]
+    return {it.partition(":")[0].split()[0] for it in lines if ":" in it}
+
+
+def drawn_crates():
+    """The crates that the tables of docs/ARCHITECTURE.md have a row for."""
+    table = (TOP / "docs" / "ARCHITECTURE.md").read_text(encoding="utf-8").partition("## The crates")[2].partition("## The way of a script")[0]
+    return set(re.findall(r"^\| `(\w+)` \|", table, re.M))
+
+
+def undrawn():
+    """The crates that stand in one of crates.txt and docs/ARCHITECTURE.md, and not in the other."""
+    listed, drawn = listed_crates(), drawn_crates()
+    yield from (("docs/ARCHITECTURE.md has no row for a crate of crates.txt, and", it) for it in sorted(listed - drawn))
+    yield from (("docs/ARCHITECTURE.md", it) for it in sorted(drawn - listed))
+
+
 def main():
     files = tracked()
-    found = list(missing(files))
+    found = [*missing(files), *undrawn()]
     for document, name in found:
         print(f"named: {document} names {name}, which is not there", file=sys.stderr)
     print(f"named: {len(found)} names of the documents are of nothing that is there")

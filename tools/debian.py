@@ -37,7 +37,7 @@ fi
 """
 PRERM = """#!/bin/sh
 set -e
-if [ "$1" = remove ] && [ -z "$DPKG_ROOT" ] && [ -d /run/systemd/system ]; then systemctl disable --now stompd; fi
+if [ "$1" = remove ] && [ -z "$DPKG_ROOT" ] && [ -d /run/systemd/system ]; then systemctl disable --now stompd-ping.timer stompd; fi
 """
 POSTRM = """#!/bin/sh
 set -e
@@ -53,13 +53,19 @@ stompd: non-standard-dir-perm 0700 != 0755 [var/lib/stompd/]
 """
 
 COPYRIGHT = """The sources of this program are in the repository of stompd; FROM names the commit.
-The repository states no licence.
+
+Copyright 2026 the authors of stompd, whom the log of the repository names.
+
+License: none was given. All rights are reserved by the authors.
 """
 
 
-def service():
-    """deploy/stompd.service with the package's paths, and without what it says of an archive."""
-    text = (TOP / "deploy" / "stompd.service").read_text(encoding="utf-8")
+UNITS = ("stompd.service", "stompd-ping.service", "stompd-ping.timer")
+
+
+def unit(name):
+    """A file of deploy/ for systemd, with the package's paths, and without what it says of an archive."""
+    text = (TOP / "deploy" / name).read_text(encoding="utf-8")
     return text[text.index("[Unit]") :].replace("/opt/stompd/", "/usr/lib/stompd/")
 
 
@@ -72,7 +78,8 @@ def files_of(program, serve, told, version, maintainer, moment):
     """Each file of the package: its name, its bytes and its mode."""
     yield "usr/lib/stompd/stompd", program, 0o755
     yield "usr/lib/stompd/serve", serve, 0o755
-    yield "lib/systemd/system/stompd.service", service().encode(), 0o644
+    for name in UNITS:
+        yield f"lib/systemd/system/{name}", unit(name).encode(), 0o644
     yield "usr/lib/sysusers.d/stompd.conf", b'u stompd - "stompd, a message broker" /var/lib/stompd\n', 0o644
     yield "usr/share/lintian/overrides/stompd", OVERRIDES.encode(), 0o644
     yield f"{DOC}/copyright", COPYRIGHT.encode(), 0o644

@@ -5,22 +5,28 @@ rt sums the files of a crate and of all that it stands on, to see whether what i
 leads from a crate to one below, which for the program takes minutes before each check. Here each crate is summed once a call. Where the
 toolchain's rt is not made as expected, this is rt itself.
 
-    python3 tools/quick_rt.py check          in a crate's folder, as `rt check`
+    bin/rt check          in a crate's folder, as `rt check`; bin/rt calls this file
 
-For bin/build, which proves several crates at a time:
+Of the crates below it takes what is there: whole libraries, as `rt` and `bin/build --kept` leave them, or else the statements that `bin/build` and
+`bin/serve` leave. With neither it proves them first, as rt does.
+
+For bin/build, which proves several crates at a time, two words of the environment:
 
     QUICK_RT_UNLOCKED=1      it takes no lock on the crates' folders, which bin/build holds itself
     QUICK_RT_STATEMENTS=1    of a library that is proved it keeps what others can cite of it, in out/statements, and none of its checked proofs, as
                              `rt ci` does. So the crates above are proved sooner, since they load less. But nothing is kept of the proofs
-                             themselves: an edit of that crate has it proved from nothing
+                             themselves: an edit of that crate has it proved from nothing. With 0 it keeps and takes whole libraries
 """
 
 import importlib.machinery
 import importlib.util
 import os
+import pathlib
 import shutil
 import sys
 import threading
+
+VERDICTS = ("ci", "verdict")
 
 
 def load(path):
@@ -78,14 +84,53 @@ def kept_as_statements(rtlib):
     rtlib.Crate.__init__, rtlib.Crate.is_built, rtlib.Crate.build_rlib = make, is_built, build_rlib
 
 
-def quick_main(path):
+def top_above(folder):
+    """The folder at or above this one that lists crates."""
+    return next((it for it in (folder, *folder.parents) if (it / "crates.txt").is_file()), None)
+
+
+def crates_below(top, names):
+    """The crates that these stand on, by crates.txt."""
+    lists = {}
+    for line in (top / "crates.txt").read_text(encoding="utf-8").splitlines():
+        head, colon, below = line.partition("#")[0].partition(":")
+        if colon:
+            lists[head.split()[0]] = below.split()
+    found, reached = set(), [it for name in names for it in lists.get(name, [])]
+    while reached:
+        name = reached.pop()
+        if name in lists and name not in found:
+            found.add(name)
+            reached += lists[name]
+    return found
+
+
+def finds_statements(words):
+    """Whether the crates below those that these words name have left statements, and not all of them whole libraries."""
+    here = pathlib.Path.cwd()
+    top = top_above(here)
+    if top is None or any(it in VERDICTS for it in words):
+        return False
+    listed = [it for it in words if (top / "crates" / it).is_dir()]
+    crates = top / "crates"
+    below = crates_below(top, listed or [here.name])
+    has = lambda kind: all((crates / it / "out" / kind / f"{it}.rlib").is_dir() for it in below)
+    return bool(below) and not has("rlib") and has("statements")
+
+
+def keeps_statements(words):
+    said = os.environ.get("QUICK_RT_STATEMENTS")
+    return said != "0" if said else finds_statements(words)
+
+
+def quick_main(path, words):
     """What the rt at that path does with its words, in less time; nothing where it is not made as expected."""
     try:
         rt = load(path)
         rt.rtlib.Crate.stamp = once_a_call(rt.rtlib.Crate.stamp)
         if os.environ.get("QUICK_RT_UNLOCKED") and rt.rtlib.lock:
             rt.rtlib.lock = lambda crates: []
-        if os.environ.get("QUICK_RT_STATEMENTS"):
+        if keeps_statements(words):
             kept_as_statements(rt.rtlib)
         return rt.main
     except (AttributeError, OSError, SyntaxError):
@@ -95,7 +140,7 @@ def quick_main(path):
 def main():
     path = os.path.realpath(shutil.which("rt") or "rt")
     sys.argv[0] = path
-    call = quick_main(path)
+    call = quick_main(path, sys.argv[1:])
     if call is None:
         os.execvp(path, ["rt", *sys.argv[1:]])
     return call(sys.argv[1:])

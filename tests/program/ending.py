@@ -1,0 +1,142 @@
+#!/usr/bin/env python3
+"""Ends servers in good order, by the end of their standard input, while clients are at work. Needs Python 3 alone.
+
+    python3 tests/program/ending.py [PROGRAM]
+
+Each client hears 1001, also one that has no session yet and one to which much is still to be written; the server ends with status 0 within five
+seconds; and what was receipted is there when it is started again. Clients that answer no close and take nothing do not keep it.
+"""
+
+import pathlib
+import subprocess
+import sys
+import tempfile
+import threading
+import time
+
+from lib import scenario
+from lib.stomp_client import Client, Closed
+
+JOURNAL_BYTES = "67108896"
+# In seconds: a server has so long to end.
+LONGEST = 5.0
+QUIET, SENDERS, DEAF = 200, 16, 8
+MOST = 250
+
+
+class Sender:
+    """Sends to a queue, with eight receipts under way, until it hears a close."""
+
+    def __init__(self, port, number):
+        self.client, self.number = Client(port).connect(), number
+        self.receipted, self.code, self.fault = [], None, None
+        self.thread = threading.Thread(target=self.run)
+        self.thread.start()
+
+    def run(self):
+        try:
+            self.send_all()
+        except Closed as closed:
+            self.code = closed.code
+        except Exception as error:
+            self.fault = error
+
+    def send_all(self):
+        sent = heard = 0
+        while True:
+            # All of them together stay under what may be held.
+            while sent - heard < 8 and sent < MOST:
+                body = f"{self.number} {sent}"
+                try:
+                    self.client.send("SEND", [("destination", f"/queue/q{self.number}"), ("receipt", body)], body)
+                except ConnectionError:
+                    # What was written to it before is still to be read, and last its close.
+                    heard = -(10**9)
+                sent += 1
+            frame = self.client.receive()
+            self.receipted.append(frame.headers["receipt-id"])
+            heard += 1
+
+
+def begun(program, journal, port):
+    words = [program, "serve", journal, str(port), "--until-eof"]
+    process = subprocess.Popen(words, stdin=subprocess.PIPE, stdout=subprocess.PIPE, stderr=subprocess.PIPE)
+    line = process.stdout.readline().decode()
+    assert line == f"listening {port}\n", line
+    return process
+
+
+def ended(process):
+    """Closes its input; the status, how long it took, and what it told."""
+    start = time.monotonic()
+    process.stdin.close()
+    status = process.wait(timeout=4 * LONGEST)
+    return status, time.monotonic() - start, process.stderr.read().decode()
+
+
+def idle(program, journal, checks):
+    """a server that nobody has come to"""
+    process = begun(program, journal, scenario.free_port())
+    status, seconds, told = ended(process)
+    checks.same("a server without clients ends with status 0", status, 0)
+    checks.check("and at once", seconds < 2, seconds)
+    checks.check("it says that it was asked to", " ending: asked to\n" in told, told)
+
+
+def at_work(program, journal, checks):
+    """a server with clients of all kinds"""
+    port = scenario.free_port()
+    process = begun(program, journal, port)
+    quiet = [Client(port).connect() for _ in range(QUIET)]
+    unopened = [Client(port) for _ in range(10)]
+    reader = Client(port).connect()
+    reader.subscribe("r", "/topic/much")
+    writer = Client(port).connect()
+    writer.publish_all("/topic/much", [f"{number} " + "x" * 50_000 for number in range(40)])
+    # These take nothing, and answer nothing.
+    deaf = [Client(port, receive_bytes=4_096).connect() for _ in range(DEAF)]
+    senders = [Sender(port, number) for number in range(SENDERS)]
+    time.sleep(1)
+    status, seconds, told = ended(process)
+    checks.same("it ends with status 0", status, 0)
+    checks.check(f"within {LONGEST} s", seconds <= LONGEST, seconds)
+    checks.check("it says that it was asked to", " ending: asked to\n" in told, told)
+    codes = [one.to_the_end() for one in quiet]
+    checks.same("each quiet client hears 1001", [code for _, code in codes], [1001] * QUIET)
+    checks.same("and so does one without a session", [one.to_the_end()[1] for one in unopened], [1001] * len(unopened))
+    frames, code = reader.to_the_end()
+    checks.same("one to which much was to be written hears all of it, and 1001", (len(frames), code), (40, 1001))
+    for one in senders:
+        one.thread.join(10)
+    checks.same("senders hear 1001", [(one.code, one.fault) for one in senders], [(1001, None)] * SENDERS)
+    checks.check("and had receipts", all(len(one.receipted) > 10 for one in senders), [len(one.receipted) for one in senders])
+    del deaf
+    again = begun(program, journal, port)
+    for one in senders:
+        taker = Client(port).connect()
+        taker.send("SEND", [("destination", f"/queue/q{one.number}")], "last")
+        taker.send("SUBSCRIBE", [("id", "t"), ("destination", f"/queue/q{one.number}"), ("ack", "auto")])
+        found = []
+        while not found or found[-1] != "last":
+            found.append(taker.receive().body)
+        lost = [body for body in one.receipted if body not in found]
+        checks.same(f"what was receipted to sender {one.number} is there", lost, [])
+    checks.same("and it ends again", ended(again)[0], 0)
+
+
+def main():
+    program = scenario.words_of(__doc__).parse_args().program
+    checks = scenario.Checks()
+    for part in (idle, at_work):
+        with tempfile.TemporaryDirectory(prefix="ending-") as folder:
+            journal = pathlib.Path(folder) / "journal"
+            subprocess.run([program, "format", "--sparse", journal, JOURNAL_BYTES], check=True)
+            try:
+                part(program, journal, checks)
+            except Exception as error:
+                checks.check(f"{part.__doc__} is tried to the end", False, repr(error))
+    return 1 if checks.failed else 0
+
+
+if __name__ == "__main__":
+    sys.exit(main())

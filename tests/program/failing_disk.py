@@ -1,0 +1,245 @@
+#!/usr/bin/env python3
+"""Has single calls of the system fail under the built program, and compares what it tells and leaves then with what
+docs/PROTOCOL.md and docs/JOURNAL.md say. No contract can know what the system answers of a real file. Needs strace and
+Python 3 alone; the gate does not run it.
+
+    python3 tests/program/failing_disk.py [PROGRAM]
+
+- If a write or a sync of `stompd format` fails, it ends with status 1 and one line, and the file is gone again. If the
+  file system has no room for its zeros, the line says so.
+- If a read of `stompd show` fails, it is `J3 device failed`, and nothing is printed.
+- If the file of `stompd serve` can't be locked, it ends with `cannot open`, and the file is as it was.
+- If a write or a sync of `stompd serve` fails while it opens its journal, it ends with `J3 device failed` and does not
+  say that it listens.
+- If one of a block's fails, the server ends so, and the block's command gets no receipt; the commands before it are in
+  the journal.
+- If a block's sync fails after half a second, in which a client has asked for more than its window lets in, that client
+  hears 1001: its worker, which sleeps until the mark rises, is woken.
+
+PROGRAM is the built program; without it, the one that bin/stompd leaves in crates/stompd/out.
+"""
+
+import contextlib
+import os
+import pathlib
+import re
+import shutil
+import signal
+import subprocess
+import sys
+import tempfile
+import time
+
+from lib.scenario import BUILT, built_program, child_of, free_port, words_of
+from lib.stomp_client import Client
+
+# Areas of 4,096 bytes.
+SMALLEST = "8224"
+DEVICE_FAILED = "stompd: J3 device failed\n"
+CANNOT_OPEN = "stompd: cannot open: FILE: the system refuses it\n"
+NO_SPACE = "stompd: no space left for the file\n"
+
+
+class Checks:
+    def __init__(self, program, folder):
+        self.program, self.folder = program, folder
+        self.count = self.failed = 0
+
+    def same(self, what, seen, wanted):
+        self.count += 1
+        if seen != wanted:
+            self.failed += 1
+            print(f"failing_disk: {what}: {seen} and not {wanted}", file=sys.stderr)
+
+    def path(self, name):
+        return str(self.folder / name)
+
+    def words(self, call, number, *words, late=""):
+        """The words that run the program with its call of that number failing. Calls are counted from 1 for each name, and in
+        each thread by itself: the main one makes all those of the journal."""
+        fault = f"inject={call}:error=EIO{late}:when={number}"
+        return ["strace", "-f", "-o", self.path("trace"), "-e", f"trace={call}", "-e", fault, self.program, *words]
+
+    def was_injected(self, what):
+        self.same(f"{what}: calls that failed", pathlib.Path(self.path("trace")).read_text().count("(INJECTED)"), 1)
+
+
+def last_line(errors):
+    """What a server told last: before that it has told its start."""
+    return errors.decode().splitlines(keepends=True)[-1]
+
+
+def run(words):
+    done = subprocess.run(words, stdin=subprocess.DEVNULL, capture_output=True, timeout=60)
+    return done.returncode, done.stdout.decode(), done.stderr.decode()
+
+
+def formatting(checks):
+    """A new file is sized, synced, and synced with its folder; its zeros are written, and synced, unless it is to be sparse; then
+    front and header are written, and synced."""
+    cases = [("ftruncate", 1, CANNOT_OPEN), ("fsync", 1, CANNOT_OPEN), ("fsync", 2, CANNOT_OPEN)]
+    cases += [("pwrite64", 1, DEVICE_FAILED), ("pwrite64", 2, DEVICE_FAILED)]
+    for option, further in (((), [("fsync", 3, DEVICE_FAILED), ("fsync", 4, DEVICE_FAILED)]), (("--sparse",), [("fsync", 3, DEVICE_FAILED)])):
+        for call, number, text in cases + further:
+            what, path = f"format {option} without {call} {number}", checks.path("made")
+            checks.same(what, run(checks.words(call, number, "format", *option, path, SMALLEST)), (1, "", text))
+            checks.was_injected(what)
+            checks.same(f"{what}: the file is there", os.path.exists(path), False)
+
+
+def filling(checks):
+    """Of a file of 1 MiB and some bytes, 16 whole pieces of zeros are written and a last one. The first has no room, or the ninth."""
+    size = 1_048_576 + 32
+    for error, text in (("ENOSPC", NO_SPACE), ("EDQUOT", NO_SPACE), ("EIO", DEVICE_FAILED)):
+        for number in (1, 9, 17):
+            what, path = f"format with {error} at piece {number}", checks.path("filled")
+            fault = f"inject=write:error={error}:when={number}"
+            words = ["strace", "-f", "-o", checks.path("trace"), "-P", path, "-e", "trace=write", "-e", fault, checks.program]
+            checks.same(what, run([*words, "format", path, str(size)]), (1, "", text))
+            checks.was_injected(what)
+            checks.same(f"{what}: the file is there", os.path.exists(path), False)
+    path = checks.path("filled")
+    checks.same("a format with room", run([checks.program, "format", path, str(size)]), (0, "", ""))
+    checks.same("its room is there", os.stat(path).st_blocks * 512 >= size, True)
+    sparse = checks.path("sparse")
+    checks.same("a sparse format", run([checks.program, "format", "--sparse", sparse, str(size)]), (0, "", ""))
+    checks.same("has the same bytes", pathlib.Path(sparse).read_bytes() == pathlib.Path(path).read_bytes(), True)
+    checks.same("and takes less room", os.stat(sparse).st_blocks < os.stat(path).st_blocks, True)
+
+
+def progress(checks):
+    """A file of 64 MiB is told of while its zeros are written, a line a second at most, and a smaller one is not."""
+    lines = []
+    for size in (67_108_864, 67_108_863):
+        path = checks.path(f"large-{size}")
+        fault = "inject=write:delay_enter=20000"
+        words = ["strace", "-f", "-o", checks.path("trace"), "-P", path, "-e", "trace=write", "-e", fault, checks.program]
+        start = time.monotonic()
+        status, output, errors = run([*words, "format", path, str(size)])
+        seconds = time.monotonic() - start
+        checks.same(f"format of {size} bytes, slowly", (status, output), (0, ""))
+        lines.append(errors.splitlines())
+        fits = all(re.fullmatch(r"stompd: [0-9]+ of 64 MiB are written", line) for line in lines[-1])
+        checks.same(f"{size} bytes: what is told", fits and len(lines[-1]) <= seconds, True)
+        os.remove(path)
+    checks.same("the large one is told of, the smaller is not", (len(lines[0]) > 2, lines[1]), (True, []))
+
+
+def make(checks, name):
+    path = checks.path(name)
+    subprocess.run([checks.program, "format", path, SMALLEST], check=True)
+    return path
+
+
+def reads_of(checks, path):
+    """The numbers of the reads that `stompd show` makes of the file, among all: a loader may read other files before."""
+    trace = checks.path("trace")
+    words = ["strace", "-f", "-y", "-o", trace, "-e", "trace=pread64", checks.program, "show", path]
+    subprocess.run(words, check=True, stdout=subprocess.DEVNULL)
+    lines = pathlib.Path(trace).read_text().splitlines()
+    calls = [line for line in lines if "pread64(" in line]
+    return [number for number, line in enumerate(calls, 1) if f"<{path}>" in line]
+
+
+def showing(checks):
+    path = make(checks, "shown")
+    numbers = reads_of(checks, path)
+    checks.same("show reads the file", bool(numbers), True)
+    for number in numbers:
+        what = f"show without pread64 {number}"
+        checks.same(what, run(checks.words("pread64", number, "show", path)), (1, "", DEVICE_FAILED))
+        checks.was_injected(what)
+
+
+def locking(checks):
+    what, path = "serve without its lock", make(checks, "not-locked")
+    before = pathlib.Path(path).read_bytes()
+    checks.same(what, run(checks.words("flock", 1, "serve", path, str(free_port()))), (1, "", CANNOT_OPEN))
+    checks.was_injected(what)
+    checks.same(f"{what}: the file is as it was", pathlib.Path(path).read_bytes() == before, True)
+
+
+def opening(checks):
+    """Recovery syncs, writes the snapshot and syncs, and writes the selector and syncs."""
+    for call, numbers in (("fsync", (1, 2, 3)), ("pwrite64", (1, 2))):
+        for number in numbers:
+            what, path = f"serve without {call} {number}", make(checks, f"opened-{call}-{number}")
+            words = checks.words(call, number, "serve", path, str(free_port()))
+            checks.same(what, run(words), (1, "", DEVICE_FAILED))
+            checks.was_injected(what)
+
+
+def frames_to_the_end(client):
+    """The commands of the frames up to the end of the connection."""
+    try:
+        return [frame.command for frame in client.to_the_end()[0]]
+    except ConnectionError:
+        return []
+
+
+@contextlib.contextmanager
+def serving(words, port):
+    """The server of these words, once it listens. If it has not ended after the block it is killed: it is the one child of strace, which ends
+    with it."""
+    server = subprocess.Popen(words, stdout=subprocess.PIPE, stderr=subprocess.PIPE)
+    try:
+        line = server.stdout.readline().decode()
+        if line != f"listening {port}\n":
+            raise RuntimeError(f"the server does not listen: {line}{server.stderr.read().decode()}")
+        yield server
+    finally:
+        if server.poll() is None:
+            # A strace whose child is gone ends by itself.
+            with contextlib.suppress(ValueError):
+                os.kill(child_of(server.pid), signal.SIGKILL)
+            server.wait()
+
+
+def asleep(checks):
+    what, path, port = "a sync that fails late", make(checks, "late"), free_port()
+    words = checks.words("fsync", 6, "serve", path, str(port), late=":delay_enter=500000")
+    with serving(words, port) as server:
+        client = Client(port).connect()
+        for number in range(32):
+            client.send("SEND", [("destination", "/queue/kept"), ("receipt", f"{number}")], "x")
+        checks.same(f"{what}: what a client with a full window hears", client.to_the_end(), ([], 1001))
+        client.close()
+        output, errors = server.communicate(timeout=60)
+        checks.same(what, (server.returncode, output.decode(), last_line(errors)), (1, "", DEVICE_FAILED))
+        checks.was_injected(what)
+
+
+def storing(checks):
+    """The CONNECT is the first block, and what is sent the second: a write, a sync, the gate's write, and a sync. A gate that
+    is written stands in the file, be it synced or not."""
+    for call, number, count in (("pwrite64", 5, 1), ("fsync", 6, 1), ("pwrite64", 6, 1), ("fsync", 7, 2)):
+        what, path, port = f"a block without {call} {number}", make(checks, f"stored-{call}-{number}"), free_port()
+        words = checks.words(call, number, "serve", path, str(port))
+        with serving(words, port) as server:
+            client = Client(port).connect()
+            client.send("SEND", [("destination", "/queue/kept"), ("receipt", "r")], "x")
+            checks.same(f"{what}: what the client hears", frames_to_the_end(client), [])
+            client.close()
+            output, errors = server.communicate(timeout=60)
+            checks.same(what, (server.returncode, output.decode(), last_line(errors)), (1, "", DEVICE_FAILED))
+            checks.was_injected(what)
+        status, shown, _ = run([checks.program, "show", path])
+        checks.same(f"{what}: what is held", (status, shown.splitlines()[3:]), (0, [f"count {count}", f"held {count - 1}"]))
+
+
+def main():
+    program = built_program(words_of(__doc__, BUILT).parse_args())
+    if shutil.which("strace") is None:
+        print("failing_disk: strace is missing", file=sys.stderr)
+        sys.exit(2)
+    with tempfile.TemporaryDirectory() as name:
+        checks = Checks(str(program), pathlib.Path(name).resolve())
+        for part in (formatting, filling, progress, showing, locking, opening, storing, asleep):
+            part(checks)
+    if checks.failed:
+        sys.exit(f"failing_disk: {checks.failed} of {checks.count} are wrong")
+    print(f"failing_disk: {checks.count} ok")
+
+
+if __name__ == "__main__":
+    main()

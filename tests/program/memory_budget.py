@@ -1,0 +1,164 @@
+#!/usr/bin/env python3
+"""A server whose clients may hold 256 MiB together: 2,000 subscribe to a topic and read nothing, while somebody sends to it. Those who hold most are
+given up, before they would be for taking nothing; one that reads everything and one that sends hear what is theirs at once; and the server lives under
+a limit of memory that it would pass if all of them held what waits for them.
+
+    python3 tests/program/memory_budget.py [PROGRAM]
+
+PROGRAM is the built program; without it, bin/stompd. It takes a minute or less, and needs Python 3 alone.
+
+- The limit is the system's, on data (RLIMIT_DATA): the budget, 256 KiB for each client, and 128 MiB. A client takes up to 128 KiB that the budget does not
+  count: the places of its outbox (111 KB), and what its socket is read by. The rest is for what is being handed out, for what was given up and is not free
+  yet, and for what the allocator loses.
+- Each SEND is a frame for each of them, with a list of headers of its own; all of them together would take more than the limit. What the sockets take stays in
+  the system: for those who read nothing it keeps little.
+- The sender has 8 SENDs under way, each with a receipt. The reader has each message, in order. Each receipt, and each message, comes within a second.
+"""
+
+import resource
+import subprocess
+import sys
+import threading
+import time
+
+from lib import scenario
+from lib.stomp_client import Client
+
+TOPIC = "/topic/unread"
+BUDGET = 268_435_456
+STALLED = 2_000
+BODY, MESSAGES, WINDOW = 100, 2_000, 8
+# What the system lets the server have beside the budget: so much for each client, and so much for the rest.
+EACH, REST = 262_144, 134_217_728
+LIMIT = BUDGET + STALLED * EACH + REST
+# A wait of an honest client, and after how many seconds a client is given up that takes nothing.
+LONGEST_WAIT, TAKES_NOTHING = 1.0, 10
+
+
+class Limited(scenario.Broker):
+    """The program with a budget, under a limit. One that knows no budget serves without it."""
+
+    def serve(self):
+        words = [self.program, "serve", self.journal, str(self.port)]
+        for more in (["--memory", str(BUDGET)], []):
+            self.process = subprocess.Popen(
+                words + more, stdout=subprocess.PIPE, stderr=subprocess.PIPE, preexec_fn=lambda: resource.setrlimit(resource.RLIMIT_DATA, (LIMIT, LIMIT))
+            )
+            if self.process.stdout.readline():
+                self.budget = bool(more)
+                return
+            self.process.communicate()
+        raise RuntimeError("the broker does not serve")
+
+
+class Listener(threading.Thread):
+    """What the broker tells on standard error, with the moment at which each line came."""
+
+    def __init__(self, broker):
+        super().__init__(daemon=True)
+        self.stream, self.lines = broker.process.stderr, []
+        self.start()
+
+    def run(self):
+        for line in self.stream:
+            self.lines.append((time.monotonic(), line.decode()))
+
+    def given_up(self, words):
+        """How many clients were given up so, and when the first."""
+        told = [(moment, int(line.split(" gave up ")[1].split()[0])) for moment, line in self.lines if f" {words}" in line and " gave up " in line]
+        return sum(count for _, count in told), told[0][0] if told else None
+
+
+class Reader(threading.Thread):
+    """A subscriber that reads everything, and notes when each message came."""
+
+    def __init__(self, port):
+        super().__init__(daemon=True)
+        self.client = Client(port, timeout=20).connect()
+        self.client.subscribe("r", TOPIC)
+        self.numbers, self.moments, self.fault = [], [], None
+        self.start()
+
+    def run(self):
+        try:
+            while len(self.numbers) < MESSAGES:
+                self.numbers.append(int(self.client.receive().body.split(" ", 1)[0]))
+                self.moments.append(time.monotonic())
+        except Exception as fault:
+            self.fault = fault
+
+
+def stall(port):
+    """Clients that subscribe, and read nothing of what comes then. The system keeps little for them: the size of a segment decides how much it keeps
+    for the server."""
+    all_of_them = [Client(port, timeout=60, receive_bytes=4_096, segment_bytes=536).connect() for _ in range(STALLED)]
+    for one in all_of_them:
+        one.subscribe("s", TOPIC)
+    return all_of_them
+
+
+def send_all(port, checks):
+    """Sends all. When each was sent, and how long its receipt took."""
+    sender, sent, waits = Client(port, timeout=20).connect(), [], []
+    try:
+        for number in range(MESSAGES + WINDOW):
+            if number < MESSAGES:
+                sent.append(time.monotonic())
+                sender.send("SEND", [("destination", TOPIC), ("receipt", f"{number}")], f"{number} " + "x" * BODY)
+            if number >= WINDOW:
+                sender.receipt(f"{number - WINDOW}")
+                waits.append(time.monotonic() - sent[number - WINDOW])
+        sender.disconnect()
+    except Exception as fault:
+        checks.check(f"all {MESSAGES} SENDs have their receipts", False, (len(waits), fault))
+    return sent, waits
+
+
+def reads_nothing(broker, checks):
+    """2,000 clients that read nothing harm themselves alone"""
+    told = Listener(broker)
+    stalled = stall(broker.port)
+    checks.tell(f"{STALLED} clients there: {broker.memory('VmRSS') // 1024} MiB, and {broker.memory('VmData') // 1024} MiB of data")
+    reader = Reader(broker.port)
+    start = time.monotonic()
+    sent, waits = send_all(broker.port, checks)
+    took = time.monotonic() - start
+    reader.join(20)
+    checks.check("the broker still runs", broker.is_running(), [line for _, line in told.lines[-3:]])
+    peak = broker.memory("VmHWM") * 1024
+    checks.tell(f"{len(waits)} SENDs in {took:.1f} s; the longest receipt took {max(waits, default=0) * 1000:.0f} ms")
+    checks.check(f"each receipt came within {LONGEST_WAIT} s", len(waits) == MESSAGES and max(waits) <= LONGEST_WAIT, max(waits, default=None))
+    in_order = reader.numbers == list(range(len(reader.numbers)))
+    checks.check("the reader has each message, in order", in_order and len(reader.numbers) == MESSAGES, f"{len(reader.numbers)} of {MESSAGES}, in order: {in_order}")
+    late = [moment - before for before, moment in zip(sent, reader.moments)]
+    checks.check(f"each within {LONGEST_WAIT} s", bool(late) and max(late) <= LONGEST_WAIT, max(late, default=None))
+    checks.check("the reader was not dropped", reader.fault is None, reader.fault)
+    time.sleep(1.5)
+    most, first = told.given_up("clients that took the most memory")
+    nothing, _ = told.given_up("clients that took nothing")
+    checks.check("clients were given up that took the most memory", most > 0, [line for _, line in told.lines])
+    if first:
+        checks.check(f"the first before {TAKES_NOTHING} s", first - start < TAKES_NOTHING, first - start)
+    checks.tell(f"{most} of them, the first after {(first or start) - start:.1f} s; {nothing} that took nothing")
+    checks.check("and no more than there were", most <= STALLED, most)
+    checks.check("some are left, since all together keep to the budget", most < STALLED, most)
+    checks.check(f"at most {LIMIT >> 20} MiB at its peak", peak <= LIMIT, f"{peak >> 20} MiB")
+    checks.tell(f"its peak was {peak >> 20} MiB; the budget is {BUDGET >> 20} MiB, and the limit {LIMIT >> 20} MiB")
+    for one in stalled:
+        one.close()
+
+
+def main():
+    program = scenario.words_of(__doc__).parse_args().program
+    scenario.take_descriptors()
+    checks = scenario.Checks()
+    start = time.monotonic()
+    with scenario.serving(program, kind=Limited) as broker:
+        checks.check("it takes a budget", broker.budget, "served without")
+        scenario.try_one(reads_nothing, broker, checks)
+    checks.tell(f"{time.monotonic() - start:.1f} s")
+    return 1 if checks.failed else 0
+
+
+if __name__ == "__main__":
+    sys.exit(main())

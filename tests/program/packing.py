@@ -1,0 +1,130 @@
+#!/usr/bin/env python3
+"""The archive and the Debian package that bin/release makes of a program: what is in them, and that the package starts nothing and keeps the journal.
+
+    python3 tests/program/packing.py [PROGRAM] [--package DEB]
+
+It builds nothing. The package is installed, removed and purged by `dpkg --root` in a temporary folder, for which it has to run as root; lintian
+looks at it if it is there. --package tries another package than that of bin/release, as one with an error that has to be found.
+"""
+
+import hashlib
+import os
+import pathlib
+import re
+import shutil
+import stat
+import subprocess
+import sys
+import tarfile
+import tempfile
+
+from lib import scenario
+from lib.scenario import TOP
+from lib.stomp_client import Client
+
+LINK = re.compile(r"\]\(([^)#\s:]+)(?:#[^)\s]*)?\)")
+# Scripts run outside of the folder, with its path in DPKG_ROOT, since there is no shell in it.
+DPKG = ["dpkg", "--force-script-chrootless", "--force-depends"]
+
+
+def packed(program, folder):
+    subprocess.run([TOP / "bin" / "release", folder, "--pack", program], check=True, stdout=subprocess.DEVNULL)
+    (archive,), (package,) = folder.glob("*.tar.gz"), folder.glob("*.deb")
+    return archive, package
+
+
+def try_archive(archive, program, folder, checks):
+    with tarfile.open(archive) as opened:
+        opened.extractall(folder, filter="data")
+    (base,) = folder.iterdir()
+    names = {str(it.relative_to(base)) for it in base.rglob("*") if it.is_file()}
+    linked = set(LINK.findall((base / "README.md").read_text(encoding="utf-8")))
+    checks.check("the archive has all that README.md links", linked and all((base / it).exists() for it in linked), sorted(linked - names))
+    there = {f"{part}/{it.name}" for part in ("deploy", "examples") for it in (TOP / part).iterdir() if it.is_file()}
+    checks.check("and the recipes and examples", there <= names, sorted(there - names))
+    sums = {name: sum_ for sum_, name in (line.split("  ") for line in (base / "SHA256SUMS").read_text().splitlines())}
+    checks.same("its sums are those of its files", sums, {it: hashlib.sha256((base / it).read_bytes()).hexdigest() for it in ("stompd", "serve")})
+    checks.same("the program is the one that was given", (base / "stompd").read_bytes(), program.read_bytes())
+    checks.check("and FROM says so", "was given, and not built" in (base / "FROM").read_text())
+    checks.check("both may be run", all(os.access(base / it, os.X_OK) for it in ("stompd", "serve")))
+
+
+def dpkg(root, *words):
+    done = subprocess.run([*DPKG, f"--root={root}", *words], capture_output=True, text=True)
+    assert done.returncode == 0, done.stderr
+    return done.stdout + done.stderr
+
+
+def serve_installed(root, journal, checks):
+    """The installed program serves a journal in the package's folder."""
+    program = root / "usr" / "bin" / "stompd"
+    subprocess.run([program, "format", "--sparse", journal, "67108896"], check=True, stderr=subprocess.DEVNULL)
+    broker = scenario.Broker(program, str(journal))
+    client = Client(broker.port).connect()
+    client.publish("/queue/kept", "kept")
+    client.disconnect()
+    broker.kill()
+    checks.check("the installed program serves", True)
+
+
+def try_package(package, program, root, checks):
+    for it in ("var/lib/dpkg/info", "var/lib/dpkg/updates", "etc"):
+        (root / it).mkdir(parents=True)
+    (root / "var/lib/dpkg/status").touch()
+    dpkg(root, "-i", package)
+    status = (root / "var/lib/dpkg/status").read_text()
+    checks.check("it is installed", "Status: install ok installed" in status, status)
+    user = next((line.split(":") for line in (root / "etc/passwd").read_text().splitlines() if line.startswith("stompd:")), None)
+    checks.check("it has a user of its own, who can't log in", user and user[-1].endswith("nologin"), user)
+    folder = root / "var/lib/stompd"
+    seen = folder.stat()
+    checks.same("the journal's folder is that user's alone", (stat.S_IMODE(seen.st_mode), seen.st_uid), (0o700, int(user[2]) if user else None))
+    unit = (root / "lib/systemd/system/stompd.service").read_text()
+    starts = re.search(r"^ExecStart=(\S+) (\S+)", unit, re.M)
+    checks.check("its service runs what is installed, over that folder", os.access(f"{root}{starts[1]}", os.X_OK) and starts[2].startswith("/var/lib/stompd/"), starts[0])
+    checks.check("as that user", "\nUser=stompd\n" in unit)
+    checks.same("nothing is enabled", [str(it) for it in root.rglob("*.wants/*")], [])
+    checks.check("the recipes are there", (root / "usr/share/doc/stompd/deploy/nginx.conf").exists())
+    journal = folder / "rooms.journal"
+    serve_installed(root, journal, checks)
+    dpkg(root, "--remove", "stompd")
+    checks.check("removed, the program is gone", not (root / "usr/lib/stompd/stompd").exists())
+    checks.check("and the journal is there", journal.exists())
+    told = dpkg(root, "--purge", "stompd")
+    checks.check("a purge says that it keeps it", "/var/lib/stompd is kept" in told, told)
+    held = subprocess.run([program, "held", journal], capture_output=True, text=True).stdout
+    checks.check("and does", held.startswith("messages 1 "), held)
+
+
+def try_lintian(package, checks):
+    if shutil.which("lintian") is None:
+        checks.tell("lintian is not here, so it did not look (Debian: apt-get install lintian)")
+        return
+    root = ["--allow-root"] if os.geteuid() == 0 else []
+    done = subprocess.run(["lintian", *root, "--fail-on", "error", package], capture_output=True, text=True)
+    checks.check("lintian finds no error", done.returncode == 0, done.stdout + done.stderr)
+
+
+def main():
+    parser = scenario.words_of(__doc__, scenario.BUILT)
+    parser.add_argument("--package", type=pathlib.Path, metavar="DEB")
+    words = parser.parse_args()
+    if shutil.which("dpkg-deb") is None or os.geteuid() != 0:
+        print("packing.py needs dpkg-deb, and to run as root", file=sys.stderr)
+        return 2
+    program, checks = pathlib.Path(words.program).resolve(), scenario.Checks()
+    with tempfile.TemporaryDirectory(prefix="stompd-packing-") as folder:
+        rooms = [pathlib.Path(folder) / it for it in ("first", "again", "archive", "root")]
+        for it in rooms:
+            it.mkdir()
+        first, again = (packed(program, it) for it in rooms[:2])
+        checks.check("the same files give the same archive and package", [it.read_bytes() for it in first] == [it.read_bytes() for it in again])
+        try_archive(first[0], program, rooms[2], checks)
+        package = words.package or first[1]
+        try_lintian(package, checks)
+        try_package(package, program, rooms[3], checks)
+    return 1 if checks.failed else 0
+
+
+if __name__ == "__main__":
+    sys.exit(main())

@@ -1,0 +1,87 @@
+#!/usr/bin/env python3
+"""Stops a running server for 85 seconds, longer than a silent client is kept, and lets it go on: no client is given up for that, and what waited in the sockets
+meanwhile is heard before anyone is. Needs Python 3 alone; the gate does not run it.
+
+    python3 tests/program/pauses.py [PROGRAM]
+
+PROGRAM is the built program; without it, the one that bin/stompd leaves in crates/stompd/out.
+"""
+
+import socket
+import sys
+import time
+
+from lib import scenario
+from lib.stomp_client import Client, Closed, WebSocket
+from lib.wire import handshake, stomp_message
+
+PAUSE = 85
+IDLE = 70
+BODY = "x" * 60_000
+
+
+def is_there(client):
+    """Whether a client is served: what it sends is receipted."""
+    try:
+        client.publish("/topic/none", "x")
+        return True
+    except (Closed, OSError):
+        return False
+
+
+def hears(client, name):
+    try:
+        client.receipt(name)
+        return True
+    except (Closed, OSError):
+        return False
+
+
+def is_accepted(one, rest):
+    """Whether a handshake of which the first half was sent before the pause is accepted once the rest is sent."""
+    try:
+        one.sendall(rest)
+        return one.recv(4_096).startswith(b"HTTP/1.1 101")
+    except OSError:
+        return False
+
+
+def pause(broker, checks):
+    """clients that are idle, that wait for a receipt, that are greeting, and that read slowly"""
+    port = broker.port
+    idle = [Client(port, timeout=30).connect() for _ in range(IDLE)]
+    sender = Client(port, timeout=30).connect()
+    unopened = WebSocket(port, timeout=30)
+    half = socket.create_connection(("127.0.0.1", port), timeout=30)
+    request = handshake(port)
+    half.sendall(request[:40])
+    # What it doesn't read fills its socket, so that something waits for it.
+    slow = Client(port, timeout=30, receive_bytes=65_536).connect()
+    slow.subscribe("s", "/topic/slow")
+    sender.publish_all("/topic/slow", [BODY] * 200, window=8)
+    with broker.standing_still():
+        time.sleep(PAUSE / 2)
+        sender.send("SEND", [("destination", "/topic/none"), ("receipt", "waited")], "x")
+        time.sleep(PAUSE / 2)
+    checks.check("a SEND that waited in its socket is receipted", hears(sender, "waited"))
+    bodies = 0
+    try:
+        while bodies < 200:
+            bodies += slow.receive().command == "MESSAGE"
+    except (Closed, OSError) as error:
+        checks.tell(f"the slow one is gone: {error}")
+    checks.same("one for which something waited gets all of it", bodies, 200)
+    checks.check("a handshake is gone on with", is_accepted(half, request[40:]))
+    time.sleep(2)
+    checks.same("all idle clients are there", sum(is_there(client) for client in idle), IDLE)
+    checks.check("and the sender", is_there(sender))
+    unopened.write(stomp_message("CONNECT", [("accept-version", "1.2"), ("host", "a")]))
+    try:
+        opened = unopened.receive_message()[1].startswith(b"CONNECTED\n")
+    except (Closed, OSError):
+        opened = False
+    checks.check("one that had its WebSocket opens its session", opened)
+
+
+if __name__ == "__main__":
+    sys.exit(scenario.run(__doc__, [pause], scenario.BUILT))

@@ -1,0 +1,416 @@
+#!/usr/bin/env python3
+"""Pings servers that answer, and others that do not or do it wrong, and compares the status and the one line that is told with what
+docs/RUNNING.md says. The others are servers that are stopped, full or at their end, and sockets that speak HTTP, half of a WebSocket, or another STOMP.
+Needs Python 3 alone; the gate does not run it.
+
+    python3 tests/program/ping.py [PROGRAM]
+
+PROGRAM is the built program; without it, the one that bin/stompd leaves in crates/stompd/out.
+"""
+
+import base64
+import concurrent.futures
+import contextlib
+import hashlib
+import http.server
+import os
+import re
+import resource
+import signal
+import socket
+import subprocess
+import sys
+import threading
+import time
+
+from lib.scenario import BUILT, Broker, Checks, built_program, free_port, serving, words_of
+from lib.stomp_client import Client, Closed, Refused
+from lib.wire import BINARY, CLOSE, PING, PONG, TEXT, message_bytes, take_frame
+
+# A step may take five seconds. What a busy machine may add to that.
+STEP, BUSY = 5, 4
+ANSWERED = re.compile(r"receipt after \d+\.\d{3} ms\n")
+NUMBERS = "stompd: BYTES is a decimal number under 2^64, and PORT one from 1 to 65535\n"
+
+
+def ping(program, port):
+    """The status, and what is written and told; and how long that took."""
+    start = time.monotonic()
+    done = subprocess.run([program, "ping", str(port)], capture_output=True, text=True, timeout=60)
+    return (done.returncode, done.stdout, done.stderr), time.monotonic() - start
+
+
+def is_answered(seen):
+    return seen[0] == 0 and ANSWERED.fullmatch(seen[1]) is not None and seen[2] == ""
+
+
+def untold(line):
+    return 1, "", f"stompd: {line}\n"
+
+
+class Peer:
+    """One that listens, and does with its first client what it is given."""
+
+    def __init__(self, act):
+        self.listener = socket.create_server(("127.0.0.1", 0))
+        self.port, self.act, self.heard, self.fault = self.listener.getsockname()[1], act, [], None
+        self.thread = threading.Thread(target=self.serve)
+        self.thread.start()
+
+    def serve(self):
+        try:
+            self.socket, _ = self.listener.accept()
+            self.socket.settimeout(30)
+            self.stream, self.buffer = self.socket.makefile("rb"), bytearray()
+            self.act(self)
+        except (BrokenPipeError, ConnectionResetError):
+            # It is the ping that has gone.
+            pass
+        except Exception as fault:
+            self.fault = fault
+        finally:
+            self.stream.close()
+            self.socket.close()
+            self.listener.close()
+
+    def shake(self):
+        """Accepts the handshake (RFC 6455, section 4.2.2); answers the lines of its head."""
+        lines = []
+        while line := self.stream.readline().decode().rstrip("\r\n"):
+            lines.append(line)
+        fields = {name.lower(): value.strip() for name, _, value in (line.partition(":") for line in lines[1:])}
+        sum_ = hashlib.sha1((fields["sec-websocket-key"] + "258EAFA5-E914-47DA-95CA-C5AB0DC85B11").encode()).digest()
+        answer = ["HTTP/1.1 101 Switching Protocols", "Upgrade: websocket", "Connection: Upgrade"]
+        answer += [f"Sec-WebSocket-Accept: {base64.b64encode(sum_).decode()}", "Sec-WebSocket-Protocol: v12.stomp"]
+        self.socket.sendall(("\r\n".join(answer) + "\r\n\r\n").encode())
+        return lines
+
+    def hear(self):
+        """The next frame of the WebSocket that is no pong: its opcode and its payload."""
+        kind = PONG
+        while kind == PONG:
+            while (frame := take_frame(self.buffer, is_masked=True)) is None:
+                more = self.stream.read1(65_536)
+                if not more:
+                    raise EOFError("the ping has ended within its talk")
+                self.buffer += more
+            _, kind, payload = frame
+        self.heard.append((kind, payload))
+        return self.heard[-1]
+
+    def say(self, payload, kind=TEXT, is_last=True):
+        self.socket.sendall(message_bytes(kind, payload, is_masked=False, is_last=is_last))
+
+    def wait(self):
+        """Waits for the end of the ping."""
+        while self.socket.recv(4_096):
+            pass
+
+    def end(self):
+        self.thread.join()
+
+
+CONNECTED = b"CONNECTED\nversion:1.2\n\n\0"
+CONNECT_TEXT = b"CONNECT\naccept-version:1.2\nhost:127.0.0.1\n\n\0"
+
+
+def receipt_of(frame):
+    """The RECEIPT that a frame asks for."""
+    name = re.search(rb"^receipt:(.*)$", frame, re.M)[1]
+    return b"RECEIPT\nreceipt-id:" + name + b"\n\n\0"
+
+
+def close(peer, code=1000):
+    peer.say(code.to_bytes(2, "big"), CLOSE)
+
+
+def converse(peer, say=Peer.say):
+    """All that a server should do."""
+    peer.shake()
+    peer.hear()
+    say(peer, CONNECTED)
+    for _ in range(2):
+        say(peer, receipt_of(peer.hear()[1]))
+    close(peer)
+    peer.wait()
+
+
+def by_bytes(peer, payload):
+    for at in range(len(payload)):
+        peer.say(payload[at : at + 1])
+
+
+def by_fragments(peer, payload):
+    """One message of two fragments, with a ping between them (RFC 6455, section 5.4)."""
+    peer.say(payload[:5], TEXT, False)
+    peer.say(b"there?", PING)
+    peer.say(payload[5:], 0)
+
+
+def with_ends_of_lines(peer, payload):
+    """EOLs may follow a frame (STOMP 1.2, "Augmented BNF")."""
+    peer.say(payload + b"\n\r\n")
+
+
+def answering(*steps):
+    """A peer that accepts the handshake, and does each of these once it has heard a frame; then it waits."""
+
+    def act(peer):
+        peer.shake()
+        for step in steps:
+            frame = peer.hear()[1]
+            step(peer, frame)
+        peer.wait()
+
+    return act
+
+
+def connected(peer, _):
+    peer.say(CONNECTED)
+
+
+def receipted(peer, frame):
+    peer.say(receipt_of(frame))
+
+
+def saying(payload):
+    return lambda peer, _: peer.say(payload)
+
+
+def closing(code):
+    return lambda peer, _: close(peer, code)
+
+
+def ending(peer, _):
+    peer.socket.shutdown(socket.SHUT_RDWR)
+
+
+def nothing(*_):
+    pass
+
+
+def drip(peer):
+    """Half a line of HTTP a second, for ever."""
+    for _ in range(60):
+        peer.socket.sendall(b"HTTP/1.1 101 ")
+        time.sleep(0.3)
+
+
+def pinging(peer, _):
+    """Pings of the WebSocket, for ever, and no answer."""
+    for _ in range(200):
+        peer.say(b"", PING)
+        time.sleep(0.1)
+
+
+def http_says(head):
+    def act(peer):
+        peer.socket.sendall(head)
+        peer.wait()
+
+    return act
+
+
+ERROR = b"ERROR\nmessage:E12 no room\\nfor the 100% message\n\nbody\0"
+NO_HANDSHAKE, NO_CONNECTED, NO_RECEIPT = "no handshake: ", "no CONNECTED: ", "no RECEIPT: "
+NO_FAREWELL, NO_CLOSE = "no RECEIPT of the DISCONNECT: ", "no close: "
+LATE, ENDED, NO_WEBSOCKET, NO_STOMP = "no answer within 5 s", "the connection has ended", "what came is no WebSocket", "what came is no STOMP"
+
+# Peers that a ping is answered by.
+GOOD = {
+    "all as it should be": converse,
+    "a byte a message": lambda peer: converse(peer, by_bytes),
+    "in fragments, with pings between them": lambda peer: converse(peer, by_fragments),
+    "in binary messages": lambda peer: converse(peer, lambda peer, payload: peer.say(payload, BINARY)),
+    "with ends of lines after the frames": lambda peer: converse(peer, with_ends_of_lines),
+    "a close with no code": answering(connected, receipted, receipted, lambda peer, _: peer.say(b"", CLOSE)),
+}
+
+# Those that it is not, and what is told.
+BAD = {
+    "says nothing": (Peer.wait, NO_HANDSHAKE + LATE),
+    "drips": (drip, NO_HANDSHAKE + LATE),
+    "ends": (nothing, NO_HANDSHAKE + ENDED),
+    "speaks SSH": (http_says(b"SSH-2.0-OpenSSH_9.2\r\n"), NO_HANDSHAKE + NO_WEBSOCKET),
+    "answers 101 for another key": (
+        http_says(b"HTTP/1.1 101 Switching Protocols\r\nUpgrade: websocket\r\nConnection: Upgrade\r\nSec-WebSocket-Accept: AAAA\r\n\r\n"),
+        NO_HANDSHAKE + NO_WEBSOCKET,
+    ),
+    "answers by HTTP/1.0": (http_says(b"HTTP/1.0 404 Not Found\r\nContent-Length: 0\r\n\r\n"), NO_HANDSHAKE + NO_WEBSOCKET),
+    "answers 301": (http_says(b"HTTP/1.1 301 Moved Permanently\r\nLocation: /\r\nContent-Length: 0\r\n\r\n"), NO_HANDSHAKE + "HTTP status 301"),
+    "does not answer the CONNECT": (answering(nothing), NO_CONNECTED + LATE),
+    "only pings": (answering(pinging), NO_CONNECTED + LATE),
+    "says half of CONNECTED": (answering(saying(CONNECTED[:-1])), NO_CONNECTED + LATE),
+    "says an ERROR": (answering(saying(ERROR)), NO_CONNECTED + "ERROR: E12 no room%0Afor the 100%25 message"),
+    "says an ERROR with no message": (answering(saying(b"ERROR\n\n\0")), NO_CONNECTED + "ERROR: "),
+    "says RECEIPT for CONNECTED": (answering(saying(b"RECEIPT\nreceipt-id:sent\n\n\0")), NO_CONNECTED + "RECEIPT came"),
+    "says what is no STOMP": (answering(saying(b"hello, who is there?\n\n\0")), NO_CONNECTED + NO_STOMP),
+    "says what is no WebSocket": (answering(lambda peer, _: peer.socket.sendall(b"\xff\xff\xff\xff")), NO_CONNECTED + NO_WEBSOCKET),
+    "closes": (answering(closing(1008)), NO_CONNECTED + "closed with 1008"),
+    "ends after the CONNECT": (answering(ending), NO_CONNECTED + ENDED),
+    "answers two at once": (answering(saying(CONNECTED + b"RECEIPT\nreceipt-id:sent\n\n\0")), NO_CONNECTED + "RECEIPT came"),
+    "does not answer the SEND": (answering(connected, nothing), NO_RECEIPT + LATE),
+    "says the RECEIPT of another frame": (answering(connected, saying(b"RECEIPT\nreceipt-id:another\n\n\0")), NO_RECEIPT + "RECEIPT came"),
+    "says a RECEIPT of none": (answering(connected, saying(b"RECEIPT\n\n\0")), NO_RECEIPT + "RECEIPT came"),
+    "says a MESSAGE": (answering(connected, saying(b"MESSAGE\nsubscription:s\nmessage-id:1\ndestination:/topic/t\n\nhi\0")), NO_RECEIPT + "MESSAGE came"),
+    "says an ERROR to the SEND": (answering(connected, saying(ERROR)), NO_RECEIPT + "ERROR: E12 no room%0Afor the 100%25 message"),
+    "ends after the SEND": (answering(connected, ending), NO_RECEIPT + ENDED),
+    "does not answer the DISCONNECT": (answering(connected, receipted, nothing), NO_FAREWELL + LATE),
+    "closes in place of the last RECEIPT": (answering(connected, receipted, closing(1001)), NO_FAREWELL + "closed with 1001"),
+    "does not close": (answering(connected, receipted, receipted), NO_CLOSE + LATE),
+    "ends and does not close": (answering(connected, receipted, lambda peer, frame: (receipted(peer, frame), ending(peer, frame))), NO_CLOSE + ENDED),
+}
+
+
+def try_peer(program, act):
+    peer = Peer(act)
+    seen, seconds = ping(program, peer.port)
+    peer.end()
+    return peer, seen, seconds
+
+
+def peers(program, checks):
+    """Sockets that are no stompd, side by side, since some say nothing for five seconds."""
+    with concurrent.futures.ThreadPoolExecutor(len(GOOD) + len(BAD)) as side_by_side:
+        good = {what: side_by_side.submit(try_peer, program, act) for what, act in GOOD.items()}
+        bad = {what: side_by_side.submit(try_peer, program, act) for what, (act, _) in BAD.items()}
+    for what, trial in good.items():
+        peer, seen, _ = trial.result()
+        checks.check(f"answered: {what}", is_answered(seen) and peer.fault is None, (seen, peer.fault))
+    for what, trial in bad.items():
+        peer, seen, seconds = trial.result()
+        line = BAD[what][1]
+        checks.same(f"not answered: {what}", (seen, peer.fault), (untold(line), None))
+        if line.endswith(LATE):
+            checks.check(f"and that within the step: {what}", STEP <= seconds <= STEP + BUSY, seconds)
+
+
+def what_is_said(program, checks):
+    """What a ping asks for and says (docs/PROTOCOL.md, STOMP 1.2)."""
+    head = []
+
+    def act(peer):
+        head.extend(peer.shake())
+        peer.hear()
+        peer.say(CONNECTED)
+        for _ in range(2):
+            peer.say(receipt_of(peer.hear()[1]))
+        peer.hear()
+        close(peer)
+        peer.wait()
+
+    peer, seen, _ = try_peer(program, act)
+    fields = {name.lower(): value.strip() for name, _, value in (line.partition(":") for line in head[1:])}
+    checks.check("it is answered", is_answered(seen), seen)
+    checks.same("it offers the subprotocol", (head[0], fields["sec-websocket-protocol"]), ("GET / HTTP/1.1", "v12.stomp"))
+    checks.same("and names the host, and no origin", (fields["host"], fields.get("origin")), (f"127.0.0.1:{peer.port}", None))
+    frames = [(kind, payload) for kind, payload in peer.heard]
+    commands = [payload.split(b"\n", 1)[0] for _, payload in frames[:3]]
+    checks.same("it says CONNECT, SEND, DISCONNECT, and closes with 1000", (commands, frames[3]), ([b"CONNECT", b"SEND", b"DISCONNECT"], (CLOSE, b"\x03\xe8")))
+    checks.same("its CONNECT asks for STOMP 1.2", frames[0][1], CONNECT_TEXT)
+    checks.check("its SEND goes where nobody hears it", b"\ndestination:/topic/stompd-ping\n" in frames[1][1], frames[1])
+
+
+def ports(program, checks):
+    """Words that name no port."""
+    for word in ("0", "65536", "x", "+8080", "", "18446744073709551616"):
+        done = subprocess.run([program, "ping", word], capture_output=True, text=True)
+        checks.same(f"no port: {word!r}", (done.returncode, done.stdout, done.stderr), (2, "", NUMBERS))
+    for words in (["ping"], ["ping", "1", "2"], ["ping", "1", "--origin", "null"]):
+        done = subprocess.run([program, *words], capture_output=True, text=True)
+        checks.check(f"no such words: {words}", done.returncode == 2 and done.stdout == "" and done.stderr, done)
+    done = subprocess.run([program, "--help"], capture_output=True, text=True)
+    checks.check("the help names it", "  ping " in done.stdout + done.stderr, done)
+
+
+def running(program, checks):
+    """A server that runs, with and without origins, is stopped for a while, and ends."""
+    checks.same("nobody listens", ping(program, free_port())[0], untold("no connection: nobody listens there"))
+    with serving(program) as broker:
+        for turn in range(20):
+            seen, _ = ping(program, broker.port)
+            checks.check(f"a running server, {turn}", is_answered(seen), seen)
+        held = subprocess.run([program, "held", broker.journal], capture_output=True, text=True).stdout
+        checks.check("nothing of it is held", held.startswith("messages 0 "), held)
+        with open("/dev/full", "w") as full:
+            done = subprocess.run([program, "ping", str(broker.port)], stdout=full, stderr=subprocess.PIPE, text=True)
+        checks.same("its line can't be written", (done.returncode, done.stderr), (1, "stompd: input or output failed\n"))
+        with broker.standing_still():
+            seen, seconds = ping(program, broker.port)
+        checks.same("a server that is stopped", seen, untold(NO_HANDSHAKE + LATE))
+        checks.check("and that within the step", STEP <= seconds <= STEP + BUSY, seconds)
+        seen, _ = ping(program, broker.port)
+        checks.check("and one that goes on", is_answered(seen), seen)
+        broker.process.send_signal(signal.SIGTERM)
+        broker.process.wait()
+        checks.same("a server that has ended", ping(program, broker.port)[0], untold("no connection: nobody listens there"))
+    with serving(program, kind=lambda *words: Broker(*words, more=("--origin", "https://chat.example"))) as broker:
+        seen, _ = ping(program, broker.port)
+        checks.check("a server with origins", is_answered(seen), seen)
+
+
+def full(program, checks):
+    """A server that has no descriptor left answers 503, and one whose journal is full has ended."""
+
+    def few():
+        resource.setrlimit(resource.RLIMIT_NOFILE, (300, 300))
+
+    class Small(Broker):
+        def serve(self):
+            words = [self.program, "serve", self.journal, str(self.port)]
+            self.process = subprocess.Popen(words, stdout=subprocess.PIPE, stderr=subprocess.DEVNULL, stdin=subprocess.DEVNULL, preexec_fn=few)
+            assert self.process.stdout.readline().decode() == f"listening {self.port}\n"
+
+        def kill(self):
+            self.process.kill()
+            self.process.wait()
+            self.process.stdout.close()
+
+    with serving(program, kind=Small) as broker:
+        clients = []
+        with contextlib.suppress(Refused, Closed):
+            while len(clients) < 300:
+                clients.append(Client(broker.port))
+        checks.check("a server may be full", 0 < len(clients) < 300, len(clients))
+        checks.same("a server that is full", ping(program, broker.port)[0], untold(NO_HANDSHAKE + "HTTP status 503"))
+        for client in clients:
+            client.close()
+    with serving(program, journal_bytes=8_224) as broker:
+        client = Client(broker.port).connect()
+        with contextlib.suppress(Closed, BrokenPipeError, ConnectionResetError):
+            for _ in range(100):
+                client.send("SEND", [("destination", "/queue/jobs")], "x" * 500)
+            client.to_the_end()
+        broker.process.wait(timeout=10)
+        checks.same("it has ended by a fault", broker.process.returncode, 1)
+        checks.same("a server that has ended by a fault", ping(program, broker.port)[0], untold("no connection: nobody listens there"))
+
+
+def other_servers(program, checks):
+    """A server of HTTP alone."""
+
+    class Quiet(http.server.SimpleHTTPRequestHandler):
+        protocol_version = "HTTP/1.1"
+
+        def log_message(self, *_):
+            pass
+
+    with http.server.ThreadingHTTPServer(("127.0.0.1", 0), lambda *given: Quiet(*given, directory=os.devnull)) as server:
+        thread = threading.Thread(target=server.serve_forever)
+        thread.start()
+        checks.same("a server of HTTP", ping(program, server.server_address[1])[0], untold(NO_HANDSHAKE + "HTTP status 404"))
+        server.shutdown()
+        thread.join()
+
+
+def main():
+    program = built_program(words_of(__doc__, BUILT).parse_args())
+    checks, start = Checks(), time.monotonic()
+    for trial in (ports, running, full, other_servers, what_is_said, peers):
+        trial(program, checks)
+    print(f"ping: {checks.failed} failed, {time.monotonic() - start:.0f} s")
+    return 1 if checks.failed else 0
+
+
+if __name__ == "__main__":
+    sys.exit(main())

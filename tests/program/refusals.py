@@ -1,0 +1,157 @@
+#!/usr/bin/env python3
+"""Asks a running server for what is no WebSocket, or none that it gives, and reads the answers to their end: the status, the
+fields that belong to it, and a text of the length that is named. What is expected stands in RFC 6455 (sections 4.2 and 4.4), RFC 9110
+(sections 15.5.6 and 15.5.22) and RFC 9112 (section 3.2). Needs Python 3 alone; the gate does not run it.
+
+    python3 tests/program/refusals.py [PROGRAM]
+
+PROGRAM is the built program; without it, the one that bin/stompd leaves in crates/stompd/out.
+"""
+
+import contextlib
+import os
+import socket
+import subprocess
+import sys
+import tempfile
+
+from lib.scenario import BUILT, built_program, free_port, words_of
+
+KEY = "Sec-WebSocket-Key: dGhlIHNhbXBsZSBub25jZQ=="
+HOST, UPGRADE, CONNECTION, VERSION = "Host: localhost", "Upgrade: websocket", "Connection: Upgrade", "Sec-WebSocket-Version: 13"
+WHOLE = (HOST, UPGRADE, CONNECTION, KEY, VERSION)
+GET = "GET / HTTP/1.1"
+
+
+def request(line, *fields):
+    return "\r\n".join((line, *fields, "", "")).encode()
+
+
+# What is asked, the bytes, and the status of the answer.
+ASKED = (
+    ("a WebSocket", request(GET, *WHOLE), 101),
+    ("a WebSocket, in other letters", request(GET, HOST.upper(), "upgrade:WebSocket", "CONNECTION: keep-alive, upgrade", KEY, VERSION.lower()), 101),
+    ("a plain GET", request(GET, HOST), 426),
+    ("a plain GET of HTTP/1.0", request("GET / HTTP/1.0", HOST), 426),
+    ("a WebSocket by HTTP/1.0", request("GET / HTTP/1.0", *WHOLE), 426),
+    ("an upgrade to something else", request(GET, HOST, "Upgrade: h2c", CONNECTION, KEY, VERSION), 426),
+    ("no word of an upgrade in Connection", request(GET, HOST, UPGRADE, "Connection: keep-alive", KEY, VERSION), 426),
+    ("a POST", request("POST / HTTP/1.1", HOST, "Content-Length: 2") + b"hi", 405),
+    ("a POST whose body is still to come", request("POST / HTTP/1.1", HOST, "Content-Length: 2"), 405),
+    ("a POST that asks for a WebSocket", request("POST / HTTP/1.1", *WHOLE), 405),
+    ("a HEAD", request("HEAD / HTTP/1.1", HOST), 405),
+    ("version 8", request(GET, HOST, UPGRADE, CONNECTION, KEY, "Sec-WebSocket-Version: 8"), 426),
+    ("no version", request(GET, HOST, UPGRADE, CONNECTION, KEY), 426),
+    ("no key", request(GET, HOST, UPGRADE, CONNECTION, VERSION), 400),
+    ("a key of 15 bytes", request(GET, HOST, UPGRADE, CONNECTION, "Sec-WebSocket-Key: dGhlIHNhbXBsZSBub25j", VERSION), 400),
+    ("a key that is no base64", request(GET, HOST, UPGRADE, CONNECTION, "Sec-WebSocket-Key: ????????????????????????", VERSION), 400),
+    ("no Host", request(GET, *WHOLE[1:]), 400),
+    ("two Hosts", request(GET, HOST, *WHOLE), 400),
+    ("Transfer-Encoding", request(GET, *WHOLE, "Transfer-Encoding: chunked"), 400),
+    ("other subprotocols alone", request(GET, *WHOLE, "Sec-WebSocket-Protocol: v11.stomp"), 400),
+    ("bytes after its request", request(GET, *WHOLE) + b"more", 400),
+    ("no request", b"\x16\x03\x01\x02\x00\x01\x00\x01\xfc\x03\x03" + bytes(40), 400),
+    ("a space before a colon", request(GET, *WHOLE, "X-Odd : 1"), 400),
+    ("125 fields", request(GET, *WHOLE, *(f"X-{number}: 1" for number in range(120))), 431),
+    ("a field of 70,000 bytes", request(GET, *WHOLE, "X-Long: " + 70_000 * "x"), 431),
+)
+
+# An Origin, and the statuses if all are served, and if these are alone.
+SERVED = ("http://localhost:8000", "null")
+ORIGINS = (
+    ((), 101, 101),
+    (("Origin: http://localhost:8000",), 101, 101),
+    (("origin:null",), 101, 101),
+    (("Origin: http://localhost",), 101, 403),
+    (("Origin: https://localhost:8000",), 101, 403),
+    (("Origin: http://localhost:8000/",), 101, 403),
+    (("Origin: http://localhost:8000", "Origin: http://evil.example"), 101, 403),
+    (("Origin:",), 101, 403),
+)
+
+
+@contextlib.contextmanager
+def serving(program, *options):
+    """A server over a new journal, at a port that was free."""
+    with tempfile.TemporaryDirectory() as folder:
+        journal = os.path.join(folder, "journal")
+        subprocess.run([program, "format", journal, "2097184"], check=True)
+        port = free_port()
+        words = [program, "serve", *options[:1], *options[1:2], journal, str(port), *options[2:]]
+        with subprocess.Popen(words, stdout=subprocess.PIPE) as server:
+            try:
+                server.stdout.readline()
+                yield port
+            finally:
+                server.kill()
+
+
+def answer(port, asked):
+    """The head of the answer, and what follows it up to the end; of a WebSocket the head alone."""
+    with socket.create_connection(("127.0.0.1", port), timeout=5) as one:
+        one.sendall(asked)
+        data = b""
+        try:
+            while more := one.recv(4_096):
+                data += more
+                if data.startswith(b"HTTP/1.1 101") and data.endswith(b"\r\n\r\n"):
+                    break
+        except ConnectionResetError:
+            # What was sent and not read when the server closed the stream resets it, after the answer.
+            pass
+        head, _, body = data.partition(b"\r\n\r\n")
+        return head.decode(errors="replace"), body
+
+
+def faults(head, body, status):
+    """What is wrong with an answer that should have that status."""
+    line, *fields = head.split("\r\n")
+    if not line.startswith(f"HTTP/1.1 {status} "):
+        return [f"answered {line!r}, not {status}"]
+    named = {name.lower(): value.strip() for name, _, value in (field.partition(":") for field in fields)}
+    tokens = [token.strip().lower() for token in named.get("connection", "").split(",")]
+    wrong = []
+    if status == 101:
+        if named.get("sec-websocket-accept") != "s3pPLMBiTxaQ9kYGzzhZRbK+xOo=":
+            wrong.append("another accept key than that of RFC 6455, section 1.3")
+        return wrong
+    if "close" not in tokens:
+        wrong.append("no Connection: close")
+    if not body or named.get("content-length") != str(len(body)):
+        wrong.append(f"a text of {len(body)} bytes, and Content-Length: {named.get('content-length')}")
+    if status == 405 and named.get("allow") != "GET":
+        wrong.append("no Allow: GET")
+    if status == 426 and (named.get("upgrade"), named.get("sec-websocket-version"), "upgrade" in tokens) != ("websocket", "13", True):
+        wrong.append("no Upgrade: websocket, or no Sec-WebSocket-Version: 13")
+    return wrong
+
+
+def main():
+    program = built_program(words_of(__doc__, BUILT).parse_args())
+    count = failed = 0
+
+    def check(port, what, asked, status):
+        nonlocal count, failed
+        count += 1
+        for wrong in faults(*answer(port, asked), status):
+            failed += 1
+            print(f"refusals: one that asks for {what}: {wrong}", file=sys.stderr)
+
+    with serving(program) as port:
+        for what, asked, status in ASKED:
+            check(port, what, asked, status)
+        for fields, status, _ in ORIGINS:
+            check(port, f"a WebSocket with {fields}, where all are served", request(GET, *WHOLE, *fields), status)
+        # None of them has kept a worker.
+        for _ in range(40):
+            check(port, "a plain GET, again", request(GET, HOST), 426)
+    with serving(program, "--origin", SERVED[0], f"--origin={SERVED[1]}") as port:
+        for fields, _, status in ORIGINS:
+            check(port, f"a WebSocket with {fields}, where {SERVED} are served", request(GET, *WHOLE, *fields), status)
+    if failed:
+        sys.exit(f"refusals: {failed} faults in {count} answers")
+    print(f"refusals: {count} answers are as they should be")
+
+
+if __name__ == "__main__":
+    main()

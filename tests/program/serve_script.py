@@ -1,0 +1,387 @@
+#!/usr/bin/env python3
+"""Tries bin/serve, the shell script that makes a journal if there is none and serves it: over the built program, and over stand-ins for it
+that stop within their work. Needs Linux and Python 3 alone; the gate does not run it.
+
+    python3 tests/program/serve_script.py [PROGRAM] [--few]
+
+- A first start makes the journal and serves it; a program that is missing, a port that is none and too many words are told.
+- SIGTERM ends it with status 143, SIGINT with 130, SIGHUP with 129, at whatever moment, and no server of it is left.
+- Of two first starts at once on one file one serves, the other ends since the file is locked, and neither replaces the other's journal.
+- What a killed first start has left is not taken for a journal, nor does it stand in the way of the next start.
+- What the server tells on standard error is told while it runs, and the origins that are named are passed on.
+- A server whose journal is full is started again, by the same program, after a pause that grows; if not even a start fits it is not.
+- A build that fails or is broken off ends it.
+
+PROGRAM is the built program; without it, the one that bin/stompd leaves in crates/stompd/out. With --few there are fewer moments and pairs, since each
+first start writes 512 MiB.
+"""
+
+import contextlib
+import os
+import pathlib
+import random
+import re
+import select
+import shutil
+import signal
+import socket
+import subprocess
+import sys
+import tempfile
+import time
+
+from lib.scenario import BUILT, TOP, built_program, free_port, words_of
+from lib.stomp_client import Client
+
+SERVE = TOP / "bin" / "serve"
+STATUSES = {signal.SIGTERM: 143, signal.SIGINT: 130, signal.SIGHUP: 129}
+LOCKED = "stompd: cannot open: FILE: another server has its lock\n"
+SMALL_JOURNAL = "131104"
+# What a running server tells has its moment in front.
+EVENT = re.compile(r"stompd: \d{4}-\d\d-\d\dT")
+# A first start writes and syncs 512 MiB, which a busy disk takes its time for. In seconds.
+PATIENCE = 120
+# Signals at random moments, and pairs of first starts.
+MOMENTS, PAIRS = 40, 20
+FEW_MOMENTS, FEW_PAIRS = 5, 2
+
+
+class Checks:
+    def __init__(self, program, folder, has_few):
+        self.program, self.folder = program, folder
+        self.moments, self.pairs = (FEW_MOMENTS, FEW_PAIRS) if has_few else (MOMENTS, PAIRS)
+        self.count = self.failed = 0
+
+    def check(self, what, holds, seen=""):
+        self.count += 1
+        if not holds:
+            self.failed += 1
+            print(f"serve_script: {what}: {seen}", file=sys.stderr)
+
+    def same(self, what, seen, wanted):
+        self.check(what, seen == wanted, f"{seen!r}, and not {wanted!r}")
+
+    def stand_in(self, text):
+        """A program that begins with these lines of shell, and goes on as the built one."""
+        path = pathlib.Path(tempfile.mkdtemp(dir=self.folder)) / "program"
+        path.write_text(f'#!/bin/sh\n{text}\nexec "{self.program}" "$@"\n', encoding="utf-8")
+        path.chmod(0o755)
+        return path
+
+
+def as_from_a_terminal():
+    """No signal is ignored, whatever this script was started by."""
+    for it in STATUSES:
+        signal.signal(it, signal.SIG_DFL)
+
+
+class Start:
+    """A run of bin/serve."""
+
+    every = []
+
+    def __init__(self, program, *words, script=SERVE):
+        environment = {**os.environ, "STOMPD": str(program)} if program else {it: os.environ[it] for it in os.environ if it != "STOMPD"}
+        how = {"stdin": subprocess.DEVNULL, "stdout": subprocess.PIPE, "stderr": subprocess.PIPE, "env": environment}
+        self.process = subprocess.Popen([script, *map(str, words)], preexec_fn=as_from_a_terminal, start_new_session=True, text=True, **how)
+        Start.every.append(self)
+
+    def listens(self, seconds=PATIENCE):
+        """Whether the server says within that time that it listens."""
+        return bool(select.select([self.process.stdout], [], [], seconds)[0]) and self.process.stdout.readline().startswith("listening ")
+
+    def end(self, sent=None, seconds=PATIENCE):
+        """The status, and what was told besides the events of a running server, once it has ended by itself or by that signal."""
+        if sent:
+            self.process.send_signal(sent)
+        _, told = self.process.communicate(timeout=seconds)
+        return self.process.returncode, "".join(line for line in told.splitlines(keepends=True) if not EVENT.match(line))
+
+    def kill_all(self):
+        """Ends it and all that it has started, as a lost machine does."""
+        with contextlib.suppress(ProcessLookupError):
+            os.killpg(self.process.pid, signal.SIGKILL)
+        if self.process.returncode is None:
+            self.process.communicate()
+
+
+def running_over(file):
+    """The processes in whose words that file stands."""
+    found = []
+    for words in pathlib.Path("/proc").glob("[0-9]*/cmdline"):
+        with contextlib.suppress(OSError):
+            if str(file).encode() in words.read_bytes():
+                found.append(words.parent.name)
+    return found
+
+
+def beside(file):
+    """What stands in the file's folder under longer names."""
+    return sorted(it.name for it in file.parent.iterdir() if it.name.startswith(f"{file.name}."))
+
+
+def wait_until(holds, seconds=PATIENCE):
+    end = time.monotonic() + seconds
+    while not holds():
+        assert time.monotonic() < end, "it does not come"
+        time.sleep(0.005)
+
+
+def new_file(checks):
+    return pathlib.Path(tempfile.mkdtemp(dir=checks.folder)) / "rooms.journal"
+
+
+def publish(port, body):
+    client = Client(port).connect()
+    client.publish("/queue/kept", body)
+    client.close()
+
+
+def found_in(port):
+    reader = Client(port).connect()
+    found = [frame.body for frame in reader.subscribe("r", "/queue/kept")]
+    reader.close()
+    return found
+
+
+def words_and_programs(checks):
+    file = new_file(checks)
+    for program in (file.parent / "missing", file.parent):
+        status, told = Start(program, file, free_port()).end()
+        checks.same(f"{program} as the program", (status, told), (1, f"serve: there is no program {program}\n"))
+    for words in ([file, "eighty"], [file, "0"], [file, "70000"], [file, "080800"], [file, "80", "x"], ["--port"], [file, "80", "--origin"], [file, "80", "--threads"], [file, "80", "--memory"], [file, "80", "--origin", "o", "p"]):
+        status, told = Start(checks.program, *words).end()
+        checks.check(f"{words} are refused", status == 2 and told.startswith("serve: "), (status, told))
+    status, told = Start(checks.program, file, free_port(), "--origin", "https://chat.example/").end()
+    checks.check("an origin that no browser sends is refused", status == 2 and "ORIGIN" in told, (status, told))
+    with socket.socket() as taken:
+        taken.bind(("127.0.0.1", 0))
+        taken.listen()
+        status, told = Start(checks.program, file, taken.getsockname()[1]).end()
+        checks.same("a port in use is told", (status, told), (1, "stompd: cannot open: PORT: another program listens there\n"))
+    checks.same("and nothing is made", list(file.parent.iterdir()), [])
+    link = file.parent / "link"
+    link.symlink_to(file.parent / "nothing")
+    status, told = Start(checks.program, link, free_port()).end()
+    checks.check("a link to nothing is told", status == 1 and "is a link to" in told, (status, told))
+    link.unlink()
+    nowhere = file.parent / "none" / "rooms.journal"
+    status, told = Start(checks.program, nowhere, free_port()).end()
+    checks.check("a folder that isn't there is told", status == 1 and str(nowhere) in told, (status, told))
+
+
+def a_first_start(checks):
+    file, port = new_file(checks), free_port()
+    first = Start(checks.program, file, port)
+    checks.check("a first start serves", first.listens())
+    publish(port, "before")
+    client = Client(port).connect()
+    status, told = first.end(signal.SIGTERM)
+    checks.check("and ends by SIGTERM", status == 143 and told.startswith(f"serve: made the journal {file}\n"), (status, told))
+    checks.same("its clients hear 1001", client.to_the_end()[1], 1001)
+    checks.same("only its owner may read the journal", file.stat().st_mode & 0o777, 0o600)
+    checks.same("nothing is left beside the journal", beside(file), [])
+    inode = file.stat().st_ino
+    for sent in (signal.SIGINT, signal.SIGHUP, signal.SIGTERM):
+        again = Start(checks.program, file, port)
+        checks.check("the next start serves", again.listens())
+        checks.same(f"it ends by {sent.name}", again.end(sent), (STATUSES[sent], ""))
+        checks.same("its server is gone", running_over(file), [])
+    last = Start(checks.program, file, port)
+    checks.check("and serves again", last.listens())
+    checks.same("what was sent is there", found_in(port), ["before"])
+    checks.same("in the same file", file.stat().st_ino, inode)
+    last.kill_all()
+
+
+def signals_at_any_moment(checks):
+    file, port = new_file(checks), free_port()
+    for number in range(checks.moments):
+        file.unlink(missing_ok=True)
+        start = Start(checks.program, file, port)
+        # By then the shell has set its traps; before, a signal ends it as any program, and it has started nothing.
+        wait_until(lambda: running_over(file))
+        time.sleep(random.uniform(0.01, 0.06))
+        sent = random.choice(list(STATUSES))
+        start.process.send_signal(sent)
+        status, _ = start.end(random.choice([None, sent]))
+        checks.check(f"{sent.name} at moment {number}", status in (STATUSES[sent], -sent), status)
+        checks.same(f"leaves no process at moment {number}", running_over(file), [])
+        if status == STATUSES[sent]:
+            checks.same(f"nor anything but a journal at moment {number}", beside(file), [])
+
+
+def signals_while_the_journal_is_made(checks):
+    slow = checks.stand_in('if [ "$1" = format ]; then : > "$2"; exec sleep 1000; fi')
+    for sent, status in STATUSES.items():
+        file = new_file(checks)
+        start = Start(slow, file, free_port())
+        wait_until(lambda: list(file.parent.glob("*/journal")))
+        checks.same(f"{sent.name} while the journal is made", start.end(sent), (status, ""))
+        checks.same("leaves nothing", list(file.parent.iterdir()), [])
+
+
+def two_first_starts(checks):
+    for number in range(checks.pairs):
+        file, ports = new_file(checks), (free_port(), free_port())
+        starts = [Start(checks.program, file, port) for port in ports]
+        wait_until(file.exists)
+        inode = file.stat().st_ino
+        serving = [start.listens() for start in starts]
+        checks.same(f"one of two serves, pair {number}", sorted(serving), [False, True])
+        if sorted(serving) != [False, True]:
+            [start.kill_all() for start in starts]
+            continue
+        publish(ports[serving.index(True)], "kept")
+        loser = starts[serving.index(False)].end()
+        checks.check(f"the other tells the lock, pair {number}", loser[0] == 1 and loser[1].endswith(LOCKED), loser)
+        checks.same(f"one journal, pair {number}", (file.stat().st_ino, beside(file)), (inode, []))
+        checks.same(f"the first one ends, pair {number}", starts[serving.index(True)].end(signal.SIGTERM)[0], 143)
+        again = Start(checks.program, file, ports[0])
+        checks.check(f"it is served again, pair {number}", again.listens())
+        checks.same(f"with what was sent, pair {number}", found_in(ports[0]), ["kept"])
+        checks.same(f"and ends, pair {number}", again.end(signal.SIGTERM), (143, ""))
+
+
+def a_slow_first_start(checks):
+    """It makes its journal, and meanwhile another has made one and serves it."""
+    file, ports = new_file(checks), (free_port(), free_port())
+    go = file.parent / "go"
+    slow = Start(checks.stand_in(f'if [ "$1" = format ]; then while [ ! -e "{go}" ]; do sleep 0.02; done; fi'), file, ports[0])
+    wait_until(lambda: beside(file))
+    quick = Start(checks.program, file, ports[1])
+    checks.check("the quick one serves", quick.listens())
+    inode = file.stat().st_ino
+    publish(ports[1], "of the quick one")
+    go.touch()
+    checks.same("the slow one finds it locked", slow.end(), (1, LOCKED))
+    checks.same("and has replaced nothing", (file.stat().st_ino, beside(file)), (inode, []))
+    publish(ports[1], "and one more")
+    checks.same("the quick one ends", quick.end(signal.SIGTERM)[0], 143)
+    again = Start(checks.program, file, ports[0])
+    checks.check("its journal is served again", again.listens())
+    checks.same("with all that was sent", found_in(ports[0]), ["of the quick one", "and one more"])
+    again.kill_all()
+
+
+def a_killed_first_start(checks):
+    file, port = new_file(checks), free_port()
+    start = Start(checks.stand_in('if [ "$1" = format ]; then printf STOMPJ > "$2"; exec sleep 1000; fi'), file, port)
+    wait_until(lambda: [it for it in file.parent.glob("*/journal") if it.stat().st_size])
+    start.kill_all()
+    checks.check("it has left something, and no journal", beside(file) and not file.exists(), beside(file))
+    again = Start(checks.program, file, port)
+    checks.check("the next start makes a journal of its own", again.listens())
+    publish(port, "kept")
+    checks.same("and keeps what is sent", found_in(port), ["kept"])
+    again.kill_all()
+
+
+def a_full_journal(checks):
+    file, port = new_file(checks), free_port()
+    subprocess.run([checks.program, "format", file, SMALL_JOURNAL], check=True)
+    count, full = file.parent / "starts", "echo 'stompd: J4 journal full' >&2; exit 1"
+    # Two servers are full soon, the third one serves until it is told to end; the fourth does not even start, and the fifth fails otherwise.
+    program = checks.stand_in(f"""echo "$1" >> "{count}"
+case $(wc -l < "{count}") in
+    1 | 2) echo 'listening 0'; {full} ;;
+    4) {full} ;;
+    5) echo 'listening 0'; echo 'stompd: J3 device failed' >&2; exit 1 ;;
+esac""")
+    began = time.monotonic()
+    start = Start(program, file, port)
+    checks.check("it is started again after it was full, and once more", [start.listens() for _ in range(3)] == [True] * 3)
+    checks.check("after a second, and after two more", 2.9 <= time.monotonic() - began < PATIENCE, time.monotonic() - began)
+    publish(port, "kept")
+    checks.same("and serves", found_in(port), ["kept"])
+    status, told = start.end(signal.SIGTERM)
+    again = [f"serve: starting again in {seconds} s, which makes room" for seconds in (1, 2)]
+    checks.same("until it is told to end", (status, [line for line in told.splitlines() if line.startswith("serve: ")]), (143, again))
+    status, told = Start(program, file, port).end()
+    checks.check("if not even a start fits it is not started again", status == 1 and "does not fit into half of it" in told, (status, told))
+    checks.same("nor after another fault", Start(program, file, port).end(), (1, "stompd: J3 device failed\n"))
+    checks.same("and each was a server", count.read_text().split(), ["serve"] * 5)
+
+
+def what_the_server_tells(checks):
+    file = new_file(checks)
+    words, line = file.parent / "words", "stompd: compacted: 3120 bytes won in 2 ms\n"
+    program = checks.stand_in(f"""if [ "$1" = serve ]; then
+    echo "$*" > "{words}"
+    printf '{line[:-1]}\\n' >&2
+fi""")
+    start = Start(program, file, free_port(), "--origin", "http://here:1", "--threads", "3", "--memory", "16777216", "--origin", "null")
+    told = [start.process.stderr.readline() for _ in range(2)]
+    checks.same("what it tells is told while it runs", told[1:], [line])
+    checks.check("and it listens then", start.listens())
+    passed = " --origin http://here:1 --threads 3 --memory 16777216 --origin null\n"
+    checks.check("origins, the number of threads and the memory are passed on", words.read_text().endswith(passed), words.read_text())
+    checks.same("it ends as ever", start.end(signal.SIGTERM), (143, ""))
+
+
+def builds(checks):
+    """A copy of the script stands beside a stand-in for bin/build."""
+    top, file, port = pathlib.Path(tempfile.mkdtemp(dir=checks.folder)), new_file(checks), free_port()
+    (top / "bin").mkdir()
+    (top / "crates" / "stompd" / "out").mkdir(parents=True)
+    script, build = shutil.copy2(SERVE, top / "bin"), top / "bin" / "build"
+    (top / "crates" / "stompd" / "out" / "stompd").symlink_to(checks.program)
+
+    def with_build(text):
+        build.write_text(f"#!/bin/sh\n{text}\n", encoding="utf-8")
+        build.chmod(0o755)
+        return Start(None, file, port, script=script)
+
+    checks.same("a build that fails ends it", with_build("echo 'stompd: the build of x failed' >&2; exit 1").end(), (1, "stompd: the build of x failed\n"))
+    for sent, status in STATUSES.items():
+        heard, began = file.parent / f"heard-{sent.name}", file.parent / f"began-{sent.name}"
+        start = with_build(f"trap ': > \"{heard}\"; exit 143' TERM; : > \"{began}\"; while :; do sleep 0.02; done")
+        wait_until(began.exists)
+        checks.same(f"{sent.name} while it builds", start.end(sent), (status, ""))
+        checks.check("the build is told to end, and has ended", heard.exists())
+    checks.check("no journal was made", not file.exists())
+    start = with_build("exit 0")
+    checks.check("what was built serves", start.listens())
+    checks.same("and ends", start.end(signal.SIGTERM)[0], 143)
+
+
+SCENARIOS = [
+    words_and_programs,
+    a_first_start,
+    signals_at_any_moment,
+    signals_while_the_journal_is_made,
+    two_first_starts,
+    a_slow_first_start,
+    a_killed_first_start,
+    a_full_journal,
+    what_the_server_tells,
+    builds,
+]
+
+
+def try_one(checks, scenario):
+    """Runs a scenario, and ends all that it has started. What it raises is a failed check."""
+    try:
+        scenario(checks)
+    except Exception as error:
+        checks.check(f"{scenario.__name__} runs to its end", False, repr(error))
+    finally:
+        for start in Start.every:
+            start.kill_all()
+        Start.every.clear()
+
+
+def main():
+    parser = words_of(__doc__, BUILT)
+    parser.add_argument("--few", action="store_true", help="fewer moments and pairs")
+    words = parser.parse_args()
+    with tempfile.TemporaryDirectory(prefix="stompd-serve-") as folder:
+        checks = Checks(built_program(words), pathlib.Path(folder), words.few)
+        for scenario in SCENARIOS:
+            try_one(checks, scenario)
+    print(f"serve_script: {checks.count} checked, {checks.failed} failed")
+    return 1 if checks.failed else 0
+
+
+if __name__ == "__main__":
+    sys.exit(main())

@@ -1,0 +1,134 @@
+#!/usr/bin/env python3
+"""A subscriber that stops reading, while another sends to its topic: its outbox of 32 MiB is cut, and nobody else waits.
+
+    python3 tests/program/slow_reader.py [PROGRAM]
+"""
+
+import sys
+import time
+
+from lib import scenario
+from lib.stomp_client import Client
+
+BODY = "x" * 16_000
+# So many messages an outbox has room for at least: with its headers a message has less than 16,500 bytes.
+OUTBOX = 32 * 1_048_576 // 16_500
+# Enough to fill the outbox and what the two sockets keep, which is some megabytes.
+MESSAGES = 2_800
+
+# For how many seconds a client may take nothing of what is written before it is given up.
+LONGEST_WRITE = 10
+
+
+class Flood:
+    """Messages of 16,000 bytes to a topic, one at a time: each has its receipt, and a quick listener has it, before the next."""
+
+    def __init__(self, port, topic):
+        self.topic = topic
+        self.sender, self.quick = Client(port).connect(), Client(port).connect()
+        self.quick.subscribe("q", topic)
+        self.longest_receipt = self.longest_delivery = 0.0
+
+    def send(self, number):
+        body = f"{number} {BODY}"
+        start = time.perf_counter()
+        self.sender.publish(self.topic, body)
+        receipted = time.perf_counter()
+        assert self.quick.receive().body == body
+        self.longest_receipt = max(self.longest_receipt, receipted - start)
+        self.longest_delivery = max(self.longest_delivery, time.perf_counter() - start)
+
+    def tell(self, checks):
+        checks.tell(f"the longest receipt took {self.longest_receipt * 1000:.1f} ms, the longest delivery {self.longest_delivery * 1000:.1f} ms")
+
+    def leave(self):
+        self.sender.disconnect()
+        self.quick.disconnect()
+
+
+def numbers_of(frames):
+    return [int(frame.body.split(" ", 1)[0]) for frame in frames]
+
+
+def reads_again(broker, checks):
+    """one that reads again before it is given up hears what was kept for it, and then 1001"""
+    slow = Client(broker.port, receive_bytes=65_536).connect()
+    slow.subscribe("s", "/topic/flood")
+    flood = Flood(broker.port, "/topic/flood")
+    start = time.perf_counter()
+    for number in range(MESSAGES):
+        flood.send(number)
+    checks.check(f"{MESSAGES} receipts and deliveries to others came while it read nothing", True)
+    flood.tell(checks)
+    checks.tell(f"all in {time.perf_counter() - start:.1f} s")
+    frames, code = slow.to_the_end()
+    numbers = numbers_of(frames)
+    checks.same("it hears 1001", code, 1001)
+    checks.same("before that a front of what was sent, in order", numbers, list(range(len(numbers))))
+    checks.check("of no less than an outbox, and not all", OUTBOX <= len(numbers) < MESSAGES, len(numbers))
+    checks.tell(f"{len(numbers)} messages, and 1001 {time.perf_counter() - start:.1f} s after it stopped reading")
+    slow.close()
+    again = Client(broker.port).connect()
+    again.subscribe("s", "/topic/flood")
+    flood.send(MESSAGES)
+    checks.same("when it comes back it hears what is sent from then on", numbers_of([again.receive()]), [MESSAGES])
+    again.disconnect()
+    flood.leave()
+
+
+def answers_no_close(broker, checks):
+    """what one holds whose outbox is cut goes to others once it has read what was kept for it, though it answers no close"""
+    slow = Client(broker.port, receive_bytes=65_536).connect()
+    slow.subscribe("h", "/queue/kept", "client-individual")
+    kept = [frame.body for frame in slow.publish("/queue/kept", "kept")]
+    checks.same("it holds a message of a queue", kept, ["kept"])
+    slow.subscribe("s", "/topic/cut")
+    flood = Flood(broker.port, "/topic/cut")
+    for number in range(MESSAGES):
+        flood.send(number)
+    other = Client(broker.port).connect()
+    waiting = [frame.body for frame in other.subscribe("h", "/queue/kept", "client-individual")]
+    checks.same("another that subscribes is handed nothing yet", waiting, [])
+    frames, code = slow.to_the_end()
+    checks.same("it hears 1001", code, 1001)
+    start = time.perf_counter()
+    checks.same("the other is handed the message", other.receive().body, "kept")
+    waited = time.perf_counter() - start
+    checks.check("within 2 seconds", waited < 2, waited)
+    slow.close()
+    other.disconnect()
+    flood.leave()
+
+
+def reads_never(broker, checks):
+    """one that doesn't read again is given up, with no close, and the message that it held goes to another"""
+    slow = Client(broker.port, receive_bytes=65_536).connect()
+    slow.subscribe("h", "/queue/held", "client-individual")
+    held = [frame.body for frame in slow.publish("/queue/held", "held")]
+    checks.same("it holds a message of a queue", held, ["held"])
+    slow.subscribe("s", "/topic/stuck")
+    flood = Flood(broker.port, "/topic/stuck")
+    other = Client(broker.port).connect()
+    waiting = [frame.body for frame in other.subscribe("h", "/queue/held", "client-individual")]
+    checks.same("another that subscribes is handed nothing yet", waiting, [])
+    start = time.perf_counter()
+    sent = 0
+    while not other.hears_within(0) and time.perf_counter() - start < LONGEST_WRITE + 20:
+        flood.send(sent)
+        sent += 1
+        time.sleep(0 if sent < MESSAGES else 0.05)
+    waited = time.perf_counter() - start
+    checks.check("the other hears something after some 10 seconds", LONGEST_WRITE <= waited < LONGEST_WRITE + 5, waited)
+    checks.tell(f"after {waited:.1f} s, {sent} messages")
+    flood.tell(checks)
+    checks.same("it is handed the message", other.receive().body, "held")
+    frames, code = slow.to_the_end()
+    numbers = numbers_of(frames)
+    checks.same("when it reads at last, the stream ends with no close", code, 0)
+    checks.same("after a front of what was sent", numbers, list(range(len(numbers))))
+    other.disconnect()
+    flood.leave()
+
+
+if __name__ == "__main__":
+    sys.exit(scenario.run(__doc__, [reads_again, answers_no_close, reads_never]))

@@ -1,0 +1,326 @@
+#!/usr/bin/env python3
+"""Runs the built program on good and bad words, files and ports, and compares its status and what it writes to standard
+output and standard error with what docs/PROTOCOL.md says. Needs Python 3 alone; the gate does not run it.
+
+    python3 tests/program/statuses.py [PROGRAM]
+
+PROGRAM is the built program; without it, the one that bin/stompd leaves in crates/stompd/out.
+"""
+
+import os
+import pathlib
+import select
+import socket
+import struct
+import subprocess
+import sys
+import tempfile
+
+from lib.old_journal import area, journal
+from lib.scenario import BUILT, built_program, free_port, words_of
+
+# What may be written: just this text, some text that is not ours to say, or nothing. Of None nothing is looked at.
+SOME = object()
+NOTHING = ""
+
+
+def told(text):
+    return f"stompd: {text}\n"
+
+
+def unopened(why):
+    return told(f"cannot open: {why}")
+
+
+MISSING = unopened("FILE: there is no such file")
+NUMBERS = told("BYTES is a decimal number under 2^64, and PORT one from 1 to 65535")
+THREADS = told("the N of --threads is a decimal number from 1 to 64")
+MEMORY = told("the BYTES of --memory are a decimal number from 16777216 on, and under 2^64")
+ORIGINS = told("an ORIGIN is what a browser sends: SCHEME://HOST or SCHEME://HOST:PORT in small letters, with nothing after it")
+VERSION = "stompd 0.1.0\n"
+# Areas of 4,096 bytes.
+SMALLEST = 8_224
+
+
+class Checks:
+    def __init__(self, program):
+        self.program = program
+        self.count = self.failed = 0
+
+    def expect(self, what, holds, seen=""):
+        self.count += 1
+        if not holds:
+            self.failed += 1
+            print(f"statuses: {what}: {seen}", file=sys.stderr)
+
+    def run(self, words, status, output, errors, given=b"", sink=subprocess.PIPE):
+        """Runs the program, and compares its status and its two outputs."""
+        done = subprocess.run([self.program, *words], input=given, stdout=sink, stderr=subprocess.PIPE, timeout=60)
+        wrote, said = (text.decode(errors="replace") if text else "" for text in (done.stdout, done.stderr))
+        fits = all(bool(seen) if wanted is SOME else wanted is None or seen == wanted for seen, wanted in ((wrote, output), (said, errors)))
+        self.expect(f"{words} at {given[-40:]}", fits and done.returncode == status, (done.returncode, wrote, said))
+
+
+def scripts(checks):
+    checks.run(["script"], 0, NOTHING, NOTHING)
+    checks.run(["script"], 0, NOTHING, NOTHING, b"\n\n0 \nflush\n")
+    connect, connected = b"0 CONNECT%0Aaccept-version:1.2%0A%0A%00\n", "0 CONNECTED%0Aversion:1.2%0Asession:0%0Aheart-beat:0,0%0A%0A%00\n"
+    checks.run(["script"], 0, connected, NOTHING, connect + b"flush\n" + connect)
+    checks.run(["script"], 1, connected, told("line 4 not understood"), connect + b"flush\n\nflash\nflush\n")
+    checks.run(["script"], 1, NOTHING, told("line 1 not understood"), b"0")
+    checks.run(["script"], 1, NOTHING, told("line 1 not understood"), b"64 x\n")
+    checks.run(["script"], 1, NOTHING, told("line 1 not understood"), b"0 " + b"%0A" * 400_000 + b"\n")
+    send = b"0 SEND%0Adestination:/queue/q%0A%0A" + b"x" * 60_000 + b"%00\n"
+    checks.run(["script"], 1, connected, told("J4 journal full"), connect + b"flush\n" + 18 * send + b"flush\n")
+    with open("/dev/full", "wb") as full:
+        checks.run(["script"], 1, NOTHING, told("input or output failed"), connect + b"flush\n", full)
+
+
+def text_of(lines):
+    """Lines, in which `~` stands for the end of a frame with no body."""
+    return "".join(f"{line}\n" for line in lines).replace("~", "%0A%0A%00")
+
+
+# Two messages are sent in a transaction after a flush, and wait.
+TRANSACTION = (
+    "0 CONNECT%0Aaccept-version:1.2~",
+    "flush",
+    "0 BEGIN%0Atransaction:t~",
+    "0 SEND%0Adestination:/queue/q%0Atransaction:t%0A%0Ax%00",
+    "0 SEND%0Adestination:/queue/q%0Atransaction:t%0A%0Ay%00",
+    "0 COMMIT%0Atransaction:t~",
+)
+CONNECTED = "0 CONNECTED%0Aversion:1.2%0Asession:0%0Aheart-beat:0,0~"
+# The disk stops after so many calls, and its unsynced bytes hold what they held before, or the byte: what is opened then.
+STOPS = (
+    ("crash 0", "open 1 0"),
+    ("crash 0 00", "open 1 0"),
+    ("crash 0 01", "open 1 0"),
+    ("crash 0 37", "open 1 0"),
+    ("crash 1", "open 1 0"),
+    ("crash 1 00", "open 1 0"),
+    ("crash 1 01", "open 1 0"),
+    ("crash 1 37", "open 1 0"),
+    ("crash 2", "open 1 0"),
+    ("crash 2 00", "open 1 0"),
+    ("crash 2 01", "open 2 2"),
+    ("crash 2 37", "open 1 0"),
+    ("crash 3", "open 1 0"),
+    ("crash 3 00", "open 1 0"),
+    ("crash 3 01", "open 2 2"),
+    ("crash 3 37", "open 1 0"),
+    ("crash 4", "open 2 2"),
+    ("crash 4 00", "open 2 2"),
+    ("crash 4 01", "open 2 2"),
+    ("crash 4 37", "open 2 2"),
+)
+
+DURABLE_SUBSCRIBER = (
+    "0 CONNECT%0Aaccept-version:1.2%0Aclient-id:c1~",
+    "0 SUBSCRIBE%0Aid:d%0Adestination:/topic/t%0Aack:client%0Aactivemq.subscriptionName:n~",
+    "flush",
+)
+# What a durable subscriber finds after an opening and after a crash: lines of one script, and what they print.
+DURABLE = (
+    (DURABLE_SUBSCRIBER, (CONNECTED,)),
+    (
+        (
+            "lost 0",
+            "1 CONNECT%0Aaccept-version:1.2~",
+            "1 SEND%0Adestination:/topic/t%0A%0Ax%00",
+            "1 SEND%0Adestination:/topic/t%0A%0Ay%00",
+            "1 SEND%0Adestination:/topic/t%0A%0Az%00",
+            "flush",
+        ),
+        ("1 CONNECTED%0Aversion:1.2%0Asession:3%0Aheart-beat:0,0~",),
+    ),
+    (("open",), ("open 7 3",)),
+    (
+        DURABLE_SUBSCRIBER,
+        (
+            "0 CONNECTED%0Aversion:1.2%0Asession:7%0Aheart-beat:0,0~",
+            "0 MESSAGE%0Asubscription:d%0Amessage-id:4.0%0Adestination:/topic/t%0Aack:0%0Acontent-length:1%0A%0Ax%00",
+            "0 MESSAGE%0Asubscription:d%0Amessage-id:5.0%0Adestination:/topic/t%0Aack:1%0Acontent-length:1%0A%0Ay%00",
+            "0 MESSAGE%0Asubscription:d%0Amessage-id:6.0%0Adestination:/topic/t%0Aack:2%0Acontent-length:1%0A%0Az%00",
+        ),
+    ),
+    (("0 ACK%0Aid:0~", "flush"), ()),
+    (("crash 0", "open"), ("open 10 2",)),
+    (
+        DURABLE_SUBSCRIBER,
+        (
+            "0 CONNECTED%0Aversion:1.2%0Asession:10%0Aheart-beat:0,0~",
+            "0 MESSAGE%0Asubscription:d%0Amessage-id:5.0%0Adestination:/topic/t%0Aack:3%0Acontent-length:1%0A%0Ay%00",
+            "0 MESSAGE%0Asubscription:d%0Amessage-id:6.0%0Adestination:/topic/t%0Aack:4%0Acontent-length:1%0A%0Az%00",
+        ),
+    ),
+)
+
+
+def crashes(checks):
+    for crash, opened in STOPS:
+        given = text_of((*TRANSACTION, crash, "open"))
+        checks.run(["script"], 0, text_of((CONNECTED, opened)), NOTHING, given.encode())
+    given, printed = ("".join(map(text_of, column)) for column in zip(*DURABLE))
+    checks.run(["script"], 0, printed, NOTHING, given.encode())
+
+
+def word(length):
+    """What an area of the second version begins with: its version, and the length of its snapshot."""
+    return b"\2" + struct.pack(">Q", length)[1:]
+
+
+def formats(checks, folder):
+    file, other = str(folder / "journal"), str(folder / "other")
+    checks.run(["format", file, str(SMALLEST)], 0, NOTHING, NOTHING)
+    made = pathlib.Path(file).read_bytes()
+    front = b"STOMPJ02" + struct.pack(">Q", 4_096) + bytes(16) + word(32) + bytes(33)
+    checks.expect("the bytes of an empty journal", made == front + bytes(SMALLEST - len(front)), made[:80])
+    checks.expect("only its owner may read a journal", os.stat(file).st_mode & 0o777 == 0o600, oct(os.stat(file).st_mode))
+    checks.run(["format", file, str(SMALLEST)], 1, NOTHING, unopened("FILE: it is there already"))
+    for few in (str(SMALLEST - 1), "31", "0"):
+        checks.run(["format", other, few], 1, NOTHING, told("J8 disk too small"))
+        checks.run(["format", file, few], 1, NOTHING, told("J8 disk too small"))
+    checks.run(["format", str(folder / "none" / "journal"), str(SMALLEST)], 1, NOTHING, MISSING)
+    for number in ("8224x", "+8224", "0x2020", "8 224", "", "18446744073709551616", "99999999999999999999"):
+        checks.run(["format", other, number], 2, NOTHING, NUMBERS)
+    checks.expect("refused words make no file", not os.path.exists(other))
+    checks.expect("refused words change no file", pathlib.Path(file).read_bytes() == made)
+    zeros, odd = str(folder / "zeros"), str(folder / "odd")
+    checks.run(["format", zeros, f"000{SMALLEST}"], 0, NOTHING, NOTHING)
+    checks.expect("leading zeros count for nothing", pathlib.Path(zeros).read_bytes() == made)
+    checks.run(["format", odd, str(SMALLEST + 1)], 0, NOTHING, NOTHING)
+    sparse, after = str(folder / "sparse"), str(folder / "--sparse")
+    checks.run(["format", "--sparse", sparse, str(SMALLEST)], 0, NOTHING, NOTHING)
+    checks.expect("a sparse journal has the same bytes", pathlib.Path(sparse).read_bytes() == made)
+    checks.run(["format", "--", after, str(SMALLEST)], 0, NOTHING, NOTHING)
+    checks.expect("after -- a word is a file", pathlib.Path(after).read_bytes() == made)
+    checks.expect("a byte over is there, and no area has it", pathlib.Path(odd).read_bytes() == made + b"\0")
+
+
+def broken(folder):
+    """Files that are no journals, or damaged ones, and what is told of them."""
+    # Of an empty journal that was never opened: its first area is live.
+    good = (folder / "zeros").read_bytes()
+    length = struct.pack(">Q", 4_096)
+    cases = {
+        "J1 not a journal": (bytes(64), b"", good[:31], b"STOMPX01" + good[8:]),
+        "J7 unknown version": (b"STOMPJ09" + good[8:],),
+        "J8 disk too small": (good[:-1], good[:8] + struct.pack(">Q", 4_095) + good[16:], good[:8] + b"\xff" * 8 + good[16:]),
+        # A snapshot whose length is not that of a state, one that leaves the area, and an area of no version.
+        "J2 damaged at 40": (good[:32] + word(31) + good[40:],),
+        "J2 damaged at 32": (good[:32] + word(4_088) + good[40:], good[:32] + b"\3" + good[33:]),
+        # An open gate with an empty block after it, and with a block that is no record.
+        "J2 damaged at 73": (good[:72] + b"\1" + good[73:],),
+        "J2 damaged at 81": (good[:72] + b"\1" + struct.pack(">Q", 1) + b"\xff\0" + good[83:],),
+    }
+    assert good[8:16] == length
+    for text, files in cases.items():
+        for number, data in enumerate(files):
+            path = folder / f"{text[:2]}-{text[-2:]}-{number}"
+            path.write_bytes(data)
+            yield path, data, told(text)
+
+
+def shows(checks, folder):
+    shown = "version 2\narea 0\nused 41\ncount 0\nheld 0\n"
+    before = (folder / "journal").read_bytes()
+    checks.run(["show", str(folder / "journal")], 0, shown, NOTHING)
+    checks.expect("show writes nothing into the file", (folder / "journal").read_bytes() == before)
+    checks.run(["held", str(folder / "journal")], 0, "messages 0 of 4096\nbytes 0 of 16777216\n", NOTHING)
+    checks.expect("held writes nothing into the file", (folder / "journal").read_bytes() == before)
+    for command in ("show", "held"):
+        with open("/dev/full", "wb") as full:
+            checks.run([command, str(folder / "journal")], 1, NOTHING, told("input or output failed"), sink=full)
+        checks.run([command, str(folder / "missing")], 1, NOTHING, MISSING)
+        checks.run([command, str(folder)], 1, NOTHING, SOME)
+        for path, data, text in broken(folder):
+            checks.run([command, str(path)], 1, NOTHING, text)
+            checks.expect(f"{path.name} is left as it was", path.read_bytes() == data)
+
+
+def old_journal(folder):
+    """A journal of the first version, which a server rewrites as one of the second."""
+    path = folder / "old"
+    path.write_bytes(journal(4_096, area([]), b""))
+    return path
+
+
+def serves(checks, folder):
+    with socket.socket() as taken:
+        taken.bind(("127.0.0.1", 0))
+        taken.listen()
+        port = str(taken.getsockname()[1])
+        before = old_journal(folder).read_bytes()
+        in_use = unopened("PORT: another program listens there")
+        for name in ("missing", "journal", "old"):
+            checks.run(["serve", str(folder / name), port], 1, NOTHING, in_use)
+        checks.expect("a start that fails leaves an old journal as it was", (folder / "old").read_bytes() == before)
+    checks.run(["serve", str(folder / "missing"), port], 1, NOTHING, MISSING)
+    checks.run(["serve", str(folder), port], 1, NOTHING, unopened("FILE: it is a directory"))
+    for path, data, text in broken(folder):
+        checks.run(["serve", str(path), port], 1, NOTHING, text)
+        checks.expect(f"{path.name} is left as it was", path.read_bytes() == data)
+    for number in ("0", "65536", "http", "80x", "+80", "", "99999999999999999999"):
+        checks.run(["serve", str(folder / "journal"), number], 2, NOTHING, NUMBERS)
+    for origin in ("https://chat.example/", "https://chat.example/room", "chat.example", "http://Chat.example", "http://", "://x", "http//x", ""):
+        checks.run(["serve", str(folder / "journal"), port, "--origin", origin], 2, NOTHING, ORIGINS)
+    for number in ("0", "65", "18446744073709551616", "x", "+3", ""):
+        for threads in (["--threads", number], [f"--threads={number}"]):
+            checks.run(["serve", str(folder / "journal"), port, *threads], 2, NOTHING, THREADS)
+    for number in ("0", "16777215", "18446744073709551616", "1G", "+16777216", ""):
+        for memory in (["--memory", number], [f"--memory={number}"]):
+            checks.run(["serve", str(folder / "journal"), port, *memory], 2, NOTHING, MEMORY)
+    serving = subprocess.Popen([checks.program, "serve", str(folder / "journal"), port], stdout=subprocess.PIPE, stderr=subprocess.PIPE)
+    try:
+        ready, _, _ = select.select([serving.stdout], [], [], 20)
+        line = serving.stdout.readline().decode() if ready else ""
+        checks.expect("serve says where it listens", line == f"listening {port}\n", line)
+        with socket.create_connection(("127.0.0.1", int(port)), timeout=5):
+            pass
+        checks.expect("a connection that says nothing ends no server", serving.poll() is None)
+        locked = unopened("FILE: another server has its lock")
+        checks.run(["serve", str(folder / "journal"), str(free_port())], 1, NOTHING, locked)
+    finally:
+        serving.kill()
+        serving.wait()
+
+
+def words(checks, folder):
+    file = str(folder / "journal")
+    checks.run(["--version"], 0, VERSION, NOTHING)
+    checks.run(["--version"], 1, NOTHING, told("input or output failed"), sink=open("/dev/full", "wb"))
+    for bad in (["--version", "show", file], ["held"], ["held", file, "x"], ["format", "--sparse", file]):
+        checks.run(bad, 2, NOTHING, None)
+    twice = ["serve", file, "80", "--threads", "2", "--threads=3"]
+    for bad in (twice, ["serve", file, "80", "--threads"], ["show", "--threads", "2", file]):
+        checks.run(bad, 2, NOTHING, SOME)
+    twice = ["serve", file, "80", "--memory", "16777216", "--memory=16777216"]
+    for bad in (twice, ["serve", file, "80", "--memory"], ["show", "--memory", "16777216", file]):
+        checks.run(bad, 2, NOTHING, SOME)
+    for bad in (["serve", file, "80", "--origin"], ["show", "--origin", "null", file], ["show", "--sparse", file]):
+        checks.run(bad, 2, NOTHING, SOME)
+    none = ([], ["flash"], ["--flash"], ["script", "x"], ["show"], ["show", file, "x"], ["format", file], ["format", file, "1", "2"])
+    for bad in (*none, ["serve", file], ["serve", file, "80", "x"], ["--help"], ["show", "--help"]):
+        checks.run(bad, 2, NOTHING, SOME)
+    for bad in ([b"\xff"], ["script", b"\xff"], ["show", b"\xff"], ["format", b"\xff", str(SMALLEST)], ["serve", b"\xff", "80"]):
+        checks.run(bad, 2, NOTHING, NOTHING)
+
+
+def main():
+    checks = Checks(built_program(words_of(__doc__, BUILT).parse_args()))
+    with tempfile.TemporaryDirectory() as name:
+        folder = pathlib.Path(name)
+        scripts(checks)
+        crashes(checks)
+        formats(checks, folder)
+        shows(checks, folder)
+        serves(checks, folder)
+        words(checks, folder)
+    if checks.failed:
+        sys.exit(f"statuses: {checks.failed} of {checks.count} checks failed")
+    print(f"statuses: ok, {checks.count} checks")
+
+
+if __name__ == "__main__":
+    main()

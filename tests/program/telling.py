@@ -1,0 +1,176 @@
+#!/usr/bin/env python3
+"""Looks at the lines that a server tells its operator, and that a client's names get into none of them. Needs Python 3 alone.
+
+    python3 tests/program/telling.py [PROGRAM]
+
+A server tells its start; what comes often is counted, and told at most once a second a kind; a server with few descriptors takes as many clients as
+they allow; and lawful clients that ask for as much as they can do not fill its journal, but are closed.
+"""
+
+import contextlib
+import pathlib
+import re
+import resource
+import socket
+import subprocess
+import sys
+import tempfile
+import threading
+import time
+
+from lib import scenario
+from lib.stomp_client import Client, Closed, Refused, WebSocket
+from lib.wire import handshake
+
+# `stompd: `, the moment (RFC 3339, section 5.6, in UTC), and what happened.
+LINE = re.compile(r"stompd: (\d{4}-\d\d-\d\dT\d\d:\d\d:\d\dZ) (.*)\n")
+JOURNAL_BYTES = 67_108_896
+FEW = 300
+
+
+class Server:
+    """A server whose lines are kept with when they came."""
+
+    def __init__(self, program, journal_bytes=JOURNAL_BYTES, descriptors=None, more=()):
+        self.folder = tempfile.TemporaryDirectory(prefix="telling-")
+        journal = pathlib.Path(self.folder.name) / "journal"
+        subprocess.run([program, "format", "--sparse", journal, str(journal_bytes)], check=True)
+        self.port, self.lines = scenario.free_port(), []
+        limit = (lambda: resource.setrlimit(resource.RLIMIT_NOFILE, (descriptors, descriptors))) if descriptors else None
+        words = [program, "serve", journal, str(self.port), *more]
+        self.process = subprocess.Popen(words, stdout=subprocess.PIPE, stderr=subprocess.PIPE, text=True, preexec_fn=limit)
+        assert self.process.stdout.readline() == f"listening {self.port}\n"
+        self.reader = threading.Thread(target=self.read)
+        self.reader.start()
+
+    def read(self):
+        for line in self.process.stderr:
+            self.lines.append((time.monotonic(), line))
+
+    def end(self):
+        self.process.kill()
+        self.process.wait()
+        self.reader.join()
+        self.folder.cleanup()
+
+    def told(self, word, seconds=3):
+        """What was told with that word, once something was, or so much time has passed."""
+        end = time.monotonic() + seconds
+        while True:
+            found = [LINE.fullmatch(line).group(2) for _, line in self.lines if word in line and LINE.fullmatch(line)]
+            if found or time.monotonic() > end:
+                return found
+            time.sleep(0.05)
+
+
+@contextlib.contextmanager
+def serving(program, **options):
+    server = Server(program, **options)
+    try:
+        yield server
+    finally:
+        server.end()
+
+
+def refused(port, request):
+    with socket.create_connection(("127.0.0.1", port), timeout=5) as client:
+        client.sendall(request)
+        answer = b""
+        while True:
+            piece = client.recv(4096)
+            if not piece:
+                return answer.decode()
+            answer += piece
+
+
+def starts(program, checks):
+    """what is told at the start"""
+    with serving(program) as server:
+        area = (JOURNAL_BYTES - 32) // 2
+        checks.same("its start", server.told("started"), [f"started: journal of version 2, areas of {area} bytes, 0 messages held, 16384 clients allowed, 1073741824 bytes of memory for them"])
+    with serving(program, more=["--memory", "16777216"]) as server:
+        checks.check("its budget", any("16777216 bytes of memory" in line for line in server.told("started")), server.lines)
+        checks.check("that its journal is small", server.told("journal small"), server.lines)
+    with serving(program, journal_bytes=536_870_944) as server:
+        checks.check("the start of a large one", server.told("started"), server.lines)
+        checks.same("which is not small", server.told("journal small", 0.5), [])
+
+
+def counts(program, checks):
+    """refusals that are counted"""
+    with serving(program) as server:
+        start = time.monotonic()
+        while time.monotonic() - start < 3.5:
+            refused(server.port, b"GET / HTTP/1.1\r\nHost: x\r\n\r\n")
+            answer = refused(server.port, handshake(server.port, offer="v10.stomp, v11.stomp"))
+        checks.check("a client of other versions is told which is spoken", "v12.stomp" in answer and " 400 " in answer, answer)
+        time.sleep(1.5)
+        for word, least in (("no WebSocket (426)", 3), ("v12.stomp (400)", 3)):
+            moments = [moment for moment, line in server.lines if word in line]
+            checks.check(f"{word}: told again and again, while it comes", least <= len(moments) <= 7, len(moments))
+            gaps = [after - before for before, after in zip(moments, moments[1:])]
+            checks.check(f"{word}: at most once a second", all(gap > 0.5 for gap in gaps), gaps)
+
+
+def names(program, checks):
+    """lines with no bytes of a client"""
+    with serving(program) as server:
+        client = Client(server.port).connect("secret\nstompd: forged")
+        client.subscribe("i", "/queue/secret")
+        with contextlib.suppress(Closed, ConnectionError):
+            for number in range(4_200):
+                client.send("SEND", [("destination", "/queue/full-secret"), ("receipt", "secret")], "secret")
+                if number % 16 == 15:
+                    client.receive()
+            client.to_the_end()
+        checks.check("E12 is told", server.told("(E12)", 20), server.lines)
+        checks.check("each line is one of ours", all(LINE.fullmatch(line) for _, line in server.lines), server.lines)
+        checks.check("and has no byte of a client", not any("secret" in line or "forged" in line for _, line in server.lines), server.lines)
+
+
+def descriptors(program, checks):
+    """few descriptors"""
+    with serving(program, descriptors=FEW) as server:
+        told = server.told("started")
+        allowed = int(re.search(r"(\d+) clients allowed", told[0])[1]) if told else 0
+        checks.check(f"with {FEW} descriptors it allows fewer clients", 0 < allowed < FEW, told)
+        clients = [Client(server.port).connect() for _ in range(allowed)]
+        try:
+            WebSocket(server.port)
+            checks.check("one more is answered 503", False)
+        except Refused as answer:
+            checks.same("one more is answered 503", answer.status, "503")
+        for client in clients:
+            client.publish("/topic/none", "still served")
+            client.close()
+
+
+def lawful(program, checks):
+    """clients that subscribe with the longest ids that there may be"""
+    with serving(program) as server:
+        closed = 0
+        for _ in range(300):
+            client = Client(server.port).connect()
+            with contextlib.suppress(ConnectionError):
+                for place in range(16):
+                    client.send("SUBSCRIBE", [("id", f"{place:04}" + "i" * 8_000), ("destination", "/topic/t")])
+            closed += client.to_the_end()[1] == 1001
+            client.close()
+        checks.same("each of them is closed with 1001", closed, 300)
+        checks.check("and the server goes on", server.process.poll() is None, server.lines[-3:])
+        Client(server.port).connect().publish("/queue/q", "still there")
+
+
+def main():
+    program = scenario.words_of(__doc__).parse_args().program
+    checks = scenario.Checks()
+    for part in (starts, counts, names, descriptors, lawful):
+        try:
+            part(program, checks)
+        except Exception as error:
+            checks.check(f"{part.__doc__} is tried to the end", False, repr(error))
+    return 1 if checks.failed else 0
+
+
+if __name__ == "__main__":
+    sys.exit(main())

@@ -1,0 +1,102 @@
+#!/usr/bin/env python3
+"""Looks for a wake-up that is lost: 640 clients send with random pauses, some to a topic that others hear, and nobody may wait over a second, for a
+receipt or for a message. Needs Python 3 alone.
+
+    python3 tests/program/waits.py [PROGRAM] [--minutes N] [--clients N] [--seed N]
+
+A lost ring of a bell shows as a wait until something else wakes the thread, so most clients are silent most of the time. The longest wait stands beside
+the percentiles. The journal is in memory (/dev/shm) if that has room: a disk that other programs keep busy may take over a second for a sync.
+"""
+
+import pathlib
+import random
+import select
+import shutil
+import sys
+import tempfile
+import time
+
+from lib import scenario
+from lib.stomp_client import Client
+
+# In seconds: no wait may be longer, and this long a client pauses at most between two SENDs.
+LONGEST_WAIT, LONGEST_PAUSE = 1.0, 4.0
+# Where a journal in memory is, and what has to be free there, in bytes.
+MEMORY, ROOM_FOR_JOURNAL = pathlib.Path("/dev/shm"), 1 << 30
+# A topic's clients: one sends at a time, and all hear it.
+ROOM = 4
+
+
+class Talker:
+    """A client that sends now and then, and hears its room."""
+
+    def __init__(self, port, number, chance):
+        self.client, self.number, self.chance = Client(port).connect(), number, chance
+        self.topic = f"/topic/room{number // ROOM}"
+        self.client.subscribe("r", self.topic)
+        self.count, self.waits_since = 0, None
+        self.next = time.monotonic() + chance.uniform(0, LONGEST_PAUSE)
+
+    def send(self, sent):
+        self.count += 1
+        name = f"{self.number} {self.count}"
+        sent[name] = self.waits_since = time.monotonic()
+        self.client.send("SEND", [("destination", self.topic), ("receipt", name)], name)
+
+    def hear(self, sent, waits):
+        """Hears what has come, and notes how long that was waited for."""
+        while True:
+            frame = self.client.receive()
+            now = time.monotonic()
+            assert frame.command in ("MESSAGE", "RECEIPT"), frame
+            name = frame.body if frame.command == "MESSAGE" else frame.headers["receipt-id"]
+            waits.append(now - sent[name])
+            if frame.command == "RECEIPT":
+                self.waits_since, self.next = None, now + self.chance.uniform(0, LONGEST_PAUSE)
+            if not self.client.buffer and not self.client.hears_within(0):
+                return
+
+
+def talk(talkers, seconds):
+    """Lets them talk for so long; how long each message and receipt was waited for."""
+    poll, by_descriptor = select.epoll(), {}
+    for one in talkers:
+        by_descriptor[one.client.socket.fileno()] = one
+        poll.register(one.client.socket, select.EPOLLIN)
+    sent, waits, end = {}, [], time.monotonic() + seconds
+    while time.monotonic() < end:
+        now = time.monotonic()
+        for one in talkers:
+            if one.waits_since is None and one.next <= now:
+                one.send(sent)
+            if one.waits_since is not None and now - one.waits_since > 10 * LONGEST_WAIT:
+                raise AssertionError(f"client {one.number} waits for a receipt for {now - one.waits_since:.1f} s")
+        for descriptor, _ in poll.poll(0.002):
+            by_descriptor[descriptor].hear(sent, waits)
+    return sorted(waits)
+
+
+def main():
+    parser = scenario.words_of(__doc__)
+    parser.add_argument("--minutes", type=float, default=10)
+    parser.add_argument("--clients", type=int, default=640)
+    parser.add_argument("--seed", type=int, default=random.randrange(2**32), help="of the pauses")
+    words = parser.parse_args()
+    print(f"seed {words.seed}", flush=True)
+    chance, checks = random.Random(words.seed), scenario.Checks()
+    if MEMORY.is_dir() and shutil.disk_usage(MEMORY).free >= ROOM_FOR_JOURNAL:
+        tempfile.tempdir = str(MEMORY)
+    with scenario.serving(words.program) as broker:
+        talkers = [Talker(broker.port, number, chance) for number in range(words.clients)]
+        waits = talk(talkers, 60 * words.minutes)
+    least = words.clients * words.minutes * 60 / LONGEST_PAUSE
+    checks.check("they talked: each sent as often as its pauses allow", len(waits) >= least, len(waits))
+    over = [wait for wait in waits if wait > LONGEST_WAIT]
+    checks.same(f"no wait is over {LONGEST_WAIT} s", len(over), 0)
+    half, most = waits[len(waits) // 2], waits[len(waits) * 99 // 100]
+    checks.tell(f"{len(waits)} waits: half within {half * 1000:.1f} ms, 99 of 100 within {most * 1000:.1f}, the longest {waits[-1] * 1000:.1f}")
+    return 1 if checks.failed else 0
+
+
+if __name__ == "__main__":
+    sys.exit(main())
