@@ -102,7 +102,7 @@ FLOODS = [
 # One that is a client like any other, but never waits.
 BUSY = Kind("send SENDs, and read their receipts", in_session, None, 100 * stomp_message("SEND", [NOWHERE, ("receipt", "r" * 100)]), reads=True)
 # These two together: some send as fast as they can what the others never read.
-UNREAD = Kind("subscribe, and read none of bodies of 60,000 bytes", after(in_session, stomp_message("SUBSCRIBE", [("id", "a"), UNREAD_TOPIC])), 10)
+UNREAD = Kind("subscribe, and read none of bodies of 60,000 bytes", after(in_session, stomp_message("SUBSCRIBE", [("id", "a"), UNREAD_TOPIC])), 10, from_last=True)
 BODIES = Kind("send bodies of 60,000 bytes", in_session, None, BIG)
 
 

@@ -60,7 +60,7 @@ SPARE, EARLY = 8, 2
 
 # What a connection may have at most, in KiB, without its outbox's messages: the places of the outbox, a message that comes, what one read gives, and
 # what waits to be sent. And a full outbox with the headers of its frames, and what the broker holds, beside what the program has at the beginning.
-CONNECTION = 111 + 128 + 16 + 1_024
+CONNECTION = 111 + 128 + 4 + 1_024
 OUTBOX = 50_000
 HELD = 2 * 16_384
 

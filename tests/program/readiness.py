@@ -28,7 +28,7 @@ from lib.wire import handshake, stomp_message
 
 LONGEST = 5.0
 # What one read of the server asks for after a handshake.
-READ = 16_384
+READ = 4_096
 # How often one waits for a receipt and sends at once, and how many reads in vain that may take, those of the handshake counted.
 LONE, IN_VAIN = 500, 20
 

@@ -13,8 +13,8 @@ use std::io::{ErrorKind, Read, Write};
 use std::net::Shutdown;
 use ws_core::Ending;
 
-/// How many reads that gave bytes make a portion. A link reads 16,384 bytes at a time: so many of the smallest fragments take some 0.2
-/// milliseconds, for which the other clients of the worker wait.
+/// How many reads that gave bytes make a portion. A link reads 4,096 bytes at a time: for as long as it takes to hear so many of the
+/// smallest fragments the other clients of the worker wait.
 const READS: u32 = 1;
 
 /// How many bytes are dropped at a time that come behind a close.

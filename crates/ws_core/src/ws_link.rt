@@ -23,8 +23,8 @@ const MESSAGE_BYTES: usize = 131_072;
 const WAITING_BYTES: usize = 1_048_576;
 // How many of them a send leaves to the next flush.
 const WRITING_BYTES: usize = 65_536;
-// What one read of the stream asks for.
-const READ_BYTES: usize = 16_384;
+// What one read of the stream asks for. A peer may fill it with the smallest fragments, some 700, before others have their turns.
+const READ_BYTES: usize = 4_096;
 // The most bytes that a ping or a pong of a client takes (RFC 6455, section 5.5): its head, its mask and what it says.
 const CONTROL_BYTES: u64 = 131;
 

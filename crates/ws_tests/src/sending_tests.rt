@@ -257,9 +257,9 @@ fn a_link_that_hears_the_peers_close_reads_once_a_call(rt: HostRuntime) -> Resul
 }
 
 #[test]
-fn a_read_asks_for_16384_bytes(rt: HostRuntime) -> Result<(), Fail> {
+fn a_read_asks_for_4096_bytes(rt: HostRuntime) -> Result<(), Fail> {
     let input = late(rt.alloc(), 2_000)?;
     let wire = Wire::new(rt.alloc(), REQUEST.as_bytes(), input.as_slice(), usize::MAX)?;
-    assert_eq!(rt; read_by(rt.alloc(), &wire, &[Do::Hear])?, 16_384);
+    assert_eq!(rt; read_by(rt.alloc(), &wire, &[Do::Hear])?, 4_096);
     Ok(())
 }
