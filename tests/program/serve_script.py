@@ -343,6 +343,10 @@ def builds(checks):
     start = with_build("exit 0")
     checks.check("what was built serves", start.listens())
     checks.same("and ends", start.end(signal.SIGTERM)[0], 143)
+    (top / "stompd").symlink_to(checks.program)
+    start = with_build("echo 'stompd: the build of x failed' >&2; exit 1")
+    checks.check("a program at the top serves, and nothing is built", start.listens())
+    checks.same("and ends so", start.end(signal.SIGTERM), (143, ""))
 
 
 SCENARIOS = [
