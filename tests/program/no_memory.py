@@ -52,7 +52,7 @@ TESTS = {
     "flush_tests": (("Flusher::compact", "a_compaction_for_which_memory_is_refused_leaves_the_state"),),
     "hub_tests": (
         ("flush_loop", "a_flusher_that_is_refused_memory_stops_and_loses_nothing"),
-        ("worker", "a_worker_that_is_refused_memory_sends_nothing_else"),
+        ("Slot::turn", "a_worker_that_is_refused_memory_sends_nothing_else"),
     ),
     "tool_tests": (("run_script", "a_script_that_is_refused_memory_prints_a_front_of_what_it_would"),),
 }

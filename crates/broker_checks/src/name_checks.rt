@@ -9,7 +9,7 @@ ghost use Rattle.broker_state.specs.PartsOf.{state_of_parts};
 ghost use Rattle.broker_state.specs.Sound.{HasNames, OwnsName};
 
 use broker_state::{DurableName, GivenName, MOST_NAMES, Parts, Subscription};
-use command_core::Dest;
+use record_core::Dest;
 use std::alloc::{AllocError, Global};
 use std::collections::{BTreeMap, BTreeSet};
 

@@ -4,7 +4,8 @@ ghost use Rattle.std.specs.Prelude.{◌≡◌, ◌++◌, ◌∷◌, [], OnOk};
 ghost use Rattle.command_core.specs.Replies.{connected, error_frame};
 ghost use Rattle.broker_state.specs.Steps.{farewell, outs_to, receipts};
 
-use command_core::{End, Fault, HeaderText, Out, connected_reply, error_reply, receipt_reply};
+use command_core::{End, Fault, Out, connected_reply, error_reply, receipt_reply};
+use record_core::HeaderText;
 use std::alloc::{AllocError, Global};
 
 /// CONNECTED, to the session that the command of that number opens.

@@ -14,7 +14,8 @@ use crate::answers::{answer_done, answer_end, answer_open, answer_refused};
 use crate::committing::commit;
 use broker_state::NackRule;
 use broker_tables::Tables;
-use command_core::{Command, Fault, HeaderText, Op, Out};
+use command_core::{Command, Fault, Op, Out};
+use record_core::HeaderText;
 use std::alloc::{AllocError, Global};
 
 /// Carries out the command whose number is how many were carried out before it, counts it, and answers its outputs: the

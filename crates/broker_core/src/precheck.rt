@@ -19,8 +19,9 @@ ghost use Rattle.broker_core.specs.Prechecks.{Leads, StandsFor, bytes_in, delive
 use broker_order::Order;
 use broker_state::{Held, MOST_BYTES, NackRule, Subscription, stand_in_order};
 use broker_tables::{Tables, copies_to, find_room, is_dropped, refused_size};
-use command_core::{AckMode, Fault, Member};
+use command_core::{Fault, Member};
 use line_core::{Flight, Message, SettleFault, size};
+use record_core::AckMode;
 use std::alloc::{AllocError, Global};
 
 /// What decides whether a message that is not acknowledged finds room: its bytes, and those that it has in the queue of

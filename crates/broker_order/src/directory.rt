@@ -9,7 +9,7 @@ ghost use Rattle.broker_order.specs.Tickets.{IsRising};
 use crate::groups::{join, leave, take_from};
 use crate::tickets::Tickets;
 use broker_state::{DurableName, Subscription};
-use command_core::Dest;
+use record_core::Dest;
 use std::alloc::{AllocError, Global};
 use std::collections::BTreeMap;
 

@@ -15,7 +15,7 @@ use crate::durable_names::{DurableNames, Names};
 use crate::shared_lines::SharedLines;
 use broker_order::Order;
 use broker_state::{DurableName, Subscription, has_some};
-use command_core::Dest;
+use record_core::Dest;
 use std::alloc::AllocError;
 
 /// Subscriptions that have something in common, so that they are looked at when what waits is handed out.

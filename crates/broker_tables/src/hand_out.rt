@@ -21,8 +21,9 @@ use crate::shared_lines::SharedLines;
 use crate::tables::Tables;
 use broker_order::Order;
 use broker_state::{Held, LAST_DELIVERY, Subscription};
-use command_core::{AckMode, Out, message_reply};
+use command_core::{Out, message_reply};
 use line_core::{Message, size};
+use record_core::AckMode;
 use std::alloc::{AllocError, Global};
 use std::collections::BTreeSet;
 

@@ -24,8 +24,9 @@ use crate::subscribing::let_deliveries_go;
 use crate::tables::Tables;
 use broker_order::Order;
 use broker_state::{Held, MOST_BYTES, NackRule, Subscription};
-use command_core::{AckMode, Dest, DestFault, Fault, Sending};
+use command_core::Fault;
 use line_core::{Message, MessageNumber, settles, size};
+use record_core::{AckMode, Dest, DestFault, Sending};
 use std::alloc::{AllocError, Global};
 
 /// The queue of the messages that were refused.

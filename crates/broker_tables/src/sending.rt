@@ -19,8 +19,9 @@ use crate::shared_lines::SharedLines;
 use crate::tables::Tables;
 use broker_order::Order;
 use broker_state::{Held, MOST_BYTES, MOST_MESSAGES};
-use command_core::{Dest, Fault, Sending};
+use command_core::Fault;
 use line_core::{Message, MessageNumber, size};
+use record_core::{Dest, Sending};
 use std::alloc::{AllocError, Global};
 
 /// How many durable names are bound to that topic.

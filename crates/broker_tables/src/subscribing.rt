@@ -21,8 +21,9 @@ use crate::shared_lines::SharedLines;
 use crate::tables::Tables;
 use broker_order::Order;
 use broker_state::{DurableName, GivenName, Held, MOST_NAMES, MOST_SUBSCRIPTIONS, Subscription};
-use command_core::{AckMode, Dest, Fault, HeaderText};
+use command_core::Fault;
 use line_core::{Flight, Line, Message, size};
+use record_core::{AckMode, Dest, HeaderText};
 use std::alloc::{AllocError, Global};
 use std::collections::BTreeMap;
 

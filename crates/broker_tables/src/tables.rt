@@ -13,7 +13,7 @@ use crate::durable_names::DurableNames;
 use crate::shared_lines::SharedLines;
 use broker_order::Order;
 use broker_state::{DurableName, GivenName, Held, Parts};
-use command_core::{Dest, HeaderText};
+use record_core::{Dest, HeaderText};
 use std::alloc::{AllocError, Global};
 use std::collections::BTreeMap;
 use std::marker::Model;

@@ -1,7 +1,8 @@
 use crate::tests::{Event, Part, Rows, answers_all, answers_rows, command_of, execute};
 use broker_core::Broker;
-use command_core::{AckMode, Command, Dest, Op, Out, Sending};
+use command_core::{Command, Op, Out};
 use frame_core::{Bytes, Headers};
+use record_core::{AckMode, Dest, Sending};
 use std::alloc::Global;
 use std::test::Fail;
 

@@ -1,6 +1,7 @@
 use crate::tests::{Event, Rows, answers_after, answers_all, answers_rows, execute};
 use broker_core::Broker;
-use command_core::{AckMode, End};
+use command_core::End;
+use record_core::AckMode;
 use std::alloc::Global;
 use std::test::Fail;
 

@@ -1,7 +1,7 @@
 use crate::tests::{Event, answers, greeting, header_text};
 use broker_core::{Broker, DurableName, GivenName, Parts};
-use command_core::{AckMode, Dest};
 use line_core::{Line, Message, MessageNumber};
+use record_core::{AckMode, Dest};
 use std::alloc::Global;
 use std::collections::BTreeMap;
 use std::test::Fail;

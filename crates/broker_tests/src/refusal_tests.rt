@@ -2,7 +2,8 @@
 //! growth refused in turn, and reads what these tests say of it.
 
 use broker_core::{Broker, BrokerFault};
-use command_core::{DecodeFault, decode};
+use command_core::decode;
+use record_core::DecodeFault;
 use snapshot_core::{decode_state, encode_state};
 use std::alloc::{AllocError, Global};
 use std::test::Fail;

@@ -1,5 +1,6 @@
 use broker_core::Broker;
-use command_core::{DecodeFault, decode};
+use command_core::decode;
+use record_core::DecodeFault;
 use snapshot_core::{decode_state, encode_state};
 use std::alloc::{AllocError, Global};
 use std::test::Fail;

@@ -1,10 +1,9 @@
 ghost use Rattle.std.specs.Prelude.{◌<◌, IfOk, length};
 
 use broker_core::Broker;
-use command_core::{
-    AckMode, Command, Dest, End, Fault, HeaderText, Member, Members, Op, Out, Sending,
-};
+use command_core::{Command, End, Fault, Member, Members, Op, Out};
 use frame_core::{Bytes, Headers, Text, Verb};
+use record_core::{AckMode, Dest, HeaderText, Sending};
 use std::alloc::{AllocError, Global};
 use std::test::Fail;
 
@@ -42,7 +41,7 @@ pub(crate) enum Part<'a> {
 
 pub(crate) fn header_text(alloc: Global, text: &str) -> Result<HeaderText, Fail> {
     let text = Text::new(String::from_str(alloc, text)?);
-    if !command_core::is_header_text(text.as_str()) {
+    if !record_core::is_header_text(text.as_str()) {
         return Err(Fail::from("no text of a header"));
     }
     Ok(HeaderText::new(text))

@@ -22,8 +22,5 @@ pub use fault::{Fault, fault_text};
 pub use laws::spellings_begin_no_other;
 pub use member::{Member, Members};
 pub use out::Out;
-pub use record_core::{
-    AckMode, DecodeFault, Dest, DestFault, HeaderText, Sending, is_header_text, is_kept_name,
-};
 pub use replies::{connected_reply, error_reply, message_reply, receipt_reply};
 pub use sizes::{member_size, op_size};

@@ -1,6 +1,6 @@
 -- How a connection comes from one stage to another.
 use Rattle.connection_core.specs.declared.ended.Ended.{Ended}
-use Rattle.connection_core.specs.declared.ended.Ended.TheVariants.{Bye, Bad, Lost, Stopped, Turns}
+use Rattle.connection_core.specs.declared.ended.Ended.TheVariants.{Bye, Bad, Lost, Stopped}
 use Rattle.connection_core.specs.declared.stage.Stage.{Stage}
 use Rattle.connection_core.specs.declared.stage.Stage.TheVariants.{Running, GivingUp, Closing, Parting, Leaving, Over}
 
@@ -13,13 +13,12 @@ Executes (Closing ended) = ⊥
 Executes (Parting ended) = ⊥
 Executes (Over ended) = ⊥
 
--- it ends so by itself, and not since the broker takes nothing more, or no turn is left
+-- it ends so by itself, and not since the broker takes nothing more
 abbrev pub IsOwnEnd : Ended → Type 0
 IsOwnEnd Bye = Unit {0}
 IsOwnEnd Lost = Unit {0}
 IsOwnEnd Bad = Unit {0}
 IsOwnEnd Stopped = ⊥
-IsOwnEnd Turns = ⊥
 
 -- it ends so, or has
 abbrev pub IsEnding : Stage → Type 0

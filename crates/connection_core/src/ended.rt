@@ -1,6 +1,6 @@
 //! How a connection comes to its end.
 
-/// Why a connection is over, or a worker is done with it.
+/// Why a connection is over.
 #[derive(Clone, Copy, Debug, PartialEq, Eq)]
 pub enum Ended {
     /// It was closed behind the client's DISCONNECT.
@@ -11,6 +11,4 @@ pub enum Ended {
     Bad,
     /// It was closed because the broker takes nothing more.
     Stopped,
-    /// The worker's turns are used up, and the connection goes on.
-    Turns,
 }

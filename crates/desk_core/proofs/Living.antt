@@ -21,7 +21,7 @@ use Rattle.connection_core.specs.Histories.{HasHeard}
 use Rattle.connection_core.specs.Stages.{Executes, IsEnding, IsOwnEnd, given_up, lost, parted, rested, stopped}
 use Rattle.connection_core.specs.Tasks.{Tasks, all_of}
 use Rattle.connection_core.specs.declared.ended.Ended.{Ended}
-use Rattle.connection_core.specs.declared.ended.Ended.TheVariants.{Bye, Lost, Bad, Stopped, Turns}
+use Rattle.connection_core.specs.declared.ended.Ended.TheVariants.{Bye, Lost, Bad, Stopped}
 use Rattle.frame_core.specs.declared.frame.Verb.{Verb}
 use Rattle.frame_core.specs.declared.frame.Verb.TheVariants as verbs
 use Rattle.std.proofs.lemmas.Bool.{cases_eq}
@@ -777,7 +777,6 @@ lost_stage (Closing ended) = of_closing ended
     of_closing Bad = (λ e. cc, λ e. e)
     of_closing Lost = (λ e. cc, λ e. e)
     of_closing Stopped = (λ e. cc, λ e. e)
-    of_closing Turns = (λ e. cc, λ e. e)
 lost_stage (Parting ended) = (λ e. cc, λ e. e)
 lost_stage (Over ended) = (λ e. cc, λ e. e)
 
@@ -792,7 +791,6 @@ untold_loss (Closing ended) t = of_closing ended t
     of_closing Bad t = absurd t
     of_closing Lost t = t
     of_closing Stopped t = t
-    of_closing Turns t = t
 untold_loss (Parting ended) t = t
 untold_loss (Over ended) t = t
 
@@ -807,7 +805,6 @@ ending_loss (Closing ended) i = of_closing ended i
     of_closing Bad i = tt
     of_closing Lost i = tt
     of_closing Stopped i = i
-    of_closing Turns i = i
 ending_loss (Parting ended) i = i
 ending_loss (Over ended) i = i
 
@@ -822,7 +819,6 @@ halted_loss (Closing ended) h = of_closing ended h
     of_closing Bad h = h
     of_closing Lost h = h
     of_closing Stopped h = h
-    of_closing Turns h = h
 halted_loss (Parting ended) h = h
 halted_loss (Over ended) h = h
 

@@ -16,18 +16,15 @@ use Rattle.desk_core.specs.declared.place.Seated.{Seated}
 use Rattle.desk_core.specs.declared.turned.Turned.{Turned}
 use Rattle.desk_core.specs.Answers.{Answers}
 use Rattle.desk_core.specs.Continues.{Continues}
-use Rattle.desk_core.specs.Conversations.{Converse, IsConversation, IsPart, Speaks, holds, number_of, opens, part_of}
+use Rattle.desk_core.specs.Conversations.{Converse, IsPart, Speaks, holds, number_of, opens, part_of}
 use Rattle.desk_core.specs.Desks.{Admits, AreApart, DeskValue, IsDesk, Leaves, Others, Touches, Turns, desk, seated_at, stand_of}
 use Rattle.desk_core.specs.Effects.{commands_of}
-use Rattle.desk_core.specs.Steps.{GoesOn, Serves}
 use Rattle.desk_core.specs.Halting.{FindsEnd}
 use Rattle.desk_core.specs.Histories.{Idles}
 use Rattle.desk_core.specs.Places.{ServedAt, UnservedAt, is_over, is_over_at, progress_at}
-use Rattle.desk_core.specs.Slots.{IsNew, IsOwn, Message, Unserved, number_at}
-use Rattle.desk_core.specs.declared.slot.Slot.{Slot}
-use Rattle.connection_core.specs.Connections.{ConnectionValue}
-use Rattle.desk_core.proofs.Lists.{all_weaker, cond_same}
-use Rattle.desk_core.proofs.Going.{did, heeds_none}
+use Rattle.desk_core.specs.Slots.{IsNew, Unserved}
+use Rattle.desk_core.proofs.Lists.{cond_same}
+use Rattle.desk_core.proofs.Going.{heeds_none}
 use Rattle.desk_core.proofs.Talking.{beside}
 
 -- ── a desk begins ──
@@ -167,66 +164,6 @@ others old places at is same =
 
 pub nothing_else : {B L : Type 0} (old new : List (Option (Seated B L))) (at : ℕ) → new ≡ old → Others old new at
 nothing_else old new at same = record { count = ap length same; others = λ k other. ap (λ l. slice_get l k) same }
-
--- ── one client alone ──
-
-all_part : (n : ℕ) (ps : List Pair) → AllByRecursion (λ (p : Pair). number_of p ≡ n) ps → part_of n ps ≡ ps
-all_part n [] all = refl
-all_part n (p ∷ ps) all = cond_same (number_of p) n (p ∷ part_of n ps) (part_of n ps) all.0 ∙ ap (λ l. p ∷ l) (all_part n ps all.1)
-
-cancel : {X : Type 0} (xs ys zs : List X) → xs ++ ys ≡ xs ++ zs → ys ≡ zs
-cancel [] ys zs e = e
-cancel (x ∷ xs) ys zs e = cancel xs ys zs (tail e)
-  where
-    tail : x ∷ (xs ++ ys) ≡ x ∷ (xs ++ zs) → xs ++ ys ≡ xs ++ zs
-    tail f = cc
-
-one_number : (o : Option ℕ) (m k : ℕ) → o ≡ Some m → o ≡ Some k → k ≡ m
-one_number None m k a b = absurd (cc)
-one_number (Some n) m k a b = cc
-
--- a session's number, or 0 where it has none
-abbrev number_or : Option ℕ → ℕ
-number_or None = 0
-number_or (Some n) = n
-
-conversation_of : (o : Option ℕ) (said : List Pair) → AllByRecursion (λ (p : Pair). o ≡ Some (number_of p)) said → ((n : ℕ) → IsConversation n (part_of n said)) → IsConversation (number_or o) said
-conversation_of None [] all each = inl refl
-conversation_of None (p ∷ ps) all each = absurd (let e : None ≡ Some (number_of p) = all.0 in cc)
-conversation_of (Some n) said all each =
-    subst (λ l. IsConversation n l)
-    (all_part n said (all_weaker (λ (q : Pair). Some n ≡ Some (number_of q)) (λ (q : Pair). number_of q ≡ n) (λ q own. one_number (Some n) n (number_of q) refl own) said all))
-    (each n)
-
-own_at : (o : Option ℕ) (m : Message) → IsOwn o m → IsOwn (Some (number_or o)) m
-own_at None (inl frame) own = own
-own_at None (inr out) own = absurd (let e : None ≡ Some out.session = own in cc)
-own_at (Some n) m own = own
-
--- what one connection alone says is one conversation
-alone : (is : Progress) (old new : SessionSeatValue) → Continues New old is new → (more : List Pair) → new.own ≡ old.own ++ more → IsConversation (number_or (number_in is)) more
-alone is old new c more added =
-    let anew : Speaks old.own old.own ([] ++ New ∷ []) = record { more = []; whole = sym (append-nil old.own); parts = nobody } in
-    let now : Speaks old.own new.own ([] ++ is ∷ []) = c.speaks old.own [] [] anew in
-    let same : now.more ≡ more = cancel old.own now.more more (sym now.whole ∙ added) in
-    conversation_of (number_in is) more
-    (subst (λ l. AllByRecursion (λ (p : Pair). number_in is ≡ Some (number_of p)) l) (cancel old.own c.said more (sym c.added ∙ added)) c.of_it)
-    (λ n. subst (λ l. IsConversation n (part_of n l)) same (now.parts n).conversation)
-
-pub serves : {B L : Type 0} (sent : L → Option (List (List ℕ))) (received : L → Option (List ℕ)) (was is : Slot B) (s t : SessionSeatValue) (l m : L) → IsNew was → GoesOn sent received was s l is t m → Serves sent received s l t m
-serves sent received was is s t l m anew g = record {
-  effects = g.effects;
-  added = g.added;
-  number = number_or (number_at is);
-  conversation = alone is.connection.progress s t (subst (λ p. Continues p s is.connection.progress t) (ap (λ (c : ConnectionValue). c.progress) anew.connection) g.continues) (commands_of g.effects) g.added;
-  messages = g.served.passes.messages;
-  told = g.served.passes.told;
-  own = all_weaker (IsOwn (number_at is)) (IsOwn (Some (number_or (number_at is)))) (own_at (number_at is)) g.served.passes.messages g.served.passes.own;
-  frames_are = g.served.passes.frames_are;
-  got = g.heeds.got;
-  read = g.heeds.read;
-  did = did was is g.heeds.got g.effects anew g.heeds.lives;
-}
 
 -- ── nothing is said at a place ──
 

@@ -5,7 +5,7 @@ use Rattle.claim_core.specs.Seats.{SessionSeatValue}
 use Rattle.claim_core.specs.declared.refusals.Refused.{Refused}
 use Rattle.claim_core.specs.declared.refusals.Refused.TheVariants as refusals
 use Rattle.connection_core.specs.declared.ended.Ended.{Ended}
-use Rattle.connection_core.specs.declared.ended.Ended.TheVariants.{Bye, Bad, Lost, Stopped, Turns}
+use Rattle.connection_core.specs.declared.ended.Ended.TheVariants.{Bye, Bad, Lost, Stopped}
 use Rattle.connection_core.specs.declared.stage.Stage.{Stage}
 use Rattle.connection_core.specs.declared.stage.Stage.TheVariants.{Running, GivingUp, Closing, Parting, Leaving, Over}
 
@@ -14,7 +14,6 @@ IsStopped Bye = ⊥
 IsStopped Lost = ⊥
 IsStopped Bad = ⊥
 IsStopped Stopped = Unit {0}
-IsStopped Turns = ⊥
 
 -- it ends so, or has
 abbrev pub HasHalted : Stage → Type 0

@@ -18,7 +18,7 @@ use Rattle.connection_core.specs.declared.progress.Progress.TheVariants.{New}
 use Rattle.connection_core.specs.declared.said.Wanted.{Wanted}
 use Rattle.connection_core.specs.declared.said.Wanted.TheVariants.{Append, Tell, Done, Rest}
 use Rattle.connection_core.specs.declared.ended.Ended.{Ended}
-use Rattle.connection_core.specs.declared.ended.Ended.TheVariants.{Bye, Lost, Bad, Stopped, Turns}
+use Rattle.connection_core.specs.declared.ended.Ended.TheVariants.{Bye, Lost, Bad, Stopped}
 use Rattle.connection_core.specs.declared.stage.Stage.{Stage}
 use Rattle.connection_core.specs.declared.stage.Stage.TheVariants.{Running, GivingUp, Closing, Parting, Leaving, Over}
 use Rattle.desk_core.specs.Conversations.{StaysOrEnds}
@@ -50,7 +50,6 @@ IsBad Bad = Unit {0}
 IsBad Bye = ⊥
 IsBad Lost = ⊥
 IsBad Stopped = ⊥
-IsBad Turns = ⊥
 
 -- it runs or is given up, or it ends since an ERROR was sent
 abbrev pub HasTold : Stage → Type 0

@@ -1,16 +1,14 @@
 -- How a slot goes on at its seat.
-use Rattle.std.specs.Prelude.{◌≡◌, ◌++◌, ℕ, List, [], Option, Some, map, option_map}
-use Rattle.std.specs.List.{AllByRecursion}
+use Rattle.std.specs.Prelude.{◌≡◌, ◌++◌, ℕ, List, [], Option}
 use Rattle.frame_core.specs.declared.frame.Frame.{Frame}
 use Rattle.claim_core.specs.Seats.{SessionSeatValue}
 use Rattle.connection_core.specs.Stages.{Executes}
 use Rattle.connection_core.specs.declared.said.Wanted.TheVariants.{Tell}
 use Rattle.desk_core.specs.Continues.{Continues}
-use Rattle.desk_core.specs.Conversations.{IsConversation}
 use Rattle.desk_core.specs.Effects.{Effect, commands_of, told_of}
 use Rattle.desk_core.specs.Halting.{FindsEnd, HasHalted}
-use Rattle.desk_core.specs.Histories.{Did, Heeds, LivesOn}
-use Rattle.desk_core.specs.Slots.{IsOwn, Message, Served, bytes_of, frames_of}
+use Rattle.desk_core.specs.Histories.{Heeds, LivesOn}
+use Rattle.desk_core.specs.Slots.{Served}
 use Rattle.desk_core.specs.declared.slot.Slot.{Slot}
 
 -- These effects were done at a slot, of what its client's bytes ask for next: its seat got the commands among them, and nothing
@@ -31,18 +29,3 @@ pub record TellsIt {B L : Type 0} (sent : L → Option (List (List ℕ))) (frame
   pub served : Served sent (told_of effects) was from is to
   pub halts : Executes was.connection.stage → HasHalted is.connection.stage → HasHalted was.connection.stage
   pub lives : Executes was.connection.stage → LivesOn (Tell frame) [] was.connection is.connection is.pending effects
-
--- One client alone was served through a seat. The seat got one conversation, and the client was sent outputs of that session
--- alone, and at once the frames that were told it. These commands and frames are what the bytes ask for that its link gave.
-pub record Serves {L : Type 0} (sent : L → Option (List (List ℕ))) (received : L → Option (List ℕ)) (old : SessionSeatValue) (from : L) (new : SessionSeatValue) (to : L) : Type 0 where
-  pub effects : List Effect
-  pub added : new.own ≡ old.own ++ commands_of effects
-  pub number : ℕ
-  pub conversation : IsConversation number (commands_of effects)
-  pub messages : List Message
-  pub told : sent to ≡ option_map (λ s. s ++ map bytes_of messages) (sent from)
-  pub own : AllByRecursion (IsOwn (Some number)) messages
-  pub frames_are : frames_of messages ≡ told_of effects
-  pub got : List ℕ
-  pub read : received to ≡ option_map (λ bytes. bytes ++ got) (received from)
-  pub did : Did got effects

@@ -246,6 +246,6 @@ fn reason_of(ended: Ended) -> CloseReason {
     match ended {
         Ended::Bye => CloseReason::NormalClosure,
         Ended::Bad => CloseReason::ProtocolError,
-        Ended::Lost | Ended::Stopped | Ended::Turns => CloseReason::GoingAway,
+        Ended::Lost | Ended::Stopped => CloseReason::GoingAway,
     }
 }

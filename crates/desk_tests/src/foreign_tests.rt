@@ -5,7 +5,7 @@ use crate::rooms::{HubRing, HubSeat, MemDesk};
 use crate::texts::{CONNECT, CONNECTED};
 use claim_core::{FlushSeat, Ring};
 use command_core::{Out, connected_reply};
-use hub_core::Desk;
+use desk_core::Desk;
 use outbox_core::{OutSender, Silent};
 use std::alloc::Global;
 use std::test::Fail;

@@ -5,7 +5,7 @@ use crate::texts::{
     SECOND_RECEIPT, SEND, SEND_X, SPEAKER, SUBSCRIBER, THREE_RECEIPTS, TOPIC_X, TOPIC_Y,
     TWENTY_LOWER, TWENTY_UPPER, TWO_MESSAGES, UPPER_RECEIPTS,
 };
-use hub_core::Next;
+use desk_core::Next;
 use std::alloc::Global;
 use std::test::Fail;
 

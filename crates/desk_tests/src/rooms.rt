@@ -7,8 +7,9 @@ ghost use Rattle.hub_core.specs.Hubs.{IsWhole};
 use crate::clients::Client;
 use area_core::format;
 use claim_core::{BrokerRing, BrokerSeat};
+use desk_core::{Desk, Next};
 use disk_core::MemDisk;
-use hub_core::{Desk, Hub, Next, Pacing, flush_loop};
+use hub_core::{Hub, Pacing, flush_loop};
 use outbox_core::{OutSender, Silent};
 use std::alloc::Global;
 
@@ -27,7 +28,7 @@ pub type MemDesk = Desk<Silent, Client>;
 pub struct Free;
 
 impl Pacing for Free {
-    fn pass(&self, _worker: u32, _turn: u64) -> bool {
+    fn pass(&self) -> bool {
         true
     }
 }

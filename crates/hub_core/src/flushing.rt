@@ -4,16 +4,13 @@ ghost use Rattle.std.specs.Prelude.{◌≡◌, [], IfOk, None, OnErr, true, fals
 ghost use Rattle.flush_core.specs.Faults.{IsFlushCaused};
 ghost use Rattle.hub_core.specs.Flushes.{Flushes};
 
+use crate::pacing::Pacing;
 use crate::sizes::HubFlusher;
 use claim_core::BrokerRing;
-use desk_core::Pacing;
 use disk_core::Disk;
 use flush_core::FlushFault;
 use outbox_core::{Bell, OutSender};
 use std::alloc::Global;
-
-// What the flusher is to its pace.
-const FLUSHER: u32 = u32::MAX;
 
 /// Makes so many turns of the flusher, those that its pace held up counted, and answers the mark then. Outputs of sessions
 /// that have no outbox are dropped. A fault ends it at once, and the pace hears that the flusher has
@@ -32,8 +29,8 @@ pub fn flush_loop<D: Disk, B: Bell, P: Pacing>(
     ensures cause { IsFlushCaused (D.failures flusher.old.disk) (D.failures flusher.new.disk) result }
     ensures stops { OnErr result ((flusher.new.broken ≡ true) × (flusher.new.seat.stopped ≡ true)) }
 {
-    for turn in 0..turns {
-        if pace.pass(FLUSHER, turn) {
+    for _turn in 0..turns {
+        if pace.pass() {
             flush(alloc, ring, flusher, pace)?;
         }
     }

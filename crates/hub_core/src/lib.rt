@@ -1,4 +1,4 @@
-//! The hub: an opened journal with a ring before it, sessions' seats, the flusher; and the loops that run them in threads.
+//! The hub: an opened journal with a ring before it, sessions' seats, the flusher; and the flusher's loop.
 
 #![tactic(auto)]
 
@@ -6,12 +6,11 @@ mod closed;
 mod closing;
 mod flushing;
 mod hub;
+mod pacing;
 mod sizes;
 
 pub use closed::Closed;
-pub use desk_core::{
-    Desk, Ended, Kept, Next, Pacing, Relayed, Ringers, Slot, Turned, relay, worker,
-};
 pub use flushing::flush_loop;
 pub use hub::{Hub, SeatRoom};
+pub use pacing::Pacing;
 pub use sizes::{HubFlusher, HubWidth};

@@ -6,7 +6,9 @@ use crate::hubs::{SMALL_AREA, link_of, new_party};
 use crate::links::Endless;
 use crate::paces::Free;
 use crate::texts::{CONNECT, SEND_X};
-use hub_core::{Ended, flush_loop, worker};
+use crate::working::worker;
+use connection_core::Ended;
+use hub_core::flush_loop;
 use outbox_core::Silent;
 use std::alloc::Global;
 use std::test::Fail;
@@ -26,7 +28,11 @@ const READERS: [(&[&[u8]], &[u8], u64); 4] = [
 ];
 
 // How the worker ends, how many messages it has sent, and how many commands were appended.
-fn run(alloc: Global, texts: &[&[u8]], bytes: &'static [u8]) -> Option<(Ended, usize, u64)> {
+fn run(
+    alloc: Global,
+    texts: &[&[u8]],
+    bytes: &'static [u8],
+) -> Option<(Option<Ended>, usize, u64)> {
     let link = link_of(alloc, texts)?;
     let mut link = Endless { link, bytes };
     let mut party = new_party(alloc, SMALL_AREA)?;
@@ -50,7 +56,7 @@ fn run(alloc: Global, texts: &[&[u8]], bytes: &'static [u8]) -> Option<(Ended, u
 fn a_reader_that_never_ends_ends_by_its_turns(rt: HostRuntime) -> Result<(), Fail> {
     for (texts, bytes, appended) in READERS {
         let ran = run(rt.alloc(), texts, bytes);
-        assert_eq!(rt; ran, Some((Ended::Turns, 0, appended)));
+        assert_eq!(rt; ran, Some((None, 0, appended)));
     }
     Ok(())
 }

@@ -29,3 +29,5 @@ mod script_tests;
 mod texts;
 #[cfg(test)]
 mod two_sessions_tests;
+#[cfg(test)]
+mod working;

@@ -6,7 +6,9 @@ use crate::hubs::{
 };
 use crate::paces::Pause;
 use crate::texts::{SUBSCRIBER, THREE_MESSAGES};
-use hub_core::{Ended, flush_loop, worker};
+use crate::working::worker;
+use connection_core::Ended;
+use hub_core::flush_loop;
 use outbox_core::Silent;
 use std::alloc::Global;
 use std::sync::Wait;
@@ -22,7 +24,7 @@ fn work<R: Clock>(
     ring: &HubRing,
     seat: &mut HubSeat,
     pace: &Pause<R>,
-) -> Option<(Ended, Option<usize>)>
+) -> Option<(Option<Ended>, Option<usize>)>
     requires { seat.old.ring ≡ ring.now }
 {
     match link_of(alloc, SUBSCRIBER) {
@@ -53,7 +55,7 @@ fn work_and_flush<R: Threads + Wait + Clock + Sync>(
     alloc: Global,
     party: &mut Party,
     pace: &Pause<R>,
-) -> (Option<(Ended, Option<usize>)>, Option<u64>)
+) -> (Option<(Option<Ended>, Option<usize>)>, Option<u64>)
     requires together { AreTogether party.old.hub party.old.first party.old.second party.old.flusher }
     requires executed { party.old.flusher.executed ≡ party.old.flusher.stored }
 {
@@ -62,7 +64,7 @@ fn work_and_flush<R: Threads + Wait + Clock + Sync>(
     let flusher = &mut party.flusher;
     thread::join(
         rt,
-        || -> Option<(Ended, Option<usize>)>
+        || -> Option<(Option<Ended>, Option<usize>)>
             requires { seat.now.ring ≡ ring.now }
         { work(alloc, ring, seat, pace) },
         || -> Option<u64>
@@ -75,7 +77,7 @@ fn run<R: Threads + Wait + Clock + Sync>(
     rt: &R,
     alloc: Global,
     pace: &Pause<R>,
-) -> Option<(Option<(Ended, Option<usize>)>, Option<u64>)> {
+) -> Option<(Option<(Option<Ended>, Option<usize>)>, Option<u64>)> {
     match new_party(alloc, SMALL_AREA) {
         Some(mut party) => {
             let ran = work_and_flush(rt, alloc, &mut party, pace);
@@ -90,6 +92,6 @@ fn run<R: Threads + Wait + Clock + Sync>(
 fn worker_like_script(rt: HostRuntime) -> Result<(), Fail> {
     let pace = Pause { rt: rt.clone()? };
     let ran = run(&rt, rt.alloc(), &pace);
-    assert_eq!(rt; ran, Some((Some((Ended::Bad, None)), Some(7))));
+    assert_eq!(rt; ran, Some((Some((Some(Ended::Bad), None)), Some(7))));
     Ok(())
 }

@@ -1,5 +1,6 @@
 //! Gates that let threads wait for one another.
 
+use crate::working::WorkerPace;
 use hub_core::Pacing;
 use std::sync::atomic::{AtomicBool, AtomicU64, Ordering};
 use std::thread;
@@ -10,7 +11,13 @@ use std::time::{Clock, Duration};
 pub struct Free;
 
 impl Pacing for Free {
-    fn pass(&self, _worker: u32, _turn: u64) -> bool {
+    fn pass(&self) -> bool {
+        true
+    }
+}
+
+impl WorkerPace for Free {
+    fn lets(&self, _worker: u32, _turn: u64) -> bool {
         true
     }
 }
@@ -20,7 +27,7 @@ impl Pacing for Free {
 pub struct Shut;
 
 impl Pacing for Shut {
-    fn pass(&self, _worker: u32, _turn: u64) -> bool {
+    fn pass(&self) -> bool {
         false
     }
 }
@@ -32,9 +39,15 @@ pub struct Pause<R> {
 }
 
 impl<R: Clock> Pacing for Pause<R> {
-    fn pass(&self, _worker: u32, _turn: u64) -> bool {
+    fn pass(&self) -> bool {
         thread::sleep(&self.rt, Duration::from_millis(1));
         true
+    }
+}
+
+impl<R: Clock> WorkerPace for Pause<R> {
+    fn lets(&self, _worker: u32, _turn: u64) -> bool {
+        self.pass()
     }
 }
 
@@ -47,12 +60,18 @@ pub struct Turnstile<R> {
 }
 
 impl<R: Clock> Pacing for Turnstile<R> {
-    fn pass(&self, worker: u32, _turn: u64) -> bool {
+    fn pass(&self) -> bool {
         if self.finished.load(Ordering::SeqCst) {
             return false;
         }
         thread::sleep(&self.rt, Duration::from_millis(1));
-        worker != 0 || self.opened.load(Ordering::SeqCst)
+        true
+    }
+}
+
+impl<R: Clock> WorkerPace for Turnstile<R> {
+    fn lets(&self, worker: u32, _turn: u64) -> bool {
+        self.pass() && (worker != 0 || self.opened.load(Ordering::SeqCst))
     }
 }
 
@@ -160,27 +179,23 @@ impl<R: Clock> Noting<R> {
     }
 }
 
-impl<R: Clock> Pacing for Noting<R> {
-    fn pass(&self, worker: u32, turn: u64) -> bool {
+impl<R: Clock> WorkerPace for Noting<R> {
+    fn lets(&self, worker: u32, turn: u64) -> bool {
         if self.ended.load(Ordering::SeqCst) {
-            return worker == u32::MAX;
+            return false;
         }
         thread::sleep(&self.rt, Duration::from_millis(1));
         if worker == 0 && turn == self.awaited_turn.load(Ordering::SeqCst) {
             self.await_mark();
         }
-        match worker {
-            0 => !self.shut.load(Ordering::SeqCst) && !self.waits.load(Ordering::SeqCst),
-            u32::MAX => self.flushes.load(Ordering::SeqCst),
-            _ => false,
-        }
+        worker == 0 && !self.shut.load(Ordering::SeqCst) && !self.waits.load(Ordering::SeqCst)
     }
 
-    fn appended(&self, _worker: u32) {
+    fn appended(&self) {
         self.appended.store(true, Ordering::SeqCst);
     }
 
-    fn wait_for_room(&self, _worker: u32, mark: u64) {
+    fn wait_for_room(&self, mark: u64) {
         self.full.store(true, Ordering::SeqCst);
         self.waits.store(true, Ordering::SeqCst);
         self.flushes.store(true, Ordering::SeqCst);
@@ -190,8 +205,18 @@ impl<R: Clock> Pacing for Noting<R> {
         }
     }
 
-    fn wait_for_memory(&self, _worker: u32) {
+    fn wait_for_memory(&self) {
         self.short.store(true, Ordering::SeqCst);
+    }
+}
+
+impl<R: Clock> Pacing for Noting<R> {
+    fn pass(&self) -> bool {
+        if self.ended.load(Ordering::SeqCst) {
+            return true;
+        }
+        thread::sleep(&self.rt, Duration::from_millis(1));
+        self.flushes.load(Ordering::SeqCst)
     }
 
     fn published(&self, mark: u64) {

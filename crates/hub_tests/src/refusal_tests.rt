@@ -9,9 +9,11 @@ use crate::hubs::{
 };
 use crate::paces::{Free, Noting};
 use crate::texts::{CONNECT, SEND_X, SEND_Y, SUBSCRIBE, SUBSCRIBER, THREE_MESSAGES};
+use crate::working::worker;
+use connection_core::Ended;
 use disk_core::MemDisk;
 use flush_core::FlushFault;
-use hub_core::{Ended, flush_loop, worker};
+use hub_core::flush_loop;
 use outbox_core::Silent;
 use std::alloc::Global;
 use std::sync::Wait;
@@ -34,7 +36,7 @@ fn append_four(alloc: Global, ring: &HubRing, seat: &mut HubSeat) -> bool
         Some(mut link) => {
             let ended = worker(alloc, ring, seat, &mut link, &Silent, &Free, TURNS);
             drop(link);
-            ended == Ended::Turns
+            ended.is_none()
         }
         None => false,
     }
@@ -59,7 +61,7 @@ fn flush(alloc: Global, ring: &HubRing, flusher: &mut HubFlusher) -> Flushed
 }
 
 // How a worker that asks to open a session ends.
-fn open_another(alloc: Global, ring: &HubRing, seat: &mut HubSeat) -> Option<Ended>
+fn open_another(alloc: Global, ring: &HubRing, seat: &mut HubSeat) -> Option<Option<Ended>>
     requires { seat.old.ring ≡ ring.now }
 {
     let mut link = link_of(alloc, &[CONNECT])?;
@@ -84,7 +86,7 @@ fn count_of(alloc: Global, disk: MemDisk) -> Option<u64> {
 
 // What is seen: what came of the loop, whether the flusher is broken, the mark, how another worker ends then, and how many
 // commands are on the disk.
-fn flush_four(alloc: Global) -> Option<(Flushed, bool, u64, Option<Ended>, Option<u64>)> {
+fn flush_four(alloc: Global) -> Option<(Flushed, bool, u64, Option<Option<Ended>>, Option<u64>)> {
     let mut party = new_party(alloc, SMALL_AREA)?;
     if !append_four(alloc, party.hub.ring(), &mut party.first) {
         return None;
@@ -103,10 +105,10 @@ fn flush_four(alloc: Global) -> Option<(Flushed, bool, u64, Option<Ended>, Optio
 fn word_of_flush(alloc: Global) -> &'static str {
     match flush_four(alloc) {
         None => "unseen",
-        Some((Flushed::To(4), false, 4, Some(Ended::Turns), Some(4))) => "whole",
+        Some((Flushed::To(4), false, 4, Some(None), Some(4))) => "whole",
         Some((Flushed::To(mark), false, same, ended, count)) => {
             let is_right = mark == same
-                && (ended.is_none() || ended == Some(Ended::Turns) || ended == Some(Ended::Lost))
+                && (ended.is_none() || ended == Some(None) || ended == Some(Some(Ended::Lost)))
                 && (count.is_none() || count == Some(mark));
             if is_right { "unseen" } else { "wrong" }
         }
@@ -115,7 +117,7 @@ fn word_of_flush(alloc: Global) -> &'static str {
                 Some(count) => mark <= count && count <= 4,
                 None => false,
             };
-            if holds && ended == Some(Ended::Stopped) {
+            if holds && ended == Some(Some(Ended::Stopped)) {
                 "refused"
             } else {
                 "wrong"
@@ -139,7 +141,7 @@ fn work<R: Clock>(
     ring: &HubRing,
     seat: &mut HubSeat,
     pace: &Noting<R>,
-) -> Option<(Ended, usize, bool)>
+) -> Option<(Option<Ended>, usize, bool)>
     requires { seat.old.ring ≡ ring.now }
 {
     match link_of(alloc, SUBSCRIBER) {
@@ -165,7 +167,7 @@ fn work_to_the_end<R: Clock>(
     ring: &HubRing,
     seat: &mut HubSeat,
     pace: &Noting<R>,
-) -> Option<(Ended, usize, bool)>
+) -> Option<(Option<Ended>, usize, bool)>
     requires { seat.old.ring ≡ ring.now }
 {
     let ended = work(alloc, ring, seat, pace);
@@ -194,7 +196,7 @@ fn work_and_flush<R: Threads + Wait + Clock + Sync>(
     alloc: Global,
     party: &mut Party,
     pace: &Noting<R>,
-) -> (Option<(Ended, usize, bool)>, Flushed)
+) -> (Option<(Option<Ended>, usize, bool)>, Flushed)
     requires together { AreTogether party.old.hub party.old.first party.old.second party.old.flusher }
     requires executed { party.old.flusher.executed ≡ party.old.flusher.stored }
 {
@@ -203,7 +205,7 @@ fn work_and_flush<R: Threads + Wait + Clock + Sync>(
     let flusher = &mut party.flusher;
     thread::join(
         rt,
-        || -> Option<(Ended, usize, bool)>
+        || -> Option<(Option<Ended>, usize, bool)>
             requires { seat.now.ring ≡ ring.now }
         { work_to_the_end(alloc, ring, seat, pace) },
         || -> Flushed
@@ -227,12 +229,13 @@ fn word_of_work<R: Threads + Wait + Clock + Sync>(
     drop(party);
     match (worked, flushed) {
         (None, _) => "unseen",
-        (Some((Ended::Bad, 5, true)), Flushed::To(7)) => "whole",
-        (Some((Ended::Lost, _, true)), Flushed::To(_)) => "refused",
-        (Some((Ended::Stopped | Ended::Lost | Ended::Bad, _, true)), Flushed::Refused) => "unseen",
+        (Some((Some(Ended::Bad), 5, true)), Flushed::To(7)) => "whole",
+        (Some((Some(Ended::Lost), _, true)), Flushed::To(_)) => "refused",
+        (Some((Some(Ended::Stopped | Ended::Lost | Ended::Bad), _, true)), Flushed::Refused) =>
+            "unseen",
         // All was appended before the flusher stopped, so that what is still to come does not come. A worker that stalls beside a
         // flusher that goes on is wrong.
-        (Some((Ended::Turns, _, true)), Flushed::Refused) => "unseen",
+        (Some((None, _, true)), Flushed::Refused) => "unseen",
         _ => "wrong",
     }
 }

@@ -9,7 +9,9 @@ use crate::hubs::{
 };
 use crate::links::{NO_SHORTAGE, Scarce, ScriptedLink, Shortage};
 use crate::paces::{Awaited, Noting};
-use hub_core::{Ended, flush_loop, worker};
+use crate::working::worker;
+use connection_core::Ended;
+use hub_core::flush_loop;
 use std::alloc::Global;
 use std::cell::Cell;
 use std::sync::Wait;
@@ -23,7 +25,7 @@ pub const TURNS: u64 = 5_000;
 /// What a client sends, each text one message, and behind them a round of texts, so many times; whether its connection is
 /// closed behind them, or breaks at the first send; how often its worker may turn, and whether that is held up; whether the
 /// flusher turns from the beginning, or once the window is full, or once the worker has come to a turn that awaits a mark; and
-/// how often memory is refused. Then what is to come of it: how the worker ends, with which code it closes, what it sends (or
+/// how often memory is refused. Then what is to come of it: how the worker ends, if it does, with which code it closes, what it sends (or
 /// whether its outbox overflows: then the journal is roomy, and the messages are counted), how many commands were appended
 /// where the journal has room for them, and what the pace hears (commands, a full window, a flusher that stopped; and that
 /// memory was refused). With a cut its texts are two messages: so many bytes of them, and the rest.
@@ -37,7 +39,7 @@ pub struct Row {
     pub turns: u64,
     pub shut: bool,
     pub flushes: bool,
-    pub ended: Ended,
+    pub ended: Option<Ended>,
     pub code: Option<u16>,
     pub sent: &'static [&'static [u8]],
     pub overflows: bool,
@@ -58,7 +60,7 @@ pub const SILENT: Row = Row {
     turns: TURNS,
     shut: false,
     flushes: false,
-    ended: Ended::Turns,
+    ended: None,
     code: None,
     sent: &[],
     overflows: false,
@@ -106,7 +108,7 @@ fn serve<R: Clock>(
     seat: &mut HubSeat,
     row: &Row,
     pace: &Noting<R>,
-) -> Option<(Ended, Option<u16>)>
+) -> Option<(Option<Ended>, Option<u16>)>
     requires { seat.old.ring ≡ ring.now }
 {
     match scripted(alloc, row) {
@@ -131,7 +133,7 @@ fn work<R: Clock>(
     seat: &mut HubSeat,
     row: &Row,
     pace: &Noting<R>,
-) -> Option<(Ended, Option<u16>)>
+) -> Option<(Option<Ended>, Option<u16>)>
     requires { seat.old.ring ≡ ring.now }
 {
     let ended = serve(alloc, ring, seat, row, pace);
@@ -157,7 +159,7 @@ fn work_and_flush<R: Threads + Wait + Clock + Sync>(
     party: &mut Party,
     row: &Row,
     pace: &Noting<R>,
-) -> (Option<(Ended, Option<u16>)>, Option<u64>)
+) -> (Option<(Option<Ended>, Option<u16>)>, Option<u64>)
     requires together { AreTogether party.old.hub party.old.first party.old.second party.old.flusher }
     requires executed { party.old.flusher.executed ≡ party.old.flusher.stored }
 {
@@ -166,7 +168,7 @@ fn work_and_flush<R: Threads + Wait + Clock + Sync>(
     let flusher = &mut party.flusher;
     thread::join(
         rt,
-        || -> Option<(Ended, Option<u16>)>
+        || -> Option<(Option<Ended>, Option<u16>)>
             requires { seat.now.ring ≡ ring.now }
         { work(alloc, ring, seat, row, pace) },
         || -> Option<u64>
@@ -192,7 +194,7 @@ fn run<R: Threads + Wait + Clock + Sync>(
     alloc: Global,
     row: &Row,
     pace: &Noting<R>,
-) -> Option<(Option<(Ended, Option<u16>)>, Option<u64>)> {
+) -> Option<(Option<(Option<Ended>, Option<u16>)>, Option<u64>)> {
     pace.begin(row.shut, row.flushes, row.awaits);
     match party_of(alloc, row) {
         Some(mut party) => {

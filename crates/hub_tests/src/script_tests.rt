@@ -7,7 +7,7 @@ use crate::texts::{
     LAST_RECEIPT, LAST_WORD, LONG_BODY, LONG_END, LONG_HEAD, NOT_EXPECTED, SEND_X, SUBSCRIBER,
     THREE_MESSAGES, TRANSACTION, TWENTY_RECEIPTED, TWENTY_SENDS,
 };
-use hub_core::Ended;
+use connection_core::Ended;
 use std::alloc::Global;
 use std::sync::Wait;
 use std::test::Fail;
@@ -19,7 +19,7 @@ const ROWS: [Row; 11] = [
     Row {
         texts: SUBSCRIBER,
         flushes: true,
-        ended: Ended::Bad,
+        ended: Some(Ended::Bad),
         code: Some(1002),
         sent: THREE_MESSAGES,
         appended: Some(7),
@@ -29,7 +29,7 @@ const ROWS: [Row; 11] = [
     // More commands than the window lets in, and a DISCONNECT that asks for a receipt.
     Row {
         texts: &[CONNECT, TWENTY_RECEIPTED, LAST_WORD],
-        ended: Ended::Bye,
+        ended: Some(Ended::Bye),
         code: Some(1000),
         sent: ALL_RECEIPTS,
         appended: Some(22),
@@ -39,7 +39,7 @@ const ROWS: [Row; 11] = [
     // A DISCONNECT that asks for none: what is still to be sent is not waited for.
     Row {
         texts: &[CONNECT, DISCONNECT],
-        ended: Ended::Bye,
+        ended: Some(Ended::Bye),
         code: Some(1000),
         appended: Some(2),
         heard: [true, false, false],
@@ -49,7 +49,7 @@ const ROWS: [Row; 11] = [
     Row {
         texts: &[CONNECT, LAST_WORD],
         flushes: true,
-        ended: Ended::Bye,
+        ended: Some(Ended::Bye),
         code: Some(1000),
         sent: &[CONNECTED, LAST_RECEIPT],
         appended: Some(2),
@@ -59,7 +59,7 @@ const ROWS: [Row; 11] = [
     // A frame that a new session may not send.
     Row {
         texts: &[SEND_X],
-        ended: Ended::Bad,
+        ended: Some(Ended::Bad),
         code: Some(1002),
         sent: &[NOT_EXPECTED],
         ..SILENT
@@ -68,7 +68,7 @@ const ROWS: [Row; 11] = [
     Row {
         texts: &[CONNECT],
         closes: true,
-        ended: Ended::Lost,
+        ended: Some(Ended::Lost),
         appended: Some(2),
         heard: [true, false, false],
         ..SILENT
@@ -77,7 +77,7 @@ const ROWS: [Row; 11] = [
     Row {
         texts: &[CONNECT, TWENTY_SENDS],
         breaks: true,
-        ended: Ended::Lost,
+        ended: Some(Ended::Lost),
         appended: Some(22),
         heard: [true, true, false],
         ..SILENT
@@ -89,7 +89,7 @@ const ROWS: [Row; 11] = [
         texts: &[CONNECT, FIFTEEN_SUBSCRIBERS],
         round: TRANSACTION,
         rounds: 17,
-        ended: Ended::Lost,
+        ended: Some(Ended::Lost),
         code: Some(1001),
         overflows: true,
         appended: Some(34),
@@ -119,7 +119,7 @@ const ROWS: [Row; 11] = [
     // The journal is full while the window is. Its Open is published before: else the block would be cut behind that.
     Row {
         texts: &[CONNECT, LONG_HEAD, LONG_BODY, LONG_END, TWENTY_SENDS],
-        ended: Ended::Stopped,
+        ended: Some(Ended::Stopped),
         code: Some(1001),
         sent: &[CONNECTED],
         appended: None,
@@ -153,7 +153,7 @@ const SCARCE: [Row; 2] = [
     Row {
         texts: &[CONNECT, LAST_WORD],
         flushes: true,
-        ended: Ended::Bye,
+        ended: Some(Ended::Bye),
         code: Some(1000),
         sent: &[CONNECTED, LAST_RECEIPT],
         appended: Some(2),
@@ -168,7 +168,7 @@ const SCARCE: [Row; 2] = [
     },
     Row {
         texts: &[SEND_X],
-        ended: Ended::Bad,
+        ended: Some(Ended::Bad),
         code: Some(1002),
         sent: &[NOT_EXPECTED],
         shortage: Shortage {

@@ -3,7 +3,9 @@ ghost use Rattle.hub_tests.specs.Parties.{AreTogether};
 
 use crate::hubs::{AREA, HubFlusher, HubRing, HubSeat, Party, first_wrong, link_of, new_party};
 use crate::paces::Turnstile;
-use hub_core::{Ended, flush_loop, worker};
+use crate::working::worker;
+use connection_core::Ended;
+use hub_core::flush_loop;
 use outbox_core::Silent;
 use std::alloc::Global;
 use std::sync::Wait;
@@ -47,7 +49,7 @@ fn serve<R: Clock>(
             let ended = worker(alloc, ring, seat, &mut link, &Silent, pace, TURNS);
             let right = has_receipts(&link);
             drop(link);
-            if right { Some(ended) } else { None }
+            if right { ended } else { None }
         }
         None => None,
     }

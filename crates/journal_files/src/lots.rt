@@ -7,8 +7,8 @@ ghost use Rattle.script_text.specs.PercentTexts.{encoded};
 ghost use Rattle.journal_files.specs.Held.{AreLotsOf, names_waiting, queues_waiting, waits_at, waits_of, name_text, queue_text};
 
 use broker_core::{DurableName, SharedLines};
-use command_core::Dest;
 use line_core::{Line, Message, size};
+use record_core::Dest;
 use script_text::encode_text;
 use std::alloc::{AllocError, Global};
 use std::collections::BTreeMap;

@@ -2,10 +2,10 @@
 
 use crate::telling::frame as tell_frame;
 use command_core::{
-    Dest, DestFault, Fault, HeaderText, Op, Sending, connected_reply, error_reply, is_header_text,
-    is_kept_name, message_reply, op_size, receipt_reply,
+    Fault, Op, connected_reply, error_reply, message_reply, op_size, receipt_reply,
 };
 use frame_core::{Bytes, Frame, Headers, Text};
+use record_core::{Dest, DestFault, HeaderText, Sending, is_header_text, is_kept_name};
 use std::alloc::{AllocError, Global};
 use std::test::Fail;
 

@@ -1,8 +1,8 @@
 //! Lines of messages, and deliveries that wait for their acknowledgement.
 
 use crate::command_tests::greeting;
-use command_core::AckMode;
 use line_core::{Flight, Line, Message, MessageNumber, SettleFault, size};
+use record_core::AckMode;
 use std::alloc::{AllocError, Global};
 use std::test::Fail;
 

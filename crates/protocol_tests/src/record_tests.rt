@@ -2,8 +2,10 @@
 
 use crate::command_tests::{greeting, r1};
 use crate::frame_tests::filled;
-use command_core::{Command, DecodeFault, Op, decode, encode};
-use record_core::{lists_are_read_as_they_are_spelled, parts_are_read_as_they_are_spelled};
+use command_core::{Command, Op, decode, encode};
+use record_core::{
+    DecodeFault, lists_are_read_as_they_are_spelled, parts_are_read_as_they_are_spelled,
+};
 use std::alloc::{AllocError, Global};
 use std::test::Fail;
 

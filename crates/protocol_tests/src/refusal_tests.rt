@@ -4,8 +4,9 @@
 use crate::frame_tests::tell_fed;
 use crate::session_tests::CONNECT;
 use crate::telling::{acts as tell_acts, optional_act as tell_optional};
-use command_core::{DecodeFault, decode, encode};
+use command_core::{decode, encode};
 use frame_core::{Fed, FeedFault, FrameReader};
+use record_core::DecodeFault;
 use session_core::{Session, SessionFault};
 use std::alloc::{AllocError, Global};
 use std::test::Fail;

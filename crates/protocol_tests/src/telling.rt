@@ -1,7 +1,8 @@
 //! Frames, operations and acts as words, so that a table can say what is expected.
 
-use command_core::{AckMode, End, HeaderText, Member, Op, Sending, fault_text};
+use command_core::{End, Member, Op, fault_text};
 use frame_core::{Frame, Headers};
+use record_core::{AckMode, HeaderText, Sending};
 use session_core::Act;
 use std::alloc::AllocError;
 

@@ -1,10 +1,10 @@
 //! The escapes of header texts, and the texts of the faults.
 
-use command_core::{DecodeFault, Fault, fault_text};
+use command_core::{Fault, fault_text};
 use escape_core::{EscapeFault, escape, is_defined, unescape};
 use frame_core::{FeedFault, FrameFault};
 use line_core::SettleFault;
-use record_core::DestFault;
+use record_core::{DecodeFault, DestFault};
 use session_core::SessionFault;
 use std::alloc::Global;
 use std::test::Fail;

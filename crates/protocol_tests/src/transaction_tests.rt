@@ -1,8 +1,9 @@
 //! Transactions by themselves.
 
 use crate::telling::members as tell_members;
-use command_core::{Dest, HeaderText, Member, Sending, fault_text, is_header_text};
+use command_core::{Member, fault_text};
 use frame_core::{Bytes, Headers, Text};
+use record_core::{Dest, HeaderText, Sending, is_header_text};
 use std::alloc::{AllocError, Global};
 use std::test::Fail;
 use tx_core::{OpenTx, TxFault};

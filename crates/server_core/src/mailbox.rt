@@ -7,7 +7,7 @@ ghost use Rattle.server_core.specs.Bells.{called_by, called_for};
 use crate::calls::{Called, Calls};
 use crate::doorbell::Doorbell;
 use crossbeam_queue::ArrayQueue;
-use hub_core::Ringers;
+use desk_core::Ringers;
 use outbox_core::Bell;
 use std::alloc::{AllocError, Global};
 use std::net::TcpStream;

@@ -6,8 +6,8 @@ use crate::calls::{BITS, Called, WORDS};
 use crate::mailbox::{Arrival, BellRope, Mailbox, Ropes};
 use crate::shared::{ServerRing, ServerSeat, Shared};
 use client_schedule::{CLIENTS, Clients, Due, Flow, Phase, ReadBudget, Standing, Told};
+use desk_core::{Desk, Next, Turned};
 use event_log::Kind;
-use hub_core::{Desk, Next, Pacing, Turned};
 use memory_budget::Held;
 use mio::net::TcpStream;
 use mio::{Interest, Registry, Token};
@@ -361,7 +361,7 @@ impl<'a, R: Wait + Clock + Drop> Service<'a, R> {
             return;
         };
         if turned.appended {
-            self.shared.wakeups.appended(0);
+            self.shared.wakeups.wake_flusher();
         }
         match turned.next {
             Next::Over(_) => {

@@ -96,7 +96,7 @@ impl<T: Wait> Wakeups<T> {
     }
 
     /// Says that a command was put into the ring.
-    fn wake_flusher(&self) {
+    pub(crate) fn wake_flusher(&self) {
         self.ending.wake_flusher();
     }
 
@@ -212,17 +212,11 @@ impl<T: Wait + Clock> Wakeups<T> {
 }
 
 impl<T: Wait + Clock> Pacing for Wakeups<T> {
-    fn pass(&self, worker: u32, _turn: u64) -> bool {
-        if worker == u32::MAX {
-            self.rest();
-            self.await_commands();
-            self.began.store(self.micros(), Ordering::SeqCst);
-        }
+    fn pass(&self) -> bool {
+        self.rest();
+        self.await_commands();
+        self.began.store(self.micros(), Ordering::SeqCst);
         true
-    }
-
-    fn appended(&self, _worker: u32) {
-        self.wake_flusher();
     }
 
     fn published(&self, mark: u64) {

@@ -7,8 +7,9 @@ ghost use Rattle.record_core.specs.Texts.{IsHeaderText};
 ghost use Rattle.session_core.specs.ReadFrames.{IsRead, receipt_of, some_text, durable_at, durable_of, mode_of, delivery_of};
 
 use crate::numbers::number_of;
-use command_core::{AckMode, Dest, Fault, HeaderText, is_kept_name};
+use command_core::Fault;
 use frame_core::{Frame, Headers, Text, Verb, first};
+use record_core::{AckMode, Dest, HeaderText, is_kept_name};
 use std::alloc::{AllocError, Global};
 
 /// The text of a header, to be kept.

@@ -1,5 +1,0 @@
-use Rattle.desk_core.specs.Steps.{GoesOn}
-use Rattle.desk_core.proofs.working.serve.Given as goal
-
-abbrev pub invariant-loop-turn : goal.invariant-loop-turn
-invariant-loop-turn g l = GoesOn g.L.Outgoing.sent g.L.Outgoing.received l.fn.slot l.fn.seat l.fn.link l.slot l.seat l.link
