@@ -7,14 +7,14 @@ ghost use Rattle.recover_core.specs.Standing.{Stands};
 ghost use Rattle.journal_files.specs.Held.{ShowsHeld};
 ghost use Rattle.journal_files.specs.JournalFiles.{Shows};
 ghost use Rattle.command_line.specs.CommandLines.{AsksForScript};
-ghost use Rattle.subcommands.specs.Failures.{IsDone, RunsToEnd, StopsBy, IsBeforehand, IsOfScript, IsTold, Tells, status_of, version_line};
+ghost use Rattle.command_line.specs.Failures.{IsDone, RunsToEnd, StopsBy, IsBeforehand, IsOfScript, IsTold, Tells, status_of, version_line};
 
 use crate::making::make_journal;
+use crate::parsing::{Refused, Subcommand, subcommand_of};
 use crate::telling::end_by;
 use crate::viewing::FileView;
 use area_core::{FormatFault, format};
 use clap::error::ErrorKind;
-use command_line::{Refused, Subcommand, subcommand_of};
 use disk_core::{MemDisk, OpenError};
 use engine_core::{ScriptFault, run_script};
 use journal_files::{ShowFault, show, show_held};
@@ -59,7 +59,7 @@ pub enum FileFault {
 /// The text for the user.
 impl fmt::Display for FileFault {
     ghost use Rattle.std.specs.Prelude.{Some};
-    ghost use Rattle.subcommands.specs.Failures.{file_text};
+    ghost use Rattle.command_line.specs.Failures.{file_text};
 
     ghost output = { λ fault. Some (file_text fault) };
 

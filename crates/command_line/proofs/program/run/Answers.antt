@@ -1,5 +1,5 @@
-use Rattle.subcommands.proofs.Nothing.{version_done}
-use Rattle.subcommands.proofs.program.run.Goals as goal
+use Rattle.command_line.proofs.Nothing.{version_done}
+use Rattle.command_line.proofs.program.run.Goals as goal
 
 pub returns-in-Ok-Version-clause-ok : goal.returns-in-Ok-Version-clause-ok
 returns-in-Ok-Version-clause-ok g c =

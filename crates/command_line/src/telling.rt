@@ -1,7 +1,7 @@
 //! Telling the user why the program did not do what it was asked for, and how it ends by that.
 
 ghost use Rattle.std.specs.Prelude.{◌≡◌, OnOk};
-ghost use Rattle.subcommands.specs.Failures.{IsTold, status_of};
+ghost use Rattle.command_line.specs.Failures.{IsTold, status_of};
 
 use crate::program::{Ended, Failure};
 use std::io;

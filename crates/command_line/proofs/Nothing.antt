@@ -13,11 +13,11 @@ use Rattle.disk_core.specs.Memory.{Memory}
 use Rattle.engine_core.proofs.Performing.{restart_is}
 use Rattle.engine_core.specs.Runs.{IsToldAtOnce, Stops, StopsOver}
 use Rattle.command_line.specs.CommandLines.{AskFor}
-use Rattle.subcommands.specs.Failures.{RunsToEnd, IsAtOnce, IsBeforehand, IsDone, StopsBy, Tells, version_line}
+use Rattle.command_line.specs.Failures.{RunsToEnd, IsAtOnce, IsBeforehand, IsDone, StopsBy, Tells, version_line}
 use Rattle.command_line.specs.declared.parsing.Subcommand.{Subcommand}
 use Rattle.command_line.specs.declared.parsing.Subcommand.TheVariants.{Version}
-use Rattle.subcommands.specs.declared.program.Failure.{Failure}
-use Rattle.subcommands.specs.declared.program.Failure.TheVariants.{CommandLine, Number, ThreadNumber, MemoryNumber, Origin, Script, Format, File, Server, Ping}
+use Rattle.command_line.specs.declared.program.Failure.{Failure}
+use Rattle.command_line.specs.declared.program.Failure.TheVariants.{CommandLine, Number, ThreadNumber, MemoryNumber, Origin, Script, Format, File, Server, Ping}
 
 pub stops_before : (error : Error) (failure : Failure) (unread held : Option (List ℕ)) → Tells error failure → StopsBy failure unread unread held held
 stops_before error (CommandLine other) unread held told = (refl, refl)

@@ -5,8 +5,8 @@ ghost use Rattle.std.specs.Io.KnownBytes.{Appends};
 ghost use Rattle.std.specs.Duration.{as_nanos};
 ghost use Rattle.journal_files.specs.JournalFiles.{show_text};
 ghost use Rattle.ping_core.specs.Texts.{ping_text};
-ghost use Rattle.subcommands.specs.Failures.{line_of};
-ghost use Rattle.subcommands.specs.Pings.{ping_line};
+ghost use Rattle.command_line.specs.Failures.{line_of};
+ghost use Rattle.command_line.specs.Pings.{ping_line};
 
 use crate::program::{DONE, Ended, Failure, FileFault};
 use crate::telling::end_by;

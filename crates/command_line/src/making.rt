@@ -2,7 +2,7 @@
 
 ghost use Rattle.std.specs.Prelude.{◌+◌, ◌*◌, ◌<◌, ◌≤◌, IfOk, OnOk};
 ghost use Rattle.disk_core.specs.File.{file_size};
-ghost use Rattle.subcommands.specs.Failures.{IsTooShort};
+ghost use Rattle.command_line.specs.Failures.{IsTooShort};
 
 use crate::program::FileFault;
 use area_core::{FormatFault, format};

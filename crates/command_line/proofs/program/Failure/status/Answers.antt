@@ -1,5 +1,5 @@
 use Rattle.std.proofs.Common.{rules}
-use Rattle.subcommands.proofs.program.Failure.status.Goals as goal
+use Rattle.command_line.proofs.program.Failure.status.Goals as goal
 
 pub returns-in-Script : goal.returns-in-Script
 returns-in-Script c = search rules

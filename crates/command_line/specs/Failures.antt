@@ -22,10 +22,10 @@ use Rattle.journal_files.specs.declared.journal_files.ShowFault.TheVariants as s
 use Rattle.command_line.specs.CommandLines.{AskFor}
 use Rattle.command_line.specs.declared.parsing.Subcommand.{Subcommand}
 use Rattle.command_line.specs.declared.parsing.Subcommand.TheVariants as asks
-use Rattle.subcommands.specs.declared.program.FileFault.{FileFault}
-use Rattle.subcommands.specs.declared.program.FileFault.TheVariants as files
-use Rattle.subcommands.specs.declared.program.Failure.{Failure}
-use Rattle.subcommands.specs.declared.program.Failure.TheVariants.{CommandLine, Number, ThreadNumber, MemoryNumber, Origin, Script, Format, File, Server, Ping}
+use Rattle.command_line.specs.declared.program.FileFault.{FileFault}
+use Rattle.command_line.specs.declared.program.FileFault.TheVariants as files
+use Rattle.command_line.specs.declared.program.Failure.{Failure}
+use Rattle.command_line.specs.declared.program.Failure.TheVariants.{CommandLine, Number, ThreadNumber, MemoryNumber, Origin, Script, Format, File, Server, Ping}
 
 -- a script was read to its end, and what was written is what it prints from an empty journal on, on some disk
 pub record RunsToEnd (unread left before after : Option (List ℕ)) : Type 0 where

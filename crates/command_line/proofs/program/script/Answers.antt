@@ -1,5 +1,5 @@
-use Rattle.subcommands.proofs.Nothing.{if_err_is, on_ok_is, runs_to_end, stops_over}
-use Rattle.subcommands.proofs.program.script.Goals as goal
+use Rattle.command_line.proofs.Nothing.{if_err_is, on_ok_is, runs_to_end, stops_over}
+use Rattle.command_line.proofs.program.script.Goals as goal
 
 pub returns-in-Ok-ended-clause-ok : goal.returns-in-Ok-ended-clause-ok
 returns-in-Ok-ended-clause-ok g c =

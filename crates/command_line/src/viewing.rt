@@ -4,7 +4,7 @@ ghost use Rattle.std.specs.Prelude.{◌≡◌, ◌+◌, ◌≤◌, IfOk, IsErr, 
 ghost use Rattle.disk_core.specs.Faults.{HasCause};
 ghost use Rattle.disk_core.specs.Images.{Frees, Torn, patched};
 ghost use Rattle.disk_core.specs.Moments.{Elapses};
-ghost use Rattle.subcommands.specs.Views.{zeros};
+ghost use Rattle.command_line.specs.Views.{zeros};
 
 use disk_core::{DeviceFault, Disk, OpenError};
 use std::fs::{File, OpenOptions};

@@ -1,6 +1,6 @@
 use Rattle.recover_core.proofs.Formatted.{stands_formatted}
 use Rattle.disk_core.specs.Memory.{reads_image}
-use Rattle.subcommands.proofs.program.empty_journal.Goals as goal
+use Rattle.command_line.proofs.program.empty_journal.Goals as goal
 
 pub returns-in-Ok-format-clause-empty : goal.returns-in-Ok-format-clause-empty
 returns-in-Ok-format-clause-empty c =
