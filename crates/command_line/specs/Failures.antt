@@ -6,11 +6,11 @@ use Rattle.clap.specs.declared.error.kind.ErrorKind.TheVariants.{OutOfMemory}
 use Rattle.engine_core.specs.Scripts.{IsScript}
 use Rattle.area_core.specs.declared.faults.FormatFault.TheVariants as formats
 use Rattle.area_core.specs.Texts.{format_text}
-use Rattle.serve_faults.specs.Unopened.{file_text as unopened_text}
+use Rattle.event_log.specs.Unopened.{file_text as unopened_text}
 use Rattle.engine_core.specs.FaultTexts.{fault_text}
 use Rattle.journal_files.specs.JournalFiles.{Shows, show_text}
 use Rattle.ping_core.specs.Texts.{ping_text}
-use Rattle.serve_faults.specs.Faults.{serve_text}
+use Rattle.event_log.specs.Faults.{serve_text}
 use Rattle.broker_core.specs.States.{empty_state}
 use Rattle.engine_core.specs.Runs.{Stops}
 use Rattle.engine_core.specs.declared.fault.ScriptFault.{ScriptFault}

@@ -15,7 +15,7 @@ use Rattle.claim_core.specs.Endings.{Ends}
 use Rattle.hub_core.specs.Closings.{end_of}
 use Rattle.hub_core.specs.declared.closed.Closed.{Closed}
 use Rattle.hub_core.specs.declared.hub.SeatRoom.{SeatRoom}
-use Rattle.serve_faults.specs.declared.fault.ServeFault.TheVariants.{Output, Flushing}
+use Rattle.event_log.specs.declared.fault.ServeFault.TheVariants.{Output, Flushing}
 use Rattle.server_core.specs.declared.mailbox.BellRope.{BellRope}
 use Rattle.server_core.specs.declared.service.Service.{Service}
 use Rattle.server_core.specs.declared.serving.ServeEnd.{ServeEnd}

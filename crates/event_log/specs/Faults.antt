@@ -2,9 +2,9 @@
 use Rattle.std.specs.Prelude.{List, ℕ, codes}
 use Rattle.flush_core.specs.Faults.{flush_text}
 use Rattle.recover_core.specs.Texts.{open_text}
-use Rattle.serve_faults.specs.Unopened.{file_text, port_text, streams_text}
-use Rattle.serve_faults.specs.declared.fault.ServeFault.{ServeFault}
-use Rattle.serve_faults.specs.declared.fault.ServeFault.TheVariants.{Streams, File, Port, Opening, Memory, Threads, Output, Flushing}
+use Rattle.event_log.specs.Unopened.{file_text, port_text, streams_text}
+use Rattle.event_log.specs.declared.fault.ServeFault.{ServeFault}
+use Rattle.event_log.specs.declared.fault.ServeFault.TheVariants.{Streams, File, Port, Opening, Memory, Threads, Output, Flushing}
 
 -- what the user is told of a server that was not started, or has ended
 abbrev pub serve_text : ServeFault → List ℕ

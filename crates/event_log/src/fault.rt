@@ -31,7 +31,7 @@ pub enum ServeFault {
 /// The text for the user.
 impl fmt::Display for ServeFault {
     ghost use Rattle.std.specs.Prelude.{Some};
-    ghost use Rattle.serve_faults.specs.Faults.{serve_text};
+    ghost use Rattle.event_log.specs.Faults.{serve_text};
 
     ghost output = { λ fault. Some (serve_text fault) };
 

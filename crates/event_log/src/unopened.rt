@@ -1,7 +1,7 @@
 //! Why a file or a port was not opened.
 
 ghost use Rattle.std.specs.Prelude.{◌≡◌};
-ghost use Rattle.serve_faults.specs.Unopened.{reason_text, unopened, unopened_by};
+ghost use Rattle.event_log.specs.Unopened.{reason_text, unopened, unopened_by};
 
 use disk_core::OpenError;
 use std::io::ErrorKind;
