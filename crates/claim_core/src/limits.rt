@@ -1,7 +1,5 @@
 //! The limits of the ring between sessions and the flusher. Anyone who speaks of one of these numbers names it from here.
 
-#![tactic(auto)]
-
 /// How many seats the ring has. A server's desk has one, and so has a connection of a script, whose number is less than this.
 pub const SEATS: usize = 64;
 
