@@ -4,6 +4,7 @@
 
 mod closing;
 mod ending;
+mod limits;
 mod opening;
 mod plays;
 mod refusals;
@@ -17,8 +18,7 @@ mod tests;
 mod views;
 
 pub use ending::RingEnd;
-/// The limits of the broker's ring.
-pub use limits_core::{PLACES, SEATS, WINDOW};
+pub use limits::{PLACES, SEATS, WINDOW};
 pub use refusals::{NotYet, Refused};
 pub use released::Released;
 pub use ring::Ring;

@@ -1,8 +1,8 @@
 //! The ring with the limits that the broker uses.
 
+use crate::limits::{PLACES, SEATS, WINDOW};
 use crate::ring::Ring;
 use crate::seats::SessionSeat;
-use limits_core::{PLACES, SEATS, WINDOW};
 
 /// The ring of the broker.
 pub type BrokerRing<B> = Ring<B, SEATS, WINDOW, PLACES>;

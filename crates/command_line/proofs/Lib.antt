@@ -1,3 +1,4 @@
 mod Asking
 mod Giving
+mod Nothing
 pub mod Words

@@ -1,2 +1,5 @@
 pub mod CommandLines
+pub mod Failures
 pub mod Origins
+pub mod Pings
+pub mod Views

@@ -2,7 +2,7 @@
 use Rattle.std.proofs.Common.{◌≡◌, ℕ, ◌<◌, ◌≤◌, List, [], ◌∷◌, ◌++◌, Bool, true, false, Option, Some, None, length, refl, sym, ap, ◌∙◌, subst, arith, append-nil}
 use Rattle.std.specs.Prelude.{IsSome, option_map}
 use Rattle.std.proofs.lemmas.List.{length-append}
-use Rattle.limits_core.specs.declared.TheConstants.{WINDOW}
+use Rattle.claim_core.specs.declared.limits.TheConstants.{WINDOW}
 use Rattle.claim_core.specs.Appends.{Appends, Refuses}
 use Rattle.claim_core.specs.Counts.{Pair, above}
 use Rattle.claim_core.specs.Seats.{SessionSeatValue}

@@ -1,7 +1,7 @@
 -- What a turn of a connection answers.
 use Rattle.std.specs.Prelude.{◌≡◌, ◌<◌, ◌≤◌, ℕ, List, [], Bool, true, false, Option, None, IsSome, length}
 use Rattle.command_core.specs.Outs.{OutValue}
-use Rattle.limits_core.specs.declared.TheConstants.{WINDOW}
+use Rattle.claim_core.specs.declared.limits.TheConstants.{WINDOW}
 use Rattle.claim_core.specs.Counts.{above}
 use Rattle.claim_core.specs.Seats.{SessionSeatValue}
 use Rattle.connection_core.specs.Tasks.{all_of}

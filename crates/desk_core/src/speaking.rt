@@ -6,10 +6,9 @@ ghost use Rattle.connection_core.specs.Connections.{with_appended};
 ghost use Rattle.connection_core.specs.Conversations.{IsNext, said_of};
 ghost use Rattle.desk_core.specs.Continues.{Continues};
 
-use claim_core::{BrokerRing, BrokerSeat, Refused};
+use claim_core::{BrokerRing, BrokerSeat, Refused, WINDOW};
 use command_core::Entry;
 use connection_core::{Connection, Said};
-use limits_core::WINDOW;
 
 // Appends the next command of a connection's conversation, and answers its ticket; a command that may not be the next is dropped.
 // Where the ring refuses, the entry comes back.

@@ -4,7 +4,7 @@ use Rattle.std.specs.Fmt.{decimal}
 use Rattle.std.specs.List.{AllByRecursion}
 use Rattle.std.proofs.lemmas.Bool.{cases_lt}
 use Rattle.std.proofs.lemmas.Fmt.{decimal_injective}
-use Rattle.limits_core.specs.declared.TheConstants.{SEATS}
+use Rattle.claim_core.specs.declared.limits.TheConstants.{SEATS}
 use Rattle.script_text.specs.ScriptLines.{IsLoss, IsCrash}
 use Rattle.engine_core.specs.Scripts.{HasNoLf, IsLine, text_of_lines}
 use Rattle.script_text.proofs.ConnectionNumbers.{one_digit, two_digits}

@@ -7,7 +7,7 @@ use Rattle.broker_core.specs.States.{State}
 use Rattle.disk_core.specs.Memory.{Memory, fresh}
 use Rattle.engine_core.specs.declared.script.Script.{Script}
 use Rattle.engine_core.specs.declared.script.Script.TheVariants.{Running}
-use Rattle.limits_core.specs.declared.TheConstants.{SEATS}
+use Rattle.claim_core.specs.declared.limits.TheConstants.{SEATS}
 use Rattle.script_text.specs.PercentTexts.{decoded}
 use Rattle.engine_core.specs.Queues.{QueueValue, flush_text, flushed}
 use Rattle.engine_core.specs.Running.{ScriptValue, beginning, Loses, Receives}

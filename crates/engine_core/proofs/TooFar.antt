@@ -4,7 +4,7 @@ use Rattle.std.specs.Fmt.{decimal}
 use Rattle.session_core.proofs.Hearings.{heard_in_one_way}
 use Rattle.engine_core.specs.declared.script.Script.{Script}
 use Rattle.engine_core.specs.declared.script.Script.TheVariants.{Running, Stopped, Over}
-use Rattle.limits_core.specs.declared.TheConstants.{SEATS}
+use Rattle.claim_core.specs.declared.limits.TheConstants.{SEATS}
 use Rattle.script_text.specs.PercentTexts.{decoded}
 use Rattle.engine_core.specs.Queues.{ComeTo, IsTooFar}
 use Rattle.engine_core.specs.Running.{ScriptValue, connection_at, LosesSuch, Receives, ReceivesSuch}

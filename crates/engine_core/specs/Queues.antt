@@ -4,7 +4,7 @@ use Rattle.std.specs.Fmt.{decimal}
 use Rattle.std.specs.List.{fold}
 use Rattle.std.specs.Map.{lookup}
 use Rattle.std.specs.Ordering.{nat_cmp}
-use Rattle.limits_core.specs.declared.TheConstants.{WINDOW}
+use Rattle.claim_core.specs.declared.limits.TheConstants.{WINDOW}
 use Rattle.frame_core.specs.declared.frame.Frame.{Frame}
 use Rattle.frame_core.specs.Written.{written}
 use Rattle.disk_core.specs.Memory.{Memory}

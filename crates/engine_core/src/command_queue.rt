@@ -8,10 +8,10 @@ ghost use Rattle.recover_core.specs.Standing.{Stands};
 
 use crate::fault::QueueFault;
 use crate::printing::print_outs;
+use claim_core::WINDOW;
 use command_core::{Command, Op};
 use disk_core::MemDisk;
 use flush_core::FlushFault;
-use limits_core::WINDOW;
 use record_core::HeaderText;
 use script_journal::{Journal, Waiting};
 use std::alloc::Global;

@@ -1,2 +1,4 @@
 pub mod Events
+pub mod Faults
 pub mod Rhythms
+pub mod Unopened

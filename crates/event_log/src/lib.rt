@@ -1,13 +1,17 @@
-//! What an operator is told of a running server, a line each.
+//! What an operator is told of a server: what happens while it runs, a line each, and why it does not serve.
 
 #![tactic(auto)]
 
 mod event;
+mod fault;
 mod kind;
 mod line;
 mod rhythm;
+mod unopened;
 
 pub use event::{Event, Figures, Start};
+pub use fault::ServeFault;
 pub use kind::{KINDS, Kind};
 pub use line::write_line;
 pub use rhythm::Rhythm;
+pub use unopened::Unopened;

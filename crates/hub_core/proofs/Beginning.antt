@@ -5,7 +5,7 @@ use Rattle.disk_core.specs.declared.disk.Disk.{Ghosts}
 use Rattle.atomic_table.specs.Seated.{TableId}
 use Rattle.broker_core.specs.Operations.{restarted}
 use Rattle.broker_core.specs.States.{State, BrokerValue}
-use Rattle.limits_core.specs.declared.TheConstants.{SEATS}
+use Rattle.claim_core.specs.declared.limits.TheConstants.{SEATS}
 use Rattle.claim_core.specs.Seats.{SessionSeatValue, FlushSeatValue, new_flushing}
 use Rattle.std.specs.declared.alloc.AllocError.{AllocError}
 use Rattle.area_core.specs.declared.faults.AreaFault.TheVariants as areas

@@ -2,7 +2,7 @@
 use Rattle.std.specs.Prelude.{◌≡◌, ◌≤◌, ◌^◌, ℕ, List, [], ◌∷◌, ◌++◌, Option, Some, None, false, length, slice_get, All, IfSome}
 use Rattle.atomic_table.specs.Seated.{TableId}
 use Rattle.broker_core.specs.States.{BrokerValue}
-use Rattle.limits_core.specs.declared.TheConstants.{SEATS}
+use Rattle.claim_core.specs.declared.limits.TheConstants.{SEATS}
 use Rattle.claim_core.specs.Seats.{SessionSeatValue, new_session, new_flushing}
 use Rattle.area_core.specs.declared.faults.AreaFault.TheVariants as areas
 use Rattle.recover_core.specs.declared.faults.OpenFault.{OpenFault}

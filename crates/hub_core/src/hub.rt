@@ -2,7 +2,7 @@
 
 ghost use Rattle.std.specs.Prelude.{◌≡◌, ◌≤◌, ◌^◌, ◌∷◌, [], All, None, Some, IfSome, IsSome, IfOk, IfErr, MatchOption, false, length};
 ghost use Rattle.std.specs.VecDeque.{deque_capacity};
-ghost use Rattle.limits_core.specs.declared.TheConstants.{SEATS};
+ghost use Rattle.claim_core.specs.declared.limits.TheConstants.{SEATS};
 ghost use Rattle.broker_core.specs.Operations.{restarted};
 ghost use Rattle.broker_core.specs.States.{State};
 ghost use Rattle.claim_core.specs.Seats.{new_session};
@@ -15,10 +15,9 @@ ghost use Rattle.recover_core.specs.Told.{IsOpenTold, IsCausedBy};
 ghost use Rattle.hub_core.specs.Hubs.{AreNew, Begins, IsWhole, IsFirst, IsWant, hub};
 
 use crate::sizes::HubFlusher;
-use claim_core::{BrokerRing, BrokerSeat, Ring};
+use claim_core::{BrokerRing, BrokerSeat, Ring, SEATS};
 use disk_core::Disk;
 use flush_core::Flusher;
-use limits_core::SEATS;
 use outbox_core::{Bell, OutSender};
 use recover_core::{OpenFault, Store};
 use std::alloc::Global;
@@ -39,7 +38,7 @@ pub struct Hub<D: Disk, B: Bell> {
 impl<D: Disk, B: Bell> Model for Hub<D, B> {
     ghost use Rattle.std.specs.Prelude.{◌≤◌};
     ghost use Rattle.std.specs.VecDeque.{deque_capacity};
-    ghost use Rattle.limits_core.specs.declared.TheConstants.{SEATS};
+    ghost use Rattle.claim_core.specs.declared.limits.TheConstants.{SEATS};
     ghost use Rattle.hub_core.specs.Hubs.{HubValue, IsHub, hub};
 
     ghost Value = { HubValue D };

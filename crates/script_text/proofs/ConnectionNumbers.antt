@@ -3,7 +3,7 @@ use Rattle.std.proofs.Common.{◌≡◌, ◌≢◌, ℕ, ◌+◌, ◌-◌, ◌/�
 use Rattle.std.specs.Fmt.{decimal}
 use Rattle.std.proofs.lemmas.Fmt.{decimal_digit, decimal_step}
 use Rattle.std.proofs.lemmas.Bool.{cases_lt}
-use Rattle.limits_core.specs.declared.TheConstants.{SEATS}
+use Rattle.claim_core.specs.declared.limits.TheConstants.{SEATS}
 use Rattle.script_text.specs.ScriptLines.{IsOfNoForm, IsNoCrash, IsNoLoss, IsNumber, IsNoNumber, IsDigit, AreDigits, AreNoDigits, HasDigit, HasNoDigit, HasDigits, HasNoDigits}
 use Rattle.std.specs.Prelude.{codes, Option, Some, None, MatchOption, slice_index}
 use Rattle.std.proofs.Common.{take_all, length-drop, false, ◌==◌}

@@ -5,8 +5,8 @@ ghost use Rattle.std.specs.Char.{digit_value, is_digit};
 ghost use Rattle.std.specs.Fmt.{decimal};
 ghost use Rattle.script_text.specs.ScriptLines.{AreHexDigits, IsCount, IsCountAndFill, IsCrash, IsNoCount, IsNoCountAndFill, IsNoCrash, Says, IsOfNoForm, IsLoss, IsNoLoss, IsNumber, IsNoNumber, HasNoDigit, HasDigit, HasNoDigits, HasDigits, IsDigit, AreDigits, AreNoDigits};
 
+use claim_core::SEATS;
 use itoa::Buffer;
-use limits_core::SEATS;
 
 /// What a line of a script says.
 #[derive(Clone, Copy)]

@@ -6,7 +6,7 @@ use Rattle.std.specs.Fmt.{decimal}
 use Rattle.std.specs.declared.thread.PromisedHandle.{PromisedHandle}
 use Rattle.atomic_table.specs.Seated.{TableId}
 use Rattle.claim_core.specs.Seats.{SessionSeatValue}
-use Rattle.limits_core.specs.declared.TheConstants.{SEATS}
+use Rattle.claim_core.specs.declared.limits.TheConstants.{SEATS}
 use Rattle.disk_core.specs.declared.file.FileDisk.{FileDisk}
 use Rattle.flush_core.specs.Flushed.{Flushed}
 use Rattle.hub_core.specs.Hubs.{HubValue, IsWhole}
@@ -15,7 +15,7 @@ use Rattle.claim_core.specs.Endings.{Ends}
 use Rattle.hub_core.specs.Closings.{end_of}
 use Rattle.hub_core.specs.declared.closed.Closed.{Closed}
 use Rattle.hub_core.specs.declared.hub.SeatRoom.{SeatRoom}
-use Rattle.serve_faults.specs.declared.fault.ServeFault.TheVariants.{Output, Flushing}
+use Rattle.event_log.specs.declared.fault.ServeFault.TheVariants.{Output, Flushing}
 use Rattle.server_core.specs.declared.mailbox.BellRope.{BellRope}
 use Rattle.server_core.specs.declared.service.Service.{Service}
 use Rattle.server_core.specs.declared.serving.ServeEnd.{ServeEnd}

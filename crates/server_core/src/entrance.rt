@@ -1,7 +1,7 @@
 //! Where clients come into a server: what is opened before its journal.
 
 ghost use Rattle.std.specs.Prelude.{◌≡◌, ◌≤◌, ◌<◌, IfOk, length};
-ghost use Rattle.limits_core.specs.declared.TheConstants.{SEATS};
+ghost use Rattle.claim_core.specs.declared.limits.TheConstants.{SEATS};
 ghost use Rattle.server_core.specs.Serving.{count_mailboxes};
 ghost use Rattle.server_core.specs.declared.serving.TheConstants.{MOST_CLIENTS, MOST_MEMORY};
 
@@ -10,8 +10,8 @@ use crate::doorbell::Doorbell;
 use crate::mailbox::Mailbox;
 use crate::serving::{MOST_CLIENTS, MOST_MEMORY};
 use crate::worker_setup::{WorkerSetup, man};
-use limits_core::SEATS;
-use serve_faults::ServeFault;
+use claim_core::SEATS;
+use event_log::ServeFault;
 use std::alloc::{AllocError, Global};
 use std::net::{Net, TcpListener, TcpStream};
 use std::sync::Arc;

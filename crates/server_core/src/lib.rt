@@ -22,6 +22,6 @@ mod worker;
 mod worker_setup;
 
 pub use entrance::Reception;
+pub use event_log::{ServeFault, Unopened};
 pub use mailbox::BellRope;
-pub use serve_faults::{ServeFault, Unopened};
 pub use serving::{Ender, MOST_CLIENTS, MOST_MEMORY, ServeEnd, Server};

@@ -3,7 +3,7 @@
 ghost use Rattle.std.specs.Prelude.{◌≡◌, ◌≢◌, ◌+◌, [], true, length, IfErr, IfOk, OnOk};
 ghost use Rattle.std.specs.Arc.{arc_value};
 ghost use Rattle.std.specs.Io.KnownBytes.{Appends};
-ghost use Rattle.serve_faults.specs.Faults.{IsNotStarted};
+ghost use Rattle.event_log.specs.Faults.{IsNotStarted};
 ghost use Rattle.server_core.specs.Serving.{AreAt, IsReady, IsNewHub, IsOpened, IsEnd, announced};
 
 use crate::acceptor::Acceptor;
@@ -17,13 +17,12 @@ use crate::shared::{ServerRing, ServerSeat, Shared};
 use crate::wakeups::Wakeups;
 use crate::worker::WorkerThread;
 use crate::worker_setup::WorkerSetup;
+use claim_core::{PLACES, SEATS};
 use connection_core::SESSION_BYTES;
 use disk_core::FileDisk;
-use event_log::{Event, Start};
+use event_log::{Event, ServeFault, Start};
 use flush_core::FlushFault;
 use hub_core::{Hub, HubFlusher, SeatRoom, flush_loop};
-use limits_core::{PLACES, SEATS};
-use serve_faults::ServeFault;
 use std::alloc::Global;
 use std::fs::{File, Files};
 use std::io::Write;

@@ -3,8 +3,8 @@
 ghost use Rattle.std.specs.Prelude.{◌≡◌, ◌+◌, ◌≢◌, ◌<◌, ◌≤◌, [], length, vec_capacity, vec_len, IfErr, IfOk, IfSome, OnOk};
 ghost use Rattle.atomic_table.specs.Seated.{TableId};
 ghost use Rattle.std.specs.Arc.{arc_value};
-ghost use Rattle.limits_core.specs.declared.TheConstants.{SEATS};
-ghost use Rattle.serve_faults.specs.Faults.{IsNotStarted};
+ghost use Rattle.claim_core.specs.declared.limits.TheConstants.{SEATS};
+ghost use Rattle.event_log.specs.Faults.{IsNotStarted};
 ghost use Rattle.server_core.specs.Serving.{AreAllAt, AreAt, ArePromised, IsClosed, count_mailboxes};
 
 use crate::acceptor::Acceptor;
@@ -14,10 +14,10 @@ use crate::serving::{Server, ServerFlusher, ServerHub};
 use crate::shared::{ServerRing, ServerSeat, Shared};
 use crate::worker::{Worker, WorkerThread, start};
 use crate::worker_setup::WorkerSetup;
+use claim_core::SEATS;
 use disk_core::FileDisk;
+use event_log::ServeFault;
 use hub_core::{Closed, Hub, SeatRoom};
-use limits_core::SEATS;
-use serve_faults::ServeFault;
 use std::alloc::{AllocError, Global};
 use std::io::Write;
 use std::sync::{Arc, Wait};

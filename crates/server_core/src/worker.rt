@@ -2,13 +2,13 @@
 
 ghost use Rattle.std.specs.Prelude.{◌≡◌, IfErr, IfOk, length};
 ghost use Rattle.std.specs.Arc.{arc_value};
-ghost use Rattle.serve_faults.specs.Faults.{IsNotStarted};
+ghost use Rattle.event_log.specs.Faults.{IsNotStarted};
 ghost use Rattle.server_core.specs.Serving.{AreBack};
 
 use crate::event_loop::EventLoop;
 use crate::shared::{ServerRing, ServerSeat, Shared};
 use crate::worker_setup::WorkerSetup;
-use serve_faults::ServeFault;
+use event_log::ServeFault;
 use std::alloc::Global;
 use std::marker::Model;
 use std::snapshot::Snapshot;

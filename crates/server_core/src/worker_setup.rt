@@ -1,15 +1,15 @@
 //! What a worker waits by, and the room for its clients.
 
 ghost use Rattle.std.specs.Prelude.{◌≡◌, ◌+◌, ◌≤◌, ◌<◌, IfOk, OnOk, length};
-ghost use Rattle.limits_core.specs.declared.TheConstants.{SEATS};
+ghost use Rattle.claim_core.specs.declared.limits.TheConstants.{SEATS};
 ghost use Rattle.server_core.specs.Serving.{count_mailboxes};
 
 use crate::doorbell::Doorbell;
 use crate::mailbox::Mailbox;
+use claim_core::SEATS;
 use client_schedule::Clients;
-use limits_core::SEATS;
+use event_log::ServeFault;
 use mio::{Events, Poll, Token};
-use serve_faults::ServeFault;
 use std::alloc::{AllocError, Global};
 use std::io;
 use std::io::ErrorKind;

@@ -2,7 +2,9 @@
 
 #![tactic(auto)]
 
-use command_line::{Subcommand, subcommand_of};
+use command_line::{
+    BAD_COMMAND_LINE, DONE, Failure, Subcommand, end_by, end_ping, subcommand_of, tool,
+};
 use engine_core::ScriptFault;
 use ping_client::ping;
 use server_core::{Ender, Reception, ServeEnd, ServeFault, Server, Unopened};
@@ -15,7 +17,6 @@ use std::sync::Wait;
 use std::thread::Threads;
 use std::time::Clock;
 use std::{env, io, mem, thread};
-use subcommands::{BAD_COMMAND_LINE, DONE, Failure, end_by, end_ping, tool};
 
 /// Runs the program on its arguments, standard input, standard output and standard error.
 fn main(rt: HostRuntime) -> ExitCode {

@@ -1,6 +1,7 @@
 //! Streams that fail, that give or take a byte at a time, and that are interrupted.
 
 use crate::words_tests::{CONNECT, SEND_WITH_RECEIPT, compare, text_of_parts};
+use command_line::tool;
 use std::alloc::Global;
 use std::fs::File;
 use std::io;
@@ -9,7 +10,6 @@ use std::process::Abort;
 use std::rt::Files;
 use std::test::Fail;
 use std::time::Clock;
-use subcommands::tool;
 
 /// A stream that cannot be read or written.
 #[derive(Drop)]

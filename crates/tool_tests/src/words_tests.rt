@@ -1,10 +1,10 @@
+use command_line::tool;
 use std::alloc::Global;
 use std::fs::File;
 use std::process::Abort;
 use std::rt::Files;
 use std::test::Fail;
 use std::time::Clock;
-use subcommands::tool;
 
 /// A line in which connection 0 receives a CONNECT. `~` stands for the end of a frame with no body.
 pub const CONNECT: &str = "0 CONNECT%0Aaccept-version:1.2~";

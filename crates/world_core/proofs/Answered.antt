@@ -1,6 +1,6 @@
 -- What is kept before an answer is kept after it.
 use Rattle.std.proofs.Common.{◌≡◌, ◌≤◌, ◌+◌, ◌*◌, ℕ, List, [], Option, replicate, Bool, false, Result, Ok, Err, IfOk, OnErr, sym, ◌∙◌, ap, subst}
-use Rattle.limits_core.specs.declared.TheConstants.{SEATS}
+use Rattle.claim_core.specs.declared.limits.TheConstants.{SEATS}
 use Rattle.command_core.specs.Commands.{CommandValue}
 use Rattle.disk_core.specs.Memory.{none_held}
 use Rattle.broker_core.specs.States.{State, empty_state}

@@ -3,7 +3,7 @@ use Rattle.std.proofs.Common.{◌≡◌, inl, inr, ◌≤◌, ◌<◌, ◌+◌, 
 use Rattle.std.proofs.lemmas.List.{append-nil, length-replicate}
 use Rattle.std.proofs.lemmas.List.Elements.{All-nil, All-replicate}
 use Rattle.std.specs.List.{AllByRecursion}
-use Rattle.limits_core.specs.declared.TheConstants.{SEATS}
+use Rattle.claim_core.specs.declared.limits.TheConstants.{SEATS}
 use Rattle.command_core.specs.Commands.{CommandValue}
 use Rattle.broker_core.specs.Operations.{restarted}
 use Rattle.broker_core.specs.States.{State, empty_state}

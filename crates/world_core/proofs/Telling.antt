@@ -4,7 +4,7 @@ use Rattle.std.specs.Prelude.{◌↔◌, IsTrue}
 use Rattle.std.proofs.lemmas.Bool.{cases_lt, ltb-true, lt-ltb, le-ltb}
 use Rattle.std.proofs.lemmas.List.{set-get_or}
 use Rattle.std.proofs.lemmas.Option.{slice_get_past, slice_get_read}
-use Rattle.limits_core.specs.declared.TheConstants.{WINDOW}
+use Rattle.claim_core.specs.declared.limits.TheConstants.{WINDOW}
 use Rattle.world_core.specs.declared.event.Event.{Event}
 use Rattle.world_core.specs.declared.seat.Seat.{Seat}
 use Rattle.world_core.specs.Answers.{IsTold}

@@ -1,6 +1,6 @@
 -- Events: when they are possible, and what they change.
 use Rattle.std.specs.Prelude.{◌≡◌, ℕ, ◌+◌, ◌-◌, ◌<◌, ◌≤◌, Bool, true, false, List, [], ◌∷◌, ◌++◌, length, map, slice_get, slice_set, unwrap_or, option_map, count_by, Option, Some, None, IsSomeAnd, nat_le}
-use Rattle.limits_core.specs.declared.TheConstants.{WINDOW}
+use Rattle.claim_core.specs.declared.limits.TheConstants.{WINDOW}
 use Rattle.disk_core.specs.Images.{IsImage}
 use Rattle.disk_core.specs.Memory.{none_held}
 use Rattle.area_core.specs.Areas.{HasRecord}

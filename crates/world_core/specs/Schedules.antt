@@ -1,7 +1,7 @@
 -- Schedules from the first world, and what holds in each world that they reach.
 use Rattle.std.specs.Prelude.{◌≡◌, ◌⊎◌, ◌≤◌, ℕ, ◌+◌, ◌*◌, length, List, [], ◌∷◌, ◌++◌, Bool, false, replicate}
 use Rattle.std.specs.List.{AllByRecursion}
-use Rattle.limits_core.specs.declared.TheConstants.{SEATS}
+use Rattle.claim_core.specs.declared.limits.TheConstants.{SEATS}
 use Rattle.command_core.specs.Commands.{CommandValue}
 use Rattle.disk_core.specs.Images.{IsImage, patched}
 use Rattle.disk_core.specs.Memory.{none_held}

@@ -12,10 +12,10 @@ ghost use Rattle.world_core.specs.Readings.{Reading};
 
 use crate::parts::{Parts, are_there, is_clear, is_running, is_set};
 use crate::{Event, Phase, Place, Seat};
+use claim_core::WINDOW;
 use command_core::{Command, Entry};
 use disk_core::{is_image, release};
 use frame_core::Bytes;
-use limits_core::WINDOW;
 use std::alloc::{AllocError, Global};
 
 // A seat that saw a mark so high claims nothing more.

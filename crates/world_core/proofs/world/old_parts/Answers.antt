@@ -1,5 +1,5 @@
 use Rattle.std.proofs.Common.{◌≡◌, ◌+◌, ◌*◌, ◌++◌, [], ℕ, List, IfSome, Option, replicate, ◌∙◌, ap, subst}
-use Rattle.limits_core.specs.declared.TheConstants.{SEATS}
+use Rattle.claim_core.specs.declared.limits.TheConstants.{SEATS}
 use Rattle.disk_core.specs.Images.{patched}
 use Rattle.area_core.specs.Journals.{header}
 use Rattle.area_core.specs.declared.version.Version.TheVariants.{One}

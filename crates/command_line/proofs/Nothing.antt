@@ -1,0 +1,109 @@
+-- A failure before a script is read, and one over an empty journal.
+use Rattle.std.proofs.Common.{◌≡◌, ◌∙◌, List, ℕ, Option, Result, Ok, Err, IfErr, OnOk, refl, subst, inl, inr}
+use Rattle.clap.specs.declared.error.Error.{Error}
+use Rattle.broker_core.specs.Operations.{restarted}
+use Rattle.std.specs.Io.KnownBytes.{Appends, Consumes, IsAtEnd}
+use Rattle.broker_core.specs.States.{State, empty_state}
+use Rattle.engine_core.specs.Scripts.{IsOpenedAs, IsScript, disk_of}
+use Rattle.recover_core.specs.Standing.{Stands}
+use Rattle.engine_core.specs.declared.fault.ScriptFault.{ScriptFault}
+use Rattle.engine_core.specs.declared.fault.ScriptFault.TheVariants.{NotUnderstood, CountTooLarge, Opening, Storing, Input, Output}
+use Rattle.engine_core.specs.declared.fault.ScriptFault.TheVariants as scripts
+use Rattle.disk_core.specs.Memory.{Memory}
+use Rattle.engine_core.proofs.Performing.{restart_is}
+use Rattle.engine_core.specs.Runs.{IsToldAtOnce, Stops, StopsOver}
+use Rattle.command_line.specs.CommandLines.{AskFor}
+use Rattle.command_line.specs.Failures.{RunsToEnd, IsAtOnce, IsBeforehand, IsDone, StopsBy, Tells, version_line}
+use Rattle.command_line.specs.declared.parsing.Subcommand.{Subcommand}
+use Rattle.command_line.specs.declared.parsing.Subcommand.TheVariants.{Version}
+use Rattle.command_line.specs.declared.program.Failure.{Failure}
+use Rattle.command_line.specs.declared.program.Failure.TheVariants.{CommandLine, Number, ThreadNumber, MemoryNumber, Origin, Script, Format, File, Server, Ping}
+
+pub stops_before : (error : Error) (failure : Failure) (unread held : Option (List ℕ)) → Tells error failure → StopsBy failure unread unread held held
+stops_before error (CommandLine other) unread held told = (refl, refl)
+stops_before error (Format fault) unread held told = absurd told
+stops_before error (File fault) unread held told = absurd told
+stops_before error (Server fault) unread held told = absurd told
+stops_before error (Ping fault) unread held told = absurd told
+stops_before error Number unread held told = absurd told
+stops_before error ThreadNumber unread held told = absurd told
+stops_before error MemoryNumber unread held told = absurd told
+stops_before error Origin unread held told = absurd told
+stops_before error (Script (scripts.Memory refused)) unread held told = inl (tt, (refl, refl))
+stops_before error (Script (NotUnderstood k)) unread held told = absurd told
+stops_before error (Script CountTooLarge) unread held told = absurd told
+stops_before error (Script (Opening fault)) unread held told = absurd told
+stops_before error (Script (Storing fault)) unread held told = absurd told
+stops_before error (Script Input) unread held told = absurd told
+stops_before error (Script Output) unread held told = absurd told
+
+pub stops_beforehand : (failure : Failure) (unread held : Option (List ℕ)) → IsBeforehand failure → StopsBy failure unread unread held held
+stops_beforehand (CommandLine other) unread held is = absurd is
+stops_beforehand (Format fault) unread held is = (refl, refl)
+stops_beforehand (File fault) unread held is = absurd is
+stops_beforehand (Server fault) unread held is = absurd is
+stops_beforehand (Ping fault) unread held is = absurd is
+stops_beforehand Number unread held is = absurd is
+stops_beforehand ThreadNumber unread held is = absurd is
+stops_beforehand MemoryNumber unread held is = absurd is
+stops_beforehand Origin unread held is = absurd is
+stops_beforehand (Script (scripts.Memory refused)) unread held is = inl (tt, (refl, refl))
+stops_beforehand (Script (NotUnderstood k)) unread held is = absurd is
+stops_beforehand (Script CountTooLarge) unread held is = absurd is
+stops_beforehand (Script (Opening fault)) unread held is = absurd is
+stops_beforehand (Script (Storing fault)) unread held is = absurd is
+stops_beforehand (Script Input) unread held is = absurd is
+stops_beforehand (Script Output) unread held is = absurd is
+
+at_once : (fault : ScriptFault) (disk now : Memory) → IsToldAtOnce fault disk now → IsAtOnce fault
+at_once (scripts.Memory refused) disk now told = tt
+at_once (NotUnderstood k) disk now told = absurd told
+at_once CountTooLarge disk now told = absurd told
+at_once (Opening fault) disk now told = tt
+at_once (Storing fault) disk now told = absurd told
+at_once Input disk now told = absurd told
+at_once Output disk now told = absurd told
+
+-- nobody is connected to an empty journal
+pub restarted_empty : restarted empty_state ≡ empty_state
+restarted_empty = refl
+
+-- a disk that stood for the empty state is opened as that
+from_empty : (disk : Memory) (start : State) (first : Memory) → Stands disk.content empty_state → IsOpenedAs disk start first → start ≡ empty_state
+from_empty disk start first stands opened = restart_is disk.content empty_state start stands opened.restart ∙ restarted_empty
+
+pub stops_over : (disk now : Memory) (fault : ScriptFault) (unread left before after : Option (List ℕ)) → Stands disk.content empty_state
+    → StopsOver disk fault now unread left before after → StopsBy (Script fault) unread left before after
+stops_over disk now fault unread left before after stands (inl once) = inl (at_once fault disk now once.told, (once.same_unread, once.same_written))
+stops_over disk now fault unread left before after stands (inr (start, first, opened, stops)) =
+    inr (record { first = first; now = now; stops = subst (λ s. Stops s first fault now unread left before after) (from_empty disk start first stands opened) stops })
+
+-- over an empty journal a script runs from the empty state on
+pub runs_to_end : (disk now : Memory) (unread left before after : Option (List ℕ)) → Stands disk.content empty_state
+    → ((input : List ℕ) × (printed : List ℕ) × (start : State) × (first : Memory) × IsOpenedAs disk start first × Consumes unread left input × IsAtEnd left
+    × Appends before after printed × (script : IsScript start first input printed) × (now ≡ disk_of script.end))
+    → RunsToEnd unread left before after
+runs_to_end disk now unread left before after stands w = record {
+  input = w.0;
+  printed = w.1;
+  reads = w.5;
+  ends = w.6;
+  disk = w.3;
+  is_script = subst (λ s. IsScript s w.3 w.0 w.1) (from_empty disk w.2 w.3 stands w.4) w.8;
+  writes = w.7;
+}
+
+-- what is so of an answer
+pub on_ok_is : {A B : Type 0} (P : Type 0) (r : Result A B) (a : A) → r ≡ Ok a → OnOk r P → P
+on_ok_is P (Ok b) a is so = so
+on_ok_is P (Err e) a is so = cc
+
+pub if_err_is : {A B : Type 0} (P : B → Type 0) (r : Result A B) (e : B) → r ≡ Err e → IfErr r P → P e
+if_err_is P (Ok a) e is so = cc
+if_err_is P (Err d) e is so = let same : d ≡ e = cc in subst P same so
+
+-- the version was written, which the words ask for
+pub version_done : {E : Type 0} (r : Result (Unit {0}) E) (words : List (List ℕ)) (asked : Subcommand) (unread before after : Option (List ℕ)) → AskFor words asked → asked ≡ Version
+    → OnOk r (Appends before after version_line) → OnOk r (IsDone words unread unread before after)
+version_done (Ok u) words asked unread before after asks is written = (Version, subst (AskFor words) is asks, (refl, written))
+version_done (Err e) words asked unread before after asks is written = tt

@@ -1,0 +1,121 @@
+//! Making the file of a journal.
+
+ghost use Rattle.std.specs.Prelude.{◌+◌, ◌*◌, ◌<◌, ◌≤◌, IfOk, OnOk};
+ghost use Rattle.disk_core.specs.File.{file_size};
+ghost use Rattle.command_line.specs.Failures.{IsTooShort};
+
+use crate::program::FileFault;
+use area_core::{FormatFault, format};
+use disk_core::FileDisk;
+use journal_files::area_in;
+use std::alloc::Global;
+use std::fs::{File, OpenOptions};
+use std::io;
+use std::io::{ErrorKind, Write};
+use std::rt::Files;
+use std::time::{Clock, Duration, Instant};
+
+/// How many zeros are written at a time.
+const PIECE: usize = 65_536;
+
+const ZEROS: [u8; PIECE] = [0; PIECE];
+
+/// From how many bytes on it is told how far a file is.
+const LARGE: u64 = 67_108_864;
+
+const MEBIBYTE: u64 = 1_048_576;
+
+/// Makes a file of so many bytes with an empty journal, whose areas share what the header leaves. A file that would be too small
+/// is not made, and one that is there stays as it is. Unless it is to be sparse, its zeros are written, so that it has all of its
+/// room; how far that is stands on `progress` for a large one, in a line a second at most. Where the file system has no room for
+/// them, or the journal is not written, the file is removed again.
+pub fn make_journal<R: Files<File = File> + Clock, P: Write>(
+    alloc: Global,
+    rt: &R,
+    path: &str,
+    bytes: u64,
+    is_sparse: bool,
+    progress: &mut P,
+) -> Result<(), FileFault>
+    ensures ok { OnOk result (8224 ≤ bytes) }
+    ensures small { bytes < 8224 → IsTooShort result }
+    ensures large { 8224 ≤ bytes → IsTooShort result → ⊥ }
+{
+    let Some(area) = area_in(bytes) else {
+        return Err(FileFault::Format(FormatFault::TooSmall));
+    };
+    let mut disk = match FileDisk::create(rt, path, bytes) {
+        Ok(disk) => disk,
+        Err(error) => return Err(FileFault::Open(error)),
+    };
+    let filled = if is_sparse {
+        Ok(())
+    } else {
+        fill(rt, path, bytes, progress)
+    };
+    let made = match filled {
+        Ok(()) => write_journal(alloc, &mut disk, area),
+        Err(error) => not_filled(&error),
+    };
+    if made.is_err() {
+        let _removed = std::fs::remove_file(rt, path);
+    }
+    made
+}
+
+// Writes an empty journal.
+fn write_journal(alloc: Global, disk: &mut FileDisk, area: u64) -> Result<(), FileFault>
+    requires least { 4096 ≤ area }
+    requires room { 32 + 2 * area ≤ file_size disk.old }
+    ensures { IsTooShort result → ⊥ }
+{
+    match format(alloc, disk, area) {
+        Ok(()) => Ok(()),
+        Err(fault) => Err(FileFault::Format(fault)),
+    }
+}
+
+// Why a file was not filled.
+fn not_filled(error: &io::Error) -> Result<(), FileFault>
+    ensures { IsTooShort result → ⊥ }
+{
+    match error.kind() {
+        ErrorKind::StorageFull | ErrorKind::QuotaExceeded => Err(FileFault::NoSpace),
+        _ => Err(FileFault::Format(FormatFault::Device)),
+    }
+}
+
+// Writes the zeros of a file, and has them on the device.
+fn fill<R: Files<File = File> + Clock, P: Write>(
+    rt: &R,
+    path: &str,
+    bytes: u64,
+    progress: &mut P,
+) -> io::Result<()> {
+    let mut file = OpenOptions::new().write(true).open(rt, path)?;
+    let mut told = Instant::now(rt)?;
+    let mut left = bytes;
+    for _piece in 0..=bytes / PIECE as u64 {
+        left = fill_piece(&mut file, left)?;
+        if bytes >= LARGE && told.elapsed(rt)? >= Duration::from_secs(1) {
+            told = Instant::now(rt)?;
+            tell(progress, bytes.saturating_sub(left), bytes);
+        }
+    }
+    file.sync_all()
+}
+
+// Writes the next zeros, and says how many are left then.
+fn fill_piece(file: &mut File, left: u64) -> io::Result<u64>
+    ensures { IfOk result (λ rest. rest ≤ left) }
+{
+    let count = left.min(PIECE as u64) as usize;
+    file.write_all(&ZEROS[..count])?;
+    Ok(left - count as u64)
+}
+
+// Says how far a file is. Who can't be told isn't.
+fn tell<P: Write>(progress: &mut P, written: u64, bytes: u64) {
+    let (written, all) = (written / MEBIBYTE, bytes / MEBIBYTE);
+    let _told = writeln!(progress, "stompd: {written} of {all} MiB are written");
+}

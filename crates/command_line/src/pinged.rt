@@ -1,0 +1,57 @@
+//! How the program ends by a ping.
+
+ghost use Rattle.std.specs.Prelude.{◌≡◌, ◌≢◌, IfErr, IfOk, OnOk};
+ghost use Rattle.std.specs.Io.KnownBytes.{Appends};
+ghost use Rattle.std.specs.Duration.{as_nanos};
+ghost use Rattle.journal_files.specs.JournalFiles.{show_text};
+ghost use Rattle.ping_core.specs.Texts.{ping_text};
+ghost use Rattle.command_line.specs.Failures.{line_of};
+ghost use Rattle.command_line.specs.Pings.{ping_line};
+
+use crate::program::{DONE, Ended, Failure, FileFault};
+use crate::telling::end_by;
+use journal_files::ShowFault;
+use ping_core::PingFault;
+use std::io;
+use std::io::Write;
+use std::time::Duration;
+
+/// Tells what a ping came to, and how the program ends by it: that it was answered, and how long the RECEIPT took, is written to
+/// `writer`, and why it was not, to `errors`.
+pub fn end_ping<W: Write, E: Write>(
+    pinged: Result<Duration, PingFault>,
+    writer: &mut W,
+    errors: &mut E,
+) -> Ended
+    // An answer is told in one line. Where the line can't be written, that is the fault.
+    ensures done { IfOk pinged (λ took. result.status ≡ 0 → Appends (W.contents writer.old) (W.contents writer.new) (ping_line (as_nanos took)) × (errors.new ≡ errors.old)) }
+    ensures unwritten { IfOk pinged (λ _. result.status ≢ 0 → (result.status ≡ 1)
+        × OnOk result.told (Appends (E.contents errors.old) (E.contents errors.new) (line_of (show_text ShowFault.Output)))) }
+    // What went wrong is told in one line.
+    ensures failed { IfErr pinged (λ fault. (result.status ≡ 1) × (writer.new ≡ writer.old)
+        × OnOk result.told (Appends (E.contents errors.old) (E.contents errors.new) (line_of (ping_text fault)))) }
+{
+    match pinged {
+        Ok(took) => match tell_took(took, writer) {
+            Ok(()) => Ended {
+                status: DONE,
+                told: Ok(()),
+            },
+            Err(_) => end_by(&Failure::File(FileFault::Show(ShowFault::Output)), errors),
+        },
+        Err(fault) => end_by(&Failure::Ping(fault), errors),
+    }
+}
+
+// Writes how long the receipt took, in milliseconds with three places.
+fn tell_took<W: Write>(took: Duration, writer: &mut W) -> io::Result<()>
+    ensures { OnOk result (Appends (W.contents writer.old) (W.contents writer.new) (ping_line (as_nanos took))) }
+{
+    let micros = took.as_micros();
+    let (tenths, hundredths, thousandths) = (micros / 100 % 10, micros / 10 % 10, micros % 10);
+    writeln!(
+        writer,
+        "receipt after {}.{tenths}{hundredths}{thousandths} ms",
+        micros / 1000
+    )
+}

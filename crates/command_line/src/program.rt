@@ -1,0 +1,316 @@
+//! The program as a function of its words and streams.
+
+ghost use Rattle.std.specs.Prelude.{◌≡◌, ◌≢◌, ◌≤◌, IfErr, IfOk, OnOk, map};
+ghost use Rattle.std.specs.Io.KnownBytes.{Appends};
+ghost use Rattle.broker_core.specs.States.{empty_state};
+ghost use Rattle.recover_core.specs.Standing.{Stands};
+ghost use Rattle.journal_files.specs.Held.{ShowsHeld};
+ghost use Rattle.journal_files.specs.JournalFiles.{Shows};
+ghost use Rattle.command_line.specs.CommandLines.{AsksForScript};
+ghost use Rattle.command_line.specs.Failures.{IsDone, RunsToEnd, StopsBy, IsBeforehand, IsOfScript, IsTold, Tells, status_of, version_line};
+
+use crate::making::make_journal;
+use crate::parsing::{Refused, Subcommand, subcommand_of};
+use crate::telling::end_by;
+use crate::viewing::FileView;
+use area_core::{FormatFault, format};
+use clap::error::ErrorKind;
+use disk_core::{MemDisk, OpenError};
+use engine_core::{ScriptFault, run_script};
+use event_log::{ServeFault, Unopened};
+use journal_files::{ShowFault, show, show_held};
+use ping_core::{Cause, PingFault, Step};
+use std::alloc::{AllocError, Global};
+use std::convert::AsStr;
+use std::fs::File;
+use std::io::{Read, Write};
+use std::rt::Files;
+use std::time::Clock;
+use std::{fmt, io};
+
+/// The status where the program did what it was asked for.
+pub const DONE: u8 = 0;
+
+/// The status where it could not do it.
+pub const FAILED: u8 = 1;
+
+/// The status where the words ask for nothing that it does, or for help.
+pub const BAD_COMMAND_LINE: u8 = 2;
+
+/// How many bytes the disk of a script has.
+const SCRIPT_DISK: u64 = 2_097_184;
+
+/// How many bytes stand before the two areas of a journal.
+const HEADER: u64 = 32;
+
+/// Why a journal file was not made, or not shown.
+#[derive(Drop)]
+pub enum FileFault {
+    /// The file could not be made or opened, or it is there already and was to be made.
+    Open(OpenError),
+    /// The file system has no room for all of the file. It is not there.
+    NoSpace,
+    /// It would be too small for a journal, or no journal was written into it.
+    Format(FormatFault),
+    /// It was not shown.
+    Show(ShowFault),
+}
+
+/// The text for the user.
+impl fmt::Display for FileFault {
+    ghost use Rattle.std.specs.Prelude.{Some};
+    ghost use Rattle.command_line.specs.Failures.{file_text};
+
+    ghost output = { λ fault. Some (file_text fault) };
+
+    fn fmt<W: fmt::Write>(&self, f: &mut fmt::Formatter<W>) -> fmt::Result {
+        match self {
+            FileFault::Open(error) => write!(
+                f,
+                "cannot open: FILE: {}",
+                Unopened::of(error).text()
+            ),
+            FileFault::NoSpace => f.write_str("no space left for the file"),
+            FileFault::Format(fault) => write!(f, "{fault}"),
+            FileFault::Show(fault) => write!(f, "{fault}"),
+        }
+    }
+}
+
+/// Why the program did not do what it was asked for.
+#[derive(Drop)]
+pub enum Failure {
+    /// The words ask for nothing that the program does, or for help; the error holds the text for the user.
+    CommandLine(clap::Error),
+    /// A number of a file's bytes, or of a port, is none.
+    Number,
+    /// A number of threads is none.
+    ThreadNumber,
+    /// A number of bytes for clients is none.
+    MemoryNumber,
+    /// An origin in the words is none that a browser sends.
+    Origin,
+    /// The script did not run to its end, or memory was refused before it began.
+    Script(ScriptFault),
+    /// The script's disk was not formatted.
+    Format(FormatFault),
+    /// A journal file was not made, or not shown.
+    File(FileFault),
+    /// A server was not started, or has ended.
+    Server(ServeFault),
+    /// A ping was not answered.
+    Ping(PingFault),
+}
+
+impl Failure {
+    /// The status that the program ends with.
+    pub fn status(&self) -> u8
+        ensures { result ≡ status_of self.now }
+    {
+        match self {
+            Failure::CommandLine(_) | Failure::Number | Failure::Origin => BAD_COMMAND_LINE,
+            Failure::ThreadNumber | Failure::MemoryNumber => BAD_COMMAND_LINE,
+            Failure::Script(_) | Failure::Format(_) | Failure::File(_) | Failure::Server(_) =>
+                FAILED,
+            Failure::Ping(_) => FAILED,
+        }
+    }
+}
+
+/// How the program ends.
+#[derive(Drop)]
+pub struct Ended {
+    /// The status: 0 where it is done, 1 on a fault, 2 on a bad command line.
+    pub status: u8,
+    /// Whether what there was to tell could be written.
+    pub told: io::Result<()>,
+}
+
+/// Does what the words ask for, of which the first is the program's name, unless that is a server or a ping; answers how it ended. A fault
+/// and a bad command line are told on `errors`; how far the making of a large file is, on `progress`.
+pub fn tool<T: Files<File = File> + Clock, S: AsStr, R: Read, W: Write, E: Write, P: Write>(
+    rt: &T,
+    alloc: Global,
+    words: &[S],
+    reader: &mut R,
+    writer: &mut W,
+    errors: &mut E,
+    progress: &mut P,
+) -> Ended
+    ensures status { result.status ≤ 2 }
+    // What the words ask for is done, and there is nothing to tell.
+    ensures done { result.status ≡ 0 → IsDone (map S.text words.now) (R.remaining reader.old) (R.remaining reader.new) (W.contents writer.old) (W.contents writer.new)
+        × (errors.new ≡ errors.old) }
+    // Where the words ask for the script, it was read to its end, and what it prints is written.
+    ensures script { AsksForScript (map S.text words.now) → result.status ≡ 0
+        → RunsToEnd (R.remaining reader.old) (R.remaining reader.new) (W.contents writer.old) (W.contents writer.new) }
+    // Words that ask for the script are no bad command line, and a bad one leaves the script unread and writes nothing.
+    ensures refused { result.status ≡ 2 → (AsksForScript (map S.text words.now) → ⊥) × (reader.new ≡ reader.old) × (writer.new ≡ writer.old) }
+    // A fault is the failure of what was asked for, that of a script where the words ask for it: what was read and written is
+    // what it leaves, and it is told in one line.
+    ensures failed { result.status ≡ 1 → (failure : Failure) × (status_of failure ≡ 1)
+        × (AsksForScript (map S.text words.now) → IsOfScript failure)
+        × StopsBy failure (R.remaining reader.old) (R.remaining reader.new) (W.contents writer.old) (W.contents writer.new)
+        × OnOk result.told (IsTold failure (E.contents errors.old) (E.contents errors.new)) }
+{
+    match run(rt, alloc, words, reader, writer, progress) {
+        Ok(()) => Ended {
+            status: DONE,
+            told: Ok(()),
+        },
+        Err(failure) => end_by(&failure, errors),
+    }
+}
+
+/// Does what the words ask for, of which the first is the program's name.
+///
+/// On a bad command line nothing is read or written. Where the script stops, what was written is what the lines before
+/// the fault print, unless it is the writer that failed.
+pub fn run<T: Files<File = File> + Clock, S: AsStr, R: Read, W: Write, P: Write>(
+    rt: &T,
+    alloc: Global,
+    words: &[S],
+    reader: &mut R,
+    writer: &mut W,
+    progress: &mut P,
+) -> Result<(), Failure>
+    ensures ok { OnOk result (IsDone (map S.text words.now) (R.remaining reader.old) (R.remaining reader.new) (W.contents writer.old) (W.contents writer.new)) }
+    ensures script_ok { AsksForScript (map S.text words.now)
+        → OnOk result (RunsToEnd (R.remaining reader.old) (R.remaining reader.new) (W.contents writer.old) (W.contents writer.new)) }
+    ensures command_line { IfErr result (λ failure. status_of failure ≡ 2
+        → (AsksForScript (map S.text words.now) → ⊥) × (reader.new ≡ reader.old) × (writer.new ≡ writer.old)) }
+    ensures script { IfErr result (λ failure. StopsBy failure (R.remaining reader.old) (R.remaining reader.new) (W.contents writer.old) (W.contents writer.new)) }
+    ensures of_script { AsksForScript (map S.text words.now) → IfErr result IsOfScript }
+{
+    match subcommand_of(alloc, words) {
+        Ok(Subcommand::Script) => script(alloc, reader, writer),
+        Ok(Subcommand::Version) => version(writer),
+        Ok(
+            Subcommand::Format {
+                file,
+                bytes,
+                is_sparse,
+            },
+        ) => match make_journal(alloc, rt, file, bytes, is_sparse, progress) {
+            Ok(()) => Ok(()),
+            Err(fault) => Err(Failure::File(fault)),
+        },
+        Ok(Subcommand::Show { file }) => match show_file(alloc, rt, file, writer) {
+            Ok(()) => Ok(()),
+            Err(fault) => Err(Failure::File(fault)),
+        },
+        Ok(Subcommand::Held { file }) => match held_file(alloc, rt, file, writer) {
+            Ok(()) => Ok(()),
+            Err(fault) => Err(Failure::File(fault)),
+        },
+        // Sockets are for `main` alone to open.
+        Ok(Subcommand::Ping { .. }) => Err(Failure::Ping(PingFault {
+            step: Step::Connection,
+            cause: Cause::System,
+        })),
+        // A server has threads, which `main` alone starts.
+        Ok(Subcommand::Serve { .. }) => Err(Failure::Server(ServeFault::Threads)),
+        Err(Refused::Words(error)) => Err(refusal(error)),
+        Err(Refused::Number) => Err(Failure::Number),
+        Err(Refused::Threads) => Err(Failure::ThreadNumber),
+        Err(Refused::Memory) => Err(Failure::MemoryNumber),
+        Err(Refused::Origin) => Err(Failure::Origin),
+    }
+}
+
+// Writes which version the program is of.
+fn version<W: Write>(writer: &mut W) -> Result<(), Failure>
+    ensures ok { OnOk result (Appends (W.contents writer.old) (W.contents writer.new) version_line) }
+    ensures err { IfErr result (λ failure. failure ≡ Failure.File (FileFault.Show ShowFault.Output)) }
+{
+    match writer.write_all(b"stompd 0.1.0\n") {
+        Ok(()) => Ok(()),
+        Err(_) => Err(Failure::File(FileFault::Show(ShowFault::Output))),
+    }
+}
+
+// Writes what the journal in a file shows of itself. The file is opened for reading alone, so it stays as it is.
+fn show_file<R: Files<File = File>, W: Write>(
+    alloc: Global,
+    rt: &R,
+    path: &str,
+    writer: &mut W,
+) -> Result<(), FileFault>
+    ensures ok { OnOk result (Shows (W.contents writer.old) (W.contents writer.new)) }
+    ensures err { IfErr result (λ fault. fault ≢ FileFault.Show ShowFault.Output → writer.new ≡ writer.old) }
+{
+    let mut disk = match FileView::open(rt, path) {
+        Ok(disk) => disk,
+        Err(error) => return Err(FileFault::Open(error)),
+    };
+    match show(alloc, &mut disk, writer) {
+        Ok(()) => Ok(()),
+        Err(fault) => Err(FileFault::Show(fault)),
+    }
+}
+
+// Writes which queues and durable names of the journal in a file hold messages. The file is opened for reading alone.
+fn held_file<R: Files<File = File>, W: Write>(
+    alloc: Global,
+    rt: &R,
+    path: &str,
+    writer: &mut W,
+) -> Result<(), FileFault>
+    ensures ok { OnOk result (ShowsHeld (W.contents writer.old) (W.contents writer.new)) }
+    ensures err { IfErr result (λ fault. fault ≢ FileFault.Show ShowFault.Output → writer.new ≡ writer.old) }
+{
+    let mut disk = match FileView::open(rt, path) {
+        Ok(disk) => disk,
+        Err(error) => return Err(FileFault::Open(error)),
+    };
+    match show_held(alloc, &mut disk, writer) {
+        Ok(()) => Ok(()),
+        Err(fault) => Err(FileFault::Show(fault)),
+    }
+}
+
+/// Runs a script over a disk in memory, with an empty journal.
+fn script<R: Read, W: Write>(alloc: Global, reader: &mut R, writer: &mut W) -> Result<(), Failure>
+    ensures ok { OnOk result (RunsToEnd (R.remaining reader.old) (R.remaining reader.new) (W.contents writer.old) (W.contents writer.new)) }
+    ensures status { IfErr result (λ failure. status_of failure ≡ 1) }
+    ensures of_script { IfErr result IsOfScript }
+    ensures err { IfErr result (λ failure. StopsBy failure (R.remaining reader.old) (R.remaining reader.new) (W.contents writer.old) (W.contents writer.new)) }
+{
+    match empty_journal(alloc, SCRIPT_DISK) {
+        Ok(disk) => {
+            let (disk, ended) = run_script(alloc, reader, writer, disk);
+            drop(disk);
+            match ended {
+                Ok(()) => Ok(()),
+                Err(fault) => Err(Failure::Script(fault)),
+            }
+        }
+        Err(failure) => Err(failure),
+    }
+}
+
+/// A disk in memory of so many bytes, with an empty journal.
+fn empty_journal(alloc: Global, size: u64) -> Result<MemDisk, Failure>
+    requires { 32 ≤ size }
+    ensures empty { IfOk result (λ disk. Stands disk.content empty_state) }
+    ensures err { IfErr result IsBeforehand }
+{
+    let mut disk = match MemDisk::new(alloc, size) {
+        Ok(disk) => disk,
+        Err(refused) => return Err(Failure::Script(ScriptFault::Memory(refused))),
+    };
+    match format(alloc, &mut disk, (size - HEADER) / 2) {
+        Ok(()) => Ok(disk),
+        Err(fault) => Err(Failure::Format(fault)),
+    }
+}
+
+/// Why the words were refused: want of memory is told as of a script.
+fn refusal(error: clap::Error) -> Failure
+    ensures { Tells error result }
+{
+    match error.kind() {
+        ErrorKind::OutOfMemory => Failure::Script(ScriptFault::Memory(AllocError)),
+        _ => Failure::CommandLine(error),
+    }
+}

@@ -1,3 +1,0 @@
-pub mod Failures
-pub mod Pings
-pub mod Views
