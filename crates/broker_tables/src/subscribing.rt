@@ -228,8 +228,7 @@ impl Tables {
         }
     }
 
-    /// The durable name of a session's subscription, where one is given; on a queue it is left away. Refused where the
-    /// session's client has no name.
+    /// The durable name of a session's subscription, if one is given; none on a queue. Refused if its client has no name.
     fn name_for(
         &self,
         session: u64,

@@ -1,5 +1,6 @@
 use crate::tests::{Event, answers, greeting, header_text};
-use broker_core::{Broker, DurableName, GivenName, Parts};
+use broker_core::Broker;
+use broker_state::{DurableName, GivenName, Parts};
 use line_core::{Line, Message, MessageNumber};
 use record_core::{AckMode, Dest};
 use std::alloc::Global;

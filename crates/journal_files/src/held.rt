@@ -10,7 +10,8 @@ ghost use Rattle.journal_files.specs.Held.{AreLotsOf, ShowsHeld, ShowsHeldIn, Sh
 use crate::journal_files::ShowFault;
 use crate::lots::{Lot, lots_of};
 use area_core::ReadFault;
-use broker_core::{Broker, Held};
+use broker_core::Broker;
+use broker_state::Held;
 use disk_core::Disk;
 use recover_core::{OpenFault, stored_broker};
 use std::alloc::{AllocError, Global};

@@ -6,7 +6,8 @@ ghost use Rattle.broker_state.specs.States.{bytes};
 ghost use Rattle.script_text.specs.PercentTexts.{encoded};
 ghost use Rattle.journal_files.specs.Held.{AreLotsOf, names_waiting, queues_waiting, waits_at, waits_of, name_text, queue_text};
 
-use broker_core::{DurableName, SharedLines};
+use broker_state::DurableName;
+use broker_tables::SharedLines;
 use line_core::{Line, Message, size};
 use record_core::Dest;
 use script_text::encode_text;

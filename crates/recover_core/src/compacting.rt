@@ -13,10 +13,9 @@ ghost use Rattle.recover_core.specs.Opens.{HasWritten};
 ghost use Rattle.recover_core.specs.Standing.{StandFor, Stands};
 ghost use Rattle.recover_core.specs.Stores.{disk_of, idle_of, is_broken, opened_by, size_of, used_of};
 
-use crate::AreaFault;
 use crate::snapshot::Snapshot;
 use crate::store::Store;
-use area_core::Area;
+use area_core::{Area, AreaFault};
 use broker_core::Broker;
 use command_core::Entry;
 use disk_core::Disk;

@@ -15,7 +15,6 @@ mod store;
 mod stored;
 mod storing;
 
-pub use area_core::AreaFault;
 pub use faults::OpenFault;
 pub use law::{a_formatted_journal_stands_for_the_empty_state, an_image_stands_for_one_state};
 pub use opening::open;

@@ -7,7 +7,7 @@ ghost use Rattle.recover_core.specs.Told.{IsOfReading, IsOpenCaused, IsStateRefu
 
 use crate::OpenFault;
 use crate::reading::read_state;
-use broker_core::Held;
+use broker_state::Held;
 use disk_core::Disk;
 use std::alloc::Global;
 

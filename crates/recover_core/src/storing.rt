@@ -10,8 +10,8 @@ ghost use Rattle.broker_core.specs.Steps.{state_after};
 ghost use Rattle.recover_core.specs.Standing.{StandFor, StandsForEither};
 ghost use Rattle.recover_core.specs.Stores.{disk_of, is_broken, opened_by, size_of, used_of};
 
-use crate::AreaFault;
 use crate::store::Store;
+use area_core::AreaFault;
 use broker_core::Broker;
 use command_core::Entry;
 use disk_core::{Disk, FuseDisk};

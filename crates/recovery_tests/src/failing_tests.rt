@@ -3,10 +3,10 @@
 use crate::journals::opens_as;
 use crate::old_journal_tests::{RESTARTED as RESTARTED_OF_OLD, journal as old_journal};
 use crate::stop_tests::{RESTARTED, journal_in};
-use area_core::ReadFault;
+use area_core::{AreaFault, ReadFault};
 use disk_core::{FailOnce, MemDisk};
 use log::info;
-use recover_core::{AreaFault, OpenFault, open};
+use recover_core::{OpenFault, open};
 use std::alloc::Global;
 use std::process::Abort;
 use std::test::Fail;

@@ -1,10 +1,10 @@
 //! Journals that the tests are made of.
 
-use area_core::format;
+use area_core::{AreaFault, format};
 use broker_core::Broker;
 use command_core::{Entry, decode};
 use disk_core::{Disk, MemDisk};
-use recover_core::{AreaFault, Store, open};
+use recover_core::{Store, open};
 use snapshot_core::encode_state;
 use std::alloc::Global;
 use std::test::Fail;

@@ -1,10 +1,10 @@
 use crate::journals::{
     OPEN, SEND, append, batch_of, formatted, journal_of, opens_as, tells, with_batches,
 };
-use area_core::{ReadFault, an_image_has_one_reading, format};
+use area_core::{AreaFault, ReadFault, an_image_has_one_reading, format};
 use disk_core::{Call, MemDisk};
 use recover_core::{
-    AreaFault, OpenFault, Store, an_image_stands_for_one_state, open, restarts_fit_large_areas,
+    OpenFault, Store, an_image_stands_for_one_state, open, restarts_fit_large_areas,
 };
 use std::alloc::{AllocError, Global};
 use std::process::Abort;

@@ -3,10 +3,10 @@
 ghost use Rattle.std.specs.Prelude.{◌≤◌, length};
 
 use crate::journals::SIZE;
-use area_core::ReadFault;
+use area_core::{AreaFault, ReadFault};
 use broker_core::Broker;
 use disk_core::{Disk, MemDisk};
-use recover_core::{AreaFault, OpenFault, open};
+use recover_core::{OpenFault, open};
 use snapshot_core::encode_state;
 use std::alloc::Global;
 use std::test::Fail;

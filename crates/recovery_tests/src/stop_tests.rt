@@ -2,11 +2,11 @@ use crate::journals::{
     FILLS, OPEN, SEND, SIZE, SUBSCRIBE, append, batch_of, formatted, journal_of, opens_as, tells,
     with_batches,
 };
-use area_core::{ReadFault, format};
+use area_core::{AreaFault, ReadFault, format};
 use command_core::Entry;
 use disk_core::{FileDisk, FuseDisk, MemDisk};
 use log::info;
-use recover_core::{AreaFault, OpenFault, Store, open, read};
+use recover_core::{OpenFault, Store, open, read};
 use std::alloc::Global;
 use std::fs;
 use std::process::Abort;

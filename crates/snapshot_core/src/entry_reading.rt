@@ -11,7 +11,7 @@ ghost use Rattle.snapshot_core.specs.Reading.{durable_at, full_name_at, given_at
 
 use crate::message_reading::read_line;
 use crate::rising::{map_of, rises};
-use broker_core::{DurableName, GivenName};
+use broker_state::{DurableName, GivenName};
 use line_core::Line;
 use record_core::{DecodeFault, Dest, read_destination, read_list, read_name, read_text, read_u64};
 use std::alloc::Global;

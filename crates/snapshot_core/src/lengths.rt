@@ -10,7 +10,9 @@ ghost use Rattle.snapshot_core.specs.Lengths.{counted_in_eight};
 ghost use Rattle.snapshot_core.specs.Snapshots.{listed, snapshot_of};
 ghost use Rattle.snapshot_core.specs.Snapshots as spelled;
 
-use broker_core::{Broker, DurableName, GivenName, SharedLines, Subscription};
+use broker_core::Broker;
+use broker_state::{DurableName, GivenName, Subscription};
+use broker_tables::SharedLines;
 use line_core::{Line, Message};
 use record_core::{Dest, sending_size, text_size};
 use std::collections::BTreeMap;

@@ -16,7 +16,9 @@ ghost use Rattle.snapshot_core.specs.Snapshots.{HasForm, IsDelivery, IsLine, IsM
 ghost use Rattle.snapshot_core.specs.Snapshots as spelled;
 
 use crate::part::Part;
-use broker_core::{Broker, DurableName, GivenName, SharedLines, Subscription};
+use broker_core::Broker;
+use broker_state::{DurableName, GivenName, Subscription};
+use broker_tables::SharedLines;
 use frame_core::Text;
 use line_core::{Line, Message};
 use record_core::{Dest, HeaderText, Sending, mode_byte};

@@ -9,7 +9,7 @@ ghost use Rattle.broker_core.specs.Lists.{is_none};
 ghost use Rattle.broker_core.specs.Names.{Name, name_cmp};
 ghost use Rattle.snapshot_core.specs.Reading.{lines_of};
 
-use broker_core::DurableName;
+use broker_state::DurableName;
 use line_core::Line;
 use record_core::Dest;
 use std::alloc::{AllocError, Global};

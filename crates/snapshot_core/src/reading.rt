@@ -9,7 +9,7 @@ ghost use Rattle.snapshot_core.specs.Reading.{state_at};
 use crate::entry_reading::{read_durables, read_queues, read_sessions};
 use crate::name_tables::tables_of;
 use crate::subscription_reading::read_subscriptions;
-use broker_core::Parts;
+use broker_state::Parts;
 use record_core::{DecodeFault, read_u64};
 use std::alloc::Global;
 

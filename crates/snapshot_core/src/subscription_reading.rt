@@ -9,7 +9,7 @@ ghost use Rattle.snapshot_core.specs.Reading.{durable_name_at, front_at, had_at,
 
 use crate::entry_reading::read_optional_name;
 use crate::message_reading::{read_flight, read_line};
-use broker_core::{DurableName, GivenName, Subscription};
+use broker_state::{DurableName, GivenName, Subscription};
 use line_core::{Flight, Line, Message};
 use record_core::{
     AckMode, DecodeFault, Dest, HeaderText, read_destination, read_list, read_mode, read_text,
