@@ -109,6 +109,15 @@ fn keep<'a>(
     Ok(taker)
 }
 
+fn counts_of(rings: &[Cell<u64>; 4]) -> [u64; 4] {
+    [
+        rings[0].get(),
+        rings[1].get(),
+        rings[2].get(),
+        rings[3].get(),
+    ]
+}
+
 #[test]
 fn each_box_that_was_given_something_is_rung_once_after_all_have_theirs(
     rt: HostRuntime,
@@ -129,47 +138,15 @@ fn each_box_that_was_given_something_is_rung_once_after_all_have_theirs(
     assert_eq!(rt; left.len(), 1);
     assert_eq!(rt; heard.notes_at_first.get(), 3);
     assert_eq!(rt; heard.waited_at_first.get(), 3);
-    assert_eq!(rt;
-        [
-            rings[0].get(),
-            rings[1].get(),
-            rings[2].get(),
-            rings[3].get()
-        ],
-        [1, 1, 0, 1]
-    );
+    assert_eq!(rt; counts_of(&rings), [1, 1, 0, 1]);
     let outs = to_each(alloc, &[3, 4])?;
     assert!(rt; left.len() == 1 && outs.len() == 2 && left.capacity() >= 16);
     boxes.give_all(outs, &mut left);
-    assert_eq!(rt;
-        [
-            rings[0].get(),
-            rings[1].get(),
-            rings[2].get(),
-            rings[3].get()
-        ],
-        [1, 1, 1, 2]
-    );
+    assert_eq!(rt; counts_of(&rings), [1, 1, 1, 2]);
     boxes.let_go(&[1, 4]);
-    assert_eq!(rt;
-        [
-            rings[0].get(),
-            rings[1].get(),
-            rings[2].get(),
-            rings[3].get()
-        ],
-        [2, 1, 1, 3]
-    );
+    assert_eq!(rt; counts_of(&rings), [2, 1, 1, 3]);
     drop(boxes);
-    assert_eq!(rt;
-        [
-            rings[0].get(),
-            rings[1].get(),
-            rings[2].get(),
-            rings[3].get()
-        ],
-        [2, 2, 2, 3]
-    );
+    assert_eq!(rt; counts_of(&rings), [2, 2, 2, 3]);
     Ok(())
 }
 

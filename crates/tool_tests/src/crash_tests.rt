@@ -8,6 +8,11 @@ use std::time::Clock;
 
 const CON_0: &str = "0 CONNECT%0Aaccept-version:1.2~";
 
+const NAMED: &str = "0 CONNECT%0Aaccept-version:1.2%0Aclient-id:c1~";
+
+const DURABLE: &str =
+    "0 SUBSCRIBE%0Aid:d%0Adestination:/topic/t%0Aack:client%0Aactivemq.subscriptionName:n~";
+
 const SEND_X: &str = "0 SEND%0Adestination:/queue/q%0A%0Ax%00";
 
 const SEND_Y: &str = "0 SEND%0Adestination:/queue/q%0A%0Ay%00";
@@ -19,12 +24,11 @@ const IN_TRANSACTION: &str = "0 SEND%0Adestination:/queue/q%0Atransaction:t%0A%0
 #[test]
 fn an_opened_journal_has_what_was_flushed(rt: HostRuntime) -> Result<(), Fail> {
     let alloc = rt.alloc();
-    let connected = "0 CONNECTED%0Aversion:1.2%0Asession:0%0Aheart-beat:0,0~";
     expect_lines(
         &rt,
         alloc,
         &[CON_0, "0 SEND%0Adest", "lost 0", "flush", "open"],
-        &[connected, "open 2 0"],
+        &[CONNECTED, "open 2 0"],
     )?;
     expect_lines(
         &rt,
@@ -39,7 +43,7 @@ fn an_opened_journal_has_what_was_flushed(rt: HostRuntime) -> Result<(), Fail> {
             "open",
         ],
         &[
-            connected,
+            CONNECTED,
             "0 ERROR%0Amessage:E11 unknown acknowledgement id%0Areceipt-id:c~",
             "open 2 0",
         ],
@@ -52,7 +56,7 @@ fn an_opened_journal_has_what_was_flushed(rt: HostRuntime) -> Result<(), Fail> {
             CON_0, "flush", SEND_X, "open", SEND_X, "open", CON_0, "flush",
         ],
         &[
-            connected,
+            CONNECTED,
             "open 1 0",
             "0 ERROR%0Amessage:E7 frame not expected here~",
             "open 1 0",
@@ -63,10 +67,9 @@ fn an_opened_journal_has_what_was_flushed(rt: HostRuntime) -> Result<(), Fail> {
 
 #[test]
 fn messages_that_were_not_acknowledged_are_kept(rt: HostRuntime) -> Result<(), Fail> {
-    let alloc = rt.alloc();
     expect_lines(
         &rt,
-        alloc,
+        rt.alloc(),
         &[
             CON_0,
             "0 SUBSCRIBE%0Aid:s%0Adestination:/queue/q%0Aack:client~",
@@ -92,15 +95,12 @@ fn messages_that_were_not_acknowledged_are_kept(rt: HostRuntime) -> Result<(), F
 
 #[test]
 fn a_durable_subscriber_finds_its_messages_after_a_crash(rt: HostRuntime) -> Result<(), Fail> {
-    let named = "0 CONNECT%0Aaccept-version:1.2%0Aclient-id:c1~";
-    let durable =
-        "0 SUBSCRIBE%0Aid:d%0Adestination:/topic/t%0Aack:client%0Aactivemq.subscriptionName:n~";
     expect_lines(
         &rt,
         rt.alloc(),
         &[
-            named,
-            durable,
+            NAMED,
+            DURABLE,
             "flush",
             "lost 0",
             "1 CONNECT%0Aaccept-version:1.2~",
@@ -109,19 +109,19 @@ fn a_durable_subscriber_finds_its_messages_after_a_crash(rt: HostRuntime) -> Res
             "1 SEND%0Adestination:/topic/t%0A%0Az%00",
             "flush",
             "open",
-            named,
-            durable,
+            NAMED,
+            DURABLE,
             "flush",
             "0 ACK%0Aid:0~",
             "flush",
             "crash 0",
             "open",
-            named,
-            durable,
+            NAMED,
+            DURABLE,
             "flush",
         ],
         &[
-            "0 CONNECTED%0Aversion:1.2%0Asession:0%0Aheart-beat:0,0~",
+            CONNECTED,
             "1 CONNECTED%0Aversion:1.2%0Asession:3%0Aheart-beat:0,0~",
             "open 7 3",
             "0 CONNECTED%0Aversion:1.2%0Asession:7%0Aheart-beat:0,0~",
