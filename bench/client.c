@@ -245,8 +245,14 @@ static int all_connected(void) {
     return heard == connection_count;
 }
 
-// Asks for a WebSocket, and answers whether the server has let it in.
-static int shake_hands(struct connection *one, const struct sockaddr_in *address) {
+static struct sockaddr_in address_of(int port) {
+    struct sockaddr_in address = {.sin_family = AF_INET, .sin_port = htons(port)};
+    address.sin_addr.s_addr = htonl(INADDR_LOOPBACK);
+    return address;
+}
+
+// Connects, asks for a WebSocket, and answers whether all of that left.
+static int ask(struct connection *one, const struct sockaddr_in *address) {
     char request[1024];
     int size = snprintf(request, sizeof request,
                         "GET %s HTTP/1.1\r\nHost: localhost\r\nUpgrade: websocket\r\nConnection: Upgrade\r\n"
@@ -262,9 +268,11 @@ static int shake_hands(struct connection *one, const struct sockaddr_in *address
     }
     int yes = 1;
     setsockopt(one->fd, IPPROTO_TCP, TCP_NODELAY, &yes, sizeof yes);
-    if (send(one->fd, request, size, MSG_NOSIGNAL) != size) {
-        return 0;
-    }
+    return send(one->fd, request, size, MSG_NOSIGNAL) == size;
+}
+
+// Whether the server has let it in.
+static int is_let_in(struct connection *one) {
     size_t length = 0;
     while (memmem(one->in, length, "\r\n\r\n", 4) == NULL) {
         ssize_t count = read(one->fd, one->in + length, ROOM - length);
@@ -276,22 +284,27 @@ static int shake_hands(struct connection *one, const struct sockaddr_in *address
     return starts(one->in, length, "HTTP/1.1 101");
 }
 
+// From here on it is served by the poll, and asks for its session.
+static void begin(struct connection *one) {
+    fcntl(one->fd, F_SETFL, fcntl(one->fd, F_GETFL) | O_NONBLOCK);
+    struct epoll_event event = {.events = EPOLLIN, .data.ptr = one};
+    epoll_ctl(poller, EPOLL_CTL_ADD, one->fd, &event);
+    add(one, "CONNECT\naccept-version:1.2\n%s\n", said("LOAD_CONNECT", ""));
+}
+
 long refused;
 
 // Opens a connection. One whose handshake is refused is tried again, and counted.
 static void open_one(int port) {
     struct connection *one = &connections[connection_count++];
-    struct sockaddr_in address = {.sin_family = AF_INET, .sin_port = htons(port)};
-    address.sin_addr.s_addr = htonl(INADDR_LOOPBACK);
-    while (!shake_hands(one, &address)) {
+    struct sockaddr_in address = address_of(port);
+    while (!ask(one, &address) || !is_let_in(one)) {
         close(one->fd);
         if (++refused > MOST_REFUSED) {
             fail("%ld handshakes were refused", refused);
         }
     }
-    fcntl(one->fd, F_SETFL, fcntl(one->fd, F_GETFL) | O_NONBLOCK);
-    struct epoll_event event = {.events = EPOLLIN, .data.ptr = one};
-    epoll_ctl(poller, EPOLL_CTL_ADD, one->fd, &event);
+    begin(one);
 }
 
 // Opens so many connections with a session each.
@@ -303,8 +316,41 @@ void open_all(int port, int count) {
     on_message = on_connected;
     for (int at = 0; at < count; at++) {
         open_one(port);
-        add(&connections[at], "CONNECT\naccept-version:1.2\n%s\n", said("LOAD_CONNECT", ""));
     }
     write_all();
     wait_for(all_connected, "CONNECTED");
+}
+
+// Opens so many connections at the same moment, with a session each.
+void open_together(int port, int count) {
+    struct sockaddr_in address = address_of(port);
+    poller = poller ? poller : epoll_create1(0);
+    on_message = on_connected;
+    heard = 0;
+    connection_count = count;
+    for (int at = 0; at < count; at++) {
+        if (!ask(&connections[at], &address)) {
+            fail("a handshake did not leave");
+        }
+    }
+    for (int at = 0; at < count; at++) {
+        if (!is_let_in(&connections[at])) {
+            fail("a handshake was refused");
+        }
+        begin(&connections[at]);
+    }
+    write_all();
+    wait_for(all_connected, "CONNECTED");
+}
+
+// Closes all connections, by a reset, so that the system keeps no port for them.
+void close_all(void) {
+    struct linger at_once = {.l_onoff = 1, .l_linger = 0};
+    for (int at = 0; at < connection_count; at++) {
+        setsockopt(connections[at].fd, SOL_SOCKET, SO_LINGER, &at_once, sizeof at_once);
+        close(connections[at].fd);
+        connections[at].in_length = connections[at].out_length = 0;
+        connections[at].waits_to_write = 0;
+    }
+    connection_count = 0;
 }

@@ -6,7 +6,7 @@
 #include <stddef.h>
 
 enum {
-    MOST_CONNECTIONS = 64,
+    MOST_CONNECTIONS = 1024,
     MOST_IN_FLIGHT = 64,
     ROOM = 1 << 18,
     SLACK_SECONDS = 20,
@@ -43,6 +43,10 @@ double now(void);
 // Opens so many connections with a session each. Where another broker asks for more, the environment says it: LOAD_PATH is
 // the path of the handshake, and LOAD_CONNECT are more header lines of CONNECT, each with its line end.
 void open_all(int port, int count);
+
+// Opens so many connections at the same moment, with a session each, and closes all that are open.
+void open_together(int port, int count);
+void close_all(void);
 
 // Adds a frame of STOMP, as a masked Text message. The NUL behind it goes with it.
 void add(struct connection *one, const char *format, ...);

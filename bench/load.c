@@ -8,6 +8,7 @@
 //     load fanout PORT SUBSCRIBERS SECONDS                 one sender of a topic, and so many subscribers
 //     load queue PORT PRODUCERS CONSUMERS SECONDS          a work queue, each job acknowledged
 //     load send PORT DESTINATION COUNT BODY                so many SENDs on 31 connections, with bodies of so many bytes
+//     load connect PORT COUNT AT_ONCE                      connections with their sessions, so many at the same moment
 //     load idle PORT CONNECTIONS SECONDS                   connections that say nothing
 //     load syncs FILE COUNT PAUSE                          two writes and two syncs, as for a block, so often, and a pause
 //
@@ -230,7 +231,6 @@ static void on_fanned(struct connection *one, const char *frame, size_t length) 
         one->messages++;
         heard_messages += is_measured(now());
     }
-    send_ahead();
 }
 
 static int all_heard(void) {
@@ -245,8 +245,13 @@ static int all_heard(void) {
 static void fan_out(double seconds) {
     subscribe(1, connection_count, "/topic/room", "auto");
     on_message = on_fanned;
-    send_ahead();
-    measure_for(seconds);
+    measuring_from = now() + 1;
+    measuring_to = measuring_from + seconds;
+    while (now() < measuring_to) {
+        send_ahead();
+        pump(20);
+    }
+    is_ending = 1;
     wait_for(all_heard, "the last messages");
     tell("messages_a_second", heard_messages / seconds);
     tell("sends_a_second", counted / seconds);
@@ -385,6 +390,16 @@ static void fill(const char *destination, long count) {
     tell("sent", count);
 }
 
+// Connections with their sessions, so many at the same moment.
+static void connect_in_turns(int port, long count, int at_once) {
+    double begun = now();
+    for (long done_so_far = 0; done_so_far < count; done_so_far += at_once) {
+        open_together(port, at_once);
+        close_all();
+    }
+    tell("connections_a_second", count / (now() - begun));
+}
+
 // A write and a sync of a block's bytes, and a write and a sync of one byte before them, as for each block of the journal.
 static void syncs(const char *path, long count, long pause) {
     double *each = calloc(count * 2, sizeof *each), *pairs = calloc(count, sizeof *pairs);
@@ -455,6 +470,8 @@ int main(int count, char **words) {
         set_body(numbers[3]);
         open_all(port, 31);
         fill(words[3], numbers[2]);
+    } else if (strcmp(mode, "connect") == 0 && count == 5 && numbers[2] > 0 && numbers[2] <= MOST_CONNECTIONS) {
+        connect_in_turns(port, numbers[1], numbers[2]);
     } else if (strcmp(mode, "idle") == 0 && count == 5) {
         open_all(port, numbers[1]);
         sleep(numbers[2]);

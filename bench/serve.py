@@ -23,6 +23,9 @@ HELD = 4_000
 # All that 31 connections have under way, eight each; a block has room for 256.
 AT_ONCE = 248
 PIECE = 65_536
+# What a broker holds at most.
+MOST_HELD = 1 << 24
+CONNECTIONS = 8_000
 
 
 # Durable names online under one topic, as many as may be: 16 of each connection.
@@ -118,6 +121,18 @@ def fanout(bench):
     tell_rate("messages, one sender to 16 subscribers", "messages_a_second", "a second", list(bench.loads("fanout", 16, bench.seconds)))
 
 
+def room(bench):
+    tell_rate("messages, one sender to 1,000 subscribers", "messages_a_second", "a second", list(bench.loads("fanout", 1_000, bench.seconds)))
+
+
+def connect(bench):
+    """Connections with their sessions, eight at the same moment. Each is closed once it has its CONNECTED."""
+    loads = list(bench.loads("connect", CONNECTIONS, 8))
+    best = max(load["connections_a_second"] for load in loads)
+    middle = statistics.median(load["connections_a_second"] for load in loads)
+    tell("connections, 8 at a time", f"{best:,.0f}", "a second", f" best, {middle:,.0f} median")
+
+
 def queue(bench):
     tell_rate("jobs, 4 producers, 4 consumers, acknowledged", "jobs_a_second", "a second", list(bench.loads("queue", 4, 4, bench.seconds)))
 
@@ -143,6 +158,19 @@ def starts(bench):
                 times.append(server.started)
     for text, times in (("an empty journal", empty), ("4,000 messages held, as they were sent", sent), ("4,000 messages held, from a snapshot", kept)):
         tell(f"start, {text}", f"{min(times) * 1e3:,.1f}", "ms best", f", {statistics.median(times) * 1e3:,.1f} median")
+
+
+def again(bench):
+    """From SIGKILL to the CONNECTED of a client that comes at once, with 16 MiB held."""
+    taken = []
+    for _ in range(bench.runs):
+        with bench.server() as server:
+            Load(bench.load, server, "send", "/queue/held", HELD, MOST_HELD // HELD - 16)
+            begun = time.perf_counter()
+        with Server(bench.program, bench.journal) as server:
+            Client(server.port).connect().close()
+            taken.append(time.perf_counter() - begun)
+    tell("SIGKILL to CONNECTED, 16 MiB held", f"{min(taken) * 1e3:,.1f}", "ms best", f", {statistics.median(taken) * 1e3:,.1f} median, {max(taken) * 1e3:,.1f} worst")
 
 
 def written(bench, size):
@@ -232,7 +260,7 @@ def commit(client, at):
     client.receipt(f"commit {at}")
 
 
-CASES = {case.__name__: case for case in (one, many, slow, fanout, queue, latency, names, growths, starts, compactions, idle)}
+CASES = {case.__name__: case for case in (one, many, slow, fanout, room, queue, connect, latency, names, growths, starts, again, compactions, idle)}
 
 
 def main():
