@@ -9,7 +9,7 @@
 //     load queue PORT PRODUCERS CONSUMERS SECONDS          a work queue, each job acknowledged
 //     load send PORT DESTINATION COUNT BODY                so many SENDs on 31 connections, with bodies of so many bytes
 //     load connect PORT COUNT AT_ONCE                      connections with their sessions, so many at the same moment
-//     load idle PORT CONNECTIONS SECONDS                   connections that say nothing
+//     load idle PORT CONNECTIONS SECONDS                   connections that say nothing once they are there
 //     load syncs FILE COUNT PAUSE                          two writes and two syncs, as for a block, so often, and a pause
 //
 // What comes back is compared with what has to come: receipts in order, each message once. What is not so ends the program
@@ -473,7 +473,9 @@ int main(int count, char **words) {
     } else if (strcmp(mode, "connect") == 0 && count == 5 && numbers[2] > 0 && numbers[2] <= MOST_CONNECTIONS) {
         connect_in_turns(port, numbers[1], numbers[2]);
     } else if (strcmp(mode, "idle") == 0 && count == 5) {
+        double begun = now();
         open_all(port, numbers[1]);
+        tell("opened_seconds", now() - begun);
         sleep(numbers[2]);
     } else if (strcmp(mode, "syncs") == 0 && count == 5) {
         syncs(words[2], numbers[1], numbers[2]);

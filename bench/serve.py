@@ -7,6 +7,7 @@ PROGRAM is the built program; without it, the one that bin/stompd leaves in crat
 FOLDER (/dev/shm, and the folder for temporary files), and removed.
 """
 
+import concurrent.futures
 import os
 import pathlib
 import statistics
@@ -14,6 +15,7 @@ import struct
 import tempfile
 import time
 
+from lib.scenario import take_descriptors
 from lib.stomp_client import Client
 from measuring import MB, arguments, machine, parsed
 from serving import Load, Server, build_counting, build_load, build_slow_sync, make_journal
@@ -26,6 +28,8 @@ PIECE = 65_536
 # What a broker holds at most.
 MOST_HELD = 1 << 24
 CONNECTIONS = 8_000
+# How many clients open how many connections each.
+CLIENTS, EACH = 10, 1_000
 
 
 # Durable names online under one topic, as many as may be: 16 of each connection.
@@ -67,6 +71,11 @@ class Bench:
     def counts(self):
         """How many syncs there were, and how many nanoseconds they took."""
         return struct.unpack("=QQ", self.seen.read_bytes())
+
+
+def memory_of(number):
+    """The bytes of memory that a process has."""
+    return int(pathlib.Path(f"/proc/{number}/statm").read_text(encoding="ascii").split()[1]) * os.sysconf("SC_PAGE_SIZE")
 
 
 def tell(text, figure, unit, more=""):
@@ -131,6 +140,20 @@ def connect(bench):
     best = max(load["connections_a_second"] for load in loads)
     middle = statistics.median(load["connections_a_second"] for load in loads)
     tell("connections, 8 at a time", f"{best:,.0f}", "a second", f" best, {middle:,.0f} median")
+
+
+def crowd(bench):
+    """10,000 connections of ten clients at a time, each with its CONNECTED, and what of memory the server has then."""
+    take_descriptors()
+    with bench.server() as server:
+        before = memory_of(server.process.pid)
+        with concurrent.futures.ThreadPoolExecutor(CLIENTS) as pool:
+            words = (bench.load, server, "idle", EACH, 10)
+            loads = [pool.submit(Load, *words) for _ in range(CLIENTS)]
+            time.sleep(8)
+            kept = (memory_of(server.process.pid) - before) / (CLIENTS * EACH)
+            longest = max(load.result()["opened_seconds"] for load in loads)
+        tell("10,000 connections with their sessions", f"{longest:,.2f}", "s", f"; {kept / 1_000:,.0f} KB each")
 
 
 def queue(bench):
@@ -260,7 +283,7 @@ def commit(client, at):
     client.receipt(f"commit {at}")
 
 
-CASES = {case.__name__: case for case in (one, many, slow, fanout, room, queue, connect, latency, names, growths, starts, again, compactions, idle)}
+CASES = {case.__name__: case for case in (one, many, slow, fanout, room, queue, connect, crowd, latency, names, growths, starts, again, compactions, idle)}
 
 
 def main():
