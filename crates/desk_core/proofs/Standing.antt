@@ -165,6 +165,13 @@ others old places at is same =
 pub nothing_else : {B L : Type 0} (old new : List (Option (Seated B L))) (at : ℕ) → new ≡ old → Others old new at
 nothing_else old new at same = record { count = ap length same; others = λ k other. ap (λ l. slice_get l k) same }
 
+cancel : {X : Type 0} (xs ys zs : List X) → xs ++ ys ≡ xs ++ zs → ys ≡ zs
+cancel [] ys zs e = e
+cancel (x ∷ xs) ys zs e = cancel xs ys zs (tail e)
+  where
+    tail : x ∷ (xs ++ ys) ≡ x ∷ (xs ++ zs) → xs ++ ys ≡ xs ++ zs
+    tail f = cc
+
 -- ── nothing is said at a place ──
 
 pub unmoved : {B L : Type 0} (before seat : SessionSeatValue) (places : List (Option (Seated B L))) (at : ℕ) (was is : Option (Seated B L)) → at < length places → was ≡ get_or places at was
