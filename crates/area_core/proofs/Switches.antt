@@ -11,7 +11,7 @@ use Rattle.area_core.specs.declared.version.Version.TheVariants.{Two}
 use Rattle.area_core.specs.Areas.{closed_snapshot, IsArea}
 use Rattle.area_core.specs.Journals.{is_odd, other, start, IsJournal, Reads}
 use Rattle.area_core.specs.Puts.{IsTorn}
-use Rattle.area_core.specs.Switches.{KeepsBoth, KeepsLive, KeepsRest}
+use Rattle.area_core.specs.Switches.{IsSwitching, IsWriting, KeepsBoth, KeepsLive, KeepsRest}
 use Rattle.area_core.proofs.Areas.{fresh}
 use Rattle.area_core.proofs.Journals.{start_least, journal_stays, area_stays}
 use Rattle.area_core.proofs.Ranges.{patched_start}
@@ -51,6 +51,9 @@ keeps_live area images at n c is le torn snapshot blocks held =
 -- what keeps the rest keeps the live area
 pub rest_live : (area : Area) (images : List ℕ → Type 0) (c : List ℕ) → KeepsRest images area c → KeepsLive images area c
 rest_live area images c torn = keeps_live area images (start area.size (other (is_odd area.selector))) area.size c refl (omega arith) torn
+
+pub writing : (area : Area) (images : List ℕ → Type 0) (c : List ℕ) → KeepsRest images area c → IsWriting images area c
+writing area images c torn = record { live = rest_live area images c torn; rest = torn }
 
 -- a range that may be torn lies in a longer one
 widened : (at n m : ℕ) (d c : List ℕ) → Torn at n d c → n ≤ m → Torn at m d c
@@ -95,6 +98,9 @@ keeps_both area images c torn snapshot blocks next held idle =
       live = same_area area.version area.size (is_odd area.selector) snapshot blocks torn.0 c was.reads.area torn.2;
       idle = same_area Two area.size (other (is_odd area.selector)) next [] torn.0 c (idle torn.0 torn.1).idle torn.2;
     }
+
+pub switching : (area : Area) (images : List ℕ → Type 0) (c : List ℕ) → IsTorn 16 1 images c → IsSwitching images area c
+switching area images c torn = record { both = keeps_both area images c torn; rest = torn }
 
 pub switched : (size selector : ℕ) (next d : List ℕ) → IsJournal size selector d → IsArea Two size next [] (drop (start size (other (is_odd selector))) d) → Reads Two size ((selector + 1) % 256) next [] (patched 16 ((selector + 1) % 256 ∷ []) d)
 switched size selector next d j idle =

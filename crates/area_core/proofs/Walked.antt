@@ -12,7 +12,7 @@ use Rattle.area_core.specs.declared.faults.ReadFault.{ReadFault}
 use Rattle.area_core.specs.declared.faults.ReadFault.TheVariants as reads
 use Rattle.area_core.specs.Damage.{IsBadWord, IsFrontTold, IsWordTold}
 use Rattle.area_core.specs.Journals.{is_odd, start, IsJournal}
-use Rattle.area_core.specs.Reading.{Quiet}
+use Rattle.area_core.specs.Reading.{Quiet, ReadsOnly}
 use Rattle.area_core.proofs.Areas.{block_read, pushed}
 
 first_rest : (l : List ℕ) → 1 ≤ length l → l ≡ get_or l 0 0 ∷ drop 1 l
@@ -77,6 +77,14 @@ quiet_then disk a b c x y = record {
   content = y.content ∙ x.content;
   images = record { no_more = λ l i. x.images.no_more l (y.images.no_more l i); no_fewer = λ l i. y.images.no_fewer l (x.images.no_fewer l i) };
   leaves = joined disk a b c (disk.images a) x.leaves (weaker disk b c _ _ y.leaves x.images.no_more);
+}
+
+pub reads_then : {D : Type 0} (disk : Ghosts D) (a b c : D) → ReadsOnly disk a b → ReadsOnly disk b c → ReadsOnly disk a c
+reads_then disk a b c x y = record {
+  quiet = λ honest. quiet_then disk a b c (x.quiet honest) (y.quiet (x.honest honest));
+  size = y.size ∙ x.size;
+  honest = λ h. y.honest (x.honest h);
+  was_honest = λ h. x.was_honest (y.was_honest h);
 }
 
 -- what is told of the live area's first word is told of its front

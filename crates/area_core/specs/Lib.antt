@@ -1,4 +1,5 @@
 pub mod Areas
+pub mod Calls
 pub mod Closing
 pub mod Damage
 pub mod Held

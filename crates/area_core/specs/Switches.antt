@@ -8,6 +8,10 @@ use Rattle.area_core.specs.Held.{IsAt}
 use Rattle.area_core.specs.Journals.{IsJournal, is_odd, other, start}
 use Rattle.area_core.specs.Puts.{Each, IsTorn}
 
+-- where the area begins that is not live
+abbrev pub idle_start : Area → ℕ
+idle_start area = start area.size (other (is_odd area.selector))
+
 -- the area that is not live is of the second version, and has the snapshot last written and no block
 pub record HasIdle (area : Area) (snapshot : List ℕ) (image : List ℕ) : Type 0 where
   pub idle : IsArea Two area.size snapshot [] (drop (start area.size (other (is_odd area.selector))) image)
@@ -36,3 +40,13 @@ KeepsAllButSelector images c = IsTorn 16 1 images c
 abbrev pub KeepsBoth : (List ℕ → Type 0) → Area → List ℕ → Type 0
 KeepsBoth images area c =
     (snapshot : List ℕ) (blocks : List (List CommandValue)) (next : List ℕ) → Each images (IsAt area snapshot blocks) → Each images (HasIdle area next) → IsBoth area snapshot blocks next c
+
+-- while a snapshot is written, the live area is as it was, and so are all bytes but the other's
+pub record IsWriting (images : List ℕ → Type 0) (area : Area) (c : List ℕ) : Type 0 where
+  pub live : KeepsLive images area c
+  pub rest : KeepsRest images area c
+
+-- while areas are switched, both are as they were, and so are all bytes but the selector
+pub record IsSwitching (images : List ℕ → Type 0) (area : Area) (c : List ℕ) : Type 0 where
+  pub both : KeepsBoth images area c
+  pub rest : KeepsAllButSelector images c

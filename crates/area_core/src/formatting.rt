@@ -1,11 +1,9 @@
 //! A disk is formatted as a journal.
 
-ghost use Rattle.std.specs.Prelude.{◌≡◌, ◌⊎◌, ◌+◌, ◌*◌, ◌<◌, ◌≤◌, ◌++◌, [], IfOk, IsErrOf, OnOk, codes, length, replicate, take};
-ghost use Rattle.disk_core.specs.Images.{Only};
-ghost use Rattle.area_core.specs.Areas.{first_snapshot};
-ghost use Rattle.area_core.specs.Journals.{Reads, digits, header, new_header};
-ghost use Rattle.area_core.specs.declared.version.Version.TheVariants.{Two};
-ghost use Rattle.area_core.specs.Puts.{Each};
+ghost use Rattle.std.specs.Prelude.{◌≡◌, ◌⊎◌, ◌+◌, ◌*◌, ◌<◌, ◌≤◌, ◌++◌, IfOk, IsErrOf, OnOk, length, replicate};
+ghost use Rattle.disk_core.specs.Calls.{Lasts};
+ghost use Rattle.area_core.specs.Calls.{Formats};
+ghost use Rattle.area_core.specs.Journals.{digits, header};
 ghost use Rattle.area_core.specs.Steps.{IsBeforeWriting, IsFormatCaused};
 
 use crate::put::closed_snapshot;
@@ -41,19 +39,13 @@ pub fn header_of(alloc: Global, version: Version, area_bytes: u64) -> Result<Vec
 ///
 /// `TooSmall` and `Memory` come before the disk is written to. After `Device` it may hold anything.
 pub fn format<D: Disk>(alloc: Global, disk: &mut D, area_bytes: u64) -> Result<(), FormatFault>
-    ensures formatted { D.honest disk.old →
-        OnOk result (Each (D.images disk.new) (Reads Two area_bytes 0 first_snapshot [])) }
-    ensures begins { D.honest disk.old →
-        OnOk result (Each (D.images disk.new) (λ c. take 32 c ≡ new_header area_bytes)) }
-    ensures only { D.honest disk.old → OnOk result (Only (D.content disk.new) (D.images disk.new)) }
+    ensures formats { OnOk result (Formats D.Disk disk.old disk.new area_bytes) }
     ensures small { IsErrOf result FormatFault.TooSmall →
         (area_bytes < 4096) ⊎ (length (D.content disk.old) < 32 + 2 * area_bytes) }
     ensures fits { OnOk result ((4096 ≤ area_bytes) × (32 + 2 * area_bytes ≤ length (D.content disk.old))) }
     ensures same { IsBeforeWriting result (disk.new ≡ disk.old) }
-    ensures size { length (D.content disk.new) ≡ length (D.content disk.old) }
     ensures cause { IsFormatCaused (D.failures disk.old) (D.failures disk.new) result }
-    ensures honest { D.honest disk.old → D.honest disk.new }
-    ensures was_honest { D.honest disk.new → D.honest disk.old }
+    ensures lasts { Lasts D.Disk disk.old disk.new }
 {
     let all = disk.size();
     if area_bytes < 4096 || all < 32 || area_bytes > (all - 32) / 2 {

@@ -5,7 +5,7 @@ ghost use Rattle.std.specs.Int.{w64, to_be_bytes};
 ghost use Rattle.disk_core.specs.Faults.{HasCause};
 ghost use Rattle.area_core.specs.Damage.{IsHeaderTold, IsOfDevice, IsReadCaused};
 ghost use Rattle.area_core.specs.Journals.{AreDigits, IsJournal};
-ghost use Rattle.area_core.specs.Reading.{Quiet};
+ghost use Rattle.area_core.specs.Reading.{ReadsOnly};
 
 use crate::ReadFault;
 use disk_core::{DeviceFault, Disk};
@@ -16,11 +16,8 @@ pub(crate) fn fetch<D: Disk>(disk: &mut D, at: u64, into: &mut [u8]) -> Result<(
     requires { at + length into.old ≤ length (D.content disk.old) }
     ensures bytes { D.honest disk.old →
         OnOk result (into.new ≡ take (length into.old) (drop at (D.content disk.old))) }
-    ensures quiet { D.honest disk.old → Quiet D.Disk disk.old disk.new }
-    ensures size { length (D.content disk.new) ≡ length (D.content disk.old) }
+    ensures reads { ReadsOnly D.Disk disk.old disk.new }
     ensures cause { HasCause (D.failures disk.old) (D.failures disk.new) result }
-    ensures honest { D.honest disk.old → D.honest disk.new }
-    ensures was_honest { D.honest disk.new → D.honest disk.old }
 {
     disk.read_at(at, into)
 }
@@ -37,11 +34,8 @@ pub(crate) fn fetch_number<D: Disk>(disk: &mut D, at: u64) -> Result<u64, Device
     requires { at + 8 ≤ length (D.content disk.old) }
     ensures number { D.honest disk.old →
         IfOk result (λ n. take 8 (drop at (D.content disk.old)) ≡ to_be_bytes w64 n) }
-    ensures quiet { D.honest disk.old → Quiet D.Disk disk.old disk.new }
-    ensures size { length (D.content disk.new) ≡ length (D.content disk.old) }
+    ensures reads { ReadsOnly D.Disk disk.old disk.new }
     ensures cause { HasCause (D.failures disk.old) (D.failures disk.new) result }
-    ensures honest { D.honest disk.old → D.honest disk.new }
-    ensures was_honest { D.honest disk.new → D.honest disk.old }
 {
     let mut bytes = [0; 8];
     fetch(disk, at, &mut bytes)?;
@@ -74,11 +68,8 @@ pub(crate) fn fetch_bytes<D: Disk>(
         IfOk result (λ v. take count (drop at (D.content disk.old)) ≡ v.items) }
     ensures length { IfOk result (λ v. length v.items ≡ count) }
     ensures refused { IfErr result IsOfDevice }
-    ensures quiet { D.honest disk.old → Quiet D.Disk disk.old disk.new }
-    ensures size { length (D.content disk.new) ≡ length (D.content disk.old) }
+    ensures reads { ReadsOnly D.Disk disk.old disk.new }
     ensures cause { IsReadCaused (D.failures disk.old) (D.failures disk.new) result }
-    ensures honest { D.honest disk.old → D.honest disk.new }
-    ensures was_honest { D.honest disk.new → D.honest disk.old }
 {
     let mut bytes = vec![in alloc; 0; count as usize]?;
     fetch(disk, at, &mut bytes)?;
@@ -92,11 +83,8 @@ pub(crate) fn header<D: Disk>(disk: &mut D) -> Result<(u64, u8), ReadFault>
     ensures least { IfOk result (λ r. 4096 ≤ r.0) }
     ensures most { IfOk result (λ r. 32 + 2 * r.0 < 2 ^ 64) }
     ensures room { IfOk result (λ r. 32 + 2 * r.0 ≤ length (D.content disk.new)) }
-    ensures quiet { D.honest disk.old → Quiet D.Disk disk.old disk.new }
-    ensures size { length (D.content disk.new) ≡ length (D.content disk.old) }
+    ensures reads { ReadsOnly D.Disk disk.old disk.new }
     ensures cause { IsReadCaused (D.failures disk.old) (D.failures disk.new) result }
-    ensures honest { D.honest disk.old → D.honest disk.new }
-    ensures was_honest { D.honest disk.new → D.honest disk.old }
 {
     let all = disk.size();
     if all < 32 {

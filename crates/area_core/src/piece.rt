@@ -1,14 +1,13 @@
 //! A snapshot is written into the area that is not live, piece by piece.
 
-ghost use Rattle.std.specs.Prelude.{◌≡◌, ◌+◌, ◌-◌, ◌*◌, ◌<◌, ◌≤◌, ◌^◌, [], ℕ, List, false, true, drop, length, take, IfOk, OnOk, OnErr, IsErrOf};
-ghost use Rattle.disk_core.specs.Images.{patched, Torn};
-ghost use Rattle.disk_core.specs.Moments.{LeavesOnly};
+ghost use Rattle.std.specs.Prelude.{◌≡◌, ◌+◌, ◌*◌, ◌<◌, ◌≤◌, ◌^◌, length, OnOk};
+ghost use Rattle.disk_core.specs.Calls.{Lasts, Throughout};
+ghost use Rattle.disk_core.specs.Images.{patched};
 ghost use Rattle.area_core.specs.Areas.{closed_snapshot};
 ghost use Rattle.area_core.specs.declared.version.Version.TheVariants.{Two};
-ghost use Rattle.area_core.specs.Closing.{closing, heading};
-ghost use Rattle.area_core.specs.Journals.{is_odd, other, start};
-ghost use Rattle.area_core.specs.Steps.{IfMemory, IsCaused};
-ghost use Rattle.area_core.specs.Switches.{KeepsRest};
+ghost use Rattle.area_core.specs.Calls.{Breaks, BreaksWhole, InPlaceTo, IsReady, NeedsNothing, Overwrites, WritesNext};
+ghost use Rattle.area_core.specs.Closing.{closing};
+ghost use Rattle.area_core.specs.Switches.{KeepsRest, idle_start};
 
 use crate::closing::next_closed;
 use crate::pieces::Pieces;
@@ -27,26 +26,13 @@ impl Area {
     ) -> Result<(), AreaFault>
         requires room { 32 + 2 * self.old.size ≤ length (D.content disk.old) }
         requires within { at + length piece.now ≤ self.old.size }
-        ensures outside { D.honest disk.old →
-            LeavesOnly D.moment D.images_since disk.old disk.new
-            (KeepsRest (D.images disk.old) self.old) }
-        ensures content { D.honest disk.old → OnOk result (
-            D.content disk.new ≡ patched (start self.old.size (other (is_odd self.old.selector)) + at) piece.now (D.content disk.old)) }
-        ensures torn { D.honest disk.old →
-            Torn (start self.old.size (other (is_odd self.old.selector))) self.old.size (D.content disk.old) (D.content disk.new) }
-        ensures place { (self.new.size ≡ self.old.size) × (self.new.selector ≡ self.old.selector) × (self.new.gate ≡ self.old.gate) × (self.new.version ≡ self.old.version) }
-        ensures room { IsErrOf result AreaFault.Full → ⊥ }
-        ensures memory { IfMemory result ⊥ }
-        ensures broken { self.old.broken ≡ true →
-            IsErrOf result AreaFault.Broken × (disk.new ≡ disk.old) }
-        ensures same { self.old.broken ≡ true → self.new ≡ self.old }
-        ensures sound { IsErrOf result AreaFault.Broken → self.old.broken ≡ true }
-        ensures ok { OnOk result (self.new.broken ≡ false) }
-        ensures err { OnErr result (self.new.broken ≡ true) }
-        ensures size { length (D.content disk.new) ≡ length (D.content disk.old) }
-        ensures cause { IsCaused (D.failures disk.old) (D.failures disk.new) result }
-        ensures honest { D.honest disk.old → D.honest disk.new }
-        ensures was_honest { D.honest disk.new → D.honest disk.old }
+        ensures outside { Throughout D.Disk disk.old disk.new (KeepsRest (D.images disk.old) self.old) }
+        ensures overwrites { D.honest disk.old →
+            Overwrites self.old at piece.now (D.content disk.old) (D.content disk.new) result }
+        ensures needs { NeedsNothing result }
+        ensures breaks { Breaks D.Disk self.old self.new disk.old disk.new result }
+        ensures place { InPlaceTo self.old self.new }
+        ensures lasts { Lasts D.Disk disk.old disk.new }
     {
         if self.broken {
             return Err(AreaFault::Broken);
@@ -66,26 +52,14 @@ impl Area {
         at: u64,
         total: u64,
     ) -> Result<u64, AreaFault>
-        requires room { 32 + 2 * self.old.size ≤ length (D.content disk.old) }
-        requires whole { self.old.broken ≡ false }
+        requires ready { IsReady self.old (D.content disk.old) }
         requires seven { total < 2 ^ 56 }
         requires within { at + length (closing at total (P.coming pieces.old)) ≤ self.old.size }
-        ensures outside { D.honest disk.old →
-            LeavesOnly D.moment D.images_since disk.old disk.new
-            (KeepsRest (D.images disk.old) self.old) }
-        ensures content { D.honest disk.old → OnOk result (
-            D.content disk.new ≡ patched (start self.old.size (other (is_odd self.old.selector)) + at) (take 65536 (closing at total (P.coming pieces.old))) (D.content disk.old)) }
-        ensures count { IfOk result (λ n. n ≡ length (take 65536 (closing at total (P.coming pieces.old)))) }
-        ensures rest { OnOk result (P.coming pieces.new ≡ drop (65536 - length (heading at total)) (P.coming pieces.old)) }
-        ensures place { (self.new.size ≡ self.old.size) × (self.new.selector ≡ self.old.selector) × (self.new.gate ≡ self.old.gate) × (self.new.version ≡ self.old.version) }
-        ensures room { IsErrOf result AreaFault.Full → ⊥ }
-        ensures sound { IsErrOf result AreaFault.Broken → ⊥ }
-        ensures ok { OnOk result (self.new.broken ≡ false) }
-        ensures err { OnErr result (self.new.broken ≡ true) }
-        ensures size { length (D.content disk.new) ≡ length (D.content disk.old) }
-        ensures cause { IsCaused (D.failures disk.old) (D.failures disk.new) result }
-        ensures honest { D.honest disk.old → D.honest disk.new }
-        ensures was_honest { D.honest disk.new → D.honest disk.old }
+        ensures outside { Throughout D.Disk disk.old disk.new (KeepsRest (D.images disk.old) self.old) }
+        ensures next { WritesNext D.Disk self.old disk.old disk.new at total (P.coming pieces.old) (P.coming pieces.new) result }
+        ensures breaks { BreaksWhole D.Disk self.new disk.old disk.new result }
+        ensures place { InPlaceTo self.old self.new }
+        ensures lasts { Lasts D.Disk disk.old disk.new }
     {
         match next_closed(alloc, pieces, at, total) {
             Ok(piece) => {
@@ -106,24 +80,15 @@ impl Area {
         disk: &mut D,
         pieces: &mut P,
     ) -> Result<(), AreaFault>
-        requires room { 32 + 2 * self.old.size ≤ length (D.content disk.old) }
-        requires whole { self.old.broken ≡ false }
+        requires ready { IsReady self.old (D.content disk.old) }
         requires fits { length (P.coming pieces.old) + 9 ≤ self.old.size }
         requires seven { length (P.coming pieces.old) < 2 ^ 56 }
-        ensures outside { D.honest disk.old →
-            LeavesOnly D.moment D.images_since disk.old disk.new
-            (KeepsRest (D.images disk.old) self.old) }
+        ensures outside { Throughout D.Disk disk.old disk.new (KeepsRest (D.images disk.old) self.old) }
         ensures content { D.honest disk.old → OnOk result (
-            D.content disk.new ≡ patched (start self.old.size (other (is_odd self.old.selector))) (closed_snapshot Two (P.coming pieces.old)) (D.content disk.old)) }
-        ensures place { (self.new.size ≡ self.old.size) × (self.new.selector ≡ self.old.selector) × (self.new.gate ≡ self.old.gate) × (self.new.version ≡ self.old.version) }
-        ensures room { IsErrOf result AreaFault.Full → ⊥ }
-        ensures sound { IsErrOf result AreaFault.Broken → ⊥ }
-        ensures ok { OnOk result (self.new.broken ≡ false) }
-        ensures err { OnErr result (self.new.broken ≡ true) }
-        ensures size { length (D.content disk.new) ≡ length (D.content disk.old) }
-        ensures cause { IsCaused (D.failures disk.old) (D.failures disk.new) result }
-        ensures honest { D.honest disk.old → D.honest disk.new }
-        ensures was_honest { D.honest disk.new → D.honest disk.old }
+            D.content disk.new ≡ patched (idle_start self.old) (closed_snapshot Two (P.coming pieces.old)) (D.content disk.old)) }
+        ensures breaks { BreaksWhole D.Disk self.new disk.old disk.new result }
+        ensures place { InPlaceTo self.old self.new }
+        ensures lasts { Lasts D.Disk disk.old disk.new }
     {
         let total = pieces.len();
         let mut at = 0;

@@ -2,11 +2,11 @@
 
 ghost use Rattle.std.specs.Prelude.{◌≡◌, ◌+◌, ◌++◌, ◌<◌, ◌≤◌, ◌^◌, [], ◌∷◌, length, OnOk, IfOk};
 ghost use Rattle.std.specs.Int.{w64, to_be_bytes};
+ghost use Rattle.disk_core.specs.Calls.{Lasts, Throughout};
 ghost use Rattle.disk_core.specs.Faults.{HasCause};
-ghost use Rattle.disk_core.specs.Images.{patched, Within, Only};
-ghost use Rattle.disk_core.specs.Moments.{LeavesOnly};
+ghost use Rattle.disk_core.specs.Images.{patched, Within};
 ghost use Rattle.area_core.specs.Areas.{closed, closed_snapshot, word_of};
-ghost use Rattle.area_core.specs.Puts.{IsTorn, IsGated};
+ghost use Rattle.area_core.specs.Puts.{IsGated, IsStable, IsTorn};
 
 use crate::Version;
 use disk_core::{DeviceFault, Disk};
@@ -18,19 +18,14 @@ pub(crate) const COUNTED: u64 = 1 << 56;
 // Writes bytes and syncs. Whenever the disk stops, only their range differs from what it might have left before.
 pub(crate) fn put<D: Disk>(disk: &mut D, at: u64, bytes: &[u8]) -> Result<(), DeviceFault>
     requires { at + length bytes.now ≤ length (D.content disk.old) }
-    ensures any_moment { D.honest disk.old →
-        LeavesOnly D.moment D.images_since disk.old disk.new
+    ensures any_moment { Throughout D.Disk disk.old disk.new
         (IsTorn at (length bytes.now) (D.images disk.old)) }
     ensures torn { D.honest disk.old →
         Within (D.images disk.new) (IsTorn at (length bytes.now) (D.images disk.old)) }
     ensures stable { D.honest disk.old →
-        OnOk result (Only (patched at bytes.now (D.content disk.old)) (D.images disk.new)) }
-    ensures content { D.honest disk.old →
-        OnOk result (D.content disk.new ≡ patched at bytes.now (D.content disk.old)) }
-    ensures size { length (D.content disk.new) ≡ length (D.content disk.old) }
+        OnOk result (IsStable D.Disk disk.new (patched at bytes.now (D.content disk.old))) }
     ensures cause { HasCause (D.failures disk.old) (D.failures disk.new) result }
-    ensures honest { D.honest disk.old → D.honest disk.new }
-    ensures was_honest { D.honest disk.new → D.honest disk.old }
+    ensures lasts { Lasts D.Disk disk.old disk.new }
 {
     disk.write_at(at, bytes)?;
     disk.sync()
@@ -44,17 +39,12 @@ pub(crate) fn put_behind_gate<D: Disk>(
 ) -> Result<(), DeviceFault>
     requires fits { gate + 1 + length bytes.now ≤ length (D.content disk.old) }
     requires small { gate + 1 < 2 ^ 64 }
-    ensures any_moment { D.honest disk.old →
-        LeavesOnly D.moment D.images_since disk.old disk.new
+    ensures any_moment { Throughout D.Disk disk.old disk.new
         (IsGated gate bytes.now (D.content disk.old) (D.images disk.old)) }
     ensures stable { D.honest disk.old → OnOk result (
-        Only (patched gate (1 ∷ []) (patched (gate + 1) bytes.now (D.content disk.old))) (D.images disk.new)) }
-    ensures content { D.honest disk.old → OnOk result (
-        D.content disk.new ≡ patched gate (1 ∷ []) (patched (gate + 1) bytes.now (D.content disk.old))) }
-    ensures size { length (D.content disk.new) ≡ length (D.content disk.old) }
+        IsStable D.Disk disk.new (patched gate (1 ∷ []) (patched (gate + 1) bytes.now (D.content disk.old)))) }
     ensures cause { HasCause (D.failures disk.old) (D.failures disk.new) result }
-    ensures honest { D.honest disk.old → D.honest disk.new }
-    ensures was_honest { D.honest disk.new → D.honest disk.old }
+    ensures lasts { Lasts D.Disk disk.old disk.new }
 {
     put(disk, gate + 1, bytes)?;
     put(disk, gate, &[1])

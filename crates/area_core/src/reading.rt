@@ -1,13 +1,11 @@
 //! An area is read, from its snapshot on.
 
-ghost use Rattle.std.specs.Prelude.{◌≡◌, ◌+◌, ◌*◌, ◌≤◌, ◌<◌, ◌^◌, ◌∷◌, ◌++◌, [], ℕ, List, false, length, take, drop, IfErr, IfOk, IfSome, MatchOption};
+ghost use Rattle.std.specs.Prelude.{◌≡◌, ◌+◌, ◌*◌, ◌≤◌, ◌<◌, ◌^◌, [], false, length, take, drop, IfErr, IfOk, IfSome, OnErr};
 ghost use Rattle.std.specs.Int.{w64, to_be_bytes};
-ghost use Rattle.command_core.specs.Commands.{CommandValue};
 ghost use Rattle.area_core.specs.Areas.{word_of};
 ghost use Rattle.area_core.specs.Damage.{IsBlockTold, IsFrontTold, IsLengthTold, IsReadCaused, IsWordTold};
-ghost use Rattle.area_core.specs.Held.{IsAt};
-ghost use Rattle.area_core.specs.Journals.{is_odd, start};
-ghost use Rattle.area_core.specs.Reading.{IsPast, Quiet};
+ghost use Rattle.area_core.specs.Held.{LiesOn, gate_at};
+ghost use Rattle.area_core.specs.Reading.{GoesOn, IsPast, ReadsNext, ReadsOnly};
 
 use crate::header::{fetch, fetch_bytes, fetch_number, header};
 use crate::put::COUNTED;
@@ -27,11 +25,8 @@ fn first_word<D: Disk>(disk: &mut D, at: u64, size: u64) -> Result<(Version, u64
     ensures seven { IfOk result (λ r. r.1 < 2 ^ 56) }
     ensures fits { IfOk result (λ r. r.1 + 9 ≤ size) }
     ensures refused { D.honest disk.old → IfErr result (λ fault. IsWordTold fault at size (D.content disk.old)) }
-    ensures quiet { D.honest disk.old → Quiet D.Disk disk.old disk.new }
-    ensures size { length (D.content disk.new) ≡ length (D.content disk.old) }
+    ensures reads { ReadsOnly D.Disk disk.old disk.new }
     ensures cause { IsReadCaused (D.failures disk.old) (D.failures disk.new) result }
-    ensures honest { D.honest disk.old → D.honest disk.new }
-    ensures was_honest { D.honest disk.new → D.honest disk.old }
 {
     let word = fetch_number(disk, at)?;
     let Some(version) = Version::of(word / COUNTED) else {
@@ -53,11 +48,8 @@ impl Area {
         ensures whole { IfOk result (λ r. r.0.broken ≡ false) }
         ensures least { IfOk result (λ r. 4096 ≤ r.0.size) }
         ensures room { IfOk result (λ r. 32 + 2 * r.0.size ≤ length (D.content disk.new)) }
-        ensures quiet { D.honest disk.old → Quiet D.Disk disk.old disk.new }
-        ensures size { length (D.content disk.new) ≡ length (D.content disk.old) }
+        ensures reads { ReadsOnly D.Disk disk.old disk.new }
         ensures cause { IsReadCaused (D.failures disk.old) (D.failures disk.new) result }
-        ensures honest { D.honest disk.old → D.honest disk.new }
-        ensures was_honest { D.honest disk.new → D.honest disk.old }
     {
         let (size, selector) = header(disk)?;
         let mut area = Area {
@@ -78,18 +70,15 @@ impl Area {
 
     // How many bytes the records have behind the gate at that place of the disk, which is open.
     fn block_len<D: Disk>(&self, disk: &mut D, at: u64) -> Result<u64, ReadFault>
-        requires room { 32 + 2 * self.now.size ≤ length (D.content disk.old) }
-        requires place { at ≡ start self.now.size (is_odd self.now.selector) + self.now.gate }
+        requires room { LiesOn self.now (D.content disk.old) }
+        requires place { at ≡ gate_at self.now }
         ensures told { D.honest disk.old →
             IfOk result (λ n. take 8 (drop (at + 1) (D.content disk.old)) ≡ to_be_bytes w64 n) }
         ensures some { IfOk result (λ n. 1 ≤ n) }
         ensures fits { IfOk result (λ n. self.now.gate + 10 + n ≤ self.now.size) }
         ensures refused { D.honest disk.old → IfErr result (λ fault. IsLengthTold fault self.now (D.content disk.old)) }
-        ensures quiet { D.honest disk.old → Quiet D.Disk disk.old disk.new }
-        ensures size { length (D.content disk.new) ≡ length (D.content disk.old) }
+        ensures reads { ReadsOnly D.Disk disk.old disk.new }
         ensures cause { IsReadCaused (D.failures disk.old) (D.failures disk.new) result }
-        ensures honest { D.honest disk.old → D.honest disk.new }
-        ensures was_honest { D.honest disk.new → D.honest disk.old }
     {
         let left = self.size - self.gate;
         if left < 10 {
@@ -109,23 +98,15 @@ impl Area {
         alloc: Global,
         disk: &mut D,
     ) -> Result<Option<Vec<Command>>, ReadFault>
-        requires room { 32 + 2 * self.old.size ≤ length (D.content disk.old) }
-        ensures block { D.honest disk.old → IfOk result (λ next. MatchOption next
-            ((snapshot : List ℕ) (blocks : List (List CommandValue)) →
-            IsPast self.old snapshot blocks (D.content disk.old) → IsAt self.new snapshot blocks (D.content disk.old))
-            (λ commands. (snapshot : List ℕ) (blocks : List (List CommandValue)) →
-            IsPast self.old snapshot blocks (D.content disk.old) →
-            IsPast self.new snapshot (blocks ++ commands.items ∷ []) (D.content disk.old))) }
+        requires room { LiesOn self.old (D.content disk.old) }
+        ensures block { D.honest disk.old →
+            IfOk result (ReadsNext (λ commands. commands.items) self.old self.new (D.content disk.old)) }
         ensures refused { D.honest disk.old → IfErr result (λ fault. IsBlockTold fault self.old (D.content disk.old)) }
-        ensures same { IfErr result (λ _. self.new ≡ self.old) }
-        ensures forward { self.old.gate ≤ self.new.gate }
+        ensures same { OnErr result (self.new ≡ self.old) }
         ensures grows { IfOk result (λ next. IfSome next (λ _. self.old.gate < self.new.gate)) }
-        ensures place { (self.new.size ≡ self.old.size) × (self.new.selector ≡ self.old.selector) × (self.new.broken ≡ self.old.broken) × (self.new.version ≡ self.old.version) }
-        ensures quiet { D.honest disk.old → Quiet D.Disk disk.old disk.new }
-        ensures size { length (D.content disk.new) ≡ length (D.content disk.old) }
+        ensures place { GoesOn self.old self.new }
+        ensures reads { ReadsOnly D.Disk disk.old disk.new }
         ensures cause { IsReadCaused (D.failures disk.old) (D.failures disk.new) result }
-        ensures honest { D.honest disk.old → D.honest disk.new }
-        ensures was_honest { D.honest disk.new → D.honest disk.old }
     {
         let at = self.begins() + self.gate;
         let mut gate = [0];

@@ -1,3 +1,4 @@
+pub mod Calls
 pub mod Epochs
 pub mod FailOnce
 pub mod Faults

@@ -12,10 +12,10 @@ use Rattle.area_core.specs.declared.version.Version.TheVariants.{Two}
 use Rattle.area_core.specs.Held.{IsAt}
 use Rattle.area_core.specs.Journals.{Reads}
 use Rattle.area_core.specs.Puts.{Each}
-use Rattle.area_core.specs.Switches.{HasIdle, IsBoth, KeepsAllButSelector, KeepsBoth, KeepsLive, KeepsRest}
+use Rattle.area_core.specs.Switches.{HasIdle, IsBoth, IsWriting, KeepsAllButSelector, KeepsBoth, KeepsLive, KeepsRest}
 use Rattle.area_core.proofs.Areas.{length-fresh}
 use Rattle.area_core.proofs.Switches.{keeps_both}
-use Rattle.recover_core.specs.Compactions.{HoldsItAlone, KeepsState, KeepsTwo, StandsTwice}
+use Rattle.recover_core.specs.Compactions.{HoldsItAlone, IsWritingState, KeepsState, KeepsTwo, StandsTwice}
 use Rattle.recover_core.specs.Opens.{HasWritten}
 use Rattle.recover_core.specs.Sound.{IsSound, Sound}
 use Rattle.recover_core.specs.Standing.{Leads, Standing, Stands, StandFor}
@@ -31,6 +31,9 @@ still_as images area s c image = written_as images area s c (λ snapshot blocks 
 
 pub rest_as : (images : List ℕ → Type 0) (area : Area) (s : State) (c : List ℕ) → KeepsRest images area c → KeepsTwo images area s c
 rest_as images area s c rest snapshot blocks each lead = inl rest
+
+pub writing_as : (images : List ℕ → Type 0) (area : Area) (s : State) (c : List ℕ) → IsWriting images area c → IsWritingState images area s c
+writing_as images area s c writing = record { stands = written_as images area s c writing.live; two = rest_as images area s c writing.rest }
 
 -- What is known once the snapshot was written: the live area is as it was, and the other has the snapshot.
 pub record Copied (images now : List ℕ → Type 0) (area next : Area) (s : State) : Type 0 where
@@ -66,10 +69,11 @@ module _ {images now : List ℕ → Type 0} {area next : Area} {s : State} (w : 
       let whole : Torn 16 1 d (patched 16 (n ∷ []) c) = record { size = again.size ∙ torn.2.size; before = again.before ∙ torn.2.before; after = again.after ∙ torn.2.after } in
       either_stands snapshot blocks (patched 16 (n ∷ []) c) (keeps_both next now (patched 16 (n ∷ []) c) (d, torn.1, whole) snapshot blocks w.snapshot (held snapshot blocks each) w.idle) lead)
 
-  then_live : (later : List ℕ → Type 0) (last : Area) → last.version ≡ Two
+  -- so it is where the switch went through
+  pub live_after : (later : List ℕ → Type 0) (last : Area) → last.version ≡ Two
       → ((snapshot : List ℕ) (blocks : List (List CommandValue)) (new : List ℕ) → Each now (IsAt next snapshot blocks) → Each now (HasIdle next new) → Each later (IsAt last new []))
       → (snapshot : List ℕ) (blocks : List (List CommandValue)) → Each images (IsAt area snapshot blocks) → HasWritten later last s
-  then_live later last two after snapshot blocks each =
+  live_after later last two after snapshot blocks each =
       let there = after snapshot blocks w.snapshot (held snapshot blocks each) w.idle in record {
         sound = ∣ record { snapshot = w.snapshot; blocks = []; held = there } ∣₁;
         stands = λ c image. stands last.version last.size last.selector w.snapshot [] c s (there c image).reads (subst (λ (v : Version). Leads v w.snapshot [] s) (sym two) copy_leads);
@@ -81,13 +85,6 @@ module _ {images now : List ℕ → Type 0} {area next : Area} {s : State} (w : 
           is_used = omega (arith, (there c image).gate, length-fresh last.version w.snapshot);
         };
       }
-
-  -- so it is where the switch went through
-  pub live_after : {E : Type 0} (later : List ℕ → Type 0) (last : Area) (res : Result (Unit {0}) E) → OnOk res (last.version ≡ Two)
-      → OnOk res ((snapshot : List ℕ) (blocks : List (List CommandValue)) (new : List ℕ) → Each now (IsAt next snapshot blocks) → Each now (HasIdle next new) → Each later (IsAt last new []))
-      → OnOk res ((snapshot : List ℕ) (blocks : List (List CommandValue)) → Each images (IsAt area snapshot blocks) → HasWritten later last s)
-  live_after later last (Ok x) two after = then_live later last two after
-  live_after later last (Err e) two after = tt
 
 -- what holds where each image has an area that leads to the state, holds where each stands for it
 module _ (area : Area) (images : List ℕ → Type 0) (content : List ℕ) (reads : images content) (sound : IsSound images area) (s : State) (stand : StandFor images s) where
@@ -109,8 +106,7 @@ sound_after images area last old new s (Err e) sound after kept whole =
     let same = kept whole in
     subst (λ (d : _). IsSound (images d) last) (sym same.0) (subst (λ (a : Area). IsSound (images old) a) (sym same.1) sound)
 
-pub alone_as : {E : Type 0} (area last : Area) (images later : List ℕ → Type 0) (s : State) (res : Result (Unit {0}) E) → IsSound images area
-    → OnOk res ((snapshot : List ℕ) (blocks : List (List CommandValue)) → Each images (IsAt area snapshot blocks) → HasWritten later last s)
-    → OnOk res (Each later (HoldsItAlone last.size (last.gate + 1) s))
-alone_as area last images later s (Err e) sound after = tt
-alone_as area last images later s (Ok x) sound after = λ c image. ∥∥₁_map sound (λ (it : Sound images area). (after it.snapshot it.blocks it.held).holds c image)
+pub alone_as : (area last : Area) (images later : List ℕ → Type 0) (s : State) → IsSound images area
+    → ((snapshot : List ℕ) (blocks : List (List CommandValue)) → Each images (IsAt area snapshot blocks) → HasWritten later last s)
+    → Each later (HoldsItAlone last.size (last.gate + 1) s)
+alone_as area last images later s sound after = λ c image. ∥∥₁_map sound (λ (it : Sound images area). (after it.snapshot it.blocks it.held).holds c image)

@@ -1,5 +1,5 @@
 -- What opening a journal may leave.
-use Rattle.std.proofs.Common.{◌≡◌, ◌⊎◌, inl, inr, ⊎_elim, Bool, true, false, ℕ, List, [], drop, length, refl, sym, ◌∙◌, ap, subst, arith}
+use Rattle.std.proofs.Common.{◌≡◌, ◌⊎◌, inl, inr, ⊎_elim, Bool, true, false, ℕ, List, [], Err, IfErr, Ok, Result, drop, length, refl, sym, ◌∙◌, ap, subst, arith}
 use Rattle.std.proofs.Math.Logic.{∥∥₁_prop, ∥∥₁_map, ∥∥₁_elim}
 use Rattle.disk_core.specs.declared.disk.Disk.{Ghosts}
 use Rattle.disk_core.specs.Images.{Within, Only}
@@ -18,14 +18,18 @@ use Rattle.area_core.specs.Areas.{IsArea, front}
 use Rattle.area_core.specs.Held.{IsAt}
 use Rattle.area_core.specs.Journals.{is_odd, other, start, Reads}
 use Rattle.recover_core.specs.Opens.{HasRead, HasRestarted, IsUnwritten, KeepsEither, KeepsHeader, StandsForSome, RestartsAs, KeepsRestart}
+use Rattle.recover_core.specs.Opened.{IsOpening, IsRestarting, RefusesRestart, RefusesToOpen, RefusesToRead}
 use Rattle.recover_core.specs.Standing.{Leads, Stands}
+use Rattle.recover_core.specs.Told.{IfFull, IsOpenTold, IsTooLongFor, IsWriteTold}
+use Rattle.recover_core.specs.declared.faults.OpenFault.{OpenFault}
 use Rattle.area_core.specs.Reading.{Quiet}
 use Rattle.area_core.proofs.Areas.{length-fresh}
 use Rattle.area_core.proofs.Journals.{start_least}
 use Rattle.area_core.proofs.Unwritten.{untouched}
-use Rattle.area_core.specs.Switches.{HasIdle, IsBoth, KeepsAllButSelector, KeepsBoth, KeepsLive, KeepsRest}
+use Rattle.area_core.specs.Switches.{HasIdle, IsBoth, IsSwitching, IsWriting, KeepsAllButSelector, KeepsBoth, KeepsLive, KeepsRest}
 use Rattle.recover_core.proofs.Stores.{stands}
 use Rattle.recover_core.proofs.Single.{stands_one}
+use Rattle.recover_core.proofs.Walking.{if_read, never_full}
 
 -- one of the images itself
 pub same_image : (images : List ℕ → Type 0) (c : List ℕ) → images c → KeepsRestart images c
@@ -140,6 +144,32 @@ switched_header images now kept c torn =
     let from = kept torn.0 torn.1 in
     (from.0, from.1, take_before 16 1 16 torn.0 c torn.2 (omega arith) ∙ from.2)
 
+-- while the snapshot is written
+pub restarting_written : (images : List ℕ → Type 0) (area : Area) (s : State) (c : List ℕ) → IsWriting images area c → IsRestarting images area s c
+restarting_written images area s c writing = record { either = while_written images area s c writing.live; header = rest_header images area c writing.rest }
+
+-- and while the selector is
+pub restarting_switched : (images now : List ℕ → Type 0) (area next : Area) (s : State) → Written images now area next s → ((d : List ℕ) → now d → KeepsHeader images d) → (c : List ℕ) → IsSwitching now next c → IsRestarting images area s c
+restarting_switched images now area next s w kept c switching = record { either = while_switched images now area next s w c switching.both; header = switched_header images now kept c switching.rest }
+
+-- two facts of a refusal are one
+pub refuses_restart : {D T : Type 0} (size : ℕ) (s : State) (before after : D) (res : Result T OpenFault) → IfErr res (λ fault. IsWriteTold fault size s) → IfErr res (λ fault. IfFull fault (after ≡ before)) → IfErr res (RefusesRestart size s before after)
+refuses_restart size s before after (Ok x) told full = tt
+refuses_restart size s before after (Err fault) told full = record { told = told; full = full }
+
+pub refuses_to_read : {D T : Type 0} (disk : Ghosts D) (old : D) (res : Result T OpenFault) → (disk.honest old → IfErr res (λ fault. IsOpenTold fault (disk.content old))) → IfErr res (λ fault. IfFull fault ⊥) → IfErr res (RefusesToRead disk old)
+refuses_to_read disk old (Ok x) told full = tt
+refuses_to_read disk old (Err fault) told full = record { told = told; full = full }
+
+-- nothing was written where reading was refused
+pub read_to_open : {D T : Type 0} (disk : Ghosts D) (old new : D) (res : Result T OpenFault) → IfErr res (RefusesToRead disk old) → (disk.honest old → IsUnwritten disk old new) → IfErr res (RefusesToOpen disk old new)
+read_to_open disk old new (Ok x) told none = tt
+read_to_open disk old new (Err fault) refuses none = record {
+  told = refuses.told;
+  full = never_full (IsTooLongFor (length (disk.content old))) fault refuses.full;
+  unwritten = λ honest. if_read {T = ℕ} (Err fault) (none honest);
+}
+
 module _ {D : Type 0} (disk : Ghosts D) (start : D) (only_now : (c : List ℕ) → disk.images_since start (disk.moment start) c → disk.images start c) where
   -- a sync and reads write nothing, at any moment
   pub none_written : (synced read : D) → disk.content synced ≡ disk.content start → Within (disk.images synced) (disk.images start) → Elapses (disk.moment start) (disk.moment synced) (disk.images_since start) (disk.images_since synced) (disk.images synced)
@@ -153,29 +183,25 @@ module _ {D : Type 0} (disk : Ghosts D) (start : D) (only_now : (c : List ℕ) �
   }
 
   -- where nothing is written, each image is one of the start's
-  pub while_unwritten : (read : D) → IsUnwritten disk start read → LeavesOnly disk.moment disk.images_since start read (KeepsRestart (disk.images start))
-  while_unwritten read none = weaker disk start read _ _ none.leaves (same_image (disk.images start))
+  pub opening_unwritten : (read : D) → IsUnwritten disk start read → LeavesOnly disk.moment disk.images_since start read (IsOpening (disk.images start))
+  opening_unwritten read none = weaker disk start read _ _ none.leaves (λ c image. record { restart = same_image (disk.images start) c image; header = (c, image, refl) })
 
-  -- nor is the header
-  pub header_unwritten : (read : D) → IsUnwritten disk start read → LeavesOnly disk.moment disk.images_since start read (KeepsHeader (disk.images start))
-  header_unwritten read none = weaker disk start read _ _ none.leaves (λ c image. (c, image, refl))
-
-  pub header_written : (read now : D) → IsUnwritten disk start read → LeavesOnly disk.moment disk.images_since read now (KeepsHeader (disk.images read))
-      → LeavesOnly disk.moment disk.images_since start now (KeepsHeader (disk.images start))
-  header_written read now none leaves =
-      joined disk start read now (KeepsHeader (disk.images start)) (header_unwritten read none)
-      (weaker disk read now _ _ leaves (λ c kept. (kept.0, none.images kept.0 kept.1, kept.2)))
-
-  pub then_written : (read now : D) (area : Area) (s : State) → IsUnwritten disk start read → Known (disk.images start) (disk.images read) area s
-      → LeavesOnly disk.moment disk.images_since read now (KeepsEither (disk.images read) area s) → LeavesOnly disk.moment disk.images_since start now (KeepsRestart (disk.images start))
-  then_written read now area s none known leaves =
-      joined disk start read now (KeepsRestart (disk.images start)) (while_unwritten read none)
-      (weaker disk read now _ _ leaves (while_restarted (disk.images start) (disk.images read) area s known))
+  pub opening_written : (read now : D) (area : Area) (s : State) → IsUnwritten disk start read → Known (disk.images start) (disk.images read) area s
+      → LeavesOnly disk.moment disk.images_since read now (IsRestarting (disk.images read) area s) → LeavesOnly disk.moment disk.images_since start now (IsOpening (disk.images start))
+  opening_written read now area s none known leaves =
+      joined disk start read now (IsOpening (disk.images start)) (opening_unwritten read none)
+      (weaker disk read now _ _ leaves (λ c is. record {
+        restart = while_restarted (disk.images start) (disk.images read) area s known c is.either;
+        header = (is.header.0, none.images is.header.0 is.header.1, is.header.2);
+      }))
 
   -- where nothing was done, the images are those of the start
-  pub still : (area : Area) (s : State) → LeavesOnly disk.moment disk.images_since start start (KeepsEither (disk.images start) area s)
+  pub still : (area : Area) (s : State) → LeavesOnly disk.moment disk.images_since start start (IsRestarting (disk.images start) area s)
   still area s = record {
     later = omega arith;
-    each = λ c since snapshot blocks each lead. ∣ inl (stands area.version area.size area.selector snapshot blocks c s (each c (only_now c since)).reads lead) ∣₁;
+    each = λ c since. record {
+      either = λ snapshot blocks each lead. ∣ inl (stands area.version area.size area.selector snapshot blocks c s (each c (only_now c since)).reads lead) ∣₁;
+      header = (c, only_now c since, refl);
+    };
     before = λ t c le since. inl since;
   }

@@ -19,7 +19,9 @@ use Rattle.broker_core.specs.Operations.{restarted}
 use Rattle.recover_core.proofs.Sizes.{restart_fits}
 use Rattle.recover_core.specs.declared.faults.OpenFault.{OpenFault}
 use Rattle.recover_core.specs.declared.faults.OpenFault.TheVariants.{Read, CountTooLarge, Area as Areas}
+use Rattle.disk_core.specs.declared.disk.Disk.{Ghosts}
 use Rattle.recover_core.specs.Opens.{HasRead, IsFolded}
+use Rattle.recover_core.specs.Reads.{RefusesWalk}
 use Rattle.recover_core.specs.Standing.{joined, rule_of}
 use Rattle.recover_core.specs.Told.{IfFull, IfRead, IsOfReading, IsOpenTold, IsSnapshotTold, IsStateRefused, IsTooLarge, IsTooLongFor, IsWalkTold, IsWriteTold}
 use Rattle.recover_core.specs.Walks.{Follows, HasEnded, HasWalked}
@@ -195,3 +197,18 @@ no_room_told (Err areas.Device) size s snapshot spells full whole = tt
 no_room_told (Err areas.Full) size s snapshot spells full whole = record { snapshot = snapshot; spells = spells; long = is_long size (length snapshot) (omega (arith, restart_fits s snapshot spells)) (full refl) }
 no_room_told (Err areas.Broken) size s snapshot spells full whole = whole refl
 no_room_told (Err (areas.Memory refused)) size s snapshot spells full whole = tt
+
+-- two facts of a refusal are one
+pub refuses_walk : {D T : Type 0} (disk : Ghosts D) (old : D) (area : Area) (s : State) (res : Result T OpenFault)
+    → (disk.honest old → IfErr res (λ fault. HasWalked area s (disk.content old) → IsWalkTold fault (disk.content old))) → IfErr res IsOfReading → IfErr res (RefusesWalk disk old area s)
+refuses_walk disk old area s (Ok x) told kind = tt
+refuses_walk disk old area s (Err fault) told kind = record { told = told; kind = kind }
+
+-- what is told behind what was walked so far is told from the start
+pub refuses_on : {D T : Type 0} (disk : Ghosts D) (old now : D) (first area : Area) (before s : State) (res : Result T OpenFault) → (disk.honest old → disk.honest now) → (disk.honest old → disk.content now ≡ disk.content old)
+    → (disk.honest old → HasWalked first before (disk.content old) → HasWalked area s (disk.content old)) → IfErr res (RefusesWalk disk now area s) → IfErr res (RefusesWalk disk old first before)
+refuses_on disk old now first area before s (Ok x) honest same walked refuses = tt
+refuses_on disk old now first area before s (Err fault) honest same walked refuses = record {
+  told = λ h w. subst (λ (l : List ℕ). IsWalkTold fault l) (same h) (refuses.told (honest h) (subst (λ (l : List ℕ). HasWalked area s l) (sym (same h)) (walked h w)));
+  kind = refuses.kind;
+}

@@ -34,3 +34,8 @@ KeepsState images area s c = (snapshot : List ℕ) (blocks : List (List CommandV
 -- and it has another area that is not live, or both stand for it
 abbrev pub KeepsTwo : (List ℕ → Type 0) → Area → State → List ℕ → Type 0
 KeepsTwo images area s c = (snapshot : List ℕ) (blocks : List (List CommandValue)) → Each images (IsAt area snapshot blocks) → Leads area.version snapshot blocks s → KeepsRest images area c ⊎ StandsTwice s c
+
+-- while a state's snapshot is written and its area made the live one, an image stands for it, by one area or by both
+pub record IsWritingState (images : List ℕ → Type 0) (area : Area) (s : State) (c : List ℕ) : Type 0 where
+  pub stands : KeepsState images area s c
+  pub two : KeepsTwo images area s c

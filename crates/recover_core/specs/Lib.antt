@@ -1,4 +1,6 @@
+pub mod Opened
 pub mod Opens
+pub mod Reads
 pub mod Seen
 pub mod Sound
 pub mod Standing
@@ -6,4 +8,5 @@ pub mod Stores
 pub mod Texts
 pub mod Told
 pub mod Walks
+pub mod Calls
 pub mod Compactions

@@ -1,11 +1,12 @@
 //! The state that a disk stands for is read.
 
-ghost use Rattle.std.specs.Prelude.{◌≡◌, ◌+◌, ◌*◌, ◌≤◌, ◌<◌, ◌^◌, IfErr, IfOk, OnOk, false, true, length};
-ghost use Rattle.area_core.specs.Reading.{Quiet};
+ghost use Rattle.std.specs.Prelude.{◌≡◌, ◌+◌, ◌*◌, ◌≤◌, IfErr, IfOk, OnOk, false, length};
+ghost use Rattle.area_core.specs.Reading.{GoesOn, ReadsOnly};
 ghost use Rattle.snapshot_core.specs.Snapshots.{Spells};
 ghost use Rattle.recover_core.specs.Opens.{HasRead};
-ghost use Rattle.recover_core.specs.Told.{IsOfReading, IsOpenCaused, IsSnapshotTold, IsStateRefused, IsWalkTold};
-ghost use Rattle.recover_core.specs.Walks.{HasEnded, HasWalked};
+ghost use Rattle.recover_core.specs.Reads.{IsCounted, IsLoaded, RefusesWalk, Steps, Walks};
+ghost use Rattle.recover_core.specs.Told.{IsOfReading, IsOpenCaused, IsSnapshotTold, IsStateRefused};
+ghost use Rattle.recover_core.specs.Walks.{HasWalked};
 
 use crate::OpenFault;
 use crate::folding::{MOST_COUNTED, repeat_all};
@@ -38,22 +39,13 @@ fn read_block<D: Disk>(
 ) -> Result<bool, OpenFault>
     requires room { 32 + 2 * area.old.size ≤ length (D.content disk.old) }
     requires whole { broker.old.broken ≡ false }
-    ensures on { D.honest disk.old → IfOk result (λ more. more ≡ true →
-        HasWalked area.old broker.old.state (D.content disk.old) → HasWalked area.new broker.new.state (D.content disk.old)) }
-    ensures end { D.honest disk.old → IfOk result (λ more. more ≡ false →
-        HasWalked area.old broker.old.state (D.content disk.old) → HasEnded area.new broker.new.state (D.content disk.old)) }
-    ensures refused { D.honest disk.old → IfErr result (λ fault.
-        HasWalked area.old broker.old.state (D.content disk.old) → IsWalkTold fault (D.content disk.old)) }
-    ensures kind { IfErr result IsOfReading }
-    ensures forward { area.old.gate ≤ area.new.gate }
-    ensures grows { IfOk result (λ more. more ≡ true → area.old.gate < area.new.gate) }
-    ensures place { (area.new.size ≡ area.old.size) × (area.new.selector ≡ area.old.selector) × (area.new.broken ≡ area.old.broken) × (area.new.version ≡ area.old.version) }
-    ensures whole { OnOk result (broker.new.broken ≡ false) }
-    ensures quiet { D.honest disk.old → Quiet D.Disk disk.old disk.new }
+    ensures walks { D.honest disk.old →
+        IfOk result (Walks area.old area.new broker.old.state broker.new.state (D.content disk.old)) }
+    ensures refuses { IfErr result (RefusesWalk D.Disk disk.old area.old broker.old.state) }
+    ensures steps { IfOk result (Steps area.old area.new broker.new) }
+    ensures place { GoesOn area.old area.new }
+    ensures reads { ReadsOnly D.Disk disk.old disk.new }
     ensures cause { IsOpenCaused (D.failures disk.old) (D.failures disk.new) result }
-    ensures size { length (D.content disk.new) ≡ length (D.content disk.old) }
-    ensures honest { D.honest disk.old → D.honest disk.new }
-    ensures was_honest { D.honest disk.new → D.honest disk.old }
 {
     match area.next_block(alloc, disk) {
         Ok(Some(commands)) => {
@@ -77,17 +69,11 @@ fn read_blocks<D: Disk>(
     requires whole { broker.old.broken ≡ false }
     ensures read { D.honest disk.old → HasWalked area.old broker.old.state (D.content disk.old) →
         OnOk result (HasRead area.new broker.new.state (D.content disk.old)) }
-    ensures small { OnOk result (broker.new.state.count ≤ 2 ^ 61) }
-    ensures refused { D.honest disk.old → HasWalked area.old broker.old.state (D.content disk.old) →
-        IfErr result (λ fault. IsWalkTold fault (D.content disk.old)) }
-    ensures kind { IfErr result IsOfReading }
-    ensures place { (area.new.size ≡ area.old.size) × (area.new.selector ≡ area.old.selector) × (area.new.broken ≡ area.old.broken) × (area.new.version ≡ area.old.version) }
-    ensures whole { OnOk result (broker.new.broken ≡ false) }
-    ensures quiet { D.honest disk.old → Quiet D.Disk disk.old disk.new }
+    ensures counted { OnOk result (IsCounted broker.new) }
+    ensures refuses { IfErr result (RefusesWalk D.Disk disk.old area.old broker.old.state) }
+    ensures place { GoesOn area.old area.new }
+    ensures reads { ReadsOnly D.Disk disk.old disk.new }
     ensures cause { IsOpenCaused (D.failures disk.old) (D.failures disk.new) result }
-    ensures size { length (D.content disk.new) ≡ length (D.content disk.old) }
-    ensures honest { D.honest disk.old → D.honest disk.new }
-    ensures was_honest { D.honest disk.new → D.honest disk.old }
 {
     let mut more = true;
     while more {
@@ -102,17 +88,11 @@ fn read_blocks<D: Disk>(
 // The live area, and the broker of the state that the disk stands for.
 pub(crate) fn read_state<D: Disk>(alloc: Global, disk: &mut D) -> Result<(Area, Broker), OpenFault>
     ensures read { D.honest disk.old → IfOk result (λ r. HasRead r.0 r.1.state (D.content disk.old)) }
-    ensures small { IfOk result (λ r. r.1.state.count ≤ 2 ^ 61) }
     ensures refused { D.honest disk.old → IfErr result (λ fault. IsStateRefused fault (D.content disk.old)) }
     ensures kind { IfErr result IsOfReading }
-    ensures whole { IfOk result (λ r. (r.0.broken ≡ false) × (r.1.broken ≡ false)) }
-    ensures least { IfOk result (λ r. 4096 ≤ r.0.size) }
-    ensures room { IfOk result (λ r. 32 + 2 * r.0.size ≤ length (D.content disk.new)) }
-    ensures quiet { D.honest disk.old → Quiet D.Disk disk.old disk.new }
+    ensures loaded { IfOk result (λ r. IsLoaded r.0 r.1 (D.content disk.new)) }
+    ensures reads { ReadsOnly D.Disk disk.old disk.new }
     ensures cause { IsOpenCaused (D.failures disk.old) (D.failures disk.new) result }
-    ensures size { length (D.content disk.new) ≡ length (D.content disk.old) }
-    ensures honest { D.honest disk.old → D.honest disk.new }
-    ensures was_honest { D.honest disk.new → D.honest disk.old }
 {
     let (mut area, snapshot) = Area::front(alloc, disk)?;
     let mut broker = match state_of(alloc, &snapshot, area.snapshot_place()) {

@@ -1,7 +1,7 @@
 //! What a journal shows of itself.
 
-ghost use Rattle.std.specs.Prelude.{◌≡◌, ◌+◌, ◌≤◌, ◌^◌, length, IfErr, IfOk};
-ghost use Rattle.area_core.specs.Reading.{Quiet};
+ghost use Rattle.std.specs.Prelude.{◌≤◌, ◌^◌, IfErr, IfOk};
+ghost use Rattle.area_core.specs.Reading.{ReadsOnly};
 ghost use Rattle.recover_core.specs.Seen.{IsSeen};
 ghost use Rattle.recover_core.specs.Told.{IsOfReading, IsOpenCaused, IsStateRefused};
 
@@ -36,11 +36,8 @@ pub fn read<D: Disk>(alloc: Global, disk: &mut D) -> Result<Seen, OpenFault>
     ensures small { IfOk result (λ seen. seen.count ≤ 2 ^ 61) }
     ensures refused { D.honest disk.old → IfErr result (λ fault. IsStateRefused fault (D.content disk.old)) }
     ensures kind { IfErr result IsOfReading }
-    ensures quiet { D.honest disk.old → Quiet D.Disk disk.old disk.new }
+    ensures reads { ReadsOnly D.Disk disk.old disk.new }
     ensures cause { IsOpenCaused (D.failures disk.old) (D.failures disk.new) result }
-    ensures size { length (D.content disk.new) ≡ length (D.content disk.old) }
-    ensures honest { D.honest disk.old → D.honest disk.new }
-    ensures was_honest { D.honest disk.new → D.honest disk.old }
 {
     let (area, broker) = read_state(alloc, disk)?;
     Ok(Seen {

@@ -1,7 +1,7 @@
 //! The state that a journal stands for.
 
-ghost use Rattle.std.specs.Prelude.{◌≡◌, ◌≤◌, ◌^◌, false, length, IfErr, IfOk};
-ghost use Rattle.area_core.specs.Reading.{Quiet};
+ghost use Rattle.std.specs.Prelude.{◌≡◌, ◌≤◌, ◌^◌, false, IfErr, IfOk};
+ghost use Rattle.area_core.specs.Reading.{ReadsOnly};
 ghost use Rattle.recover_core.specs.Standing.{Stands};
 ghost use Rattle.recover_core.specs.Told.{IsOfReading, IsOpenCaused, IsStateRefused};
 
@@ -19,11 +19,8 @@ pub fn stored_broker<D: Disk>(alloc: Global, disk: &mut D) -> Result<Broker, Ope
     ensures small { IfOk result (λ broker. (broker.state.count ≤ 2 ^ 61) × (broker.broken ≡ false)) }
     ensures refused { D.honest disk.old → IfErr result (λ fault. IsStateRefused fault (D.content disk.old)) }
     ensures kind { IfErr result IsOfReading }
-    ensures quiet { D.honest disk.old → Quiet D.Disk disk.old disk.new }
+    ensures reads { ReadsOnly D.Disk disk.old disk.new }
     ensures cause { IsOpenCaused (D.failures disk.old) (D.failures disk.new) result }
-    ensures size { length (D.content disk.new) ≡ length (D.content disk.old) }
-    ensures honest { D.honest disk.old → D.honest disk.new }
-    ensures was_honest { D.honest disk.new → D.honest disk.old }
 {
     match read_state(alloc, disk) {
         Ok((area, broker)) => {

@@ -1,13 +1,10 @@
 //! A store takes commands.
 
-ghost use Rattle.std.specs.Prelude.{◌≡◌, ◌≢◌, ◌<◌, ◌+◌, [], None, OnErr, OnOk, IsErrOf, true, false, length};
+ghost use Rattle.std.specs.Prelude.{◌≡◌, ◌≢◌, [], None, OnOk};
+ghost use Rattle.disk_core.specs.Calls.{Lasts};
 ghost use Rattle.disk_core.specs.Fuse.{calls_left, fused};
-ghost use Rattle.disk_core.specs.Moments.{LeavesOnly};
-ghost use Rattle.area_core.specs.Areas.{commands, records};
-ghost use Rattle.area_core.specs.Steps.{IfMemory, IsCaused};
-ghost use Rattle.broker_core.specs.States.{State};
-ghost use Rattle.broker_core.specs.Steps.{state_after};
-ghost use Rattle.recover_core.specs.Standing.{StandFor, StandsForEither};
+ghost use Rattle.area_core.specs.Areas.{commands};
+ghost use Rattle.recover_core.specs.Calls.{KeepsOpened, StandsThroughout, StoreAdds, StoreBreaks, StoreRefuses};
 ghost use Rattle.recover_core.specs.Stores.{disk_of, is_broken, opened_by, size_of, used_of};
 
 use crate::store::Store;
@@ -48,27 +45,12 @@ impl<D: Disk> Store<D> {
     /// it does not fit into the area; after each refusal every further call answers `Broken` and changes nothing.
     pub fn append<B>(&mut self, alloc: Global, batch: &[Entry<B>]) -> Result<(), AreaFault>
         requires some { batch.now ≢ [] }
-        ensures any_moment { D.honest (disk_of self.old) → (s : State) → StandFor (D.images (disk_of self.old)) s →
-            LeavesOnly D.moment D.images_since (disk_of self.old) (disk_of self.new)
-            (StandsForEither s (state_after s (commands batch.now))) }
-        ensures after { D.honest (disk_of self.old) → OnOk result ((s : State) → StandFor (D.images (disk_of self.old)) s →
-            StandFor (D.images (disk_of self.new)) (state_after s (commands batch.now))) }
-        ensures full { IsErrOf result AreaFault.Full →
-            (size_of self.old < used_of self.old + 9 + length (records (commands batch.now)))
-            × (disk_of self.new ≡ disk_of self.old) }
-        ensures memory { IfMemory result (disk_of self.new ≡ disk_of self.old) }
-        ensures broken { is_broken self.old ≡ true →
-            IsErrOf result AreaFault.Broken × (disk_of self.new ≡ disk_of self.old) }
-        ensures same { is_broken self.old ≡ true → self.new ≡ self.old }
-        ensures sound { IsErrOf result AreaFault.Broken → is_broken self.old ≡ true }
-        ensures ok { OnOk result (is_broken self.new ≡ false) }
-        ensures err { OnErr result (is_broken self.new ≡ true) }
-        ensures cause { IsCaused (D.failures (disk_of self.old)) (D.failures (disk_of self.new)) result }
-        ensures opened { opened_by self.new ≡ opened_by self.old }
-        ensures size { size_of self.new ≡ size_of self.old }
-        ensures used { OnOk result (used_of self.new ≡ used_of self.old + 9 + length (records (commands batch.now))) }
-        ensures honest { D.honest (disk_of self.old) → D.honest (disk_of self.new) }
-        ensures was_honest { D.honest (disk_of self.new) → D.honest (disk_of self.old) }
+        ensures any_moment { StandsThroughout D.Disk self.old self.new (commands batch.now) }
+        ensures adds { OnOk result (StoreAdds D.Disk self.old self.new (commands batch.now)) }
+        ensures refuses { StoreRefuses D.Disk self.old self.new (commands batch.now) result }
+        ensures breaks { StoreBreaks D.Disk self.old self.new result }
+        ensures keeps { KeepsOpened self.old self.new }
+        ensures lasts { Lasts D.Disk (disk_of self.old) (disk_of self.new) }
     {
         if self.area.is_broken() {
             return Err(AreaFault::Broken);

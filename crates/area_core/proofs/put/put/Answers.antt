@@ -1,5 +1,5 @@
-use Rattle.std.proofs.Common.{ℕ, List, length, subst}
-use Rattle.std.specs.Prelude.{OnOk}
+use Rattle.std.proofs.Common.{ℕ, List, length, subst, ◌∙◌}
+use Rattle.std.proofs.lemmas.Result.{on_ok_weaker}
 use Rattle.disk_core.specs.Images.{Only}
 use Rattle.disk_core.proofs.Runs.{goes_on}
 use Rattle.disk_core.proofs.Torn.{torn_same}
@@ -30,4 +30,10 @@ returns-clause-torn g c honest image is = (c.write_at.ensures.images honest).onl
 
 pub returns-clause-stable : goal.returns-clause-stable
 returns-clause-stable g c honest =
-    subst (λ (l : List ℕ). OnOk c.sync.result (Only l (g.D.Disk.images c.sync.new.self))) (c.in_ok-write_at.ensures.written honest) (c.sync.ensures.stable (c.write_at.ensures.honest honest))
+    let honest_1 = c.write_at.ensures.honest honest in
+    on_ok_weaker c.sync.result
+    (λ (only : Only (g.D.Disk.content c.write_at.new.self) (g.D.Disk.images c.sync.new.self)). record {
+      content = c.sync.ensures.content honest_1 ∙ c.in_ok-write_at.ensures.written honest;
+      only = subst (λ (l : List ℕ). Only l (g.D.Disk.images c.sync.new.self)) (c.in_ok-write_at.ensures.written honest) only;
+    })
+    (c.sync.ensures.stable honest_1)

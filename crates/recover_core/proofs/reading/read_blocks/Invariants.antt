@@ -1,5 +1,5 @@
-use Rattle.std.proofs.Common.{◌≡◌, ◌+◌, ◌-◌, true, false, if◌then◌else◌, length}
-use Rattle.area_core.specs.Reading.{Quiet}
+use Rattle.std.proofs.Common.{◌≡◌, ◌+◌, ◌-◌, true, false, if◌then◌else◌}
+use Rattle.area_core.specs.Reading.{GoesOn, ReadsOnly}
 use Rattle.recover_core.specs.Walks.{HasEnded, HasWalked}
 use Rattle.recover_core.proofs.reading.read_blocks.Given as goal
 
@@ -7,13 +7,10 @@ abbrev pub invariant-loop-more : goal.invariant-loop-more
 invariant-loop-more g l = record {
   walked : g.D.Disk.honest l.fn.disk → HasWalked l.fn.area l.fn.broker.state (g.D.Disk.content l.fn.disk) → l.more ≡ true → HasWalked l.area l.broker.state (g.D.Disk.content l.fn.disk);
   ended : g.D.Disk.honest l.fn.disk → HasWalked l.fn.area l.fn.broker.state (g.D.Disk.content l.fn.disk) → l.more ≡ false → HasEnded l.area l.broker.state (g.D.Disk.content l.fn.disk);
-  place : (l.area.size ≡ l.fn.area.size) × (l.area.selector ≡ l.fn.area.selector) × (l.area.broken ≡ l.fn.area.broken) × (l.area.version ≡ l.fn.area.version);
+  place : GoesOn l.fn.area l.area;
   broker : l.broker.broken ≡ false;
-  quiet : g.D.Disk.honest l.fn.disk → Quiet g.D.Disk l.fn.disk l.disk;
-  size : length (g.D.Disk.content l.disk) ≡ length (g.D.Disk.content l.fn.disk);
+  reads : ReadsOnly g.D.Disk l.fn.disk l.disk;
   failures : g.D.Disk.failures l.disk ≡ g.D.Disk.failures l.fn.disk;
-  honest : g.D.Disk.honest l.fn.disk → g.D.Disk.honest l.disk;
-  was_honest : g.D.Disk.honest l.disk → g.D.Disk.honest l.fn.disk;
 }
 
 abbrev pub decreases-loop-more : goal.decreases-loop-more

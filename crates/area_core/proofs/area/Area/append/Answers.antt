@@ -1,10 +1,10 @@
-use Rattle.std.proofs.Common.{rules, inl, refl, ◌≡◌, ℕ, ◌+◌, ◌≤◌, List, ◌++◌, [], ◌∷◌, length, sym, subst, arith, ◌∙◌}
+use Rattle.std.proofs.Common.{rules, inl, ◌≡◌, ℕ, ◌+◌, ◌≤◌, List, ◌++◌, [], ◌∷◌, length, sym, subst, arith, ◌∙◌}
 use Rattle.disk_core.proofs.Runs.{weaker}
 use Rattle.area_core.specs.Areas.{closed, commands, records, IsBlock}
 use Rattle.area_core.specs.Journals.{is_odd, start, Reads}
 use Rattle.area_core.proofs.Appends.{gated, added, no_entries}
 use Rattle.area_core.proofs.Journals.{start_most}
-use Rattle.area_core.proofs.Unwritten.{on_err, untouched}
+use Rattle.area_core.proofs.Unwritten.{untouched}
 use Rattle.area_core.proofs.area.Area.append.Goals as goal
 
 pub put_behind_gate-requires-clause-small : goal.put_behind_gate-requires-clause-small
@@ -25,19 +25,24 @@ returns-clause-any_moment g c honest =
     (gated c.args.self.now (commands c.args.batch.now) (c.begins.result + c.args.self.now.gate) (g.D.Disk.content c.args.disk.now) (g.D.Disk.images c.args.disk.now) form (search rules) (omega (arith, c.begins.ensures))
     (g.met.D.Disk.reads c.args.disk.now honest) c.deref.result.now (c.deref.ensures.value ∙ c.in_ok-block.ensures))
 
-pub returns-clause-after : goal.returns-clause-after
-returns-clause-after g c honest snapshot blocks held image is =
+pub returns-clause-adds : goal.returns-clause-adds
+returns-clause-adds g c =
     let area = c.args.self.now in
     let batch = commands c.args.batch.now in
     let form : IsBlock batch = record { some = λ e. c.requires.some (no_entries c.args.batch.now e); each = c.in-Some.ensures.form } in
     let room : area.gate + 10 + length (records batch) ≤ area.size = search rules in
     let are : c.deref.result.now ≡ closed (records batch) = c.deref.ensures.value ∙ c.in_ok-block.ensures in
     let at : c.begins.result + area.gate ≡ start area.size (is_odd area.selector) + area.gate = omega (arith, c.begins.ensures) in
-    let new = added area batch (c.begins.result + area.gate) (g.D.Disk.content c.args.disk.now) (g.D.Disk.images c.args.disk.now) form room at (g.met.D.Disk.reads c.args.disk.now honest) c.deref.result.now are snapshot blocks held in
     let total : c.in-Some.records ≡ length (records batch) = c.in-Some.ensures.some in
     record {
-      reads = subst (λ (l : List ℕ). Reads area.version area.size area.selector snapshot (blocks ++ batch ∷ []) l) (sym (c.in_ok-put_behind_gate.ensures.stable honest image is)) new.0;
-      gate = omega (arith, new.1, total);
+      behind = λ honest snapshot blocks held image is.
+          let new = added area batch (c.begins.result + area.gate) (g.D.Disk.content c.args.disk.now) (g.D.Disk.images c.args.disk.now) form room at (g.met.D.Disk.reads c.args.disk.now honest) c.deref.result.now are snapshot blocks held in
+          record {
+            reads = subst (λ (l : List ℕ). Reads area.version area.size area.selector snapshot (blocks ++ batch ∷ []) l) (sym ((c.in_ok-put_behind_gate.ensures.stable honest).only image is)) new.0;
+            gate = omega (arith, new.1, total);
+          };
+      only = λ honest image is. (c.in_ok-put_behind_gate.ensures.stable honest).only image is ∙ sym (c.in_ok-put_behind_gate.ensures.stable honest).content;
+      used = search rules;
     }
 
 pub returns-then-self-clause-any_moment : goal.returns-then-self-clause-any_moment
@@ -51,15 +56,3 @@ returns-then-not-fits-clause-any_moment g c honest = untouched g.D.Disk c.args.d
 
 pub returns-in_err-block-clause-any_moment : goal.returns-in_err-block-clause-any_moment
 returns-in_err-block-clause-any_moment g c honest = untouched g.D.Disk c.args.disk.now (g.met.D.Disk.only_now c.args.disk.now) _ (λ image is snapshot blocks held. inl (held image is))
-
-pub returns-in_default-clause-err : goal.returns-in_default-clause-err
-returns-in_default-clause-err g c = refl
-
-pub returns-then-not-fits-clause-err : goal.returns-then-not-fits-clause-err
-returns-then-not-fits-clause-err g c = refl
-
-pub returns-in_err-block-clause-err : goal.returns-in_err-block-clause-err
-returns-in_err-block-clause-err g c = on_err c.from_residual.result refl
-
-pub returns-in_err-put_behind_gate-clause-err : goal.returns-in_err-put_behind_gate-clause-err
-returns-in_err-put_behind_gate-clause-err g c = on_err c.from_residual-in_err-put_behind_gate.result refl

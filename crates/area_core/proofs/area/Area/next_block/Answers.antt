@@ -4,7 +4,7 @@ use Rattle.area_core.specs.Areas.{IsBlock, records}
 use Rattle.area_core.specs.Journals.{is_odd, start}
 use Rattle.area_core.proofs.Areas.{all_push, length-pushed}
 use Rattle.area_core.proofs.Journals.{start_most}
-use Rattle.area_core.proofs.Walked.{quiet_then, single, closes, block_next, is_block}
+use Rattle.area_core.proofs.Walked.{reads_then, single, closes, block_next, is_block}
 use Rattle.area_core.proofs.area.Area.next_block.Goals as goal
 
 pub returns-then-gate-ne1-clause-block : goal.returns-then-gate-ne1-clause-block
@@ -27,10 +27,10 @@ returns-clause-block g c honest snapshot blocks past =
     let v = c.in_ok-bytes.bytes.items in
     let cs = c.in_ok-commands.commands.items in
     let count : ℕ = c.in_ok-count.count in
-    let honest_1 = c.fetch.ensures.honest honest in
-    let honest_2 = c.block_len.ensures.honest honest_1 in
-    let same_1 : g.D.Disk.content c.fetch.new.disk ≡ content = (c.fetch.ensures.quiet honest).content in
-    let same_2 : g.D.Disk.content c.block_len.new.disk ≡ content = (c.block_len.ensures.quiet honest_1).content ∙ same_1 in
+    let honest_1 = c.fetch.ensures.reads.honest honest in
+    let honest_2 = c.block_len.ensures.reads.honest honest_1 in
+    let same_1 : g.D.Disk.content c.fetch.new.disk ≡ content = (c.fetch.ensures.reads.quiet honest).content in
+    let same_2 : g.D.Disk.content c.block_len.new.disk ≡ content = (c.block_len.ensures.reads.quiet honest_1).content ∙ same_1 in
     let size : length v ≡ count = c.in_ok-bytes.ensures.length in
     let at : c.begins.result + it.gate ≡ base + it.gate = ap (λ (n : ℕ). n + it.gate) c.begins.ensures in
     let read : c.fetch.new.into ≡ take 1 (drop (base + it.gate) content) = c.in_ok-fetch.ensures.bytes honest ∙ ap (λ (n : ℕ). take 1 (drop n content)) at in
@@ -53,20 +53,14 @@ returns-clause-block g c honest snapshot blocks past =
       each = all_push IsBlock blocks cs past.each (is_block cs some c.in_ok-commands.ensures.each);
     }
 
-pub returns-in_err-fetch-clause-quiet : goal.returns-in_err-fetch-clause-quiet
-returns-in_err-fetch-clause-quiet g c honest = c.fetch.ensures.quiet honest
+pub returns-in_err-count-clause-reads : goal.returns-in_err-count-clause-reads
+returns-in_err-count-clause-reads g c = reads_then g.D.Disk c.args.disk.now c.fetch.new.disk c.block_len.new.disk c.fetch.ensures.reads c.block_len.ensures.reads
 
-pub returns-then-gate-ne1-clause-quiet : goal.returns-then-gate-ne1-clause-quiet
-returns-then-gate-ne1-clause-quiet g c honest = c.fetch.ensures.quiet honest
+pub returns-in_err-bytes-clause-reads : goal.returns-in_err-bytes-clause-reads
+returns-in_err-bytes-clause-reads g c = reads_then g.D.Disk c.args.disk.now c.block_len.new.disk c.fetch_bytes.new.disk (reads_then g.D.Disk c.args.disk.now c.fetch.new.disk c.block_len.new.disk c.fetch.ensures.reads c.block_len.ensures.reads) c.fetch_bytes.ensures.reads
 
-pub returns-in_err-count-clause-quiet : goal.returns-in_err-count-clause-quiet
-returns-in_err-count-clause-quiet g c honest = quiet_then g.D.Disk c.args.disk.now c.fetch.new.disk c.block_len.new.disk (c.fetch.ensures.quiet honest) (c.block_len.ensures.quiet (c.fetch.ensures.honest honest))
+pub returns-in_err-commands-clause-reads : goal.returns-in_err-commands-clause-reads
+returns-in_err-commands-clause-reads g c = reads_then g.D.Disk c.args.disk.now c.block_len.new.disk c.fetch_bytes.new.disk (reads_then g.D.Disk c.args.disk.now c.fetch.new.disk c.block_len.new.disk c.fetch.ensures.reads c.block_len.ensures.reads) c.fetch_bytes.ensures.reads
 
-pub returns-in_err-bytes-clause-quiet : goal.returns-in_err-bytes-clause-quiet
-returns-in_err-bytes-clause-quiet g c honest = quiet_then g.D.Disk c.args.disk.now c.block_len.new.disk c.fetch_bytes.new.disk (quiet_then g.D.Disk c.args.disk.now c.fetch.new.disk c.block_len.new.disk (c.fetch.ensures.quiet honest) (c.block_len.ensures.quiet (c.fetch.ensures.honest honest))) (c.fetch_bytes.ensures.quiet (c.block_len.ensures.honest (c.fetch.ensures.honest honest)))
-
-pub returns-in_err-commands-clause-quiet : goal.returns-in_err-commands-clause-quiet
-returns-in_err-commands-clause-quiet g c honest = quiet_then g.D.Disk c.args.disk.now c.block_len.new.disk c.fetch_bytes.new.disk (quiet_then g.D.Disk c.args.disk.now c.fetch.new.disk c.block_len.new.disk (c.fetch.ensures.quiet honest) (c.block_len.ensures.quiet (c.fetch.ensures.honest honest))) (c.fetch_bytes.ensures.quiet (c.block_len.ensures.honest (c.fetch.ensures.honest honest)))
-
-pub returns-clause-quiet : goal.returns-clause-quiet
-returns-clause-quiet g c honest = quiet_then g.D.Disk c.args.disk.now c.block_len.new.disk c.fetch_bytes.new.disk (quiet_then g.D.Disk c.args.disk.now c.fetch.new.disk c.block_len.new.disk (c.fetch.ensures.quiet honest) (c.block_len.ensures.quiet (c.fetch.ensures.honest honest))) (c.fetch_bytes.ensures.quiet (c.block_len.ensures.honest (c.fetch.ensures.honest honest)))
+pub returns-clause-reads : goal.returns-clause-reads
+returns-clause-reads g c = reads_then g.D.Disk c.args.disk.now c.block_len.new.disk c.fetch_bytes.new.disk (reads_then g.D.Disk c.args.disk.now c.fetch.new.disk c.block_len.new.disk c.fetch.ensures.reads c.block_len.ensures.reads) c.fetch_bytes.ensures.reads
