@@ -10,9 +10,9 @@ use Rattle.flush_core.proofs.fitting.append_first.Goals as goal
 pub returns-in-Ok-append-clause-any_moment : goal.returns-in-Ok-append-clause-any_moment
 returns-in-Ok-append-clause-any_moment g c = λ honest s stand.
     subst (λ es. LeavesOnly g.D.Disk.moment g.D.Disk.images_since (disk_of c.args.journal.now) (disk_of c.append.new.self) (StandsForEither s (state_after s (commands es))))
-    (c.deref-2.ensures.value ∙ c.in-Ok.ensures.items) (c.append.ensures.any_moment honest s stand)
+    (c.deref-2.ensures.value ∙ c.in-Ok.ensures.items) (c.append.ensures.any_moment s stand honest)
 
 pub returns-in-Err-append-clause-any_moment : goal.returns-in-Err-append-clause-any_moment
 returns-in-Err-append-clause-any_moment g c = λ honest s stand.
     subst (λ es. LeavesOnly g.D.Disk.moment g.D.Disk.images_since (disk_of c.args.journal.now) (disk_of c.append.new.self) (StandsForEither s (state_after s (commands es))))
-    (c.deref-2.ensures.value ∙ c.in-Ok.ensures.items) (c.append.ensures.any_moment honest s stand)
+    (c.deref-2.ensures.value ∙ c.in-Ok.ensures.items) (c.append.ensures.any_moment s stand honest)

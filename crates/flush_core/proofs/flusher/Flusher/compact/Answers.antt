@@ -1,5 +1,6 @@
 use Rattle.std.proofs.Common.{◌∙◌, ◌≡◌, ◌++◌, ◌-◌, Err, Result, Some, ap, arith, refl, subst, sym, false, true}
 use Rattle.disk_core.specs.Moments.{LeavesOnly}
+use Rattle.disk_core.proofs.Runs.{weaker}
 use Rattle.area_core.specs.Puts.{Each}
 use Rattle.area_core.specs.Steps.{IsCaused}
 use Rattle.area_core.specs.declared.faults.AreaFault.{AreaFault}
@@ -32,12 +33,12 @@ invariant_of-self g c =
     let s = state_at it.opening.value.state it.seat it.stored in
     let same : it.broker.state ≡ s = stored_state g.D.Disk.honest g.D.Disk.images f kept c.if-self.false executed in
     let stand : g.D.Disk.honest c.compact.new.self.disk → StandFor (g.D.Disk.images c.compact.new.self.disk) s = λ h.
-    stand_then g.D.Disk it.journal.disk c.compact.new.self.disk s it.broker.state same (c.compact.ensures.any_moment (c.compact.ensures.was_honest h) (c.self.invariant.1 c.if-self.false).whole)
+    stand_then g.D.Disk it.journal.disk c.compact.new.self.disk s it.broker.state same (weaker g.D.Disk it.journal.disk c.compact.new.self.disk _ _ (c.compact.ensures.any_moment (c.self.invariant.1 c.if-self.false).whole (c.compact.ensures.lasts.was_honest h)) (λ image is. is.stands))
     (λ t image le among. g.met.D.Disk.counts_now c.compact.new.self.disk t image le among) in (
       compacts g.D.Disk.honest g.D.Disk.images f c.compact.new.self.disk _ _ _ c.if-self.false stand kept,
-      λ w. let held = c.self.invariant.1 w in record { whole = c.in-Ok.ensures.ok; batch_is = held.batch_is; bytes_is = held.bytes_is; done_is = held.done_is; few = held.few; room_is = held.room_is },
+      λ w. let held = c.self.invariant.1 w in record { whole = c.in-Ok.ensures.breaks.ok; batch_is = held.batch_is; bytes_is = held.bytes_is; done_is = held.done_is; few = held.few; room_is = held.room_is },
       c.self.invariant.2,
-      λ w. subst (λ n. IsBatch g.W.Width.COMMANDS (block_bytes n g.W.Width.BYTES) (commands it.batch.items)) (sym c.compact.ensures.size) (c.self.invariant.3 w),
+      λ w. subst (λ n. IsBatch g.W.Width.COMMANDS (block_bytes n g.W.Width.BYTES) (commands it.batch.items)) (sym c.compact.ensures.keeps.size) (c.self.invariant.3 w),
     )
 
 pub invariant_of-self-in-Err : goal.invariant_of-self-in-Err
@@ -49,7 +50,7 @@ invariant_of-self-in-Err g c =
     let s = state_at it.opening.value.state it.seat it.stored in
     let same : it.broker.state ≡ s = stored_state g.D.Disk.honest g.D.Disk.images f kept c.if-self.false executed in
     let stand : g.D.Disk.honest c.compact.new.self.disk → StandFor (g.D.Disk.images c.compact.new.self.disk) s = λ h.
-    stand_then g.D.Disk it.journal.disk c.compact.new.self.disk s it.broker.state same (c.compact.ensures.any_moment (c.compact.ensures.was_honest h) (c.self.invariant.1 c.if-self.false).whole)
+    stand_then g.D.Disk it.journal.disk c.compact.new.self.disk s it.broker.state same (weaker g.D.Disk it.journal.disk c.compact.new.self.disk _ _ (c.compact.ensures.any_moment (c.self.invariant.1 c.if-self.false).whole (c.compact.ensures.lasts.was_honest h)) (λ image is. is.stands))
     (λ t image le among. g.met.D.Disk.counts_now c.compact.new.self.disk t image le among) in (
       store_fails g.D.Disk.honest g.D.Disk.images f c.stop.new.seat c.compact.new.self.disk _ _ (it.done.items ++ it.batch.items) c.stop.ensures
           (λ h. hold_at (g.D.Disk.images c.compact.new.self.disk) it.opening.value.state it.seat it.stored (omega (arith, kept.marked, kept.executed)) kept.stored (stand h)) kept,
@@ -67,7 +68,7 @@ returns-in-Ok-clause-any_moment g c =
     let s = state_at it.opening.value.state it.seat it.stored in
     let same : it.broker.state ≡ s = stored_state g.D.Disk.honest g.D.Disk.images f kept c.if-self.false executed in
     subst (λ (f : Flushed g.row.D.Denot). g.D.Disk.honest f.disk → f.broken ≡ false → LeavesOnly g.D.Disk.moment g.D.Disk.images_since f.disk c.compact.new.self.disk (λ c. Stands c (state_at f.opening f.seat f.stored))) c.self.view_is
-    (λ h w. leaves_state g.D.Disk it.journal.disk c.compact.new.self.disk s it.broker.state same (c.compact.ensures.any_moment h (c.self.invariant.1 w).whole))
+    (λ h w. leaves_state g.D.Disk it.journal.disk c.compact.new.self.disk s it.broker.state same (weaker g.D.Disk it.journal.disk c.compact.new.self.disk _ _ (c.compact.ensures.any_moment (c.self.invariant.1 w).whole h) (λ image is. is.stands)))
 
 pub returns-in-Err-clause-any_moment : goal.returns-in-Err-clause-any_moment
 returns-in-Err-clause-any_moment g c =
@@ -78,7 +79,7 @@ returns-in-Err-clause-any_moment g c =
     let s = state_at it.opening.value.state it.seat it.stored in
     let same : it.broker.state ≡ s = stored_state g.D.Disk.honest g.D.Disk.images f kept c.if-self.false executed in
     subst (λ (f : Flushed g.row.D.Denot). g.D.Disk.honest f.disk → f.broken ≡ false → LeavesOnly g.D.Disk.moment g.D.Disk.images_since f.disk c.compact.new.self.disk (λ c. Stands c (state_at f.opening f.seat f.stored))) c.self.view_is
-    (λ h w. leaves_state g.D.Disk it.journal.disk c.compact.new.self.disk s it.broker.state same (c.compact.ensures.any_moment h (c.self.invariant.1 w).whole))
+    (λ h w. leaves_state g.D.Disk it.journal.disk c.compact.new.self.disk s it.broker.state same (weaker g.D.Disk it.journal.disk c.compact.new.self.disk _ _ (c.compact.ensures.any_moment (c.self.invariant.1 w).whole h) (λ image is. is.stands)))
 
 pub returns-in-Ok-clause-after : goal.returns-in-Ok-clause-after
 returns-in-Ok-clause-after g c =
@@ -89,7 +90,7 @@ returns-in-Ok-clause-after g c =
     let s = state_at it.opening.value.state it.seat it.stored in
     let same : it.broker.state ≡ s = stored_state g.D.Disk.honest g.D.Disk.images f kept c.if-self.false executed in
     subst (λ (f : Flushed g.row.D.Denot). g.D.Disk.honest f.disk → Each (g.D.Disk.images c.compact.new.self.disk) (HoldsItAlone (size_of c.compact.new.self) (used_of c.compact.new.self) (state_at f.opening f.seat f.stored))) c.self.view_is
-    (λ h. subst (λ (s : State). Each (g.D.Disk.images c.compact.new.self.disk) (HoldsItAlone (size_of c.compact.new.self) (used_of c.compact.new.self) s)) same (c.in-Ok.ensures.after h))
+    (λ h. subst (λ (s : State). Each (g.D.Disk.images c.compact.new.self.disk) (HoldsItAlone (size_of c.compact.new.self) (used_of c.compact.new.self) s)) same (c.in-Ok.ensures.compacts.alone h))
 
 pub returns-in-Err-clause-full : goal.returns-in-Err-clause-full
 returns-in-Err-clause-full g c is =
@@ -100,7 +101,7 @@ returns-in-Err-clause-full g c is =
     let s = state_at it.opening.value.state it.seat it.stored in
     let same : it.broker.state ≡ s = stored_state g.D.Disk.honest g.D.Disk.images f kept c.if-self.false executed in
     let full = only_full c.in-Err.fault (sym c.from.ensures ∙ same_fault c.from.result Full is) in
-    let told = c.compact.ensures.full (c.in-Err.is ∙ ap (λ (fault : AreaFault). Err fault) full) in
+    let told = c.compact.ensures.breaks.full (c.in-Err.is ∙ ap (λ (fault : AreaFault). Err fault) full) in
     subst (λ (f : Flushed g.row.D.Denot). HasNoRoomFor f.size (state_at f.opening f.seat f.stored) × (c.compact.new.self.disk ≡ f.disk)) c.self.view_is
     (subst (λ (s : State). HasNoRoomFor (size_of it.journal) s) same told.0, ap (λ store. disk_of store) told.1)
 
@@ -113,7 +114,7 @@ returns-in-Err-clause-no_room g c honest is =
     let s = state_at it.opening.value.state it.seat it.stored in
     let same : it.broker.state ≡ s = stored_state g.D.Disk.honest g.D.Disk.images f kept c.if-self.false executed in
     let full = only_full c.in-Err.fault (sym c.from.ensures ∙ same_fault c.from.result Full is) in
-    let told = c.compact.ensures.full (c.in-Err.is ∙ ap (λ (fault : AreaFault). Err fault) full) in
+    let told = c.compact.ensures.breaks.full (c.in-Err.is ∙ ap (λ (fault : AreaFault). Err fault) full) in
     let was : g.D.Disk.honest it.journal.disk = subst (λ (f : Flushed g.row.D.Denot). g.D.Disk.honest f.disk) (sym c.self.view_is) honest in
     subst (λ (f : Flushed g.row.D.Denot). HasNoRoomForState (g.D.Disk.content c.compact.new.self.disk) (state_at f.opening f.seat f.stored)) c.self.view_is
     (subst (λ d. HasNoRoomForState (g.D.Disk.content d) s) (sym (ap (λ store. disk_of store) told.1))
@@ -137,17 +138,17 @@ compact-requires-clause-stands g c = λ h w.
     subst (λ (s : State). StandFor (g.D.Disk.images it.journal.disk) s) (sym same) ((kept.running c.if-self.false).stands h)
 
 pub returns-in-Ok-clause-honest : goal.returns-in-Ok-clause-honest
-returns-in-Ok-clause-honest g c = subst (λ (f : Flushed g.row.D.Denot). g.D.Disk.honest f.disk → g.D.Disk.honest c.compact.new.self.disk) c.self.view_is c.compact.ensures.honest
+returns-in-Ok-clause-honest g c = subst (λ (f : Flushed g.row.D.Denot). g.D.Disk.honest f.disk → g.D.Disk.honest c.compact.new.self.disk) c.self.view_is c.compact.ensures.lasts.honest
 
 pub returns-in-Ok-clause-was_honest : goal.returns-in-Ok-clause-was_honest
-returns-in-Ok-clause-was_honest g c = subst (λ (f : Flushed g.row.D.Denot). g.D.Disk.honest c.compact.new.self.disk → g.D.Disk.honest f.disk) c.self.view_is c.compact.ensures.was_honest
+returns-in-Ok-clause-was_honest g c = subst (λ (f : Flushed g.row.D.Denot). g.D.Disk.honest c.compact.new.self.disk → g.D.Disk.honest f.disk) c.self.view_is c.compact.ensures.lasts.was_honest
 
 pub returns-in-Err-clause-outcome : goal.returns-in-Err-clause-outcome
 returns-in-Err-clause-outcome g c =
     let it = c.self.inside in
     let now = c.args.self.now in
     let new = flushed c.compact.new.self c.stop.new.seat it.opening.value.state it.stored it.executed (it.done.items ++ it.batch.items) it.broker it.outlet.boxes it.outlet.ended.items it.outlet.past.items it.outlet.waiting.items it.outlet.left.items true it.won in
-    let whole : c.in-Err.fault ≡ area.Broken → ⊥ = λ is. absurd (cc (c.compact.ensures.sound (c.in-Err.is ∙ ap (λ (fault : AreaFault). Err fault) is), (c.self.invariant.1 c.if-self.false).whole)) in
+    let whole : c.in-Err.fault ≡ area.Broken → ⊥ = λ is. absurd (cc (c.compact.ensures.breaks.sound (c.in-Err.is ∙ ap (λ (fault : AreaFault). Err fault) is), (c.self.invariant.1 c.if-self.false).whole)) in
     subst (λ (fault : FlushFault). IsOutcome {X = Unit {0}} now new (Err fault)) (sym c.from.ensures)
     (fell_so c.in-Err.fault now new whole (record {
       was = ap (λ (f : Flushed g.row.D.Denot). f.broken) (sym c.self.view_is) ∙ c.if-self.false;
@@ -165,7 +166,7 @@ returns-in-Err-clause-cause g c =
     let after = g.D.Disk.failures c.compact.new.self.disk in
     subst (λ (f : Flushed g.row.D.Denot). IsFlushCaused {T = Unit {0}} (g.D.Disk.failures f.disk) after (Err c.from.result)) c.self.view_is
     (subst (λ (fault : FlushFault). IsFlushCaused {T = Unit {0}} before after (Err fault)) (sym c.from.ensures)
-    (caused_so (Unit {0}) c.in-Err.fault before after (subst (λ (r : Result (Unit {0}) AreaFault). IsCaused {T = Unit {0}} before after r) c.in-Err.is c.compact.ensures.cause)))
+    (caused_so (Unit {0}) c.in-Err.fault before after (subst (λ (r : Result (Unit {0}) AreaFault). IsCaused {T = Unit {0}} before after r) c.in-Err.is c.compact.ensures.breaks.cause)))
 
 pub returns-in-Ok-clause-compacted : goal.returns-in-Ok-clause-compacted
 returns-in-Ok-clause-compacted g c =
@@ -174,7 +175,7 @@ returns-in-Ok-clause-compacted g c =
     let executed : it.executed ≡ it.stored = subst (λ (f : Flushed g.row.D.Denot). f.executed ≡ f.stored) (sym c.self.view_is) (c.requires.executed (ap (λ (f : Flushed g.row.D.Denot). f.broken) (sym c.self.view_is) ∙ c.if-self.false)) in
     let s = state_at it.opening.value.state it.seat it.stored in
     let same : it.broker.state ≡ s = stored_state g.D.Disk.honest g.D.Disk.images f c.self.invariant.0 c.if-self.false executed in
-    let afresh : used_of c.compact.new.self ≡ used_afresh s = c.in-Ok.ensures.used ∙ ap (λ (s : State). used_afresh s) same in
+    let afresh : used_of c.compact.new.self ≡ used_afresh s = c.in-Ok.ensures.compacts.used ∙ ap (λ (s : State). used_afresh s) same in
     let won : c.saturating_sub-won.result ≡ used_of it.journal - used_afresh s = omega (arith, c.saturating_sub-won.ensures, c.used-before.ensures, c.used.ensures, afresh) in
-    (λ i. record f { disk = disk_of c.compact.new.self; size = c.in-Ok.ensures.size i; used = afresh i; won = Some (won i) })
+    (λ i. record f { disk = disk_of c.compact.new.self; size = c.in-Ok.ensures.keeps.size i; used = afresh i; won = Some (won i) })
     ∙ ap (λ (f : Flushed g.row.D.Denot). compacted f (disk_of c.compact.new.self) (used_afresh (state_at f.opening f.seat f.stored))) c.self.view_is
