@@ -4,4 +4,4 @@ use Rattle.subcommands.proofs.program.empty_journal.Goals as goal
 
 pub returns-in-Ok-format-clause-empty : goal.returns-in-Ok-format-clause-empty
 returns-in-Ok-format-clause-empty c =
-    stands_formatted _ c.format.new.disk.content (c.in-Ok-format.ensures.formatted tt c.format.new.disk.content (reads_image c.format.new.disk))
+    stands_formatted _ c.format.new.disk.content (c.in-Ok-format.ensures.formats.formatted tt c.format.new.disk.content (reads_image c.format.new.disk))

@@ -6,4 +6,4 @@ use Rattle.script_journal.proofs.journal.Journal+MemDisk.open.Goals as goal
 pub returns-in-Ok-clause-stood : goal.returns-in-Ok-clause-stood
 returns-in-Ok-clause-stood c =
     opened_as (opened_by c.in-Ok.store) c.with_broker.result (disk_of c.in-Ok.store) (λ broker. IsRestartOf c.args.disk.content broker.state) (λ journal. IsRestartOf c.args.disk.content journal.state)
-    c.in-Ok.ensures.opened (c.in-Ok.ensures.stood tt) (restart_of c.args.disk.content (disk_of c.in-Ok.store)) c.with_broker.ensures.made
+    c.in-Ok.ensures.opens.opened (c.in-Ok.ensures.opens.stood tt) (restart_of c.args.disk.content (disk_of c.in-Ok.store)) c.with_broker.ensures.made
