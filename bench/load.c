@@ -224,6 +224,7 @@ static long heard_messages;
 static void on_fanned(struct connection *one, const char *frame, size_t length) {
     if (one == &connections[0]) {
         take_receipt(one, frame, length);
+        send_ahead();
     } else {
         if (!starts(frame, length, "MESSAGE\n") || body_of(frame, length) != one->messages) {
             fail("no MESSAGE %ld: %.*s", one->messages, (int)length, frame);

@@ -245,7 +245,8 @@ def growths(bench):
             before = int.from_bytes(counted.read_bytes(), "little")
             load = Load(bench.load, server, *words, bench.seconds)
             grown = int.from_bytes(counted.read_bytes(), "little") - before
-        tell(text, f"{grown / (load[name] * bench.seconds):,.1f}", "each", " (the connections' own counted)")
+        # The load begins a second before it is measured.
+        tell(text, f"{grown / (load[name] * (bench.seconds + 1)):,.1f}", "each", " (the connections' own counted)")
 
 
 def listeners(port):
