@@ -39,6 +39,8 @@ LOCKED = "stompd: cannot open: FILE: another server has its lock\n"
 SMALL_JOURNAL = "131104"
 # What a running server tells has its moment in front.
 EVENT = re.compile(r"stompd: \d{4}-\d\d-\d\dT")
+# What is told of a journal's making that takes over a second.
+WRITTEN = re.compile(r"stompd: \d+ of \d+ MiB are written$")
 # A first start writes and syncs 512 MiB, which a busy disk takes its time for. In seconds.
 PATIENCE = 120
 # Signals at random moments, and pairs of first starts.
@@ -91,11 +93,12 @@ class Start:
         return bool(select.select([self.process.stdout], [], [], seconds)[0]) and self.process.stdout.readline().startswith("listening ")
 
     def end(self, sent=None, seconds=PATIENCE):
-        """The status, and what was told besides the events of a running server, once it has ended by itself or by that signal."""
+        """The status, and what was told besides the events of a running server and how far a journal is made, once it has ended by itself or by that
+        signal."""
         if sent:
             self.process.send_signal(sent)
         _, told = self.process.communicate(timeout=seconds)
-        return self.process.returncode, "".join(line for line in told.splitlines(keepends=True) if not EVENT.match(line))
+        return self.process.returncode, "".join(line for line in told.splitlines(keepends=True) if not (EVENT.match(line) or WRITTEN.match(line)))
 
     def kill_all(self):
         """Ends it and all that it has started, as a lost machine does."""
@@ -311,8 +314,8 @@ def what_the_server_tells(checks):
     printf '{line[:-1]}\\n' >&2
 fi""")
     start = Start(program, file, free_port(), "--origin", "http://here:1", "--threads", "3", "--memory", "16777216", "--origin", "null")
-    told = [start.process.stderr.readline() for _ in range(2)]
-    checks.same("what it tells is told while it runs", told[1:], [line])
+    lines = (it for it in iter(start.process.stderr.readline, "") if not WRITTEN.match(it))
+    checks.same("what it tells is told while it runs", [next(lines, ""), next(lines, "")], [f"serve: made the journal {file}\n", line])
     checks.check("and it listens then", start.listens())
     passed = " --origin http://here:1 --threads 3 --memory 16777216 --origin null\n"
     checks.check("origins, the number of threads and the memory are passed on", words.read_text().endswith(passed), words.read_text())
