@@ -64,7 +64,7 @@ class Reader(threading.Thread):
 
 
 def read_steadily(broker, checks):
-    """while four read at their rates none is given up, and one that reads nothing is, after 10 seconds"""
+    """while four read at their rates none is given up, and one that reads nothing is, after 10 seconds or 20"""
     stuck, other = Client(broker.port, receive_bytes=65_536).connect(), Client(broker.port, timeout=LONGEST_WRITE + 20).connect()
     stuck.subscribe("h", "/queue/held", "client-individual")
     held = [frame.body for frame in stuck.publish("/queue/held", "held")]
@@ -81,7 +81,9 @@ def read_steadily(broker, checks):
     sender.disconnect()
     checks.same("another gets that message", other.receive().body, "held")
     waited = time.monotonic() - start
-    checks.check(f"{LONGEST_WRITE} to {LONGEST_WRITE + SPARE} seconds after its socket was full", LONGEST_WRITE <= waited <= LONGEST_WRITE + SPARE + sent, waited)
+    # At the end of its time what waits is offered to its socket once more. If that has room then, it has as long again.
+    most = 2 * LONGEST_WRITE + SPARE
+    checks.check(f"{LONGEST_WRITE} to {most} seconds after its socket was full", LONGEST_WRITE <= waited <= most + sent, waited)
     checks.tell(f"after {waited:.1f} s; {MESSAGES} messages were sent in {sent:.1f} s")
     other.disconnect()
     for reader in readers:
