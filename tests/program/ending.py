@@ -77,6 +77,9 @@ def ended(process):
 def idle(program, journal, checks):
     """a server that nobody has come to"""
     process = begun(program, journal, scenario.free_port())
+    # One that is asked to end before it has told that may tell neither (docs/PROMISES.md, "What is open").
+    started = process.stderr.readline().decode()
+    checks.check("it says that it started", " started: " in started, started)
     status, seconds, told = ended(process)
     checks.same("a server without clients ends with status 0", status, 0)
     checks.check("and at once", seconds < 2, seconds)
