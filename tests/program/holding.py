@@ -165,7 +165,8 @@ def pings_and_never_reads(broker, checks):
             ended = True
     waited = time.monotonic() - last
     checks.check("its connection is ended", ended, waited)
-    checks.check("some 10 seconds after it could send no more", LONGEST_WRITE - SPARE < waited < LONGEST_WRITE + SPARE, waited)
+    # At the end of its time what waits is offered to its socket once more. If that has room then, it has as long again.
+    checks.check("some 10 to 20 seconds after it could send no more", LONGEST_WRITE - SPARE < waited < 2 * LONGEST_WRITE + SPARE, waited)
     checks.tell(f"{sent} bytes of pings in {last - start:.1f} s, ended {waited:.1f} s after the last of them")
     client.close()
     other = Client(broker.port).connect()

@@ -118,7 +118,8 @@ def reads_never(broker, checks):
         sent += 1
         time.sleep(0 if sent < MESSAGES else 0.05)
     waited = time.perf_counter() - start
-    checks.check("the other hears something after some 10 seconds", LONGEST_WRITE <= waited < LONGEST_WRITE + 5, waited)
+    # At the end of its time what waits is offered to its socket once more. If that has room then, it has as long again.
+    checks.check("the other hears something after some 10 to 20 seconds", LONGEST_WRITE <= waited < 2 * LONGEST_WRITE + 5, waited)
     checks.tell(f"after {waited:.1f} s, {sent} messages")
     flood.tell(checks)
     checks.same("it is handed the message", other.receive().body, "held")
