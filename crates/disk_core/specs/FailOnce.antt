@@ -1,6 +1,7 @@
 -- What a `FailOnce` shows.
-use Rattle.std.specs.Prelude.{ℕ, ◌+◌, Option}
+use Rattle.std.specs.Prelude.{◌≡◌, ◌≢◌, ℕ, ◌+◌, None, Option, Result, Some, IsErr}
 use Rattle.disk_core.specs.declared.fail_once.FailOnce.{FailOnce}
+use Rattle.disk_core.specs.Faults.{HasCause, IsOneMore}
 
 -- the disk that it passes calls on to
 abbrev pub below : {D : Type 0} → FailOnce D → D
@@ -17,3 +18,9 @@ calls_made f = f.made
 -- the call that failed by it, and those of its disk that failed
 abbrev pub all_failures : {D : Type 0} → (D → ℕ) → FailOnce D → ℕ
 all_failures failures f = failures f.disk + f.failed
+
+-- The call fails if it is due, and none is due then. Any other is passed on. Each is counted.
+pub record FailsDue {D T E : Type 0} (failures : D → ℕ) (old new : FailOnce D) (result : Result T E) : Type 0 where
+  pub fails : due old ≡ Some (calls_made old) → IsErr result × (due new ≡ None)
+  pub passed : due old ≢ Some (calls_made old) → HasCause (failures (below old)) (failures (below new)) result × (due new ≡ due old)
+  pub counted : IsOneMore (calls_made old) (calls_made new)

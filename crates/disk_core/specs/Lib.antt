@@ -6,6 +6,7 @@ pub mod File
 pub mod Fuse
 pub mod Images
 pub mod Kept
+pub mod Lasting
 pub mod Memory
 pub mod Moments
 pub mod Pairs

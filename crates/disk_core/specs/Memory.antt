@@ -5,6 +5,7 @@ use Rattle.std.specs.List.{between}
 use Rattle.disk_core.specs.declared.call.Call.{Call}
 use Rattle.disk_core.specs.Faults.{IsOneMore}
 use Rattle.disk_core.specs.Images.{patched, IsImage, IsStable}
+use Rattle.disk_core.specs.Moments.{Elapses}
 use Rattle.disk_core.specs.Pairs.{pairwise}
 
 -- Of each byte written since the last sync, `held` has what it held then; `past` has the same for each sync before, and
@@ -54,6 +55,10 @@ HadImage (held ∷ later) synced c = IsImage (synced_before later synced) held c
 -- a stop since that moment might have left this
 abbrev pub HadSince : Memory → ℕ → List ℕ → Type 0
 HadSince d t c = IsImage d.content d.held c ⊎ HadImage (drop t d.past) (crashed None d.held d.content) c
+
+-- The disk grows older: what a stop at some moment might have left stays, and what it may leave now is added.
+abbrev pub Ages : Memory → Memory → Type 0
+Ages old new = Elapses (length old.past) (length new.past) (HadSince old) (HadSince new) (IsImage new.content new.held)
 
 -- of the first n bytes, those that are not unsynced are the same
 abbrev pub IsSameTo : ℕ → List ℕ → List (Option ℕ) → List ℕ → Type 0

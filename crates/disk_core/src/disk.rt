@@ -2,7 +2,8 @@
 ghost use Rattle.std.specs.Prelude.{◌≡◌, ◌+◌, ◌≤◌, ℕ, List, length, take, drop, OnOk, OnErr};
 ghost use Rattle.disk_core.specs.Faults.{HasCause};
 ghost use Rattle.disk_core.specs.Images.{patched, Torn, Frees, Same, Within, Only};
-ghost use Rattle.disk_core.specs.Moments.{Elapses};
+ghost use Rattle.disk_core.specs.Lasting.{Remains};
+ghost use Rattle.disk_core.specs.Moments.{Passes};
 
 use crate::DeviceFault;
 
@@ -46,14 +47,10 @@ pub trait Disk {
         ensures bytes { honest self.old →
             OnOk result (into.new ≡ take (length into.old) (drop at (content self.old))) }
         ensures content { honest self.old → content self.new ≡ content self.old }
-        ensures size { length (content self.new) ≡ length (content self.old) }
         ensures images { honest self.old → Same (images self.old) (images self.new) }
-        ensures time { honest self.old →
-            Elapses (moment self.old) (moment self.new)
-            (images_since self.old) (images_since self.new) (images self.new) }
+        ensures time { honest self.old → Passes moment images_since images self.old self.new }
         ensures cause { HasCause (failures self.old) (failures self.new) result }
-        ensures honest { honest self.old → honest self.new }
-        ensures was_honest { honest self.new → honest self.old };
+        ensures lasts { Remains content honest self.old self.new };
 
     /// Writes a range, which lies within the disk. Until a sync succeeds it is unsynced, also where
     /// the write fails: then the range may read as anything, and the rest stays.
@@ -63,15 +60,11 @@ pub trait Disk {
             OnOk result (content self.new ≡ patched at bytes.now (content self.old)) }
         ensures content { honest self.old →
             Torn at (length bytes.now) (content self.old) (content self.new) }
-        ensures size { length (content self.new) ≡ length (content self.old) }
         ensures images { honest self.old →
             Frees at (length bytes.now) (images self.old) (images self.new) }
-        ensures time { honest self.old →
-            Elapses (moment self.old) (moment self.new)
-            (images_since self.old) (images_since self.new) (images self.new) }
+        ensures time { honest self.old → Passes moment images_since images self.old self.new }
         ensures cause { HasCause (failures self.old) (failures self.new) result }
-        ensures honest { honest self.old → honest self.new }
-        ensures was_honest { honest self.new → honest self.old };
+        ensures lasts { Remains content honest self.old self.new };
 
     /// Makes all that was written stable. A sync that fails makes nothing stable, and changes
     /// nothing.
@@ -79,14 +72,10 @@ pub trait Disk {
         ensures stable { honest self.old → OnOk result (Only (content self.old) (images self.new)) }
         ensures failed { honest self.old → OnErr result (Same (images self.old) (images self.new)) }
         ensures content { honest self.old → content self.new ≡ content self.old }
-        ensures size { length (content self.new) ≡ length (content self.old) }
         ensures images { honest self.old → Within (images self.new) (images self.old) }
-        ensures time { honest self.old →
-            Elapses (moment self.old) (moment self.new)
-            (images_since self.old) (images_since self.new) (images self.new) }
+        ensures time { honest self.old → Passes moment images_since images self.old self.new }
         ensures cause { HasCause (failures self.old) (failures self.new) result }
-        ensures honest { honest self.old → honest self.new }
-        ensures was_honest { honest self.new → honest self.old };
+        ensures lasts { Remains content honest self.old self.new };
 
     /// What a read gives is one of the images.
     ghost reads: { (disk : Self) → honest disk → images disk (content disk) };

@@ -1,9 +1,9 @@
 //! An example: bytes that are there as a whole or not at all, whenever the disk stops.
-ghost use Rattle.std.specs.Prelude.{◌≡◌, ◌+◌, ◌≤◌, ℕ, List, length, Option, Some, None, OnOk};
+ghost use Rattle.std.specs.Prelude.{◌≡◌, ◌+◌, ◌≤◌, length, None, OnOk};
+ghost use Rattle.disk_core.specs.Calls.{Lasts, Throughout};
 ghost use Rattle.disk_core.specs.Faults.{HasCause};
 ghost use Rattle.disk_core.specs.Images.{Only};
-ghost use Rattle.disk_core.specs.Moments.{LeavesOnly};
-ghost use Rattle.disk_core.specs.Publish.{published, IsAllOrNothing};
+ghost use Rattle.disk_core.specs.Publish.{published, IsAllOrNothing, IsPublished};
 
 use crate::{DeviceFault, Disk};
 
@@ -16,14 +16,10 @@ pub fn publish<D: Disk>(disk: &mut D, payload: &[u8]) -> Result<(), DeviceFault>
     requires synced { D.honest disk.old → Only (D.content disk.old) (D.images disk.old) }
     requires closed { D.honest disk.old →
         published (length payload.now) (D.content disk.old) ≡ None }
-    ensures any_moment { D.honest disk.old →
-        LeavesOnly D.moment D.images_since disk.old disk.new
-        (IsAllOrNothing (length payload.now) payload.now) }
-    ensures published { D.honest disk.old →
-        OnOk result ((c : List ℕ) → D.images disk.new c → published (length payload.now) c ≡ Some payload.now) }
+    ensures any_moment { Throughout D.Disk disk.old disk.new (IsAllOrNothing (length payload.now) payload.now) }
+    ensures published { D.honest disk.old → OnOk result (IsPublished (D.images disk.new) payload.now) }
     ensures cause { HasCause (D.failures disk.old) (D.failures disk.new) result }
-    ensures honest { D.honest disk.old → D.honest disk.new }
-    ensures was_honest { D.honest disk.new → D.honest disk.old }
+    ensures lasts { Lasts D.Disk disk.old disk.new }
 {
     disk.write_at(1, payload)?;
     disk.sync()?;

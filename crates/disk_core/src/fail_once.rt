@@ -1,8 +1,8 @@
 //! A disk of which one call fails.
-ghost use Rattle.std.specs.Prelude.{◌≡◌, ◌≢◌, ◌+◌, ◌≤◌, ◌↔◌, ◌⊎◌, length, take, drop, OnOk, OnErr, IsErr, IsTrue, MatchBool, Option, Some, None};
+ghost use Rattle.std.specs.Prelude.{◌≡◌, ◌+◌, ◌≤◌, ◌↔◌, ◌⊎◌, length, IsTrue, MatchBool, Option, Some, None};
+ghost use Rattle.disk_core.specs.Calls.{ReadsAt, Syncs, WritesAt};
 ghost use Rattle.disk_core.specs.Faults.{HasCause, IsOneMore};
-ghost use Rattle.disk_core.specs.Images.{patched, Torn, Frees, Same, Within, Only};
-ghost use Rattle.disk_core.specs.Moments.{Elapses};
+ghost use Rattle.disk_core.specs.Images.{patched};
 
 use crate::faults::fail;
 use crate::{DeviceFault, Disk};
@@ -85,7 +85,7 @@ fn is_due(due: &mut Option<u64>, made: &mut u64) -> bool
 }
 
 impl<D: Disk> Disk for FailOnce<D> {
-    ghost use Rattle.disk_core.specs.FailOnce.{below, due, calls_made, all_failures};
+    ghost use Rattle.disk_core.specs.FailOnce.{FailsDue, below, due, calls_made, all_failures};
 
     ghost content = { λ f. D.content f.disk };
 
@@ -113,26 +113,10 @@ impl<D: Disk> Disk for FailOnce<D> {
 
     fn read_at(&mut self, at: u64, into: &mut [u8]) -> Result<(), DeviceFault>
         requires { at + length into.old ≤ length (D.content (below self.old)) }
-        ensures bytes { D.honest (below self.old) →
-            OnOk result (into.new ≡ take (length into.old) (drop at (D.content (below self.old)))) }
-        ensures content { D.honest (below self.old) →
-            D.content (below self.new) ≡ D.content (below self.old) }
-        ensures size { length (D.content (below self.new)) ≡ length (D.content (below self.old)) }
-        ensures images { D.honest (below self.old) →
-            Same (D.images (below self.old)) (D.images (below self.new)) }
-        ensures time { D.honest (below self.old) →
-            Elapses (D.moment (below self.old)) (D.moment (below self.new))
-            (D.images_since (below self.old)) (D.images_since (below self.new)) (D.images (below self.new)) }
+        ensures reads { ReadsAt D.Disk at into.old into.new (below self.old) (below self.new) result }
         ensures cause { HasCause (all_failures D.failures self.old) (all_failures D.failures self.new) result }
-        ensures honest { D.honest (below self.old) → D.honest (below self.new) }
-        ensures was_honest { D.honest (below self.new) → D.honest (below self.old) }
-
-        // It passes each call on but the one that is due.
-        ensures fails { due self.old ≡ Some (calls_made self.old) → IsErr result × (due self.new ≡ None) }
-        ensures passed { due self.old ≢ Some (calls_made self.old) →
-            HasCause (D.failures (below self.old)) (D.failures (below self.new)) result × (due self.new ≡ due self.old) }
+        ensures fails { FailsDue D.failures self.old self.new result }
         ensures nothing { due self.old ≡ Some (calls_made self.old) → below self.new ≡ below self.old }
-        ensures counted { IsOneMore (calls_made self.old) (calls_made self.new) }
     {
         if is_due(&mut self.due, &mut self.made) {
             return fail(&mut self.failed);
@@ -142,27 +126,12 @@ impl<D: Disk> Disk for FailOnce<D> {
 
     fn write_at(&mut self, at: u64, bytes: &[u8]) -> Result<(), DeviceFault>
         requires { at + length bytes.now ≤ length (D.content (below self.old)) }
-        ensures written { D.honest (below self.old) →
-            OnOk result (D.content (below self.new) ≡ patched at bytes.now (D.content (below self.old))) }
-        ensures content { D.honest (below self.old) →
-            Torn at (length bytes.now) (D.content (below self.old)) (D.content (below self.new)) }
-        ensures size { length (D.content (below self.new)) ≡ length (D.content (below self.old)) }
-        ensures images { D.honest (below self.old) →
-            Frees at (length bytes.now) (D.images (below self.old)) (D.images (below self.new)) }
-        ensures time { D.honest (below self.old) →
-            Elapses (D.moment (below self.old)) (D.moment (below self.new))
-            (D.images_since (below self.old)) (D.images_since (below self.new)) (D.images (below self.new)) }
+        ensures writes { WritesAt D.Disk at bytes.now (below self.old) (below self.new) result }
         ensures cause { HasCause (all_failures D.failures self.old) (all_failures D.failures self.new) result }
-        ensures honest { D.honest (below self.old) → D.honest (below self.new) }
-        ensures was_honest { D.honest (below self.new) → D.honest (below self.old) }
-
-        ensures fails { due self.old ≡ Some (calls_made self.old) → IsErr result × (due self.new ≡ None) }
-        ensures passed { due self.old ≢ Some (calls_made self.old) →
-            HasCause (D.failures (below self.old)) (D.failures (below self.new)) result × (due self.new ≡ due self.old) }
+        ensures fails { FailsDue D.failures self.old self.new result }
         ensures begun { D.honest (below self.old) → due self.old ≡ Some (calls_made self.old) →
             (D.content (below self.new) ≡ patched at bytes.now (D.content (below self.old)))
             ⊎ IsOneMore (D.failures (below self.old)) (D.failures (below self.new)) }
-        ensures counted { IsOneMore (calls_made self.old) (calls_made self.new) }
     {
         if is_due(&mut self.due, &mut self.made) {
             // It fails, but it may have begun.
@@ -173,27 +142,10 @@ impl<D: Disk> Disk for FailOnce<D> {
     }
 
     fn sync(&mut self) -> Result<(), DeviceFault>
-        ensures stable { D.honest (below self.old) →
-            OnOk result (Only (D.content (below self.old)) (D.images (below self.new))) }
-        ensures failed { D.honest (below self.old) →
-            OnErr result (Same (D.images (below self.old)) (D.images (below self.new))) }
-        ensures content { D.honest (below self.old) →
-            D.content (below self.new) ≡ D.content (below self.old) }
-        ensures size { length (D.content (below self.new)) ≡ length (D.content (below self.old)) }
-        ensures images { D.honest (below self.old) →
-            Within (D.images (below self.new)) (D.images (below self.old)) }
-        ensures time { D.honest (below self.old) →
-            Elapses (D.moment (below self.old)) (D.moment (below self.new))
-            (D.images_since (below self.old)) (D.images_since (below self.new)) (D.images (below self.new)) }
+        ensures syncs { Syncs D.Disk (below self.old) (below self.new) result }
         ensures cause { HasCause (all_failures D.failures self.old) (all_failures D.failures self.new) result }
-        ensures honest { D.honest (below self.old) → D.honest (below self.new) }
-        ensures was_honest { D.honest (below self.new) → D.honest (below self.old) }
-
-        ensures fails { due self.old ≡ Some (calls_made self.old) → IsErr result × (due self.new ≡ None) }
-        ensures passed { due self.old ≢ Some (calls_made self.old) →
-            HasCause (D.failures (below self.old)) (D.failures (below self.new)) result × (due self.new ≡ due self.old) }
+        ensures fails { FailsDue D.failures self.old self.new result }
         ensures nothing { due self.old ≡ Some (calls_made self.old) → below self.new ≡ below self.old }
-        ensures counted { IsOneMore (calls_made self.old) (calls_made self.new) }
     {
         if is_due(&mut self.due, &mut self.made) {
             // Nothing becomes stable.

@@ -1,8 +1,7 @@
 //! A disk that fails from a chosen call on.
-ghost use Rattle.std.specs.Prelude.{◌≡◌, ◌+◌, ◌-◌, ◌<◌, ◌≤◌, ◌↔◌, length, take, drop, OnOk, OnErr, IsErr, IsTrue};
+ghost use Rattle.std.specs.Prelude.{◌≡◌, ◌+◌, ◌-◌, ◌<◌, ◌≤◌, ◌↔◌, length, IsTrue};
+ghost use Rattle.disk_core.specs.Calls.{ReadsAt, Syncs, WritesAt};
 ghost use Rattle.disk_core.specs.Faults.{HasCause};
-ghost use Rattle.disk_core.specs.Images.{patched, Torn, Frees, Same, Within, Only};
-ghost use Rattle.disk_core.specs.Moments.{Elapses};
 
 use crate::faults::fail;
 use crate::{DeviceFault, Disk};
@@ -61,7 +60,7 @@ fn spend(left: &mut u64) -> bool
 }
 
 impl<D: Disk> Disk for FuseDisk<D> {
-    ghost use Rattle.disk_core.specs.Fuse.{fused, calls_left, all_failures};
+    ghost use Rattle.disk_core.specs.Fuse.{Burns, fused, all_failures};
 
     ghost content = { λ f. D.content f.disk };
 
@@ -89,25 +88,9 @@ impl<D: Disk> Disk for FuseDisk<D> {
 
     fn read_at(&mut self, at: u64, into: &mut [u8]) -> Result<(), DeviceFault>
         requires { at + length into.old ≤ length (D.content (fused self.old)) }
-        ensures bytes { D.honest (fused self.old) →
-            OnOk result (into.new ≡ take (length into.old) (drop at (D.content (fused self.old)))) }
-        ensures content { D.honest (fused self.old) →
-            D.content (fused self.new) ≡ D.content (fused self.old) }
-        ensures size { length (D.content (fused self.new)) ≡ length (D.content (fused self.old)) }
-        ensures images { D.honest (fused self.old) →
-            Same (D.images (fused self.old)) (D.images (fused self.new)) }
-        ensures time { D.honest (fused self.old) →
-            Elapses (D.moment (fused self.old)) (D.moment (fused self.new))
-            (D.images_since (fused self.old)) (D.images_since (fused self.new)) (D.images (fused self.new)) }
+        ensures reads { ReadsAt D.Disk at into.old into.new (fused self.old) (fused self.new) result }
         ensures cause { HasCause (all_failures D.failures self.old) (all_failures D.failures self.new) result }
-        ensures honest { D.honest (fused self.old) → D.honest (fused self.new) }
-        ensures was_honest { D.honest (fused self.new) → D.honest (fused self.old) }
-
-        // It passes the call on where some are left.
-        ensures passed { 0 < calls_left self.old →
-            HasCause (D.failures (fused self.old)) (D.failures (fused self.new)) result }
-        ensures left { 0 < calls_left self.old → calls_left self.new + 1 ≡ calls_left self.old }
-        ensures blown { calls_left self.old ≡ 0 → IsErr result × (calls_left self.new ≡ 0) }
+        ensures burns { Burns D.failures self.old self.new result }
     {
         if !spend(&mut self.left) {
             return fail(&mut self.failed);
@@ -117,24 +100,9 @@ impl<D: Disk> Disk for FuseDisk<D> {
 
     fn write_at(&mut self, at: u64, bytes: &[u8]) -> Result<(), DeviceFault>
         requires { at + length bytes.now ≤ length (D.content (fused self.old)) }
-        ensures written { D.honest (fused self.old) →
-            OnOk result (D.content (fused self.new) ≡ patched at bytes.now (D.content (fused self.old))) }
-        ensures content { D.honest (fused self.old) →
-            Torn at (length bytes.now) (D.content (fused self.old)) (D.content (fused self.new)) }
-        ensures size { length (D.content (fused self.new)) ≡ length (D.content (fused self.old)) }
-        ensures images { D.honest (fused self.old) →
-            Frees at (length bytes.now) (D.images (fused self.old)) (D.images (fused self.new)) }
-        ensures time { D.honest (fused self.old) →
-            Elapses (D.moment (fused self.old)) (D.moment (fused self.new))
-            (D.images_since (fused self.old)) (D.images_since (fused self.new)) (D.images (fused self.new)) }
+        ensures writes { WritesAt D.Disk at bytes.now (fused self.old) (fused self.new) result }
         ensures cause { HasCause (all_failures D.failures self.old) (all_failures D.failures self.new) result }
-        ensures honest { D.honest (fused self.old) → D.honest (fused self.new) }
-        ensures was_honest { D.honest (fused self.new) → D.honest (fused self.old) }
-
-        ensures passed { 0 < calls_left self.old →
-            HasCause (D.failures (fused self.old)) (D.failures (fused self.new)) result }
-        ensures left { 0 < calls_left self.old → calls_left self.new + 1 ≡ calls_left self.old }
-        ensures blown { calls_left self.old ≡ 0 → IsErr result × (calls_left self.new ≡ 0) }
+        ensures burns { Burns D.failures self.old self.new result }
     {
         if !spend(&mut self.left) {
             // It fails, but it may have begun.
@@ -145,26 +113,9 @@ impl<D: Disk> Disk for FuseDisk<D> {
     }
 
     fn sync(&mut self) -> Result<(), DeviceFault>
-        ensures stable { D.honest (fused self.old) →
-            OnOk result (Only (D.content (fused self.old)) (D.images (fused self.new))) }
-        ensures failed { D.honest (fused self.old) →
-            OnErr result (Same (D.images (fused self.old)) (D.images (fused self.new))) }
-        ensures content { D.honest (fused self.old) →
-            D.content (fused self.new) ≡ D.content (fused self.old) }
-        ensures size { length (D.content (fused self.new)) ≡ length (D.content (fused self.old)) }
-        ensures images { D.honest (fused self.old) →
-            Within (D.images (fused self.new)) (D.images (fused self.old)) }
-        ensures time { D.honest (fused self.old) →
-            Elapses (D.moment (fused self.old)) (D.moment (fused self.new))
-            (D.images_since (fused self.old)) (D.images_since (fused self.new)) (D.images (fused self.new)) }
+        ensures syncs { Syncs D.Disk (fused self.old) (fused self.new) result }
         ensures cause { HasCause (all_failures D.failures self.old) (all_failures D.failures self.new) result }
-        ensures honest { D.honest (fused self.old) → D.honest (fused self.new) }
-        ensures was_honest { D.honest (fused self.new) → D.honest (fused self.old) }
-
-        ensures passed { 0 < calls_left self.old →
-            HasCause (D.failures (fused self.old)) (D.failures (fused self.new)) result }
-        ensures left { 0 < calls_left self.old → calls_left self.new + 1 ≡ calls_left self.old }
-        ensures blown { calls_left self.old ≡ 0 → IsErr result × (calls_left self.new ≡ 0) }
+        ensures burns { Burns D.failures self.old self.new result }
     {
         if !spend(&mut self.left) {
             // Nothing becomes stable.

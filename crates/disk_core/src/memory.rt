@@ -2,9 +2,8 @@
 ghost use Rattle.std.specs.Prelude.{◌≡◌, ◌+◌, ◌≤◌, ◌↔◌, false, length, take, drop, IfOk, IsTrue, OnOk, OnErr, ⊤};
 ghost use Rattle.std.proofs.Common.{inl};
 ghost use Rattle.disk_core.specs.Images.{Frees, IsImage, Only, Torn, Within};
-ghost use Rattle.disk_core.specs.Moments.{Elapses};
 ghost use Rattle.disk_core.specs.declared.call.Call.TheVariants.{Read, Write, Sync};
-ghost use Rattle.disk_core.specs.Memory.{Memory, Fails, fresh, after_crash, called, restarted_with, synced, written, HadSince, only_now, reads_image};
+ghost use Rattle.disk_core.specs.Memory.{Ages, Memory, Fails, fresh, after_crash, called, restarted_with, synced, written, HadSince, only_now, reads_image};
 
 use crate::call::{Call, record};
 use crate::epoch::Epoch;
@@ -172,8 +171,7 @@ impl Disk for MemDisk {
         ensures content { Torn at (length bytes.now) self.old.content self.new.content }
         ensures images { Frees at (length bytes.now)
             (IsImage self.old.content self.old.held) (IsImage self.new.content self.new.held) }
-        ensures time { Elapses (length self.old.past) (length self.new.past)
-            (HadSince self.old) (HadSince self.new) (IsImage self.new.content self.new.held) }
+        ensures time { Ages self.old self.new }
     {
         let call = Call::Write {
             at,
@@ -195,8 +193,7 @@ impl Disk for MemDisk {
         ensures err { OnErr result (Fails Sync self.old self.new) }
         ensures images { Within
             (IsImage self.new.content self.new.held) (IsImage self.old.content self.old.held) }
-        ensures time { Elapses (length self.old.past) (length self.new.past)
-            (HadSince self.old) (HadSince self.new) (IsImage self.new.content self.new.held) }
+        ensures time { Ages self.old self.new }
     {
         if !record(&mut self.calls, Call::Sync) {
             return fail(&mut self.failures);
