@@ -7,7 +7,7 @@ use Rattle.area_core.specs.declared.area.Area.{Area}
 use Rattle.area_core.specs.declared.faults.AreaFault.{AreaFault}
 use Rattle.area_core.specs.declared.faults.AreaFault.TheVariants.{Broken, Full}
 use Rattle.area_core.specs.declared.version.Version.TheVariants.{Two}
-use Rattle.area_core.specs.Areas.{first_snapshot, records}
+use Rattle.area_core.specs.Areas.{closed_snapshot, first_snapshot, records}
 use Rattle.area_core.specs.Closing.{closing, heading}
 use Rattle.area_core.specs.Held.{IsAt}
 use Rattle.area_core.specs.Journals.{Reads, new_header}
@@ -89,6 +89,10 @@ pub record BreaksWhole {D T : Type 0} (disk : Ghosts D) (new : Area) (before aft
 pub record Overwrites (area : Area) (at : ℕ) (bytes before after : List ℕ) (result : Result (Unit {0}) AreaFault) : Type 0 where
   pub whole : OnOk result (after ≡ patched (idle_start area + at) bytes before)
   pub torn : Torn (idle_start area) area.size before after
+
+-- The snapshot stands in the area that is not live, between its first word and a closed gate. The rest is as before.
+abbrev pub WritesClosed : Area → List ℕ → List ℕ → List ℕ → Type 0
+WritesClosed area snapshot before after = after ≡ patched (idle_start area) (closed_snapshot Two snapshot) before
 
 -- The next piece of a snapshot that is still to come is where so many bytes of it were written before, and the rest is still to come.
 pub record WritesNext {D : Type 0} (disk : Ghosts D) (area : Area) (before after : D) (at total : ℕ) (coming left : List ℕ) (result : Result ℕ AreaFault) : Type 0 where

@@ -1,5 +1,5 @@
 -- What was read of an area so far.
-use Rattle.std.specs.Prelude.{◌≡◌, ◌<◌, ◌≤◌, ◌^◌, ℕ, List, Option, None, Some, [], ◌∷◌, ◌++◌, length, drop}
+use Rattle.std.specs.Prelude.{◌≡◌, ◌<◌, ◌≤◌, ◌^◌, ℕ, List, Option, None, Some, [], ◌∷◌, ◌++◌, length, drop, IfSome}
 use Rattle.std.specs.List.{AllByRecursion}
 use Rattle.disk_core.specs.declared.disk.Disk.{Ghosts}
 use Rattle.disk_core.specs.Images.{Same}
@@ -39,6 +39,10 @@ pub record GoesOn (old new : Area) : Type 0 where
   pub broken : new.broken ≡ old.broken
   pub version : new.version ≡ old.version
   pub gate : old.gate ≤ new.gate
+
+-- behind a block that was read, the gate lies further on
+abbrev pub MovesGate : {A : Type 0} → Area → Area → Option A → Type 0
+MovesGate old new next = IfSome next (λ block. old.gate < new.gate)
 
 -- what was read up to a gate is all, since that gate is closed
 abbrev pub ReadsAll : Area → Area → List ℕ → Type 0

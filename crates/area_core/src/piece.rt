@@ -1,13 +1,10 @@
 //! A snapshot is written into the area that is not live, piece by piece.
 
-ghost use Rattle.std.specs.Prelude.{◌≡◌, ◌+◌, ◌*◌, ◌<◌, ◌≤◌, ◌^◌, length, OnOk};
+ghost use Rattle.std.specs.Prelude.{◌+◌, ◌*◌, ◌<◌, ◌≤◌, ◌^◌, length, OnOk};
 ghost use Rattle.disk_core.specs.Calls.{Lasts, Throughout};
-ghost use Rattle.disk_core.specs.Images.{patched};
-ghost use Rattle.area_core.specs.Areas.{closed_snapshot};
-ghost use Rattle.area_core.specs.declared.version.Version.TheVariants.{Two};
-ghost use Rattle.area_core.specs.Calls.{Breaks, BreaksWhole, InPlaceTo, IsReady, NeedsNothing, Overwrites, WritesNext};
+ghost use Rattle.area_core.specs.Calls.{Breaks, BreaksWhole, InPlaceTo, IsReady, NeedsNothing, Overwrites, WritesClosed, WritesNext};
 ghost use Rattle.area_core.specs.Closing.{closing};
-ghost use Rattle.area_core.specs.Switches.{KeepsRest, idle_start};
+ghost use Rattle.area_core.specs.Switches.{KeepsRest};
 
 use crate::closing::next_closed;
 use crate::pieces::Pieces;
@@ -85,7 +82,7 @@ impl Area {
         requires seven { length (P.coming pieces.old) < 2 ^ 56 }
         ensures outside { Throughout D.Disk disk.old disk.new (KeepsRest (D.images disk.old) self.old) }
         ensures content { D.honest disk.old → OnOk result (
-            D.content disk.new ≡ patched (idle_start self.old) (closed_snapshot Two (P.coming pieces.old)) (D.content disk.old)) }
+            WritesClosed self.old (P.coming pieces.old) (D.content disk.old) (D.content disk.new)) }
         ensures breaks { BreaksWhole D.Disk self.new disk.old disk.new result }
         ensures place { InPlaceTo self.old self.new }
         ensures lasts { Lasts D.Disk disk.old disk.new }

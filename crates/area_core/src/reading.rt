@@ -1,11 +1,11 @@
 //! An area is read, from its snapshot on.
 
-ghost use Rattle.std.specs.Prelude.{◌≡◌, ◌+◌, ◌*◌, ◌≤◌, ◌<◌, ◌^◌, [], false, length, take, drop, IfErr, IfOk, IfSome, OnErr};
+ghost use Rattle.std.specs.Prelude.{◌≡◌, ◌+◌, ◌*◌, ◌≤◌, ◌<◌, ◌^◌, [], false, length, take, drop, IfErr, IfOk, OnErr};
 ghost use Rattle.std.specs.Int.{w64, to_be_bytes};
 ghost use Rattle.area_core.specs.Areas.{word_of};
 ghost use Rattle.area_core.specs.Damage.{IsBlockTold, IsFrontTold, IsLengthTold, IsReadCaused, IsWordTold};
 ghost use Rattle.area_core.specs.Held.{LiesOn, gate_at};
-ghost use Rattle.area_core.specs.Reading.{GoesOn, IsPast, ReadsNext, ReadsOnly};
+ghost use Rattle.area_core.specs.Reading.{GoesOn, IsPast, MovesGate, ReadsNext, ReadsOnly};
 
 use crate::header::{fetch, fetch_bytes, fetch_number, header};
 use crate::put::COUNTED;
@@ -103,7 +103,7 @@ impl Area {
             IfOk result (ReadsNext (λ commands. commands.items) self.old self.new (D.content disk.old)) }
         ensures refused { D.honest disk.old → IfErr result (λ fault. IsBlockTold fault self.old (D.content disk.old)) }
         ensures same { OnErr result (self.new ≡ self.old) }
-        ensures grows { IfOk result (λ next. IfSome next (λ _. self.old.gate < self.new.gate)) }
+        ensures grows { IfOk result (MovesGate self.old self.new) }
         ensures place { GoesOn self.old self.new }
         ensures reads { ReadsOnly D.Disk disk.old disk.new }
         ensures cause { IsReadCaused (D.failures disk.old) (D.failures disk.new) result }

@@ -13,8 +13,8 @@ returns-clause-formats g c = record {
       let size = c.args.area_bytes in
       let front = c.deref.result.now in
       let head = c.deref-2.result.now in
-      let honest_1 = c.write_at.ensures.honest honest in
-      let honest_2 = c.write_at-2.ensures.honest honest_1 in
+      let honest_1 = c.write_at.ensures.lasts.honest honest in
+      let honest_2 = c.write_at-2.ensures.lasts.honest honest_1 in
       let first : g.D.Disk.content c.write_at.new.self ≡ patched 32 front content = c.in_ok-write_at.ensures.written honest in
       let second : g.D.Disk.content c.write_at-2.new.self ≡ patched 0 head (g.D.Disk.content c.write_at.new.self) = c.in_ok-write_at-2.ensures.written honest_1 in
       let is_head : head ≡ header Two size ++ replicate 16 0 = search rules in
@@ -27,13 +27,13 @@ returns-clause-formats g c = record {
   begins = λ honest image is.
       let size = c.args.area_bytes in
       let head = c.deref-2.result.now in
-      let honest_1 = c.write_at.ensures.honest honest in
-      let honest_2 = c.write_at-2.ensures.honest honest_1 in
+      let honest_1 = c.write_at.ensures.lasts.honest honest in
+      let honest_2 = c.write_at-2.ensures.lasts.honest honest_1 in
       let second : g.D.Disk.content c.write_at-2.new.self ≡ patched 0 head (g.D.Disk.content c.write_at.new.self) = c.in_ok-write_at-2.ensures.written honest_1 in
       let is_head : head ≡ new_header size = search rules in
       subst (λ (l : List ℕ). take 32 l ≡ new_header size) (sym (c.in_ok-sync.ensures.stable honest_2 image is ∙ second))
       (begins_new size (g.D.Disk.content c.write_at.new.self) head is_head);
   only = λ honest image is.
-      let honest_2 = c.write_at-2.ensures.honest (c.write_at.ensures.honest honest) in
+      let honest_2 = c.write_at-2.ensures.lasts.honest (c.write_at.ensures.lasts.honest honest) in
       c.in_ok-sync.ensures.stable honest_2 image is ∙ sym (c.sync.ensures.content honest_2);
 }

@@ -18,7 +18,7 @@ returns-in_err-write_at-clause-torn g c honest = (c.write_at.ensures.images hone
 
 pub returns-clause-any_moment : goal.returns-clause-any_moment
 returns-clause-any_moment g c honest =
-    let honest_1 = c.write_at.ensures.honest honest in
+    let honest_1 = c.write_at.ensures.lasts.honest honest in
     let wrote = goes_on g.D.Disk c.args.disk.now c.args.disk.now c.write_at.new.self (IsTorn c.args.at (length c.args.bytes.now) (g.D.Disk.images c.args.disk.now)) (g.D.Disk.images c.write_at.new.self)
     (untouched g.D.Disk c.args.disk.now (g.met.D.Disk.only_now c.args.disk.now) _ (λ image is. (image, is, torn_same c.args.at (length c.args.bytes.now) image)))
     (c.write_at.ensures.time honest) (c.write_at.ensures.images honest).only in
@@ -26,11 +26,11 @@ returns-clause-any_moment g c honest =
     (λ image is. (c.write_at.ensures.images honest).only image (c.sync.ensures.images honest_1 image is))
 
 pub returns-clause-torn : goal.returns-clause-torn
-returns-clause-torn g c honest image is = (c.write_at.ensures.images honest).only image (c.sync.ensures.images (c.write_at.ensures.honest honest) image is)
+returns-clause-torn g c honest image is = (c.write_at.ensures.images honest).only image (c.sync.ensures.images (c.write_at.ensures.lasts.honest honest) image is)
 
 pub returns-clause-stable : goal.returns-clause-stable
 returns-clause-stable g c honest =
-    let honest_1 = c.write_at.ensures.honest honest in
+    let honest_1 = c.write_at.ensures.lasts.honest honest in
     on_ok_weaker c.sync.result
     (λ (only : Only (g.D.Disk.content c.write_at.new.self) (g.D.Disk.images c.sync.new.self)). record {
       content = c.sync.ensures.content honest_1 ∙ c.in_ok-write_at.ensures.written honest;
