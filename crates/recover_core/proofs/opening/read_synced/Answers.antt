@@ -18,7 +18,7 @@ returns-in_err-sync-clause-unwritten g c honest = record {
 pub returns-clause-unwritten : goal.returns-clause-unwritten
 returns-clause-unwritten g c honest =
     none_written g.D.Disk c.args.disk.now (g.met.D.Disk.only_now c.args.disk.now) c.sync.new.self c.read_state.new.disk (c.sync.ensures.content honest) (c.sync.ensures.images honest) (c.sync.ensures.time honest)
-    (c.read_state.ensures.reads.quiet (c.sync.ensures.honest honest))
+    (c.read_state.ensures.reads.quiet (c.sync.ensures.lasts.honest honest))
 
 pub returns-clause-refuses : goal.returns-clause-refuses
 returns-clause-refuses g c =
