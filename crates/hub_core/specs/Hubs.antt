@@ -1,12 +1,17 @@
 -- What contracts see of a hub.
 use Rattle.std.specs.Prelude.{◌≡◌, ◌≤◌, ◌^◌, ℕ, List, [], ◌∷◌, ◌++◌, Option, Some, None, false, length, slice_get, All, IfSome}
 use Rattle.atomic_table.specs.Seated.{TableId}
-use Rattle.broker_core.specs.States.{BrokerValue}
+use Rattle.disk_core.specs.declared.disk.Disk.{Ghosts}
+use Rattle.disk_core.specs.Calls.{Lasts, Throughout}
+use Rattle.broker_core.specs.Operations.{restarted}
+use Rattle.broker_core.specs.States.{BrokerValue, State}
 use Rattle.claim_core.specs.declared.limits.TheConstants.{SEATS}
 use Rattle.claim_core.specs.Seats.{SessionSeatValue, new_session, new_flushing}
 use Rattle.area_core.specs.declared.faults.AreaFault.TheVariants as areas
 use Rattle.recover_core.specs.declared.faults.OpenFault.{OpenFault}
 use Rattle.recover_core.specs.declared.faults.OpenFault.TheVariants.{Area}
+use Rattle.recover_core.specs.Opens.{KeepsRestart}
+use Rattle.recover_core.specs.Standing.{Stands}
 use Rattle.flush_core.specs.Flushed.{Flushed}
 
 -- The ring; its first ticket; the sessions' seats and the flusher, as far as they were not handed out.
@@ -58,3 +63,11 @@ pub record Begins {D : Type 0} (h : HubValue D) (disk : D) (opened : Option Brok
   pub whole : IsWhole h flusher
   pub disk_is : flusher.disk ≡ disk
   pub opening : IfSome opened (λ broker. flusher.opening ≡ broker.state)
+
+-- The flusher has the disk that was opened, and begins with the restart of the state that its content stood for. At each moment an
+-- image restarted as before.
+pub record TakesOver {D : Type 0} (disk : Ghosts D) (old : D) (f : Flushed D) : Type 0 where
+  pub any_moment : Throughout disk old f.disk (KeepsRestart (disk.images old))
+  pub state : disk.honest old → (s : State) → Stands (disk.content old) s → f.opening ≡ restarted s
+  pub cause : disk.failures f.disk ≡ disk.failures old
+  pub lasts : Lasts disk old f.disk

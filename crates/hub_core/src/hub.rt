@@ -3,16 +3,12 @@
 ghost use Rattle.std.specs.Prelude.{◌≡◌, ◌≤◌, ◌^◌, ◌∷◌, [], All, None, Some, IfSome, IsSome, IfOk, IfErr, MatchOption, false, length};
 ghost use Rattle.std.specs.VecDeque.{deque_capacity};
 ghost use Rattle.claim_core.specs.declared.limits.TheConstants.{SEATS};
-ghost use Rattle.broker_core.specs.Operations.{restarted};
-ghost use Rattle.broker_core.specs.States.{State};
 ghost use Rattle.claim_core.specs.Seats.{new_session};
-ghost use Rattle.disk_core.specs.Moments.{LeavesOnly};
 ghost use Rattle.flush_core.specs.Flushed.{Flushed};
-ghost use Rattle.recover_core.specs.Opens.{KeepsRestart};
-ghost use Rattle.recover_core.specs.Standing.{Stands, StandFor};
+ghost use Rattle.recover_core.specs.Opened.{HandsBack};
+ghost use Rattle.recover_core.specs.Standing.{StandFor};
 ghost use Rattle.recover_core.specs.Stores.{disk_of, is_broken, opened_by};
-ghost use Rattle.recover_core.specs.Told.{IsOpenTold, IsCausedBy};
-ghost use Rattle.hub_core.specs.Hubs.{AreNew, Begins, IsWhole, IsFirst, IsWant, hub};
+ghost use Rattle.hub_core.specs.Hubs.{AreNew, Begins, IsWhole, IsFirst, IsWant, TakesOver, hub};
 
 use crate::sizes::HubFlusher;
 use claim_core::{BrokerRing, BrokerSeat, Ring, SEATS};
@@ -54,17 +50,8 @@ impl<D: Disk, B: Bell> Hub<D, B> {
     /// A refusal hands the disk back, and it may be opened again: those of opening a journal, and want of memory for the ring.
     pub fn open(alloc: Global, disk: D) -> Result<Hub<D, B>, (D, OpenFault)>
         ensures whole { IfOk result (λ hub. (f : Flushed D) × IsWhole hub f) }
-        ensures any_moment { D.honest disk → IfOk result (λ hub. IfSome hub.flusher (λ f.
-            LeavesOnly D.moment D.images_since disk f.disk (KeepsRestart (D.images disk)))) }
-        ensures any_moment_err { D.honest disk → IfErr result (λ back.
-            LeavesOnly D.moment D.images_since disk back.0 (KeepsRestart (D.images disk))) }
-        ensures state { D.honest disk → IfOk result (λ hub. IfSome hub.flusher (λ f.
-            (s : State) → Stands (D.content disk) s → f.opening ≡ restarted s)) }
-        ensures refused { D.honest disk → IfErr result (λ back. IsOpenTold back.1 (D.content disk)) }
-        ensures cause { IfOk result (λ hub. IfSome hub.flusher (λ f. D.failures f.disk ≡ D.failures disk)) }
-        ensures cause_err { IfErr result (λ back. IsCausedBy back.1 (D.failures disk) (D.failures back.0)) }
-        ensures honest { IfOk result (λ hub. IfSome hub.flusher (λ f. D.honest disk → D.honest f.disk)) }
-        ensures honest_err { IfErr result (λ back. D.honest disk → D.honest back.0) }
+        ensures takes_over { IfOk result (λ hub. IfSome hub.flusher (TakesOver D.Disk disk)) }
+        ensures hands_back { IfErr result (λ back. HandsBack D.Disk disk back.0 back.1) }
     {
         match recover_core::open(alloc, disk) {
             Ok(store) => Hub::begin(alloc, store),
