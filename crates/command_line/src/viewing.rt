@@ -1,9 +1,7 @@
 //! A file that is only read.
 
-ghost use Rattle.std.specs.Prelude.{◌≡◌, ◌+◌, ◌≤◌, IfOk, IsErr, OnOk, length, ⊤};
+ghost use Rattle.std.specs.Prelude.{◌≡◌, ◌+◌, ◌≤◌, IfOk, IsErr, length, ⊤};
 ghost use Rattle.disk_core.specs.Faults.{HasCause};
-ghost use Rattle.disk_core.specs.Images.{Frees, Torn, patched};
-ghost use Rattle.disk_core.specs.Moments.{Elapses};
 ghost use Rattle.command_line.specs.Views.{zeros};
 
 use disk_core::{DeviceFault, Disk, OpenError};
@@ -83,14 +81,7 @@ impl Disk for FileView {
     /// It fails, and nothing is written.
     fn write_at(&mut self, at: u64, bytes: &[u8]) -> Result<(), DeviceFault>
         requires { at + length bytes.now ≤ length (zeros self.old.size) }
-        ensures written { ⊥ → OnOk result (zeros self.new.size ≡ patched at bytes.now (zeros self.old.size)) }
-        ensures content { ⊥ → Torn at (length bytes.now) (zeros self.old.size) (zeros self.new.size) }
-        ensures size { length (zeros self.new.size) ≡ length (zeros self.old.size) }
-        ensures images { ⊥ → Frees at (length bytes.now) (λ _. ⊤) (λ _. ⊤) }
-        ensures time { ⊥ → Elapses 0 0 (λ _ _. ⊤) (λ _ _. ⊤) (λ _. ⊤) }
         ensures cause { HasCause self.old.failures self.new.failures result }
-        ensures honest { ⊥ → ⊥ }
-        ensures was_honest { ⊥ → ⊥ }
         ensures refused { IsErr result }
         ensures same { self.new ≡ record self.old { failures = self.new.failures } }
     {
