@@ -1,7 +1,7 @@
 -- What a flusher keeps, from call to call.
 use Rattle.std.proofs.Common.{◌≡◌, ◌<◌, ◌≤◌, ◌+◌, ◌-◌, ◌^◌, ◌++◌, ⊎_elim, ℕ, Bool, true, false, List, [], ◌∷◌, cond, drop, Option, length, length-append, take, refl, sym, ◌∙◌, ap, subst, arith}
 use Rattle.std.proofs.Math.Logic.{∥∥₁_map}
-use Rattle.std.proofs.lemmas.List.{length-drop, length-take-le, take-append-drop, take-map}
+use Rattle.std.proofs.lemmas.List.{length-take-le, take-append-drop, take-map}
 use Rattle.std.specs.List.{drop-map}
 use Rattle.frame_core.proofs.Lists.{all_append}
 use Rattle.command_core.specs.Commands.{CommandValue}

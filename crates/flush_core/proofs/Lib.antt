@@ -8,3 +8,4 @@ pub mod Prefixes
 pub mod Compactions
 pub mod RoomWon
 pub mod Halting
+pub mod Calls

@@ -1,7 +1,7 @@
 -- The records of the first of some commands, and of the others.
-use Rattle.std.proofs.Common.{◌≡◌, ◌≢◌, ◌<◌, ◌≤◌, ◌+◌, ◌-◌, inl, inr, ℕ, List, [], length, length-append, take, drop, flat_map, sym, ◌∙◌, ap, arith}
+use Rattle.std.proofs.Common.{◌≡◌, ◌<◌, ◌≤◌, ◌+◌, ◌-◌, inl, inr, ℕ, List, length, length-append, take, drop, flat_map, sym, ◌∙◌, ap, arith}
 use Rattle.std.proofs.lemmas.Bool.{cases_lt}
-use Rattle.std.proofs.lemmas.List.{drop-take, drop_all, length-drop, take-append-drop, take-map, take-take, take_all}
+use Rattle.std.proofs.lemmas.List.{drop-take, drop_all, length-drop, take-append-drop, take-map, take-take}
 use Rattle.std.proofs.lemmas.Grind.{flat_map-append}
 use Rattle.area_core.specs.Areas.{commands, records}
 use Rattle.area_core.proofs.Batches.{batch_records, entry_record}
@@ -9,7 +9,7 @@ use Rattle.command_core.specs.Commands.{CommandValue}
 use Rattle.command_core.specs.Entries.{EntryValue}
 use Rattle.command_core.specs.Spellings.{record_of}
 use Rattle.flush_core.specs.Batches.{IsBatch}
-use Rattle.flush_core.specs.Room.{Fits, IsLongest, IsTooLong}
+use Rattle.flush_core.specs.Room.{IsLongest, IsTooLong}
 
 pub records_cut : (i : ℕ) (cs : List CommandValue) → length (records (take i cs)) + length (records (drop i cs)) ≡ length (records cs)
 records_cut i cs =

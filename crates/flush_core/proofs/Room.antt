@@ -1,5 +1,7 @@
 -- Where a block does not fit.
-use Rattle.std.proofs.Common.{◌≡◌, ◌≢◌, ◌⊎◌, ◌<◌, ◌≤◌, ◌+◌, ◌-◌, ℕ, List, [], Option, Err, length, take, ap, subst, sym, ◌∙◌, arith}
+use Rattle.std.proofs.Common.{◌≡◌, ◌≢◌, ◌⊎◌, ◌<◌, ◌≤◌, ◌+◌, ◌-◌, ℕ, List, [], false, Option, Err, length, take, ap, subst, sym, ◌∙◌, arith}
+use Rattle.std.specs.Prelude.{IsErrOf}
+use Rattle.std.proofs.lemmas.Bool.{false≢true}
 use Rattle.std.proofs.Math.Logic.{∥∥₁_prop, ∥∥₁_elim}
 use Rattle.command_core.specs.Commands.{CommandValue}
 use Rattle.command_core.specs.Entries.{EntryValue}
@@ -13,12 +15,14 @@ use Rattle.recover_core.specs.Standing.{StandFor, Standing}
 use Rattle.recover_core.proofs.Stores.{leads}
 use Rattle.flush_core.specs.declared.faults.FlushFault.{FlushFault}
 use Rattle.flush_core.specs.declared.faults.FlushFault.TheVariants.{Device, Full, Broken, Memory}
-use Rattle.flush_core.specs.Batches.{IsBatch, from_on, state_at}
-use Rattle.flush_core.specs.Flushed.{Flushed, IsFlusher, gathered}
+use Rattle.flush_core.specs.Batches.{IsBatch, block_bytes, from_on, state_at}
+use Rattle.flush_core.specs.Calls.{RefusesToStore, RefusesTurn}
+use Rattle.flush_core.specs.Flushed.{Flushed, IsFlusher, gathered, state_stored}
 use Rattle.claim_core.specs.Seats.{FlushSeatValue, next_ticket}
 use Rattle.flush_core.specs.Outcomes.{IsOutcome, publishing, executing, storing, taking}
 use Rattle.recover_core.specs.Compactions.{HasNoRoomFor}
 use Rattle.flush_core.specs.Room.{Fits, HasNoRoom, HasNoRoomForState, HasNoRoomLeft, IsTooLong, StoresAfresh, used_afresh}
+use Rattle.flush_core.proofs.StoreFaults.{same_fault}
 use Rattle.flush_core.proofs.Taken.{at_more}
 use Rattle.area_core.specs.Areas.{commands}
 
@@ -68,7 +72,7 @@ module _ {D : Type 0} (f g h : Flushed D) (entries : List (EntryValue SenderValu
       ap (λ (x : Flushed D). from_on x.seat g.stored) (sym did) ∙ (rest ∙ (ap (λ (x : Flushed D). from_on seat x.stored) took ∙ none))
 
   -- what was gathered is what was taken from there on, also where all is published
-  taken_stays : (k l : Flushed D) → k ≡ executing h → l ≡ publishing k l.boxes → gathered g ≡ from_on l.seat f.stored
+  pub taken_stays : (k l : Flushed D) → k ≡ executing h → l ≡ publishing k l.boxes → gathered g ≡ from_on l.seat f.stored
   taken_stays k l executed published =
       let seat : from_on h.seat g.stored ≡ from_on l.seat g.stored = ap (λ (x : Flushed D). from_on x.seat g.stored) (sym executed) ∙ ap (λ (x : Flushed D). from_on x.seat g.stored) (sym published) in
       ap (λ (x : Flushed D). from_on x.seat g.stored) (sym did) ∙ (seat ∙ ap (λ (x : Flushed D). from_on l.seat x.stored) took)
@@ -131,36 +135,29 @@ module _ {D : Type 0} (disk : Ghosts D) (f g h : Flushed D) (entries : List (Ent
   pub gathered_stays : gathered g ≡ from_on h.seat f.stored
   gathered_stays = rest_stays g h g.stored fault outcome ∙ ap (λ (x : Flushed D). from_on h.seat x.stored) took
 
-  pub was_full : {most most_bytes : ℕ} → (g.size < g.used + 9 + length (records (gathered g))) × (h.disk ≡ g.disk) → IsBatch most most_bytes (gathered g) → gathered g ≢ []
-      → (f.size < f.used + 9 + length (records (from_on h.seat f.stored))) × (h.disk ≡ f.disk) × IsBatch most most_bytes (from_on h.seat f.stored) × (from_on h.seat f.stored ≢ [])
-  was_full {most} {most_bytes} told batch some = (
-    subst (λ (x : Flushed D × List CommandValue). x.0.size < x.0.used + 9 + length (records x.1)) (λ i. (took i, gathered_stays i)) told.0,
-    told.1 ∙ ap (λ (x : Flushed D). x.disk) took,
-    subst (IsBatch most most_bytes) gathered_stays batch,
-    λ none. some (gathered_stays ∙ none),
-  )
-
-  pub had_no_room : (disk.honest g.disk → HasNoRoom (disk.content g.disk) (state_at g.opening g.seat g.stored) (gathered g)) → disk.honest f.disk → HasNoRoom (disk.content f.disk) (state_at f.opening f.seat f.stored) (from_on h.seat f.stored)
-  had_no_room told honest =
-      let there = told (subst (λ (x : Flushed D). disk.honest x.disk) (sym took) honest) in
-      subst (λ (s : State). HasNoRoom (disk.content f.disk) s (from_on h.seat f.stored)) (at_more f.opening f.seat (commands entries) f.stored kept.stored)
-      (subst (λ (x : Flushed D × List CommandValue). HasNoRoom (disk.content x.0.disk) (state_at x.0.opening x.0.seat x.0.stored) x.1) (λ i. (took i, gathered_stays i)) there)
-
   -- the state is the one after what was stored before
-  before_taking : state_at g.opening g.seat g.stored ≡ state_at f.opening f.seat f.stored
+  before_taking : state_stored g ≡ state_stored f
   before_taking = ap (λ (x : Flushed D). state_at x.opening x.seat x.stored) took ∙ at_more f.opening f.seat (commands entries) f.stored kept.stored
 
   -- so where room was looked for and not found
-  pub found_none : IsTooLong g.size g.used (gathered g)
-      × ((HasNoRoomFor g.size (state_at g.opening g.seat g.stored) × (h.disk ≡ g.disk)) ⊎ IsTooLong g.size (used_afresh (state_at g.opening g.seat g.stored)) (take 1 (gathered g)))
+  found_none : IsTooLong g.size g.used (gathered g)
+      × ((HasNoRoomFor g.size (state_stored g) × (h.disk ≡ g.disk)) ⊎ IsTooLong g.size (used_afresh (state_stored g)) (take 1 (gathered g)))
       → IsTooLong f.size f.used (from_on h.seat f.stored)
-      × ((HasNoRoomFor f.size (state_at f.opening f.seat f.stored) × (h.disk ≡ f.disk)) ⊎ IsTooLong f.size (used_afresh (state_at f.opening f.seat f.stored)) (take 1 (from_on h.seat f.stored)))
+      × ((HasNoRoomFor f.size (state_stored f) × (h.disk ≡ f.disk)) ⊎ IsTooLong f.size (used_afresh (state_stored f)) (take 1 (from_on h.seat f.stored)))
   found_none told =
       subst (λ (z : Flushed D × State × List CommandValue). IsTooLong z.0.size z.0.used z.2 × ((HasNoRoomFor z.0.size z.1 × (h.disk ≡ z.0.disk)) ⊎ IsTooLong z.0.size (used_afresh z.1) (take 1 z.2)))
       (λ i. (took i, before_taking i, gathered_stays i)) told
 
-  pub has_none_left : HasNoRoomLeft (disk.content h.disk) (state_at g.opening g.seat g.stored) (take 1 (gathered g)) → HasNoRoomLeft (disk.content h.disk) (state_at f.opening f.seat f.stored) (take 1 (from_on h.seat f.stored))
+  has_none_left : HasNoRoomLeft (disk.content h.disk) (state_stored g) (take 1 (gathered g)) → HasNoRoomLeft (disk.content h.disk) (state_stored f) (take 1 (from_on h.seat f.stored))
   has_none_left told = subst (λ (z : State × List CommandValue). HasNoRoomLeft (disk.content h.disk) z.0 (take 1 z.1)) (λ i. (before_taking i, gathered_stays i)) told
 
-  pub of_a_batch : {most most_bytes : ℕ} → IsBatch most most_bytes (gathered g) → gathered g ≢ [] → IsBatch most most_bytes (from_on h.seat f.stored) × (from_on h.seat f.stored ≢ [])
-  of_a_batch {most} {most_bytes} batch some = (subst (IsBatch most most_bytes) gathered_stays batch, λ none. some (gathered_stays ∙ none))
+  pub refuses_turn : (most most_bytes : ℕ) → g.broken ≡ false → IsBatch most (block_bytes f.size most_bytes) (gathered g) → RefusesToStore {X = Unit {0}} disk g h (Err fault) → RefusesTurn {X = ℕ} disk most most_bytes f h (Err fault)
+  refuses_turn most most_bytes whole batch refuses =
+      let told : IsErrOf {T = ℕ} (Err fault) Full → IsErrOf {T = Unit {0}} (Err fault) Full = λ is. ap (λ (x : FlushFault). Err x) (same_fault fault Full is) in
+      record {
+        room = record {
+          full = λ is. found_none (refuses.room.full (told is));
+          no_room = λ honest is. has_none_left (refuses.room.no_room (subst (λ (x : Flushed D). disk.honest x.disk) (sym took) honest) (told is));
+        };
+        batch = λ is. (subst (IsBatch most (block_bytes f.size most_bytes)) gathered_stays batch, λ none. false≢true (refuses.nothing whole (gathered_stays ∙ none)).0);
+      }

@@ -1,26 +1,27 @@
 -- A batch is stored once room was won for it.
-use Rattle.std.proofs.Common.{◌≡◌, ◌≢◌, ◌<◌, ◌≤◌, ◌+◌, ◌-◌, ◌⊎◌, inl, inr, ⊎_elim, ℕ, List, [], Option, Result, Ok, Err, OnOk, false, true, length, take, refl, sym, ◌∙◌, ap, subst, arith}
+use Rattle.std.proofs.Common.{◌≡◌, ◌≢◌, ◌<◌, ◌≤◌, ◌+◌, ◌-◌, ◌⊎◌, inl, inr, ⊎_elim, ℕ, List, [], Option, Result, Ok, Err, OnErr, OnOk, false, length, take, sym, ◌∙◌, ap, subst, arith}
 use Rattle.std.specs.Prelude.{IsErrOf, IsOk}
 use Rattle.std.proofs.lemmas.Bool.{false≢true}
+use Rattle.std.proofs.lemmas.List.{take_all}
+use Rattle.std.proofs.lemmas.Result.{on_ok_weaker}
 use Rattle.std.proofs.Math.Logic.{∥∥₁_map}
 use Rattle.disk_core.specs.declared.disk.Disk.{Ghosts}
 use Rattle.disk_core.specs.Moments.{LeavesOnly}
 use Rattle.area_core.specs.Areas.{records}
-use Rattle.area_core.specs.Puts.{Each}
 use Rattle.claim_core.specs.Seats.{next_ticket}
 use Rattle.broker_core.specs.States.{State}
 use Rattle.command_core.specs.Commands.{CommandValue}
-use Rattle.recover_core.specs.Compactions.{HasNoRoomFor, HoldsItAlone}
+use Rattle.recover_core.specs.Compactions.{HasNoRoomFor}
 use Rattle.recover_core.specs.Opens.{HoldsOnlySnapshot}
 use Rattle.recover_core.specs.Standing.{StandFor, Stands, StandsForEither}
 use Rattle.flush_core.specs.declared.faults.FlushFault.{FlushFault}
 use Rattle.flush_core.specs.declared.faults.FlushFault.TheVariants.{Broken, Device, Full, Memory}
 use Rattle.flush_core.specs.Batches.{state_at}
-use Rattle.flush_core.specs.Faults.{IfMemory}
-use Rattle.flush_core.specs.Flushed.{Flushed, IsFlusher, gathered}
-use Rattle.flush_core.specs.Outcomes.{Falls, IsNext, IsCompacted, IsLeft, IsOutcome, compacted, storing, using}
+use Rattle.flush_core.specs.Calls.{EitherThroughout, FlushBreaks, FlushCompacts, IsStoring, RefusesState, RefusesToStore, RefusesToStoreFirst, StoresFirst, StoresGathered, WinsRoom}
+use Rattle.flush_core.specs.Faults.{IfMemory, IsFlushCaused}
+use Rattle.flush_core.specs.Flushed.{Flushed, IsFlusher, gathered, state_stored}
+use Rattle.flush_core.specs.Outcomes.{Falls, IsNext, IsCompacted, IsLeft, IsOutcome, storing, using}
 use Rattle.flush_core.specs.Room.{Fits, HasNoRoomForState, HasNoRoomLeft, IsLongest, IsTooLong, LacksRoomForState, StoresAfresh, used_afresh}
-use Rattle.std.proofs.lemmas.List.{take_all}
 use Rattle.flush_core.proofs.Prefixes.{is_longest, records_cut}
 use Rattle.flush_core.proofs.Taken.{length_from}
 
@@ -36,28 +37,41 @@ stays_so disk f kept whole only honest = record {
 
 -- the journal was compacted, since the block did not fit
 pub was_compacted : {D : Type 0} (disk : Ghosts D) (old new : Flushed D) (result : Result (Unit {0}) FlushFault) → old.broken ≡ false → gathered old ≢ [] → IsTooLong old.size old.used (gathered old)
-    → OnOk result (new ≡ compacted old new.disk (used_afresh (state_at old.opening old.seat old.stored)))
-    → (disk.honest old.disk → OnOk result (Each (disk.images new.disk) (HoldsItAlone new.size new.used (state_at old.opening old.seat old.stored))))
-    → OnOk result (IsLeft old new ⊎ IsCompacted disk old new)
-was_compacted disk old new (Ok x) whole some long is alone = inr (record { whole = whole; some = some; long = long; is = is; alone = alone })
-was_compacted disk old new (Err fault) whole some long is alone = tt
+    → OnOk result (FlushCompacts disk old new) → WinsRoom disk old new result
+was_compacted disk old new (Ok x) whole some long did = record { made = inr (record { whole = whole; some = some; long = long; is = did.compacted_is; alone = did.alone }); needed = tt }
+was_compacted disk old new (Err fault) whole some long did = record { made = tt; needed = (whole, some, long) }
+
+-- what is so of each answer is so of a refusal
+pub on_err : {X E : Type 0} (result : Result X E) (P : Type 0) → P → OnErr result P
+on_err (Ok x) P p = tt
+on_err (Err e) P p = p
+
+-- the disk did not fail
+pub calm_so : {D : Type 0} (disk : Ghosts D) (old new : Flushed D) (result : Result (Unit {0}) FlushFault) → FlushBreaks disk old new result → OnOk result (disk.failures new.disk ≡ disk.failures old.disk)
+calm_so disk old new (Ok x) breaks = breaks.cause
+calm_so disk old new (Err fault) breaks = tt
 
 -- no snapshot of the state fits
-pub none_left : (image : List ℕ) (s : State) (cs : List CommandValue) → HasNoRoomForState image s → HasNoRoomLeft image s cs
+none_left : (image : List ℕ) (s : State) (cs : List CommandValue) → HasNoRoomForState image s → HasNoRoomLeft image s cs
 none_left image s cs lacks = ∥∥₁_map lacks (λ (l : LacksRoomForState image s). inl l)
 
--- the disk stands for the state after as much as is stored
-pub after_stands : {D : Type 0} (disk : Ghosts D) (old mid new : Flushed D) (count : ℕ) (result : Result (Unit {0}) FlushFault) → mid ≡ using old mid.disk mid.used mid.won
-    → OnOk result (old.stored + count ≡ new.stored) → OnOk result (StandFor (disk.images new.disk) (state_at mid.opening mid.seat (mid.stored + count)))
-    → OnOk result (StandFor (disk.images new.disk) (state_at old.opening old.seat new.stored))
-after_stands {D} disk old mid new count (Ok x) is number stand =
-    subst (λ (n : ℕ). StandFor (disk.images new.disk) (state_at old.opening old.seat n)) number
-    (subst (λ (f : Flushed D). StandFor (disk.images new.disk) (state_at f.opening f.seat (f.stored + count))) is stand)
-after_stands disk old mid new count (Err fault) is number stand = tt
+-- so nothing is stored
+pub unwon : {D : Type 0} (disk : Ghosts D) (old new : Flushed D) (fault : FlushFault) → WinsRoom {X = Unit {0}} disk old new (Err fault) → RefusesState {X = Unit {0}} disk old new (Err fault)
+    → RefusesToStore {X = Unit {0}} disk old new (Err fault)
+unwon disk old new fault wins refuses =
+    let needed = wins.needed in
+    record {
+      room = record {
+        full = λ is. (needed.2, inl (refuses.full is));
+        no_room = λ honest is. none_left (disk.content new.disk) (state_stored old) (take 1 (gathered old)) (refuses.no_room honest is);
+      };
+      memory = λ fits. absurd (omega (arith, fits, needed.2));
+      nothing = λ whole none. absurd (needed.1 none);
+    }
 
 module _ {D : Type 0} (disk : Ghosts D) (old mid : Flushed D) (made : IsLeft old mid ⊎ IsCompacted disk old mid) where
   -- nothing but the disk, the bytes used and what was won has changed
-  pub all_but_disk : mid ≡ using old mid.disk mid.used mid.won
+  all_but_disk : mid ≡ using old mid.disk mid.used mid.won
   all_but_disk =
       ⊎_elim
       (λ (l : IsLeft old mid). l.same ∙ sym (λ i. using old ((l.same i).disk) ((l.same i).used) ((l.same i).won)))
@@ -65,7 +79,7 @@ module _ {D : Type 0} (disk : Ghosts D) (old mid : Flushed D) (made : IsLeft old
       made
 
   -- a stop within it, and within what is stored then
-  pub stored_moments : (n : ℕ) (new : D)
+  stored_moments : (n : ℕ) (new : D)
       → ((start now next : D) (P : List ℕ → Type 0) → LeavesOnly disk.moment disk.images_since start now P → LeavesOnly disk.moment disk.images_since now next P → LeavesOnly disk.moment disk.images_since start next P)
       → LeavesOnly disk.moment disk.images_since old.disk mid.disk (StandsForEither (state_at old.opening old.seat old.stored) (state_at old.opening old.seat (old.stored + n)))
       → (disk.honest mid.disk → mid.broken ≡ false → LeavesOnly disk.moment disk.images_since mid.disk new (StandsForEither (state_at mid.opening mid.seat mid.stored) (state_at mid.opening mid.seat (mid.stored + n))))
@@ -74,6 +88,14 @@ module _ {D : Type 0} (disk : Ghosts D) (old mid : Flushed D) (made : IsLeft old
   stored_moments n new join first then honest whole =
       join old.disk mid.disk new (StandsForEither (state_at old.opening old.seat old.stored) (state_at old.opening old.seat (old.stored + n))) first
       (subst (λ (m : Flushed D). disk.honest m.disk → m.broken ≡ false → LeavesOnly disk.moment disk.images_since m.disk new (StandsForEither (state_at m.opening m.seat m.stored) (state_at m.opening m.seat (m.stored + n)))) all_but_disk then honest whole)
+
+  -- the disk stays where memory is refused and the block fits
+  memory_so : (new : D) (result : Result (Unit {0}) FlushFault) → IfMemory result (new ≡ mid.disk) → Fits old.size old.used (gathered old) → IfMemory result (new ≡ old.disk)
+  memory_so new result kept fits =
+      ⊎_elim
+      (λ (l : IsLeft old mid). subst (λ (d : D). IfMemory result (new ≡ d)) (ap (λ (f : Flushed D). f.disk) l.same) kept)
+      (λ (w : IsCompacted disk old mid). absurd (omega (arith, fits, w.long)))
+      made
 
   -- The first so many have a block that fits, or else are one.
   module _ (kept : IsFlusher disk.honest disk.images old) (whole : old.broken ≡ false) (count : ℕ) (within : mid.broken ≡ false → count ≤ length (gathered mid)) (some : mid.broken ≡ false → gathered mid ≢ [] → 0 < count)
@@ -85,7 +107,7 @@ module _ {D : Type 0} (disk : Ghosts D) (old mid : Flushed D) (made : IsLeft old
     same : gathered mid ≡ gathered old
     same = ap (λ (f : Flushed D). gathered f) all_but_disk
 
-    pub count_within : count ≤ length (gathered old)
+    count_within : count ≤ length (gathered old)
     count_within = subst (λ (l : List CommandValue). count ≤ length l) same (within sound)
 
     to_end : old.stored + length (gathered old) ≡ next_ticket old.seat
@@ -94,12 +116,12 @@ module _ {D : Type 0} (disk : Ghosts D) (old mid : Flushed D) (made : IsLeft old
     count_some : gathered old ≢ [] → 0 < count
     count_some there = some sound (λ none. there (sym same ∙ none))
 
-    pub count_longest : gathered old ≢ [] → IsLongest mid.size mid.used (gathered old) count
+    count_longest : gathered old ≢ [] → IsLongest mid.size mid.used (gathered old) count
     count_longest there = is_longest mid.size mid.used count (gathered old) (count_some there) count_within
         (subst (λ (l : List CommandValue). count < length l → IsTooLong mid.size mid.used (take (count + 1) l)) same (more sound))
 
     -- all of it, where its block fits
-    pub count_behind : Fits old.size old.used (gathered old) → gathered old ≢ [] → count ≡ length (gathered old)
+    count_behind : Fits old.size old.used (gathered old) → gathered old ≢ [] → count ≡ length (gathered old)
     count_behind fits there =
         ⊎_elim
         (λ (l : IsLeft old mid). (subst (λ (f : Flushed D). IsLongest f.size f.used (gathered old) count) l.same (count_longest there)).all fits)
@@ -107,14 +129,14 @@ module _ {D : Type 0} (disk : Ghosts D) (old mid : Flushed D) (made : IsLeft old
         made
 
     -- else the most that have room behind the snapshot
-    pub count_afresh : IsTooLong old.size old.used (gathered old) → gathered old ≢ [] → IsLongest old.size (used_afresh (state_at old.opening old.seat old.stored)) (gathered old) count
+    count_afresh : IsTooLong old.size old.used (gathered old) → gathered old ≢ [] → IsLongest old.size (used_afresh (state_at old.opening old.seat old.stored)) (gathered old) count
     count_afresh long there =
         ⊎_elim
         (λ (l : IsLeft old mid). absurd (omega (arith, l.fits whole there, long)))
         (λ (w : IsCompacted disk old mid). subst (λ (f : Flushed D). IsLongest f.size f.used (gathered old) count) w.is (count_longest there))
         made
 
-    pub is_next : IsNext old old.seat (old.stored + count)
+    is_next : IsNext old old.seat (old.stored + count)
     is_next =
         let there : old.stored < old.stored + count → gathered old ≢ [] = λ less none. omega (arith, less, count_within, ap (λ (l : List CommandValue). length l) none) in
         let same_count : (old.stored + count) - old.stored ≡ count = omega arith in
@@ -126,7 +148,7 @@ module _ {D : Type 0} (disk : Ghosts D) (old mid : Flushed D) (made : IsLeft old
         }
 
     -- the block of one command does not fit behind the snapshot either
-    pub full_so : (new : Flushed D) (result : Result (Unit {0}) FlushFault)
+    full_so : (new : Flushed D) (result : Result (Unit {0}) FlushFault)
         → (IsErrOf result Full → IsTooLong mid.size mid.used (take count (gathered mid)) × (new.disk ≡ mid.disk))
         → (mid.broken ≡ false → count ≡ 0 → IsOk result × (new ≡ mid)) → IsErrOf result Full
         → IsTooLong old.size old.used (gathered old)
@@ -149,7 +171,7 @@ module _ {D : Type 0} (disk : Ghosts D) (old mid : Flushed D) (made : IsLeft old
             false≢true (subst (λ (r : Result (Unit {0}) FlushFault). IsOk r) is (nothing sound zero).0)
 
     -- nor does it fit by what the image then shows
-    pub no_room_left : (new : Flushed D) (result : Result (Unit {0}) FlushFault) → IsErrOf result Full → disk.honest old.disk → disk.images mid.disk (disk.content mid.disk)
+    no_room_left : (new : Flushed D) (result : Result (Unit {0}) FlushFault) → IsErrOf result Full → disk.honest old.disk → disk.images mid.disk (disk.content mid.disk)
         → (IsErrOf result Full → IsTooLong mid.size mid.used (take count (gathered mid)) × (new.disk ≡ mid.disk))
         → (mid.broken ≡ false → count ≡ 0 → IsOk result × (new ≡ mid))
         → HasNoRoomLeft (disk.content new.disk) (state_at old.opening old.seat old.stored) (take 1 (gathered old))
@@ -169,29 +191,81 @@ module _ {D : Type 0} (disk : Ghosts D) (old mid : Flushed D) (made : IsLeft old
         made)
 
     -- the first so many are stored then
-    pub stored_so : (new : Flushed D) (result : Result (Unit {0}) FlushFault) → OnOk result (new ≡ storing mid (mid.stored + count) new.disk new.size new.used mid.won) → OnOk result (new ≡ storing old new.stored new.disk new.size new.used new.won)
-    stored_so new (Ok x) is =
-        let n : new.stored ≡ mid.stored + count = ap (λ (f : Flushed D). f.stored) is in
-        let won : new.won ≡ mid.won = ap (λ (f : Flushed D). f.won) is in
-        subst (λ (z : ℕ × Option ℕ). new ≡ storing old z.0 new.disk new.size new.used z.1) (sym (λ i. (n i, won i)))
-        (is ∙ ap (λ (f : Flushed D). storing f (mid.stored + count) new.disk new.size new.used mid.won) all_but_disk)
-    stored_so new (Err fault) is = tt
+    module _ (new : Flushed D) (did : StoresFirst disk mid new count) where
+      number_so : new.stored ≡ old.stored + count
+      number_so = ap (λ (f : Flushed D). f.stored) did.stored ∙ ap (λ (f : Flushed D). f.stored + count) all_but_disk
 
-    number_so : (new : Flushed D) → new ≡ storing mid (mid.stored + count) new.disk new.size new.used mid.won → new.stored ≡ old.stored + count
-    number_so new is = ap (λ (f : Flushed D). f.stored) is ∙ ap (λ (f : Flushed D). f.stored + count) all_but_disk
+      won_so : new.won ≡ mid.won
+      won_so = ap (λ (f : Flushed D). f.won) did.stored
 
-    pub within_so : (new : Flushed D) (result : Result (Unit {0}) FlushFault) → OnOk result (new ≡ storing mid (mid.stored + count) new.disk new.size new.used mid.won)
-        → OnOk result ((old.stored ≤ new.stored) × (new.stored ≤ next_ticket old.seat))
-    within_so new (Ok x) is = (omega (arith, number_so new is), omega (arith, number_so new is, count_within, to_end))
-    within_so new (Err fault) is = tt
+      stored_so : new ≡ storing old new.stored new.disk new.size new.used new.won
+      stored_so =
+          let n : new.stored ≡ mid.stored + count = ap (λ (f : Flushed D). f.stored) did.stored in
+          subst (λ (z : ℕ × Option ℕ). new ≡ storing old z.0 new.disk new.size new.used z.1) (sym (λ i. (n i, won_so i)))
+          (did.stored ∙ ap (λ (f : Flushed D). storing f (mid.stored + count) new.disk new.size new.used mid.won) all_but_disk)
 
-    pub after_so : (new : Flushed D) (result : Result (Unit {0}) FlushFault) → OnOk result (new ≡ storing mid (mid.stored + count) new.disk new.size new.used mid.won)
-        → OnOk result (old.stored + count ≡ new.stored)
-    after_so new (Ok x) is = sym (number_so new is)
-    after_so new (Err fault) is = tt
+      -- the disk stands for the state after as much as is stored
+      stands_so : disk.honest mid.disk → StandFor (disk.images new.disk) (state_at old.opening old.seat new.stored)
+      stands_so honest =
+          subst (λ (n : ℕ). StandFor (disk.images new.disk) (state_at old.opening old.seat n)) (sym number_so)
+          (subst (λ (f : Flushed D). StandFor (disk.images new.disk) (state_at f.opening f.seat (f.stored + count))) all_but_disk (did.stands honest))
+
+      -- the block stands behind what was used
+      behind_so : Fits old.size old.used (gathered old) → gathered old ≢ []
+          → (new.stored ≡ next_ticket old.seat) × (new.used ≡ old.used + 9 + length (records (gathered old))) × (new.won ≡ old.won)
+      behind_so fits there =
+          let all : count ≡ length (gathered old) = count_behind fits there in
+          let now = did.used (count_some there) in
+          let first : take count (gathered mid) ≡ gathered old = (λ i. take (all i) (same i)) ∙ take_all (length (gathered old)) (gathered old) (omega arith) in
+          ⊎_elim
+          (λ (l : IsLeft old mid). (
+            omega (arith, number_so, all, to_end),
+            now ∙ (λ i. (l.same i).used + 9 + length (records (first i))),
+            won_so ∙ ap (λ (f : Flushed D). f.won) l.same,
+          ))
+          (λ (w : IsCompacted disk old mid). absurd (omega (arith, fits, w.long)))
+          made
+
+      -- or behind the snapshot
+      afresh_so : IsTooLong old.size old.used (gathered old) → gathered old ≢ []
+          → StoresAfresh old.size old.used (state_stored old) (gathered old) (new.stored - old.stored) new.used new.won
+      afresh_so long there =
+          let s = state_stored old in
+          let now = did.used (count_some there) in
+          let room = did.fits (count_some there) in
+          let k : new.stored - old.stored ≡ count = omega (arith, number_so) in
+          let Of : ℕ → Type 0 = λ k. StoresAfresh old.size old.used s (gathered old) k new.used new.won in
+          ⊎_elim
+          (λ (l : IsLeft old mid). absurd (omega (arith, l.fits whole there, long)))
+          (λ (w : IsCompacted disk old mid). subst Of (sym k) (record {
+            longest = count_afresh long there;
+            fits = subst (λ (z : Flushed D × List CommandValue). Fits z.0.size z.0.used (take count z.1)) (λ i. (w.is i, same i)) room;
+            used_is = now ∙ (λ i. (w.is i).used + 9 + length (records (take count (same i))));
+            won_is = won_so ∙ ap (λ (f : Flushed D). f.won) w.is;
+          }))
+          made
+
+      pub stores_so : (disk.honest old.disk → disk.honest mid.disk) → StoresGathered disk old new
+      stores_so honest = record {
+        stored = stored_so;
+        within = (omega (arith, number_so), omega (arith, number_so, count_within, to_end));
+        next = record { stands = λ was. stands_so (honest was); behind = behind_so; afresh = afresh_so };
+      }
+
+    -- a stop within it finds the state before, or that after them
+    pub storing_so : (new : Flushed D) (result : Result (Unit {0}) FlushFault)
+        → ((start now next : D) (P : List ℕ → Type 0) → LeavesOnly disk.moment disk.images_since start now P → LeavesOnly disk.moment disk.images_since now next P → LeavesOnly disk.moment disk.images_since start next P)
+        → LeavesOnly disk.moment disk.images_since old.disk mid.disk (StandsForEither (state_stored old) (state_at old.opening old.seat (old.stored + count)))
+        → EitherThroughout disk mid new count → disk.honest mid.disk → OnOk result (StoresFirst disk mid new count) → IsStoring disk old new old result
+    storing_so new result join first then honest did = record {
+      number = old.stored + count;
+      next = is_next;
+      end = on_ok_weaker result (λ (d : StoresFirst disk mid new count). sym (number_so new d)) did;
+      leaves = stored_moments count new.disk join first then honest whole;
+    }
 
     -- nothing is done where nothing is gathered
-    pub nothing_so : (new : Flushed D) (result : Result (Unit {0}) FlushFault) → (mid.broken ≡ false → count ≡ 0 → IsOk result × (new ≡ mid)) → gathered old ≡ [] → IsOk result × (new ≡ old)
+    nothing_so : (new : Flushed D) (result : Result (Unit {0}) FlushFault) → (mid.broken ≡ false → count ≡ 0 → IsOk result × (new ≡ mid)) → gathered old ≡ [] → IsOk result × (new ≡ old)
     nothing_so new result nothing none =
         let zero : count ≡ 0 = omega (arith, count_within, ap (λ (l : List CommandValue). length l) none) in
         let did = nothing sound zero in
@@ -200,63 +274,22 @@ module _ {D : Type 0} (disk : Ghosts D) (old mid : Flushed D) (made : IsLeft old
         (λ (w : IsCompacted disk old mid). absurd (w.some none))
         made
 
-    -- the block stands behind what was used
-    pub behind_so : (new : Flushed D) (result : Result (Unit {0}) FlushFault) → OnOk result (new ≡ storing mid (mid.stored + count) new.disk new.size new.used mid.won)
-        → (0 < count → OnOk result (new.used ≡ mid.used + 9 + length (records (take count (gathered mid)))))
-        → Fits old.size old.used (gathered old) → gathered old ≢ []
-        → OnOk result ((new.stored ≡ next_ticket old.seat) × (new.used ≡ old.used + 9 + length (records (gathered old))) × (new.won ≡ old.won))
-    behind_so new (Ok x) is used fits there =
-        let all : count ≡ length (gathered old) = count_behind fits there in
-        let now = used (count_some there) in
-        let first : take count (gathered mid) ≡ gathered old = (λ i. take (all i) (same i)) ∙ take_all (length (gathered old)) (gathered old) (omega arith) in
-        ⊎_elim
-        (λ (l : IsLeft old mid). (
-          omega (arith, number_so new is, all, to_end),
-          now ∙ (λ i. (l.same i).used + 9 + length (records (first i))),
-          ap (λ (f : Flushed D). f.won) is ∙ ap (λ (f : Flushed D). f.won) l.same,
-        ))
-        (λ (w : IsCompacted disk old mid). absurd (omega (arith, fits, w.long)))
-        made
-    behind_so new (Err fault) is used fits there = tt
-
-    -- or behind the snapshot
-    pub afresh_so : (new : Flushed D) (result : Result (Unit {0}) FlushFault) → OnOk result (new ≡ storing mid (mid.stored + count) new.disk new.size new.used mid.won)
-        → (0 < count → OnOk result (new.used ≡ mid.used + 9 + length (records (take count (gathered mid)))))
-        → (0 < count → OnOk result (Fits mid.size mid.used (take count (gathered mid))))
-        → IsTooLong old.size old.used (gathered old) → gathered old ≢ []
-        → OnOk result (StoresAfresh old.size old.used (state_at old.opening old.seat old.stored) (gathered old) (new.stored - old.stored) new.used new.won)
-    afresh_so new (Ok x) is used fits long there =
-        let s = state_at old.opening old.seat old.stored in
-        let now = used (count_some there) in
-        let room = fits (count_some there) in
-        let k : new.stored - old.stored ≡ count = omega (arith, number_so new is) in
-        let won : new.won ≡ mid.won = ap (λ (f : Flushed D). f.won) is in
-        let Of : ℕ → Type 0 = λ k. StoresAfresh old.size old.used s (gathered old) k new.used new.won in
-        ⊎_elim
-        (λ (l : IsLeft old mid). absurd (omega (arith, l.fits whole there, long)))
-        (λ (w : IsCompacted disk old mid). subst Of (sym k) (record {
-          longest = count_afresh long there;
-          fits = subst (λ (z : Flushed D × List CommandValue). Fits z.0.size z.0.used (take count z.1)) (λ i. (w.is i, same i)) room;
-          used_is = now ∙ (λ i. (w.is i).used + 9 + length (records (take count (same i))));
-          won_is = won ∙ ap (λ (f : Flushed D). f.won) w.is;
-        }))
-        made
-    afresh_so new (Err fault) is used fits long there = tt
-
-  -- the disk stays where memory is refused and the block fits
-  pub memory_so : (new : D) (result : Result (Unit {0}) FlushFault) → IfMemory result (new ≡ mid.disk) → Fits old.size old.used (gathered old) → IfMemory result (new ≡ old.disk)
-  memory_so new result kept fits =
-      ⊎_elim
-      (λ (l : IsLeft old mid). subst (λ (d : D). IfMemory result (new ≡ d)) (ap (λ (f : Flushed D). f.disk) l.same) kept)
-      (λ (w : IsCompacted disk old mid). absurd (omega (arith, fits, w.long)))
-      made
+    pub refuses_so : (new : Flushed D) (result : Result (Unit {0}) FlushFault) → (disk.honest old.disk → disk.images mid.disk (disk.content mid.disk)) → RefusesToStoreFirst disk mid new count result → RefusesToStore disk old new result
+    refuses_so new result reads refuses = record {
+      room = record {
+        full = full_so new result refuses.full refuses.nothing;
+        no_room = λ honest is. no_room_left new result is honest (reads honest) refuses.full refuses.nothing;
+      };
+      memory = memory_so new.disk result refuses.memory;
+      nothing = λ _ none. nothing_so new result refuses.nothing none;
+    }
 
   falls_so : (new : Flushed D) → Falls mid new → Falls old new
   falls_so new fell =
       let f = subst (λ (f : Flushed D). Falls f new) all_but_disk fell in
       record { was = f.was; now = f.now; seat = f.seat; stored = f.stored; opening = f.opening; left = f.left }
 
-  pub outcome_so : (new : Flushed D) (result : Result (Unit {0}) FlushFault) → IsOutcome mid new result → IsOutcome old new result
+  outcome_so : (new : Flushed D) (result : Result (Unit {0}) FlushFault) → IsOutcome mid new result → IsOutcome old new result
   outcome_so new (Ok x) outcome = (ap (λ (f : Flushed D). f.broken) (sym all_but_disk) ∙ outcome.0, outcome.1)
   outcome_so new (Err Device) outcome = falls_so new outcome
   outcome_so new (Err Full) outcome = falls_so new outcome
@@ -266,3 +299,10 @@ module _ {D : Type 0} (disk : Ghosts D) (old mid : Flushed D) (made : IsLeft old
       (λ (l : IsLeft old mid). (ap (λ (f : Flushed D). f.broken) (sym l.same) ∙ outcome.0, outcome.1 ∙ l.same))
       (λ (w : IsCompacted disk old mid). absurd (false≢true (sym w.whole ∙ (ap (λ (f : Flushed D). f.broken) (sym all_but_disk) ∙ outcome.0))))
       made
+
+  pub breaks_so : (new : Flushed D) (result : Result (Unit {0}) FlushFault) → disk.failures mid.disk ≡ disk.failures old.disk → FlushBreaks disk mid new result → FlushBreaks disk old new result
+  breaks_so new result calm breaks = record {
+    outcome = outcome_so new result breaks.outcome;
+    stops = breaks.stops;
+    cause = subst (λ (n : ℕ). IsFlushCaused n (disk.failures new.disk) result) calm breaks.cause;
+  }

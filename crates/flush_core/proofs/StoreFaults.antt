@@ -55,11 +55,25 @@ needs_memory Broken want = tt
 needs_memory (Memory refused) want = tt
 
 -- a step that reaches no disk has failed, and no call of the disk has
-pub caused_none : (X : Type 0) (fault : FlushFault) (before now : ℕ) → NeedsNoDisk {T = Unit {0}} (Err fault) → now ≡ before → IsFlushCaused {T = X} before now (Err fault)
-caused_none X Device before now none same = absurd none
-caused_none X Full before now none same = absurd none
-caused_none X Broken before now none same = same
-caused_none X (Memory refused) before now none same = same
+pub caused_none : (X Y : Type 0) (fault : FlushFault) (before now : ℕ) → NeedsNoDisk {T = X} (Err fault) → now ≡ before → IsFlushCaused {T = Y} before now (Err fault)
+caused_none X Y Device before now none same = absurd none
+caused_none X Y Full before now none same = absurd none
+caused_none X Y Broken before now none same = same
+caused_none X Y (Memory refused) before now none same = same
+
+-- nor is there too little room
+pub never_full : (X Y : Type 0) (fault : FlushFault) → NeedsNoDisk {T = X} (Err fault) → IsErrOf {T = Y} (Err fault) Full → ⊥
+never_full X Y Device none is = none
+never_full X Y Full none is = none
+never_full X Y Broken none is = absurd (cc is)
+never_full X Y (Memory refused) none is = absurd (cc is)
+
+-- the cause is the same where another answer was due
+pub caused_as : (X Y : Type 0) (fault : FlushFault) (before now : ℕ) → IsFlushCaused {T = X} before now (Err fault) → IsFlushCaused {T = Y} before now (Err fault)
+caused_as X Y Device before now cause = cause
+caused_as X Y Full before now cause = cause
+caused_as X Y Broken before now cause = cause
+caused_as X Y (Memory refused) before now cause = cause
 
 pub caused_from : {T : Type 0} (r : Result T AreaFault) (fault : AreaFault) (before now : ℕ) → r ≡ Err fault → IsCaused before now r → IsFlushCaused {T = Unit {0}} before now (Err (of_area fault))
 caused_from {T} r fault before now is cause = caused_so T fault before now (subst (λ (r : Result T AreaFault). IsCaused before now r) is cause)

@@ -1,5 +1,6 @@
 -- A turn: what a stop within it leaves.
-use Rattle.std.proofs.Common.{◌<◌, ◌≤◌, ◌-◌, ◌++◌, drop, length, take, refl, ◌≡◌, inl, false, ℕ, List, Option, Err, sym, ◌∙◌, ap, subst, arith}
+use Rattle.std.proofs.Common.{◌<◌, ◌≤◌, ◌-◌, ◌++◌, [], drop, take, refl, ◌≡◌, inl, false, true, ℕ, List, Option, Err, sym, ◌∙◌, ap, subst, arith}
+use Rattle.std.proofs.lemmas.List.{append-nil}
 use Rattle.std.proofs.lemmas.Bool.{false≢true}
 use Rattle.disk_core.specs.declared.disk.Disk.{Ghosts}
 use Rattle.disk_core.specs.Moments.{LeavesOnly}
@@ -13,6 +14,8 @@ use Rattle.recover_core.specs.Standing.{StandFor, StandsForEither}
 use Rattle.flush_core.specs.declared.faults.FlushFault.{FlushFault}
 use Rattle.flush_core.specs.declared.faults.FlushFault.TheVariants.{Device, Full, Broken, Memory}
 use Rattle.flush_core.specs.Batches.{between, from_on, state_at, with_more}
+use Rattle.flush_core.specs.Calls.{FlushBreaks, RefusesTurn, TurnBreaks}
+use Rattle.flush_core.specs.Faults.{IsFlushCaused, NeedsNoDisk}
 use Rattle.flush_core.specs.Flushed.{Flushed, IsFlusher, unexecuted}
 use Rattle.flush_core.specs.Outcomes.{Falls, IsNext, IsOutcome, IsTurn, IsTurned, TurnFalls, publishing, executing, standing, stored_entries, storing, taking, turned_boxes, turned_outs}
 use Rattle.flush_core.specs.Sessions.{boxes_after, ended_of}
@@ -20,6 +23,7 @@ use Rattle.outbox_core.specs.Giving.{AreGiven, Kept, unboxed, without}
 use Rattle.command_core.specs.Commands.{CommandValue}
 use Rattle.command_core.specs.Outs.{OutValue}
 use Rattle.flush_core.specs.Room.{IsLongest, IsTooLong, used_afresh}
+use Rattle.flush_core.proofs.StoreFaults.{caused_as, caused_none, never_full}
 use Rattle.flush_core.proofs.Taken.{at_more}
 
 -- a step that fails keeps what was taken
@@ -59,16 +63,6 @@ module _ {D : Type 0} (disk : Ghosts D) where
       (subst (λ (t : State). LeavesOnly disk.moment disk.images_since f.disk next (StandsForEither (state_at f.opening f.seat f.stored) t)) all
       (subst (λ (s : State). LeavesOnly disk.moment disk.images_since f.disk next (StandsForEither s (state_at f.opening (with_more f.seat more) n))) (at_more f.opening f.seat more f.stored kept.stored)
       (here honest whole)))
-
-  -- the same where all that was taken is
-  pub stored_all : (f g : Flushed D) (entries : List (EntryValue SenderValue)) (next last : D) (opening : State) (seat : FlushSeatValue) → IsFlusher disk.honest disk.images f → f.broken ≡ false → g ≡ taking f entries
-      → (disk.honest g.disk → g.broken ≡ false → LeavesOnly disk.moment disk.images_since g.disk next (StandsForEither (state_at g.opening g.seat g.stored) (state_at g.opening g.seat (next_ticket g.seat))))
-      → last ≡ next → opening ≡ g.opening → seat.taken ≡ g.seat.taken → seat.base ≡ g.seat.base → disk.honest f.disk
-      → LeavesOnly disk.moment disk.images_since f.disk last (StandsForEither (state_at f.opening f.seat f.stored) (state_at opening seat (next_ticket seat)))
-  stored_all f g entries next last opening seat kept whole is leaves same opened taken base honest =
-      let end : next_ticket g.seat ≡ next_ticket seat = omega (arith, base, ap (λ (l : List CommandValue). length l) taken) in
-      subst (λ (n : ℕ). LeavesOnly disk.moment disk.images_since f.disk last (StandsForEither (state_at f.opening f.seat f.stored) (state_at opening seat n))) end
-      (stored f g entries (next_ticket g.seat) next last opening seat kept whole is leaves same opened taken base honest)
 
   -- the disk stands for the state after what is stored, once that is executed and published
   pub stands_so : (g did left new : Flushed D) (n : ℕ) (next : D) (size used : ℕ) (won : Option ℕ) → did ≡ storing g n next size used won → left ≡ executing did → left.disk ≡ did.disk → new ≡ publishing left new.boxes
@@ -171,3 +165,49 @@ module _ {D : Type 0} (old took did new : Flushed D) (entries : List (EntryValue
   execute_falls X Full sound outcome = turn_falls outcome
   execute_falls X (Memory refused) sound outcome = turn_falls outcome
   execute_falls X Broken sound outcome = absurd (false≢true (sym sound ∙ outcome.0))
+
+-- a turn that took nothing
+gather_falls : {D : Type 0} (old new : Flushed D) → Falls old new → TurnFalls old new
+gather_falls old new fell = record {
+  was = fell.was;
+  now = fell.now;
+  stopped = ap (λ (s : FlushSeatValue). s.stopped) fell.seat;
+  ring = ap (λ (s : FlushSeatValue). s.ring) fell.seat;
+  base = ap (λ (s : FlushSeatValue). s.base) fell.seat;
+  seats = ap (λ (s : FlushSeatValue). s.seats) fell.seat;
+  published = ap (λ (s : FlushSeatValue). s.published) fell.seat;
+  taken = ([], ap (λ (s : FlushSeatValue). s.taken) fell.seat ∙ sym (append-nil old.seat.taken));
+  opening = fell.opening;
+  left = fell.left;
+}
+
+gather_fails : {D : Type 0} (old new : Flushed D) (fault : FlushFault) → IsOutcome {X = ℕ} old new (Err fault) → IsTurn {X = ℕ} old new (Err fault)
+gather_fails old new Device fell = gather_falls old new fell
+gather_fails old new Full fell = gather_falls old new fell
+gather_fails old new Broken was = was
+gather_fails old new (Memory refused) fell = gather_falls old new fell
+
+module _ {D : Type 0} (disk : Ghosts D) where
+  pub gather_breaks : (old new : Flushed D) (fault : FlushFault) → NeedsNoDisk {T = ℕ} (Err fault) → new.disk ≡ old.disk → IsOutcome {X = ℕ} old new (Err fault) → (new.broken ≡ true) × (new.seat.stopped ≡ true)
+      → TurnBreaks {X = ℕ} disk old new (Err fault)
+  gather_breaks old new fault none same outcome stops = record {
+    outcome = gather_fails old new fault outcome;
+    stops = stops;
+    cause = caused_none ℕ ℕ fault (disk.failures old.disk) (disk.failures new.disk) none (ap (λ (d : D). disk.failures d) same);
+  }
+
+  -- a turn that stored nothing, or failed at that
+  pub store_breaks : (old took new : Flushed D) (entries : List (EntryValue SenderValue)) (fault : FlushFault) → old.broken ≡ false → took.broken ≡ false → took ≡ taking old entries
+      → FlushBreaks {X = Unit {0}} disk took new (Err fault) → TurnBreaks {X = ℕ} disk old new (Err fault)
+  store_breaks old took new entries fault whole sound is breaks = record {
+    outcome = execute_falls old took took new entries took.stored took.disk took.size took.used took.won whole is refl ℕ fault sound breaks.outcome;
+    stops = breaks.stops;
+    cause = subst (λ (f : Flushed D). IsFlushCaused {T = ℕ} (disk.failures f.disk) (disk.failures new.disk) (Err fault)) is (caused_as (Unit {0}) ℕ fault (disk.failures took.disk) (disk.failures new.disk) breaks.cause);
+  }
+
+  -- a step that needs no disk finds room
+  pub refuses_none : (X : Type 0) (most most_bytes : ℕ) (old new : Flushed D) (fault : FlushFault) → NeedsNoDisk {T = X} (Err fault) → RefusesTurn {X = ℕ} disk most most_bytes old new (Err fault)
+  refuses_none X most most_bytes old new fault none = record {
+    room = record { full = λ is. absurd (never_full X ℕ fault none is); no_room = λ honest is. absurd (never_full X ℕ fault none is) };
+    batch = λ is. absurd (never_full X ℕ fault none is);
+  }

@@ -44,6 +44,10 @@ abbrev pub flushed : {D : Type 0} {disk : Ghosts D} → Store D disk → FlushSe
 flushed store seat opening stored executed brought broker boxes ended past waiting left broken won =
     record { disk = disk_of store; size = size_of store; used = used_of store; seat = seat; opening = opening; stored = stored; executed = executed; brought = brought; broker = broker; boxes = boxes; ended = ended; past = past; waiting = waiting; left = left; broken = broken; won = won }
 
+-- the state after all that is stored
+abbrev pub state_stored : {D : Type 0} → Flushed D → State
+state_stored f = state_at f.opening f.seat f.stored
+
 -- the commands that wait to be stored
 abbrev pub gathered : {D : Type 0} → Flushed D → List CommandValue
 gathered f = from_on f.seat f.stored

@@ -1,4 +1,5 @@
 pub mod Batches
+pub mod Calls
 pub mod Faults
 pub mod Flushed
 pub mod Outcomes

@@ -1,12 +1,12 @@
 //! Executing the commands.
 
-ghost use Rattle.std.specs.Prelude.{◌≡◌, ◌<◌, ◌≤◌, ◌+◌, ◌++◌, ◌&&◌, ◌^◌, [], ◌∷◌, OnErr, OnOk, true, false, not, if◌then◌else◌, length, vec_capacity};
-ghost use Rattle.area_core.specs.Areas.{commands};
+ghost use Rattle.std.specs.Prelude.{◌≡◌, ◌<◌, ◌≤◌, ◌+◌, ◌++◌, ◌&&◌, ◌^◌, [], ◌∷◌, OnErr, OnOk, true, false, not, if◌then◌else◌, length};
 ghost use Rattle.broker_state.specs.States.{is_open};
-ghost use Rattle.broker_core.specs.Steps.{outs, outs_of, state_after, step};
+ghost use Rattle.broker_core.specs.Steps.{outs, step};
+ghost use Rattle.flush_core.specs.Calls.{Executes, HasRoom};
 ghost use Rattle.flush_core.specs.Faults.{IsMemory, NeedsNoDisk};
 ghost use Rattle.flush_core.specs.Outcomes.{IsOutcome, executing};
-ghost use Rattle.flush_core.specs.Sessions.{boxes_after, ended_by, ended_of, opened};
+ghost use Rattle.flush_core.specs.Sessions.{ended_by, opened};
 
 use crate::FlushFault;
 use crate::flusher::Flusher;
@@ -118,10 +118,7 @@ fn execute_each<B: Bell>(
 ) -> Result<(), FlushFault>
     requires whole { broker.old.broken ≡ false }
     requires count { broker.old.state.count + length batch.items ≤ 2 ^ 62 }
-    ensures state { OnOk result (broker.new ≡ record { state = state_after broker.old.state (commands batch.items); broken = false }) }
-    ensures outs { OnOk result (waiting.new.items ≡ waiting.old.items ++ outs_of broker.old.state (commands batch.items)) }
-    ensures boxes { OnOk result (boxes.new ≡ boxes_after broker.old.state.count boxes.old batch.items) }
-    ensures ended { OnOk result (ended.new.items ≡ ended.old.items ++ ended_of broker.old.state (commands batch.items)) }
+    ensures done { OnOk result (Executes batch.items broker.old broker.new boxes.old boxes.new waiting.old waiting.new ended.old ended.new) }
     ensures fault { IsMemory result }
 {
     for entry in batch {
@@ -140,15 +137,9 @@ fn execute_all<B: Bell>(
     requires whole { broker.old.broken ≡ false }
     requires count { broker.old.state.count + length done.old.items ≤ 2 ^ 62 }
     requires none { length outlet.old.spare.items ≡ 0 }
-    ensures state { OnOk result (broker.new ≡ record { state = state_after broker.old.state (commands done.old.items); broken = false }) }
-    ensures outs { OnOk result (outlet.new.waiting.items ≡ outlet.old.waiting.items ++ outs_of broker.old.state (commands done.old.items)) }
-    ensures boxes { OnOk result (outlet.new.boxes ≡ boxes_after broker.old.state.count outlet.old.boxes done.old.items) }
-    ensures ended { OnOk result (outlet.new.ended.items ≡ outlet.old.ended.items ++ ended_of broker.old.state (commands done.old.items)) }
-    ensures done { OnOk result (done.new.items ≡ []) }
-    ensures past { outlet.new.past ≡ outlet.old.past }
-    ensures left { outlet.new.left.items ≡ outlet.old.left.items }
-    ensures room { OnOk result (0 < length outlet.new.left.items → length outlet.new.left.items + length outlet.new.waiting.items ≤ vec_capacity outlet.new.left) }
-    ensures spare { OnOk result ((length outlet.new.spare.items ≡ 0) × (length outlet.new.waiting.items ≤ vec_capacity outlet.new.spare)) }
+    ensures done { OnOk result (Executes done.old.items broker.old broker.new outlet.old.boxes outlet.new.boxes outlet.old.waiting outlet.new.waiting outlet.old.ended outlet.new.ended) }
+    ensures same { (done.new.items ≡ []) × (outlet.new.past ≡ outlet.old.past) × (outlet.new.left.items ≡ outlet.old.left.items) }
+    ensures room { OnOk result (HasRoom outlet.new.waiting outlet.new.left outlet.new.spare) }
     ensures fault { IsMemory result }
 {
     let batch = replace(done, Vec::new(alloc));

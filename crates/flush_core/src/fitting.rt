@@ -1,14 +1,12 @@
 //! Which of the entries that wait go into one block.
 
-ghost use Rattle.std.specs.Prelude.{◌≡◌, ◌+◌, ◌-◌, ◌<◌, ◌≤◌, drop, take, IfOk, IsErrOf, OnOk, length, true, false};
-ghost use Rattle.disk_core.specs.Moments.{LeavesOnly};
+ghost use Rattle.std.specs.Prelude.{◌≡◌, ◌+◌, ◌-◌, ◌<◌, ◌≤◌, take, IfOk, length};
+ghost use Rattle.disk_core.specs.Calls.{Lasts};
 ghost use Rattle.area_core.specs.Areas.{commands, records};
-ghost use Rattle.area_core.specs.Steps.{IfMemory, IsCaused};
-ghost use Rattle.broker_core.specs.States.{State};
-ghost use Rattle.broker_core.specs.Steps.{state_after};
-ghost use Rattle.recover_core.specs.Standing.{StandFor, StandsForEither};
-ghost use Rattle.recover_core.specs.Stores.{disk_of, is_broken, size_of, used_of};
-ghost use Rattle.flush_core.specs.Room.{Fits, IsTooLong};
+ghost use Rattle.recover_core.specs.Calls.{StandsThroughout};
+ghost use Rattle.recover_core.specs.Stores.{disk_of, size_of};
+ghost use Rattle.flush_core.specs.Calls.{AddsFirst, RefusesFirst};
+ghost use Rattle.flush_core.specs.Room.{IsTooLong};
 
 use area_core::AreaFault;
 use command_core::Entry;
@@ -67,24 +65,11 @@ pub(crate) fn append_first<D: Disk, B: Drop>(
 ) -> Result<Vec<Entry<B>>, AreaFault>
     requires some { 0 < count }
     requires within { count ≤ length batch.old.items }
-    ensures first { OnOk result (batch.new.items ≡ take count batch.old.items) }
-    ensures rest { IfOk result (λ rest. rest.items ≡ drop count batch.old.items) }
-    ensures any_moment { D.honest (disk_of journal.old) → (s : State) → StandFor (D.images (disk_of journal.old)) s →
-        LeavesOnly D.moment D.images_since (disk_of journal.old) (disk_of journal.new)
-        (StandsForEither s (state_after s (commands (take count batch.old.items)))) }
-    ensures after { D.honest (disk_of journal.old) → OnOk result ((s : State) → StandFor (D.images (disk_of journal.old)) s →
-        StandFor (D.images (disk_of journal.new)) (state_after s (commands (take count batch.old.items)))) }
-    ensures fits { OnOk result (Fits (size_of journal.old) (used_of journal.old) (commands (take count batch.old.items))) }
-    ensures full { IsErrOf result AreaFault.Full →
-        IsTooLong (size_of journal.old) (used_of journal.old) (commands (take count batch.old.items)) × (disk_of journal.new ≡ disk_of journal.old) }
-    ensures memory { IfMemory result (disk_of journal.new ≡ disk_of journal.old) }
-    ensures sound { IsErrOf result AreaFault.Broken → is_broken journal.old ≡ true }
-    ensures ok { OnOk result (is_broken journal.new ≡ false) }
-    ensures cause { IsCaused (D.failures (disk_of journal.old)) (D.failures (disk_of journal.new)) result }
+    ensures any_moment { StandsThroughout D.Disk journal.old journal.new (commands (take count batch.old.items)) }
+    ensures adds { IfOk result (λ rest. AddsFirst D.Disk journal.old journal.new batch.old.items batch.new.items rest.items count) }
+    ensures refuses { RefusesFirst D.Disk journal.old journal.new (take count batch.old.items) result }
     ensures size { size_of journal.new ≡ size_of journal.old }
-    ensures used { OnOk result (used_of journal.new ≡ used_of journal.old + 9 + length (records (commands (take count batch.old.items)))) }
-    ensures honest { D.honest (disk_of journal.old) → D.honest (disk_of journal.new) }
-    ensures was_honest { D.honest (disk_of journal.new) → D.honest (disk_of journal.old) }
+    ensures lasts { Lasts D.Disk (disk_of journal.old) (disk_of journal.new) }
 {
     if !journal.fits(&batch[..count]) {
         return Err(AreaFault::Full);

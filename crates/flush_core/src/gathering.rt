@@ -1,10 +1,11 @@
 //! Taking commands from the ring.
 
-ghost use Rattle.std.specs.Prelude.{◌≡◌, ◌<◌, ◌≤◌, ◌^◌, ◌++◌, List, IfOk, IfErr, OnErr, true, length, vec_capacity};
+ghost use Rattle.std.specs.Prelude.{◌≡◌, ◌≤◌, ◌^◌, List, IfOk, OnErr, true, length, vec_capacity};
 ghost use Rattle.command_core.specs.Entries.{EntryValue};
 ghost use Rattle.outbox_core.specs.Boxes.{SenderValue};
 ghost use Rattle.area_core.specs.Areas.{commands, records};
-ghost use Rattle.flush_core.specs.Batches.{IsBatch, block_bytes, with_more};
+ghost use Rattle.flush_core.specs.Batches.{IsBatch, block_bytes};
+ghost use Rattle.flush_core.specs.Calls.{TakesMore};
 ghost use Rattle.flush_core.specs.Faults.{NeedsNoDisk};
 ghost use Rattle.flush_core.specs.Flushed.{gathered};
 ghost use Rattle.flush_core.specs.Outcomes.{IsOutcome, taking};
@@ -45,8 +46,7 @@ impl<D: Disk, B: Bell, W: Width> Flusher<D, B, W> {
         requires room { W.COMMANDS ≤ vec_capacity batch.old }
         requires bytes { bytes.old ≡ length (records (commands batch.old.items)) }
         requires batch { IsBatch W.COMMANDS wanted (commands batch.old.items) }
-        ensures taken { (more : List (EntryValue SenderValue)) × (length more ≡ result) × (seat.new ≡ with_more seat.old (commands more))
-            × (batch.new.items ≡ batch.old.items ++ more) }
+        ensures taken { TakesMore seat.old seat.new batch.old.items batch.new.items result }
         ensures bytes { bytes.new ≡ length (records (commands batch.new.items)) }
         ensures batch { IsBatch W.COMMANDS wanted (commands batch.new.items) }
     {
@@ -74,8 +74,7 @@ impl<D: Disk, B: Bell, W: Width> Flusher<D, B, W> {
         requires ring { seat.old.ring ≡ ring.now }
         requires bytes { bytes.old ≡ length (records (commands batch.old.items)) }
         requires batch { IsBatch W.COMMANDS wanted (commands batch.old.items) }
-        ensures taken { IfOk result (λ count. (more : List (EntryValue SenderValue)) × (length more ≡ count) × (seat.new ≡ with_more seat.old (commands more))
-            × (batch.new.items ≡ batch.old.items ++ more)) }
+        ensures taken { IfOk result (TakesMore seat.old seat.new batch.old.items batch.new.items) }
         ensures bytes { bytes.new ≡ length (records (commands batch.new.items)) }
         ensures batch { IsBatch W.COMMANDS wanted (commands batch.new.items) }
         ensures refused { OnErr result (seat.new ≡ seat.old) }

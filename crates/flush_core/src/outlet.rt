@@ -2,6 +2,7 @@
 
 ghost use Rattle.std.specs.Prelude.{◌≡◌, ◌<◌, ◌≤◌, ◌+◌, ◌++◌, [], OnOk, length, vec_capacity};
 ghost use Rattle.outbox_core.specs.Giving.{AreGiven, unboxed, without};
+ghost use Rattle.flush_core.specs.Calls.{HasRoom};
 ghost use Rattle.flush_core.specs.Flushed.{AreUnder};
 
 use crate::tally::Tally;
@@ -68,9 +69,7 @@ impl<B: Bell> Outlet<B> {
     // then finds that its outputs may leave.
     pub(crate) fn give(&mut self, seat: &FlushSeat<OutSender<B>>)
         requires under { AreUnder seat.now.published self.old.waiting.items }
-        requires none { length self.old.spare.items ≡ 0 }
-        requires spare { length self.old.waiting.items ≤ vec_capacity self.old.spare }
-        requires left { 0 < length self.old.left.items → length self.old.left.items + length self.old.waiting.items ≤ vec_capacity self.old.left }
+        requires room { HasRoom self.old.waiting self.old.left self.old.spare }
         ensures given { AreGiven self.old.waiting.items (without self.old.boxes self.old.past.items) self.new.boxes }
         ensures ended { (self.new.ended.items ≡ []) × (self.new.past.items ≡ self.old.ended.items) }
         ensures left { self.new.left.items ≡ self.old.left.items ++ unboxed (without self.old.boxes self.old.past.items) self.old.waiting.items }

@@ -1,16 +1,10 @@
 //! Making the commands durable.
 
-ghost use Rattle.std.specs.Prelude.{◌≡◌, ◌≢◌, ◌⊎◌, ◌<◌, ◌≤◌, ◌+◌, ◌-◌, ℕ, [], take, OnErr, OnOk, IsErrOf, IsOk, true, false, length};
-ghost use Rattle.disk_core.specs.Moments.{LeavesOnly};
-ghost use Rattle.area_core.specs.Areas.{records};
-ghost use Rattle.claim_core.specs.Seats.{next_ticket};
-ghost use Rattle.recover_core.specs.Compactions.{HasNoRoomFor};
-ghost use Rattle.recover_core.specs.Standing.{StandFor, StandsForEither};
-ghost use Rattle.flush_core.specs.Batches.{state_at};
-ghost use Rattle.flush_core.specs.Faults.{IfMemory, IsFlushCaused};
+ghost use Rattle.std.specs.Prelude.{◌≡◌, ◌≢◌, ◌<◌, ◌≤◌, ◌+◌, [], take, OnOk, false, length};
+ghost use Rattle.disk_core.specs.Calls.{Lasts};
+ghost use Rattle.flush_core.specs.Calls.{EitherThroughout, FlushBreaks, RefusesToStore, RefusesToStoreFirst, StoresFirst, StoresGathered, StoresThroughout};
 ghost use Rattle.flush_core.specs.Flushed.{gathered};
-ghost use Rattle.flush_core.specs.Outcomes.{IsNext, IsOutcome, storing};
-ghost use Rattle.flush_core.specs.Room.{Fits, HasNoRoom, HasNoRoomLeft, IsTooLong, StoresAfresh, used_afresh};
+ghost use Rattle.flush_core.specs.Room.{IsTooLong};
 
 use crate::FlushFault;
 use crate::fitting::{append_first, bytes_without, count_fitting};
@@ -39,29 +33,11 @@ impl<D: Disk, B: Bell, W: Width> Flusher<D, B, W> {
     ) -> Result<(), FlushFault>
         requires ring { self.old.seat.ring ≡ ring.now }
         requires executed { self.old.broken ≡ false → self.old.executed ≡ self.old.stored }
-        ensures any_moment { D.honest self.old.disk → self.old.broken ≡ false →
-            (n : ℕ) × IsNext self.old self.old.seat n × OnOk result (n ≡ self.new.stored) × LeavesOnly D.moment D.images_since self.old.disk self.new.disk
-            (StandsForEither (state_at self.old.opening self.old.seat self.old.stored) (state_at self.old.opening self.old.seat n)) }
-        ensures after { D.honest self.old.disk →
-            OnOk result (StandFor (D.images self.new.disk) (state_at self.old.opening self.old.seat self.new.stored)) }
-        ensures stored { OnOk result (self.new ≡ storing self.old self.new.stored self.new.disk self.new.size self.new.used self.new.won) }
-        ensures within { OnOk result ((self.old.stored ≤ self.new.stored) × (self.new.stored ≤ next_ticket self.old.seat)) }
-        ensures nothing { self.old.broken ≡ false → gathered self.old ≡ [] → IsOk result × (self.new ≡ self.old) }
-        ensures behind { Fits self.old.size self.old.used (gathered self.old) → gathered self.old ≢ [] →
-            OnOk result ((self.new.stored ≡ next_ticket self.old.seat) × (self.new.used ≡ self.old.used + 9 + length (records (gathered self.old))) × (self.new.won ≡ self.old.won)) }
-        ensures afresh { IsTooLong self.old.size self.old.used (gathered self.old) → gathered self.old ≢ [] →
-            OnOk result (StoresAfresh self.old.size self.old.used (state_at self.old.opening self.old.seat self.old.stored) (gathered self.old) (self.new.stored - self.old.stored) self.new.used self.new.won) }
-        ensures full { IsErrOf result FlushFault.Full → IsTooLong self.old.size self.old.used (gathered self.old)
-            × ((HasNoRoomFor self.old.size (state_at self.old.opening self.old.seat self.old.stored) × (self.new.disk ≡ self.old.disk))
-            ⊎ IsTooLong self.old.size (used_afresh (state_at self.old.opening self.old.seat self.old.stored)) (take 1 (gathered self.old))) }
-        ensures no_room { D.honest self.old.disk → IsErrOf result FlushFault.Full →
-            HasNoRoomLeft (D.content self.new.disk) (state_at self.old.opening self.old.seat self.old.stored) (take 1 (gathered self.old)) }
-        ensures memory { Fits self.old.size self.old.used (gathered self.old) → IfMemory result (self.new.disk ≡ self.old.disk) }
-        ensures outcome { IsOutcome self.old self.new result }
-        ensures stops { OnErr result ((self.new.broken ≡ true) × (self.new.seat.stopped ≡ true)) }
-        ensures cause { IsFlushCaused (D.failures self.old.disk) (D.failures self.new.disk) result }
-        ensures honest { D.honest self.old.disk → D.honest self.new.disk }
-        ensures was_honest { D.honest self.new.disk → D.honest self.old.disk }
+        ensures any_moment { StoresThroughout D.Disk self.old self.new self.old result }
+        ensures stores { OnOk result (StoresGathered D.Disk self.old self.new) }
+        ensures refuses { RefusesToStore D.Disk self.old self.new result }
+        ensures breaks { FlushBreaks D.Disk self.old self.new result }
+        ensures lasts { Lasts D.Disk self.old.disk self.new.disk }
     {
         if self.is_broken() {
             return Err(FlushFault::Broken);
@@ -94,25 +70,11 @@ impl<D: Disk, B: Bell, W: Width> Flusher<D, B, W> {
         requires ring { self.old.seat.ring ≡ ring.now }
         requires executed { self.old.broken ≡ false → self.old.executed ≡ self.old.stored }
         requires within { self.old.broken ≡ false → count ≤ length (gathered self.old) }
-        ensures any_moment { D.honest self.old.disk → self.old.broken ≡ false →
-            LeavesOnly D.moment D.images_since self.old.disk self.new.disk
-            (StandsForEither (state_at self.old.opening self.old.seat self.old.stored) (state_at self.old.opening self.old.seat (self.old.stored + count))) }
-        ensures after { D.honest self.old.disk →
-            OnOk result (StandFor (D.images self.new.disk) (state_at self.old.opening self.old.seat (self.old.stored + count))) }
-        ensures stored { OnOk result (self.new ≡ storing self.old (self.old.stored + count) self.new.disk self.new.size self.new.used self.old.won) }
-        ensures nothing { self.old.broken ≡ false → count ≡ 0 → IsOk result × (self.new ≡ self.old) }
-        ensures used { 0 < count → OnOk result (self.new.used ≡ self.old.used + 9 + length (records (take count (gathered self.old)))) }
-        ensures fits { 0 < count → OnOk result (Fits self.old.size self.old.used (take count (gathered self.old))) }
-        ensures full { IsErrOf result FlushFault.Full →
-            IsTooLong self.old.size self.old.used (take count (gathered self.old)) × (self.new.disk ≡ self.old.disk) }
-        ensures no_room { D.honest self.old.disk → IsErrOf result FlushFault.Full →
-            HasNoRoom (D.content self.old.disk) (state_at self.old.opening self.old.seat self.old.stored) (take count (gathered self.old)) }
-        ensures memory { IfMemory result (self.new.disk ≡ self.old.disk) }
-        ensures outcome { IsOutcome self.old self.new result }
-        ensures stops { OnErr result ((self.new.broken ≡ true) × (self.new.seat.stopped ≡ true)) }
-        ensures cause { IsFlushCaused (D.failures self.old.disk) (D.failures self.new.disk) result }
-        ensures honest { D.honest self.old.disk → D.honest self.new.disk }
-        ensures was_honest { D.honest self.new.disk → D.honest self.old.disk }
+        ensures any_moment { EitherThroughout D.Disk self.old self.new count }
+        ensures stores { OnOk result (StoresFirst D.Disk self.old self.new count) }
+        ensures refuses { RefusesToStoreFirst D.Disk self.old self.new count result }
+        ensures breaks { FlushBreaks D.Disk self.old self.new result }
+        ensures lasts { Lasts D.Disk self.old.disk self.new.disk }
     {
         if self.broken {
             return Err(FlushFault::Broken);

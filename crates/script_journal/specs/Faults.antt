@@ -1,5 +1,5 @@
 -- Which faults come from where.
-use Rattle.std.specs.Prelude.{◌≡◌, ℕ}
+use Rattle.std.specs.Prelude.{◌≡◌, ℕ, Bool, Result, IfErr, IfOk, false, true}
 use Rattle.disk_core.specs.Faults.{IsOneMore}
 use Rattle.area_core.specs.declared.faults.AreaFault.TheVariants as areas
 use Rattle.recover_core.specs.declared.faults.OpenFault.{OpenFault}
@@ -27,6 +27,12 @@ IsCausedBy before now Device = IsOneMore before now
 IsCausedBy before now Full = now ≡ before
 IsCausedBy before now Broken = now ≡ before
 IsCausedBy before now (Memory refused) = now ≡ before
+
+-- the disk did not fail if all went, it failed if not all did, and else just if that is the fault
+pub record IsStopCaused (before now : ℕ) (went : Result Bool FlushFault) : Type 0 where
+  pub calm : IfOk went (λ all. all ≡ true → now ≡ before)
+  pub stopped : IfOk went (λ all. all ≡ false → IsOneMore before now)
+  pub cause : IfErr went (IsCausedBy before now)
 
 -- a journal is not opened since memory was refused
 abbrev pub IsWantOfMemory : OpenFault → Type 0

@@ -42,6 +42,10 @@ pub record HasGone {D : Type 0} (old new : Flushed D) (more : List CommandValue)
   pub state : new.broker.state ≡ state_after old.broker.state more
   pub left : new.left ≡ old.left ++ outs_of old.broker.state more
 
+-- so many commands more were
+abbrev pub HasGoneOn : {D : Type 0} → Flushed D → Flushed D → ℕ → Type 0
+HasGoneOn old new count = (more : List CommandValue) × (length more ≡ count) × HasGone old new more
+
 -- more commands were taken, and all that was published is still
 pub record HasGoneSomeWay {D : Type 0} (old new : Flushed D) : Type 0 where
   pub ring : new.seat.ring ≡ old.seat.ring

@@ -1,19 +1,17 @@
 //! The journal that the commands of a script are kept in.
 
-ghost use Rattle.std.specs.Prelude.{◌≡◌, ◌≤◌, ◌^◌, IfErr, IfOk, IfSome, IsErrOf, IsNone, IsSome, OnErr, OnOk, false, true};
+ghost use Rattle.std.specs.Prelude.{◌≡◌, ◌≤◌, ◌^◌, IfErr, IfOk, IfSome, IsNone, IsSome, OnErr, OnOk, false, true};
 ghost use Rattle.broker_core.specs.States.{held_messages};
-ghost use Rattle.broker_core.specs.Steps.{state_after, outs_of};
-ghost use Rattle.disk_core.specs.Faults.{IsOneMore};
 ghost use Rattle.disk_core.specs.Fuse.{calls_left, fused};
 ghost use Rattle.disk_core.specs.Images.{IsImage};
 ghost use Rattle.recover_core.specs.Opens.{IsRestartOf};
 ghost use Rattle.recover_core.specs.Standing.{StandFor, Stands};
 ghost use Rattle.recover_core.specs.Stores.{disk_of, is_broken, opened_by};
 ghost use Rattle.recover_core.specs.Told.{IsCausedBy as IsOpenCausedBy, IsOpenTold};
-ghost use Rattle.flush_core.specs.declared.faults.FlushFault.TheVariants.{Broken, Full};
-ghost use Rattle.script_journal.specs.Faults.{IsCausedBy, IsWantOfMemory};
-ghost use Rattle.script_journal.specs.Journals.{IsFull, IsMade, KeepFront};
-ghost use Rattle.script_journal.specs.Placed.{AreOwn, IsReadBy, commands_of};
+ghost use Rattle.flush_core.specs.declared.faults.FlushFault.TheVariants.{Broken};
+ghost use Rattle.script_journal.specs.Faults.{IsWantOfMemory};
+ghost use Rattle.script_journal.specs.Journals.{IsMade, DiskFails, KeepsRecorded, Records, RefusesToRecord};
+ghost use Rattle.script_journal.specs.Placed.{IsReadBy, commands_of};
 
 use crate::sizes::ScriptFlusher;
 use crate::turning::go;
@@ -99,30 +97,22 @@ impl<D: Disk> Journal<D> {
     }
 
     /// Has waiting commands go through the ring: each is appended by its connection's seat, and made durable and carried out
-    /// in the flusher's turns. Answers their outputs, in order, or `None` where a call of the disk failed: whatever a stop
-    /// leaves of the disk then stands for the state after the first so many of these commands.
+    /// in the flusher's turns. Answers their outputs, in order, or `None` if a call of the disk failed. Whatever a stop then
+    /// leaves of the disk stands for the state after the first so many of these commands.
     ///
-    /// After a call that failed, and after a fault, the journal is not durable, and takes nothing more. `Full` is told where
-    /// the block of some of the commands has no room behind those before, `Memory` where memory was refused, `Broken` where a
-    /// step failed before, or the ring does not take a command, as of a connection with no seat, or with a full window. `Device`
-    /// is told in place of `None` where the flusher took what no seat here has appended, which it does of no ring whose seats
-    /// are all here.
+    /// After a call that failed, and after a fault, the journal is not durable, and takes nothing more. `Full` comes if the block
+    /// of some of the commands has no room behind those before, and `Memory` if memory was refused. `Broken` comes if a step
+    /// failed before, or if the ring does not take a command: its connection has no seat, or a full window. `Device` comes
+    /// in place of `None` if the flusher took what no seat here has appended; that never happens if all seats are here.
     pub fn record(
         &mut self,
         alloc: Global,
         waiting: Vec<Waiting>,
     ) -> Result<Option<Vec<Out>>, FlushFault>
-        ensures state { IfOk result (λ outs. IsSome outs → self.new ≡ record self.old { state = state_after self.old.state (commands_of waiting.items); disk = self.new.disk; seats = self.new.seats }) }
-        ensures outs { IfOk result (λ outs. IfSome outs (λ outs. outs.items ≡ outs_of self.old.state (commands_of waiting.items))) }
-        ensures calm { IfOk result (λ outs. IsSome outs → D.failures self.new.disk ≡ D.failures self.old.disk) }
-        ensures stopped { IfOk result (λ outs. IsNone outs → IsOneMore (D.failures self.old.disk) (D.failures self.new.disk)) }
-        ensures not_durable { IfOk result (λ outs. IsNone outs → self.new.durable ≡ false) }
-        ensures kept { OnOk result (D.honest self.new.disk → KeepFront (D.images self.new.disk) self.old.state (commands_of waiting.items)) }
-        ensures durable { OnOk result (self.old.durable ≡ true) }
-        ensures own { OnOk result (AreOwn self.new.seats waiting.items) }
-        ensures failed { OnErr result (self.new.durable ≡ false) }
-        ensures cause { IfErr result (IsCausedBy (D.failures self.old.disk) (D.failures self.new.disk)) }
-        ensures full { D.honest self.old.disk → IsErrOf result Full → IsFull self.old.state (commands_of waiting.items) (D.content self.new.disk) }
+        ensures records { IfOk result (λ outs. IfSome outs (λ outs. Records D.Disk self.old self.new (commands_of waiting.items) outs.items)) }
+        ensures stopped { IfOk result (λ outs. IsNone outs → DiskFails D.Disk self.old self.new) }
+        ensures keeps { OnOk result (KeepsRecorded D.Disk self.old self.new waiting.items) }
+        ensures refuses { RefusesToRecord D.Disk self.old self.new (commands_of waiting.items) result }
     {
         if !self.whole {
             drop(waiting);

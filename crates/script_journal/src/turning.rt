@@ -1,13 +1,11 @@
 //! How commands come out of the ring: in turns of the flusher.
 
-ghost use Rattle.std.specs.Prelude.{◌≡◌, ℕ, List, IfErr, IfOk, IsErrOf, OnOk, length, false, true};
-ghost use Rattle.command_core.specs.Commands.{CommandValue};
-ghost use Rattle.disk_core.specs.Faults.{IsOneMore};
+ghost use Rattle.std.specs.Prelude.{◌≡◌, ℕ, IfErr, IfOk, IsErrOf, OnOk, true};
 ghost use Rattle.flush_core.specs.declared.faults.FlushFault.TheVariants.{Full};
-ghost use Rattle.script_journal.specs.Faults.{IsCausedBy, IsOutOfStep};
-ghost use Rattle.script_journal.specs.Going.{HasFilled, HasGone, HasGoneFront, HasGoneSomeWay, IsIdle};
-ghost use Rattle.script_journal.specs.Journals.{IsFull, KeepFront};
-ghost use Rattle.script_journal.specs.Placed.{AgreeAll, AreOwn, AreSeatsOf, commands_of};
+ghost use Rattle.script_journal.specs.Faults.{IsCausedBy, IsOutOfStep, IsStopCaused};
+ghost use Rattle.script_journal.specs.Going.{HasFilled, HasGoneOn, HasGoneSomeWay, IsIdle};
+ghost use Rattle.script_journal.specs.Journals.{GoesThrough, IsFull};
+ghost use Rattle.script_journal.specs.Placed.{AgreeAll, AreSeatsOf, commands_of};
 
 use crate::appending::append_all;
 use crate::sizes::ScriptFlusher;
@@ -18,8 +16,8 @@ use std::alloc::Global;
 
 // Turns until so many commands are taken, stored, carried out and published.
 //
-// `Full` where no block of the next command has room behind a fresh snapshot, or no such snapshot has any. `Broken` where so many turns
-// take others than these, or where a session has a box: none does whose commands are all in the ring, without boxes.
+// `Full` if the next command's block doesn't fit behind a fresh snapshot, or no such snapshot fits. `Broken` if so many turns take
+// others than these, or if a session has a box: none has if its commands are all in the ring, without boxes.
 fn take_all<D: Disk>(
     alloc: Global,
     ring: &ScriptRing,
@@ -28,7 +26,7 @@ fn take_all<D: Disk>(
 ) -> Result<(), FlushFault>
     requires ring { flusher.old.seat.ring ≡ ring.now }
     requires idle { IsIdle flusher.old }
-    ensures taken { OnOk result ((more : List CommandValue) × (length more ≡ count) × HasGone flusher.old flusher.new more) }
+    ensures taken { OnOk result (HasGoneOn flusher.old flusher.new count) }
     ensures fallen { IfErr result (λ fault. HasGoneSomeWay flusher.old flusher.new) }
     ensures full { D.honest flusher.old.disk → IsErrOf result Full → HasFilled flusher.old flusher.new (D.content flusher.new.disk) }
     ensures calm { OnOk result (D.failures flusher.new.disk ≡ D.failures flusher.old.disk) }
@@ -50,7 +48,7 @@ fn take_all<D: Disk>(
     Ok(())
 }
 
-// Turns until so many commands are taken, and answers whether they are; they are not where the disk fails.
+// Turns until so many commands are taken, and answers whether they are; they are not if the disk fails.
 fn take_until_stop<D: Disk>(
     alloc: Global,
     ring: &ScriptRing,
@@ -59,12 +57,10 @@ fn take_until_stop<D: Disk>(
 ) -> Result<bool, FlushFault>
     requires ring { flusher.old.seat.ring ≡ ring.now }
     requires idle { IsIdle flusher.old }
-    ensures all { IfOk result (λ all. all ≡ true → (more : List CommandValue) × (length more ≡ count) × HasGone flusher.old flusher.new more) }
+    ensures all { IfOk result (λ all. all ≡ true → HasGoneOn flusher.old flusher.new count) }
     ensures way { HasGoneSomeWay flusher.old flusher.new }
     ensures full { D.honest flusher.old.disk → IsErrOf result Full → HasFilled flusher.old flusher.new (D.content flusher.new.disk) }
-    ensures calm { IfOk result (λ all. all ≡ true → D.failures flusher.new.disk ≡ D.failures flusher.old.disk) }
-    ensures stopped { IfOk result (λ all. all ≡ false → IsOneMore (D.failures flusher.old.disk) (D.failures flusher.new.disk)) }
-    ensures cause { IfErr result (IsCausedBy (D.failures flusher.old.disk) (D.failures flusher.new.disk)) }
+    ensures cause { IsStopCaused (D.failures flusher.old.disk) (D.failures flusher.new.disk) result }
 {
     match take_all(alloc, ring, flusher, count) {
         Ok(()) => Ok(true),
@@ -75,11 +71,10 @@ fn take_until_stop<D: Disk>(
     }
 }
 
-// The fault where more was taken than waited: that the disk failed, or none of the disk.
+// The fault if more was taken than waited: that the disk failed, or none of the disk.
 fn out_of_step(went: Result<bool, FlushFault>) -> FlushFault
     ensures kind { IsOutOfStep result }
-    ensures cause { (before now : ℕ) → IfOk went (λ all. all ≡ true → now ≡ before) → IfOk went (λ all. all ≡ false → IsOneMore before now) →
-        IfErr went (IsCausedBy before now) → IsCausedBy before now result }
+    ensures cause { (before now : ℕ) → IsStopCaused before now went → IsCausedBy before now result }
 {
     match went {
         Ok(false) | Err(FlushFault::Device) => FlushFault::Device,
@@ -88,11 +83,12 @@ fn out_of_step(went: Result<bool, FlushFault>) -> FlushFault
     }
 }
 
-/// Has waiting commands go into the ring and through the flusher, and answers whether all did; they do not where the disk
-/// fails, and then the first so many did. The journal is compacted where a block has no room; `Full` where one of the next command has none
-/// then either. Where more
-/// was taken than waited, which is not so of a ring whose seats are all here, it is `Device` in place of that, or `Broken`
-/// where the disk did not fail.
+/// Has waiting commands go into the ring and through the flusher, and answers whether all did. If the disk fails they do not, but the
+/// first so many did. If a block has no room the journal is compacted. `Full` comes if the next command's block has none then
+/// either.
+///
+/// No more is taken than waited if all seats of the ring are here. Else it is told as `Device` if the disk failed, and as
+/// `Broken` if it did not.
 pub fn go<D: Disk>(
     alloc: Global,
     ring: &ScriptRing,
@@ -104,15 +100,10 @@ pub fn go<D: Disk>(
     requires seats { AreSeatsOf ring.now seats.old.items }
     requires idle { IsIdle flusher.old }
     ensures seats { AreSeatsOf ring.now seats.new.items }
-    ensures own { OnOk result (AreOwn seats.new.items waiting.items) }
-    ensures all { IfOk result (λ all. all ≡ true → HasGone flusher.old flusher.new (commands_of waiting.items)) }
-    ensures some { IfOk result (λ all. HasGoneFront flusher.old flusher.new (commands_of waiting.items)) }
-    ensures kept { OnOk result (D.honest flusher.new.disk → KeepFront (D.images flusher.new.disk) flusher.old.broker.state (commands_of waiting.items)) }
+    ensures goes { IfOk result (GoesThrough D.Disk flusher.old flusher.new seats.new.items waiting.items) }
     ensures full { D.honest flusher.old.disk → IsErrOf result Full →
         IsFull flusher.old.broker.state (commands_of waiting.items) (D.content flusher.new.disk) }
-    ensures calm { IfOk result (λ all. all ≡ true → D.failures flusher.new.disk ≡ D.failures flusher.old.disk) }
-    ensures stopped { IfOk result (λ all. all ≡ false → IsOneMore (D.failures flusher.old.disk) (D.failures flusher.new.disk)) }
-    ensures cause { IfErr result (IsCausedBy (D.failures flusher.old.disk) (D.failures flusher.new.disk)) }
+    ensures cause { IsStopCaused (D.failures flusher.old.disk) (D.failures flusher.new.disk) result }
 {
     let first = flusher.next();
     let count = waiting.len() as u64;

@@ -57,33 +57,17 @@ loop-entry-preserved g c =
           ∙ ap (λ (l : List ℕ). c.args.ended.now.items ++ l) (sym (ended_commands so_far before command) ∙ ap (λ (l : List CommandValue). ended_of before l) (sym is))));
     }
 
-pub returns-clause-state : goal.returns-clause-state
-returns-clause-state g c =
-    let h = c.into_iter-entry-iterator.ensures.into_iter_gives in
-    let t = YieldsList-end (YieldsList-from_vec {s = c.into_iter-entry-iterator.result} c.args.batch.items h.0 (search rules)) c.loop-entry.yielded c.loop-entry.entry-iterator c.loop-entry.yielded_by c.next.result c.next.new.self c.in-None.is c.next.ensures.steps in
-    let all : c.loop-entry.yielded ≡ c.args.batch.items = sym (map-id c.loop-entry.yielded) ∙ t.0 in
-    c.loop-entry.invariant.broker ∙ ap (λ (l : List (EntryValue SenderValue)). record { state = state_after c.args.broker.now.state (commands l); broken = false }) all
-
-pub returns-clause-outs : goal.returns-clause-outs
-returns-clause-outs g c =
-    let h = c.into_iter-entry-iterator.ensures.into_iter_gives in
-    let t = YieldsList-end (YieldsList-from_vec {s = c.into_iter-entry-iterator.result} c.args.batch.items h.0 (search rules)) c.loop-entry.yielded c.loop-entry.entry-iterator c.loop-entry.yielded_by c.next.result c.next.new.self c.in-None.is c.next.ensures.steps in
-    let all : c.loop-entry.yielded ≡ c.args.batch.items = sym (map-id c.loop-entry.yielded) ∙ t.0 in
-    c.loop-entry.invariant.outs ∙ ap (λ (l : List (EntryValue SenderValue)). c.args.waiting.now.items ++ outs_of c.args.broker.now.state (commands l)) all
-
-pub returns-clause-boxes : goal.returns-clause-boxes
-returns-clause-boxes g c =
-    let h = c.into_iter-entry-iterator.ensures.into_iter_gives in
-    let t = YieldsList-end (YieldsList-from_vec {s = c.into_iter-entry-iterator.result} c.args.batch.items h.0 (search rules)) c.loop-entry.yielded c.loop-entry.entry-iterator c.loop-entry.yielded_by c.next.result c.next.new.self c.in-None.is c.next.ensures.steps in
-    let all : c.loop-entry.yielded ≡ c.args.batch.items = sym (map-id c.loop-entry.yielded) ∙ t.0 in
-    c.loop-entry.invariant.boxes ∙ ap (λ (l : List (EntryValue SenderValue)). boxes_after c.args.broker.now.state.count c.args.boxes.now l) all
-
-pub returns-clause-ended : goal.returns-clause-ended
-returns-clause-ended g c =
-    let h = c.into_iter-entry-iterator.ensures.into_iter_gives in
-    let t = YieldsList-end (YieldsList-from_vec {s = c.into_iter-entry-iterator.result} c.args.batch.items h.0 (search rules)) c.loop-entry.yielded c.loop-entry.entry-iterator c.loop-entry.yielded_by c.next.result c.next.new.self c.in-None.is c.next.ensures.steps in
-    let all : c.loop-entry.yielded ≡ c.args.batch.items = sym (map-id c.loop-entry.yielded) ∙ t.0 in
-    c.loop-entry.invariant.ended ∙ ap (λ (l : List (EntryValue SenderValue)). c.args.ended.now.items ++ ended_of c.args.broker.now.state (commands l)) all
-
 pub execute_one-requires-clause-whole : goal.execute_one-requires-clause-whole
 execute_one-requires-clause-whole g c = ap (λ (b : BrokerValue). b.broken) c.loop-entry.invariant.broker
+
+pub returns-clause-done : goal.returns-clause-done
+returns-clause-done g c =
+    let h = c.into_iter-entry-iterator.ensures.into_iter_gives in
+    let t = YieldsList-end (YieldsList-from_vec {s = c.into_iter-entry-iterator.result} c.args.batch.items h.0 (search rules)) c.loop-entry.yielded c.loop-entry.entry-iterator c.loop-entry.yielded_by c.next.result c.next.new.self c.in-None.is c.next.ensures.steps in
+    let all : c.loop-entry.yielded ≡ c.args.batch.items = sym (map-id c.loop-entry.yielded) ∙ t.0 in
+    record {
+      broker = c.loop-entry.invariant.broker ∙ ap (λ (l : List (EntryValue SenderValue)). record { state = state_after c.args.broker.now.state (commands l); broken = false }) all;
+      boxes_are = c.loop-entry.invariant.boxes ∙ ap (λ (l : List (EntryValue SenderValue)). boxes_after c.args.broker.now.state.count c.args.boxes.now l) all;
+      outs = c.loop-entry.invariant.outs ∙ ap (λ (l : List (EntryValue SenderValue)). c.args.waiting.now.items ++ outs_of c.args.broker.now.state (commands l)) all;
+      ended_are = c.loop-entry.invariant.ended ∙ ap (λ (l : List (EntryValue SenderValue)). c.args.ended.now.items ++ ended_of c.args.broker.now.state (commands l)) all;
+    }

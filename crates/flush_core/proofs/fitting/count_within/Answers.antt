@@ -1,4 +1,4 @@
-use Rattle.std.proofs.Common.{arith, ap, flat_map, length, refl, sym, take, ◌∙◌, ◌+◌, ◌≡◌, ℕ}
+use Rattle.std.proofs.Common.{arith, ap, flat_map, length, refl, take, ◌+◌, ℕ}
 use Rattle.area_core.specs.Areas.{commands, records}
 use Rattle.area_core.proofs.Batches.{entry_record, total_more}
 use Rattle.flush_core.proofs.Prefixes.{front_records}

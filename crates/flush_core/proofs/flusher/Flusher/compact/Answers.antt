@@ -1,11 +1,12 @@
 use Rattle.std.proofs.Common.{◌∙◌, ◌≡◌, ◌++◌, ◌-◌, Err, Result, Some, ap, arith, refl, subst, sym, false, true}
+use Rattle.disk_core.specs.Calls.{Lasts}
 use Rattle.disk_core.specs.Moments.{LeavesOnly}
 use Rattle.disk_core.proofs.Runs.{weaker}
 use Rattle.area_core.specs.Puts.{Each}
 use Rattle.area_core.specs.Steps.{IsCaused}
 use Rattle.area_core.specs.declared.faults.AreaFault.{AreaFault}
 use Rattle.area_core.specs.declared.faults.AreaFault.TheVariants as area
-use Rattle.claim_core.specs.Seats.{when_stopped}
+use Rattle.claim_core.specs.Seats.{FlushSeatValue, when_stopped}
 use Rattle.broker_core.specs.States.{BrokerValue, State}
 use Rattle.recover_core.specs.Compactions.{HasNoRoomFor, HoldsItAlone}
 use Rattle.recover_core.specs.Standing.{StandFor, Stands}
@@ -18,6 +19,7 @@ use Rattle.flush_core.specs.Batches.{IsBatch, state_at, block_bytes}
 use Rattle.area_core.specs.Areas.{commands}
 use Rattle.flush_core.specs.Flushed.{Flushed, flushed}
 use Rattle.flush_core.specs.Room.{HasNoRoomForState, used_afresh}
+use Rattle.flush_core.proofs.Calls.{lasts_same}
 use Rattle.flush_core.proofs.Compactions.{leaves_state, stand_then, stored_state}
 use Rattle.flush_core.proofs.Keeping.{compacts, hold_at, store_fails}
 use Rattle.flush_core.proofs.Room.{lacks_room_for_state}
@@ -81,50 +83,6 @@ returns-in-Err-clause-any_moment g c =
     subst (λ (f : Flushed g.row.D.Denot). g.D.Disk.honest f.disk → f.broken ≡ false → LeavesOnly g.D.Disk.moment g.D.Disk.images_since f.disk c.compact.new.self.disk (λ c. Stands c (state_at f.opening f.seat f.stored))) c.self.view_is
     (λ h w. leaves_state g.D.Disk it.journal.disk c.compact.new.self.disk s it.broker.state same (weaker g.D.Disk it.journal.disk c.compact.new.self.disk _ _ (c.compact.ensures.any_moment (c.self.invariant.1 w).whole h) (λ image is. is.stands)))
 
-pub returns-in-Ok-clause-after : goal.returns-in-Ok-clause-after
-returns-in-Ok-clause-after g c =
-    let it = c.self.inside in
-    let f = flushed it.journal it.seat it.opening.value.state it.stored it.executed (it.done.items ++ it.batch.items) it.broker it.outlet.boxes it.outlet.ended.items it.outlet.past.items it.outlet.waiting.items it.outlet.left.items it.broken it.won in
-    let kept = c.self.invariant.0 in
-    let executed : it.executed ≡ it.stored = subst (λ (f : Flushed g.row.D.Denot). f.executed ≡ f.stored) (sym c.self.view_is) (c.requires.executed (ap (λ (f : Flushed g.row.D.Denot). f.broken) (sym c.self.view_is) ∙ c.if-self.false)) in
-    let s = state_at it.opening.value.state it.seat it.stored in
-    let same : it.broker.state ≡ s = stored_state g.D.Disk.honest g.D.Disk.images f kept c.if-self.false executed in
-    subst (λ (f : Flushed g.row.D.Denot). g.D.Disk.honest f.disk → Each (g.D.Disk.images c.compact.new.self.disk) (HoldsItAlone (size_of c.compact.new.self) (used_of c.compact.new.self) (state_at f.opening f.seat f.stored))) c.self.view_is
-    (λ h. subst (λ (s : State). Each (g.D.Disk.images c.compact.new.self.disk) (HoldsItAlone (size_of c.compact.new.self) (used_of c.compact.new.self) s)) same (c.in-Ok.ensures.compacts.alone h))
-
-pub returns-in-Err-clause-full : goal.returns-in-Err-clause-full
-returns-in-Err-clause-full g c is =
-    let it = c.self.inside in
-    let f = flushed it.journal it.seat it.opening.value.state it.stored it.executed (it.done.items ++ it.batch.items) it.broker it.outlet.boxes it.outlet.ended.items it.outlet.past.items it.outlet.waiting.items it.outlet.left.items it.broken it.won in
-    let kept = c.self.invariant.0 in
-    let executed : it.executed ≡ it.stored = subst (λ (f : Flushed g.row.D.Denot). f.executed ≡ f.stored) (sym c.self.view_is) (c.requires.executed (ap (λ (f : Flushed g.row.D.Denot). f.broken) (sym c.self.view_is) ∙ c.if-self.false)) in
-    let s = state_at it.opening.value.state it.seat it.stored in
-    let same : it.broker.state ≡ s = stored_state g.D.Disk.honest g.D.Disk.images f kept c.if-self.false executed in
-    let full = only_full c.in-Err.fault (sym c.from.ensures ∙ same_fault c.from.result Full is) in
-    let told = c.compact.ensures.breaks.full (c.in-Err.is ∙ ap (λ (fault : AreaFault). Err fault) full) in
-    subst (λ (f : Flushed g.row.D.Denot). HasNoRoomFor f.size (state_at f.opening f.seat f.stored) × (c.compact.new.self.disk ≡ f.disk)) c.self.view_is
-    (subst (λ (s : State). HasNoRoomFor (size_of it.journal) s) same told.0, ap (λ store. disk_of store) told.1)
-
-pub returns-in-Err-clause-no_room : goal.returns-in-Err-clause-no_room
-returns-in-Err-clause-no_room g c honest is =
-    let it = c.self.inside in
-    let f = flushed it.journal it.seat it.opening.value.state it.stored it.executed (it.done.items ++ it.batch.items) it.broker it.outlet.boxes it.outlet.ended.items it.outlet.past.items it.outlet.waiting.items it.outlet.left.items it.broken it.won in
-    let kept = c.self.invariant.0 in
-    let executed : it.executed ≡ it.stored = subst (λ (f : Flushed g.row.D.Denot). f.executed ≡ f.stored) (sym c.self.view_is) (c.requires.executed (ap (λ (f : Flushed g.row.D.Denot). f.broken) (sym c.self.view_is) ∙ c.if-self.false)) in
-    let s = state_at it.opening.value.state it.seat it.stored in
-    let same : it.broker.state ≡ s = stored_state g.D.Disk.honest g.D.Disk.images f kept c.if-self.false executed in
-    let full = only_full c.in-Err.fault (sym c.from.ensures ∙ same_fault c.from.result Full is) in
-    let told = c.compact.ensures.breaks.full (c.in-Err.is ∙ ap (λ (fault : AreaFault). Err fault) full) in
-    let was : g.D.Disk.honest it.journal.disk = subst (λ (f : Flushed g.row.D.Denot). g.D.Disk.honest f.disk) (sym c.self.view_is) honest in
-    subst (λ (f : Flushed g.row.D.Denot). HasNoRoomForState (g.D.Disk.content c.compact.new.self.disk) (state_at f.opening f.seat f.stored)) c.self.view_is
-    (subst (λ d. HasNoRoomForState (g.D.Disk.content d) s) (sym (ap (λ store. disk_of store) told.1))
-    (lacks_room_for_state it.journal.area (g.D.Disk.images it.journal.disk) (g.D.Disk.content it.journal.disk) s (g.met.D.Disk.reads it.journal.disk was)
-    (it.journal.sound was (c.self.invariant.1 c.if-self.false).whole) ((kept.running c.if-self.false).stands was)
-    (subst (λ (s : State). HasNoRoomFor (size_of it.journal) s) same told.0)))
-
-pub returns-then-self-clause-stops : goal.returns-then-self-clause-stops
-returns-then-self-clause-stops g c = subst (λ (f : Flushed g.row.D.Denot). (f.broken ≡ true) × (f.seat.stopped ≡ true)) c.self.view_is (c.if-self.true, c.self.invariant.0.stopped c.if-self.true)
-
 pub compact-requires-clause-whole : goal.compact-requires-clause-whole
 compact-requires-clause-whole g c = ap (λ (b : BrokerValue). b.broken) (c.self.invariant.0.running c.if-self.false).broker
 
@@ -137,45 +95,119 @@ compact-requires-clause-stands g c = λ h w.
     let same : it.broker.state ≡ state_at it.opening.value.state it.seat it.stored = stored_state g.D.Disk.honest g.D.Disk.images f kept c.if-self.false executed in
     subst (λ (s : State). StandFor (g.D.Disk.images it.journal.disk) s) (sym same) ((kept.running c.if-self.false).stands h)
 
-pub returns-in-Ok-clause-honest : goal.returns-in-Ok-clause-honest
-returns-in-Ok-clause-honest g c = subst (λ (f : Flushed g.row.D.Denot). g.D.Disk.honest f.disk → g.D.Disk.honest c.compact.new.self.disk) c.self.view_is c.compact.ensures.lasts.honest
+pub returns-in-Ok-clause-compacts : goal.returns-in-Ok-clause-compacts
+returns-in-Ok-clause-compacts g c = record {
+  alone = let it = c.self.inside in
+      let f = flushed it.journal it.seat it.opening.value.state it.stored it.executed (it.done.items ++ it.batch.items) it.broker it.outlet.boxes it.outlet.ended.items it.outlet.past.items it.outlet.waiting.items it.outlet.left.items it.broken it.won in
+      let kept = c.self.invariant.0 in
+      let executed : it.executed ≡ it.stored = subst (λ (f : Flushed g.row.D.Denot). f.executed ≡ f.stored) (sym c.self.view_is) (c.requires.executed (ap (λ (f : Flushed g.row.D.Denot). f.broken) (sym c.self.view_is) ∙ c.if-self.false)) in
+      let s = state_at it.opening.value.state it.seat it.stored in
+      let same : it.broker.state ≡ s = stored_state g.D.Disk.honest g.D.Disk.images f kept c.if-self.false executed in
+      subst (λ (f : Flushed g.row.D.Denot). g.D.Disk.honest f.disk → Each (g.D.Disk.images c.compact.new.self.disk) (HoldsItAlone (size_of c.compact.new.self) (used_of c.compact.new.self) (state_at f.opening f.seat f.stored))) c.self.view_is
+      (λ h. subst (λ (s : State). Each (g.D.Disk.images c.compact.new.self.disk) (HoldsItAlone (size_of c.compact.new.self) (used_of c.compact.new.self) s)) same (c.in-Ok.ensures.compacts.alone h));
+  compacted_is = let it = c.self.inside in
+      let f = flushed it.journal it.seat it.opening.value.state it.stored it.executed (it.done.items ++ it.batch.items) it.broker it.outlet.boxes it.outlet.ended.items it.outlet.past.items it.outlet.waiting.items it.outlet.left.items it.broken it.won in
+      let executed : it.executed ≡ it.stored = subst (λ (f : Flushed g.row.D.Denot). f.executed ≡ f.stored) (sym c.self.view_is) (c.requires.executed (ap (λ (f : Flushed g.row.D.Denot). f.broken) (sym c.self.view_is) ∙ c.if-self.false)) in
+      let s = state_at it.opening.value.state it.seat it.stored in
+      let same : it.broker.state ≡ s = stored_state g.D.Disk.honest g.D.Disk.images f c.self.invariant.0 c.if-self.false executed in
+      let afresh : used_of c.compact.new.self ≡ used_afresh s = c.in-Ok.ensures.compacts.used ∙ ap (λ (s : State). used_afresh s) same in
+      let won : c.saturating_sub-won.result ≡ used_of it.journal - used_afresh s = omega (arith, c.saturating_sub-won.ensures, c.used-before.ensures, c.used.ensures, afresh) in
+      (λ i. record f { disk = disk_of c.compact.new.self; size = c.in-Ok.ensures.keeps.size i; used = afresh i; won = Some (won i) })
+      ∙ ap (λ (f : Flushed g.row.D.Denot). compacted f (disk_of c.compact.new.self) (used_afresh (state_at f.opening f.seat f.stored))) c.self.view_is;
+}
 
-pub returns-in-Ok-clause-was_honest : goal.returns-in-Ok-clause-was_honest
-returns-in-Ok-clause-was_honest g c = subst (λ (f : Flushed g.row.D.Denot). g.D.Disk.honest c.compact.new.self.disk → g.D.Disk.honest f.disk) c.self.view_is c.compact.ensures.lasts.was_honest
+pub returns-in-Ok-clause-refuses : goal.returns-in-Ok-clause-refuses
+returns-in-Ok-clause-refuses g c = record {
+  full = λ is. absurd (cc is);
+  no_room = λ honest is. absurd (cc is);
+}
 
-pub returns-in-Err-clause-outcome : goal.returns-in-Err-clause-outcome
-returns-in-Err-clause-outcome g c =
-    let it = c.self.inside in
-    let now = c.args.self.now in
-    let new = flushed c.compact.new.self c.stop.new.seat it.opening.value.state it.stored it.executed (it.done.items ++ it.batch.items) it.broker it.outlet.boxes it.outlet.ended.items it.outlet.past.items it.outlet.waiting.items it.outlet.left.items true it.won in
-    let whole : c.in-Err.fault ≡ area.Broken → ⊥ = λ is. absurd (cc (c.compact.ensures.breaks.sound (c.in-Err.is ∙ ap (λ (fault : AreaFault). Err fault) is), (c.self.invariant.1 c.if-self.false).whole)) in
-    subst (λ (fault : FlushFault). IsOutcome {X = Unit {0}} now new (Err fault)) (sym c.from.ensures)
-    (fell_so c.in-Err.fault now new whole (record {
-      was = ap (λ (f : Flushed g.row.D.Denot). f.broken) (sym c.self.view_is) ∙ c.if-self.false;
-      now = refl;
-      seat = c.stop.ensures ∙ ap (λ (f : Flushed g.row.D.Denot). when_stopped f.seat) c.self.view_is;
-      stored = ap (λ (f : Flushed g.row.D.Denot). f.stored) c.self.view_is;
-      opening = ap (λ (f : Flushed g.row.D.Denot). f.opening) c.self.view_is;
-      left = ap (λ (f : Flushed g.row.D.Denot). f.left) c.self.view_is;
-    }))
+pub returns-in-Ok-clause-breaks : goal.returns-in-Ok-clause-breaks
+returns-in-Ok-clause-breaks g c = record {
+  outcome = (ap (λ (f : Flushed g.row.D.Denot). f.broken) (sym c.self.view_is) ∙ c.if-self.false, c.if-self.false);
+  stops = tt;
+  cause = subst (λ (f : Flushed g.row.D.Denot). g.D.Disk.failures c.compact.new.self.disk ≡ g.D.Disk.failures f.disk) c.self.view_is c.in-Ok.ensures.breaks.cause;
+}
 
-pub returns-in-Err-clause-cause : goal.returns-in-Err-clause-cause
-returns-in-Err-clause-cause g c =
-    let it = c.self.inside in
-    let before = g.D.Disk.failures it.journal.disk in
-    let after = g.D.Disk.failures c.compact.new.self.disk in
-    subst (λ (f : Flushed g.row.D.Denot). IsFlushCaused {T = Unit {0}} (g.D.Disk.failures f.disk) after (Err c.from.result)) c.self.view_is
-    (subst (λ (fault : FlushFault). IsFlushCaused {T = Unit {0}} before after (Err fault)) (sym c.from.ensures)
-    (caused_so (Unit {0}) c.in-Err.fault before after (subst (λ (r : Result (Unit {0}) AreaFault). IsCaused {T = Unit {0}} before after r) c.in-Err.is c.compact.ensures.breaks.cause)))
+pub returns-in-Err-clause-compacts : goal.returns-in-Err-clause-compacts
+returns-in-Err-clause-compacts g c = tt
 
-pub returns-in-Ok-clause-compacted : goal.returns-in-Ok-clause-compacted
-returns-in-Ok-clause-compacted g c =
-    let it = c.self.inside in
-    let f = flushed it.journal it.seat it.opening.value.state it.stored it.executed (it.done.items ++ it.batch.items) it.broker it.outlet.boxes it.outlet.ended.items it.outlet.past.items it.outlet.waiting.items it.outlet.left.items it.broken it.won in
-    let executed : it.executed ≡ it.stored = subst (λ (f : Flushed g.row.D.Denot). f.executed ≡ f.stored) (sym c.self.view_is) (c.requires.executed (ap (λ (f : Flushed g.row.D.Denot). f.broken) (sym c.self.view_is) ∙ c.if-self.false)) in
-    let s = state_at it.opening.value.state it.seat it.stored in
-    let same : it.broker.state ≡ s = stored_state g.D.Disk.honest g.D.Disk.images f c.self.invariant.0 c.if-self.false executed in
-    let afresh : used_of c.compact.new.self ≡ used_afresh s = c.in-Ok.ensures.compacts.used ∙ ap (λ (s : State). used_afresh s) same in
-    let won : c.saturating_sub-won.result ≡ used_of it.journal - used_afresh s = omega (arith, c.saturating_sub-won.ensures, c.used-before.ensures, c.used.ensures, afresh) in
-    (λ i. record f { disk = disk_of c.compact.new.self; size = c.in-Ok.ensures.keeps.size i; used = afresh i; won = Some (won i) })
-    ∙ ap (λ (f : Flushed g.row.D.Denot). compacted f (disk_of c.compact.new.self) (used_afresh (state_at f.opening f.seat f.stored))) c.self.view_is
+pub returns-in-Err-clause-refuses : goal.returns-in-Err-clause-refuses
+returns-in-Err-clause-refuses g c = record {
+  full = λ is. let it = c.self.inside in
+      let f = flushed it.journal it.seat it.opening.value.state it.stored it.executed (it.done.items ++ it.batch.items) it.broker it.outlet.boxes it.outlet.ended.items it.outlet.past.items it.outlet.waiting.items it.outlet.left.items it.broken it.won in
+      let kept = c.self.invariant.0 in
+      let executed : it.executed ≡ it.stored = subst (λ (f : Flushed g.row.D.Denot). f.executed ≡ f.stored) (sym c.self.view_is) (c.requires.executed (ap (λ (f : Flushed g.row.D.Denot). f.broken) (sym c.self.view_is) ∙ c.if-self.false)) in
+      let s = state_at it.opening.value.state it.seat it.stored in
+      let same : it.broker.state ≡ s = stored_state g.D.Disk.honest g.D.Disk.images f kept c.if-self.false executed in
+      let full = only_full c.in-Err.fault (sym c.from.ensures ∙ same_fault c.from.result Full is) in
+      let told = c.compact.ensures.breaks.full (c.in-Err.is ∙ ap (λ (fault : AreaFault). Err fault) full) in
+      subst (λ (f : Flushed g.row.D.Denot). HasNoRoomFor f.size (state_at f.opening f.seat f.stored) × (c.compact.new.self.disk ≡ f.disk)) c.self.view_is
+      (subst (λ (s : State). HasNoRoomFor (size_of it.journal) s) same told.0, ap (λ store. disk_of store) told.1);
+  no_room = λ honest is. let it = c.self.inside in
+      let f = flushed it.journal it.seat it.opening.value.state it.stored it.executed (it.done.items ++ it.batch.items) it.broker it.outlet.boxes it.outlet.ended.items it.outlet.past.items it.outlet.waiting.items it.outlet.left.items it.broken it.won in
+      let kept = c.self.invariant.0 in
+      let executed : it.executed ≡ it.stored = subst (λ (f : Flushed g.row.D.Denot). f.executed ≡ f.stored) (sym c.self.view_is) (c.requires.executed (ap (λ (f : Flushed g.row.D.Denot). f.broken) (sym c.self.view_is) ∙ c.if-self.false)) in
+      let s = state_at it.opening.value.state it.seat it.stored in
+      let same : it.broker.state ≡ s = stored_state g.D.Disk.honest g.D.Disk.images f kept c.if-self.false executed in
+      let full = only_full c.in-Err.fault (sym c.from.ensures ∙ same_fault c.from.result Full is) in
+      let told = c.compact.ensures.breaks.full (c.in-Err.is ∙ ap (λ (fault : AreaFault). Err fault) full) in
+      let was : g.D.Disk.honest it.journal.disk = subst (λ (f : Flushed g.row.D.Denot). g.D.Disk.honest f.disk) (sym c.self.view_is) honest in
+      subst (λ (f : Flushed g.row.D.Denot). HasNoRoomForState (g.D.Disk.content c.compact.new.self.disk) (state_at f.opening f.seat f.stored)) c.self.view_is
+      (subst (λ d. HasNoRoomForState (g.D.Disk.content d) s) (sym (ap (λ store. disk_of store) told.1))
+      (lacks_room_for_state it.journal.area (g.D.Disk.images it.journal.disk) (g.D.Disk.content it.journal.disk) s (g.met.D.Disk.reads it.journal.disk was)
+      (it.journal.sound was (c.self.invariant.1 c.if-self.false).whole) ((kept.running c.if-self.false).stands was)
+      (subst (λ (s : State). HasNoRoomFor (size_of it.journal) s) same told.0)));
+}
+
+pub returns-in-Err-clause-breaks : goal.returns-in-Err-clause-breaks
+returns-in-Err-clause-breaks g c = record {
+  outcome = let it = c.self.inside in
+      let now = c.args.self.now in
+      let new = flushed c.compact.new.self c.stop.new.seat it.opening.value.state it.stored it.executed (it.done.items ++ it.batch.items) it.broker it.outlet.boxes it.outlet.ended.items it.outlet.past.items it.outlet.waiting.items it.outlet.left.items true it.won in
+      let whole : c.in-Err.fault ≡ area.Broken → ⊥ = λ is. absurd (cc (c.compact.ensures.breaks.sound (c.in-Err.is ∙ ap (λ (fault : AreaFault). Err fault) is), (c.self.invariant.1 c.if-self.false).whole)) in
+      subst (λ (fault : FlushFault). IsOutcome {X = Unit {0}} now new (Err fault)) (sym c.from.ensures)
+      (fell_so c.in-Err.fault now new whole (record {
+        was = ap (λ (f : Flushed g.row.D.Denot). f.broken) (sym c.self.view_is) ∙ c.if-self.false;
+        now = refl;
+        seat = c.stop.ensures ∙ ap (λ (f : Flushed g.row.D.Denot). when_stopped f.seat) c.self.view_is;
+        stored = ap (λ (f : Flushed g.row.D.Denot). f.stored) c.self.view_is;
+        opening = ap (λ (f : Flushed g.row.D.Denot). f.opening) c.self.view_is;
+        left = ap (λ (f : Flushed g.row.D.Denot). f.left) c.self.view_is;
+      }));
+  stops = (refl, ap (λ (s : FlushSeatValue). s.stopped) c.stop.ensures);
+  cause = let it = c.self.inside in
+      let before = g.D.Disk.failures it.journal.disk in
+      let after = g.D.Disk.failures c.compact.new.self.disk in
+      subst (λ (f : Flushed g.row.D.Denot). IsFlushCaused {T = Unit {0}} (g.D.Disk.failures f.disk) after (Err c.from.result)) c.self.view_is
+      (subst (λ (fault : FlushFault). IsFlushCaused {T = Unit {0}} before after (Err fault)) (sym c.from.ensures)
+      (caused_so (Unit {0}) c.in-Err.fault before after (subst (λ (r : Result (Unit {0}) AreaFault). IsCaused {T = Unit {0}} before after r) c.in-Err.is c.compact.ensures.breaks.cause)));
+}
+
+pub returns-then-self-clause-any_moment : goal.returns-then-self-clause-any_moment
+returns-then-self-clause-any_moment g c = λ honest whole. absurd (cc (ap (λ (f : Flushed g.row.D.Denot). f.broken) (sym c.self.view_is) ∙ c.if-self.true, whole))
+
+pub returns-then-self-clause-compacts : goal.returns-then-self-clause-compacts
+returns-then-self-clause-compacts g c = tt
+
+pub returns-then-self-clause-refuses : goal.returns-then-self-clause-refuses
+returns-then-self-clause-refuses g c = record {
+  full = λ is. absurd (cc is);
+  no_room = λ honest is. absurd (cc is);
+}
+
+pub returns-then-self-clause-breaks : goal.returns-then-self-clause-breaks
+returns-then-self-clause-breaks g c = record {
+  outcome = (ap (λ (f : Flushed g.row.D.Denot). f.broken) (sym c.self.view_is) ∙ c.if-self.true, refl);
+  stops = subst (λ (f : Flushed g.row.D.Denot). (f.broken ≡ true) × (f.seat.stopped ≡ true)) c.self.view_is (c.if-self.true, c.self.invariant.0.stopped c.if-self.true);
+  cause = refl;
+}
+
+pub returns-then-self-clause-lasts : goal.returns-then-self-clause-lasts
+returns-then-self-clause-lasts g c = lasts_same g.D.Disk c.args.self.now.disk c.args.self.now.disk refl
+
+pub returns-in-Ok-clause-lasts : goal.returns-in-Ok-clause-lasts
+returns-in-Ok-clause-lasts g c = subst (λ (f : Flushed g.row.D.Denot). Lasts g.D.Disk f.disk c.compact.new.self.disk) c.self.view_is c.compact.ensures.lasts
+
+pub returns-in-Err-clause-lasts : goal.returns-in-Err-clause-lasts
+returns-in-Err-clause-lasts g c = subst (λ (f : Flushed g.row.D.Denot). Lasts g.D.Disk f.disk c.compact.new.self.disk) c.self.view_is c.compact.ensures.lasts

@@ -30,12 +30,12 @@ invariant_of-self g c =
     let did = c.in-Ok.ensures in
     let now = c.execute_all.new in (
       executes g.D.Disk.honest g.D.Disk.images f (now.done.items ++ it.batch.items) now.broker now.outlet.boxes now.outlet.ended.items now.outlet.past.items now.outlet.waiting.items now.outlet.left.items
-          (ap (λ (l : List (EntryValue SenderValue)). commands (l ++ it.batch.items)) did.done ∙ held.batch_is)
-          (did.state ∙ ap (λ (l : List CommandValue). record { state = state_after it.broker.state l; broken = false }) held.done_is)
-          (did.outs ∙ ap (λ (l : List CommandValue). it.outlet.waiting.items ++ outs_of it.broker.state l) held.done_is)
-          c.execute_all.ensures.left c.if-self.false c.self.invariant.0,
-      λ w. held_executed it.seat it.stored it.executed _ it.batch.items it.done.items now.done.items it.bytes _ _ _ _ _ _ did.done did.room held,
-      λ w. record { none = did.spare.0; room_is = did.spare.1 },
+          (ap (λ (l : List (EntryValue SenderValue)). commands (l ++ it.batch.items)) did.same.0 ∙ held.batch_is)
+          (did.done.broker ∙ ap (λ (l : List CommandValue). record { state = state_after it.broker.state l; broken = false }) held.done_is)
+          (did.done.outs ∙ ap (λ (l : List CommandValue). it.outlet.waiting.items ++ outs_of it.broker.state l) held.done_is)
+          c.execute_all.ensures.same.2 c.if-self.false c.self.invariant.0,
+      λ w. held_executed it.seat it.stored it.executed _ it.batch.items it.done.items now.done.items it.bytes _ _ _ _ _ _ did.same.0 did.room.behind held,
+      λ w. record { none = did.room.none; room_is = did.room.beside },
       c.self.invariant.3,
     )
 
@@ -45,7 +45,7 @@ invariant_of-self-in-Err g c =
     let f = flushed it.journal it.seat it.opening.value.state it.stored it.executed (it.done.items ++ it.batch.items) it.broker it.outlet.boxes it.outlet.ended.items it.outlet.past.items it.outlet.waiting.items it.outlet.left.items it.broken it.won in
     let now = c.execute_all.new in (
       fails g.D.Disk.honest g.D.Disk.images f c.stop.new.seat (now.done.items ++ it.batch.items) now.broker now.outlet.boxes now.outlet.ended.items now.outlet.past.items now.outlet.waiting.items now.outlet.left.items
-          c.stop.ensures c.execute_all.ensures.left c.self.invariant.0,
+          c.stop.ensures c.execute_all.ensures.same.2 c.self.invariant.0,
       λ w. absurd (cc w),
       λ w. absurd (cc w),
       λ w. absurd (cc w),
@@ -61,13 +61,13 @@ returns-in-Ok-clause-executed g c =
     let now = c.execute_all.new in
     let entries = executed_entries it.seat it.stored it.executed _ it.batch.items it.done.items _ _ _ _ (omega (arith, kept.begun, kept.marked)) kept.executed kept.stored held in
     executing_is g.D.Disk.honest g.D.Disk.images f (now.done.items ++ it.batch.items) now.broker now.outlet.boxes now.outlet.ended.items now.outlet.past.items now.outlet.waiting.items now.outlet.left.items c.if-self.false kept
-    (ap (λ (l : List (EntryValue SenderValue)). l ++ it.batch.items) did.done ∙ sym entries.1)
-    (did.boxes ∙ (λ i. boxes_after (broker_count g.D.Disk.honest g.D.Disk.images f c.if-self.false kept i) it.outlet.boxes ((sym entries.0) i)))
-    (did.ended ∙ ap (λ (l : List CommandValue). it.outlet.ended.items ++ ended_of it.broker.state l) held.done_is)
-    (λ i. (c.execute_all.ensures.past i).items)
-    (did.state ∙ ap (λ (l : List CommandValue). record { state = state_after it.broker.state l; broken = false }) held.done_is)
-    (did.outs ∙ ap (λ (l : List CommandValue). it.outlet.waiting.items ++ outs_of it.broker.state l) held.done_is)
-    c.execute_all.ensures.left
+    (ap (λ (l : List (EntryValue SenderValue)). l ++ it.batch.items) did.same.0 ∙ sym entries.1)
+    (did.done.boxes_are ∙ (λ i. boxes_after (broker_count g.D.Disk.honest g.D.Disk.images f c.if-self.false kept i) it.outlet.boxes ((sym entries.0) i)))
+    (did.done.ended_are ∙ ap (λ (l : List CommandValue). it.outlet.ended.items ++ ended_of it.broker.state l) held.done_is)
+    (λ i. (c.execute_all.ensures.same.1 i).items)
+    (did.done.broker ∙ ap (λ (l : List CommandValue). record { state = state_after it.broker.state l; broken = false }) held.done_is)
+    (did.done.outs ∙ ap (λ (l : List CommandValue). it.outlet.waiting.items ++ outs_of it.broker.state l) held.done_is)
+    c.execute_all.ensures.same.2
     ∙ ap (λ (f : Flushed g.row.D.Denot). executing f) c.self.view_is
 
 pub returns-then-self-clause-executed : goal.returns-then-self-clause-executed
@@ -112,7 +112,7 @@ returns-in-Err-clause-outcome g c =
       seat = c.stop.ensures ∙ ap (λ (f : Flushed g.row.D.Denot). when_stopped f.seat) c.self.view_is;
       stored = ap (λ (f : Flushed g.row.D.Denot). f.stored) c.self.view_is;
       opening = ap (λ (f : Flushed g.row.D.Denot). f.opening) c.self.view_is;
-      left = c.execute_all.ensures.left ∙ ap (λ (f : Flushed g.row.D.Denot). f.left) c.self.view_is;
+      left = c.execute_all.ensures.same.2 ∙ ap (λ (f : Flushed g.row.D.Denot). f.left) c.self.view_is;
     })
 
 pub returns-in-Err-clause-stops : goal.returns-in-Err-clause-stops

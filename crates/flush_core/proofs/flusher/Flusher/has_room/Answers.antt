@@ -1,4 +1,4 @@
-use Rattle.std.proofs.Common.{◌∙◌, ◌≡◌, ◌≢◌, ◌<◌, ◌≤◌, ◌+◌, inl, inr, [], List, ap, arith, length, subst, sym, true, false}
+use Rattle.std.proofs.Common.{◌∙◌, ◌≡◌, ◌+◌, inl, inr, [], List, ap, arith, length, subst, sym, false}
 use Rattle.std.proofs.Common.{eqb-true}
 use Rattle.std.proofs.lemmas.Bool.{cases_lt, eqb-false, false≢true}
 use Rattle.area_core.specs.Areas.{commands, records}

@@ -10,20 +10,10 @@ use Rattle.flush_core.specs.Outcomes.{publishing, standing}
 use Rattle.flush_core.proofs.Keeping.{held_marked, publishes}
 use Rattle.flush_core.proofs.flusher.Flusher.publish.Goals as goal
 
-pub give-requires-clause-none : goal.give-requires-clause-none
-give-requires-clause-none g c =
+pub give-requires-clause-room : goal.give-requires-clause-room
+give-requires-clause-room g c =
     let whole : c.self.inside.broken ≡ false = ap (λ (f : Flushed g.row.D.Denot). f.broken) c.self.view_is ∙ c.requires.whole in
-    (c.self.invariant.2 whole).none
-
-pub give-requires-clause-spare : goal.give-requires-clause-spare
-give-requires-clause-spare g c =
-    let whole : c.self.inside.broken ≡ false = ap (λ (f : Flushed g.row.D.Denot). f.broken) c.self.view_is ∙ c.requires.whole in
-    (c.self.invariant.2 whole).room_is
-
-pub give-requires-clause-left : goal.give-requires-clause-left
-give-requires-clause-left g c some =
-    let whole : c.self.inside.broken ≡ false = ap (λ (f : Flushed g.row.D.Denot). f.broken) c.self.view_is ∙ c.requires.whole in
-    (c.self.invariant.1 whole).room_is some
+    record { behind = (c.self.invariant.1 whole).room_is; none = (c.self.invariant.2 whole).none; beside = (c.self.invariant.2 whole).room_is }
 
 pub invariant_of-self : goal.invariant_of-self
 invariant_of-self g c =

@@ -10,7 +10,7 @@ leave-requires g c =
     record {
       room = λ some. omega (
         arith,
-        c.requires.left some,
+        c.requires.room.behind some,
         left_few c.let_past_go.new.boxes it.waiting.items,
         ap (λ (l : List OutValue). length l) c.give_waiting.ensures.unboxed,
       );
@@ -24,3 +24,9 @@ pub returns-clause-left : goal.returns-clause-left
 returns-clause-left g c =
     let it = c.args.self.now in
     c.leave.ensures.left ∙ ap (λ (l : List OutValue). it.left.items ++ l) (c.give_waiting.ensures.unboxed ∙ ap (λ (b : Kept). unboxed b it.waiting.items) c.let_past_go.ensures.boxes)
+
+pub give_waiting-requires-clause-none : goal.give_waiting-requires-clause-none
+give_waiting-requires-clause-none g c = c.requires.room.none
+
+pub give_waiting-requires-clause-room : goal.give_waiting-requires-clause-room
+give_waiting-requires-clause-room g c = c.requires.room.beside
