@@ -1,5 +1,5 @@
 -- A failure before a script is read, and one over an empty journal.
-use Rattle.std.proofs.Common.{◌≡◌, ◌∙◌, List, ℕ, Option, Result, Ok, Err, IfErr, OnOk, refl, subst, inl, inr}
+use Rattle.std.proofs.Common.{◌≡◌, ◌∙◌, List, ℕ, Option, Result, Ok, Err, IfErr, OnOk, refl, subst, sym, inl, inr}
 use Rattle.clap.specs.declared.error.Error.{Error}
 use Rattle.broker_core.specs.Operations.{restarted}
 use Rattle.std.specs.Io.KnownBytes.{Appends, Consumes, IsAtEnd}
@@ -12,10 +12,11 @@ use Rattle.engine_core.specs.declared.fault.ScriptFault.TheVariants as scripts
 use Rattle.disk_core.specs.Memory.{Memory}
 use Rattle.engine_core.proofs.Performing.{restart_is}
 use Rattle.engine_core.specs.Runs.{IsToldAtOnce, Stops, StopsOver}
-use Rattle.command_line.specs.CommandLines.{AskFor}
-use Rattle.command_line.specs.Failures.{RunsToEnd, IsAtOnce, IsBeforehand, IsDone, StopsBy, Tells, version_line}
+use Rattle.command_line.specs.CommandLines.{AskFor, AsksForScript}
+use Rattle.command_line.specs.Failures.{Finishes, RunsToEnd, IsAtOnce, IsBeforehand, StopsBy, Tells, version_line}
 use Rattle.command_line.specs.declared.parsing.Subcommand.{Subcommand}
 use Rattle.command_line.specs.declared.parsing.Subcommand.TheVariants.{Version}
+use Rattle.command_line.specs.declared.parsing.Subcommand.TheVariants as subcommands
 use Rattle.command_line.specs.declared.program.Failure.{Failure}
 use Rattle.command_line.specs.declared.program.Failure.TheVariants.{CommandLine, Number, ThreadNumber, MemoryNumber, Origin, Script, Format, File, Server, Ping}
 
@@ -102,8 +103,11 @@ pub if_err_is : {A B : Type 0} (P : B → Type 0) (r : Result A B) (e : B) → r
 if_err_is P (Ok a) e is so = cc
 if_err_is P (Err d) e is so = let same : d ≡ e = cc in subst P same so
 
--- the version was written, which the words ask for
-pub version_done : {E : Type 0} (r : Result (Unit {0}) E) (words : List (List ℕ)) (asked : Subcommand) (unread before after : Option (List ℕ)) → AskFor words asked → asked ≡ Version
-    → OnOk r (Appends before after version_line) → OnOk r (IsDone words unread unread before after)
-version_done (Ok u) words asked unread before after asks is written = (Version, subst (AskFor words) is asks, (refl, written))
-version_done (Err e) words asked unread before after asks is written = tt
+-- the version was written, which the words ask for, and no script
+pub version_finishes : {E : Type 0} (r : Result (Unit {0}) E) (words : List (List ℕ)) (asked : Subcommand) (unread before after : Option (List ℕ)) → AskFor words asked → asked ≡ Version
+    → (AsksForScript words → asked ≡ subcommands.Script) → OnOk r (Appends before after version_line) → OnOk r (Finishes words unread unread before after)
+version_finishes (Ok u) words asked unread before after asks is only written = record {
+  done = (Version, subst (AskFor words) is asks, (refl, written));
+  script = λ script. absurd (let e : Version ≡ subcommands.Script = sym is ∙ only script in cc);
+}
+version_finishes (Err e) words asked unread before after asks is only written = tt

@@ -1,4 +1,4 @@
-use Rattle.std.specs.Prelude.{◌≡◌, ◌≢◌, ◌≤◌, ◌⊎◌, List, [], ◌∷◌, ◌++◌, ℕ, Option, Result, Err, codes}
+use Rattle.std.specs.Prelude.{◌≡◌, ◌≢◌, ◌≤◌, ◌⊎◌, List, [], ◌∷◌, ◌++◌, ℕ, Option, Result, Err, OnOk, codes}
 use Rattle.std.specs.Io.KnownBytes.{Appends, Consumes, IsAtEnd}
 use Rattle.clap.specs.Values.{kind_of}
 use Rattle.clap.specs.declared.error.Error.{Error}
@@ -19,7 +19,7 @@ use Rattle.engine_core.specs.declared.fault.ScriptFault.TheVariants as scripts
 use Rattle.disk_core.specs.Memory.{Memory}
 use Rattle.journal_files.specs.Held.{ShowsHeld}
 use Rattle.journal_files.specs.declared.journal_files.ShowFault.TheVariants as shows
-use Rattle.command_line.specs.CommandLines.{AskFor}
+use Rattle.command_line.specs.CommandLines.{AskFor, AsksForScript}
 use Rattle.command_line.specs.declared.parsing.Subcommand.{Subcommand}
 use Rattle.command_line.specs.declared.parsing.Subcommand.TheVariants as asks
 use Rattle.command_line.specs.declared.program.FileFault.{FileFault}
@@ -126,6 +126,16 @@ StopsBy ThreadNumber unread left before after = Untouched unread left before aft
 StopsBy MemoryNumber unread left before after = Untouched unread left before after
 StopsBy Origin unread left before after = Untouched unread left before after
 
+-- the program ends with what the words ask for: it is done, and a script was read to its end
+pub record Finishes (words : List (List ℕ)) (unread left before after : Option (List ℕ)) : Type 0 where
+  pub done : IsDone words unread left before after
+  pub script : AsksForScript words → RunsToEnd unread left before after
+
+-- it ends with a failure, that of a script if the words ask for one
+pub record FailsBy (words : List (List ℕ)) (unread left before after : Option (List ℕ)) (failure : Failure) : Type 0 where
+  pub stops : StopsBy failure unread left before after
+  pub of_script : AsksForScript words → IsOfScript failure
+
 -- it is told that the bytes are too few for a journal
 abbrev pub IsTooShort : {T : Type 0} → Result T FileFault → Type 0
 IsTooShort (Err (files.Format formats.TooSmall)) = Unit {0}
@@ -167,6 +177,13 @@ IsTold (Format fault) before after = Appends before after (line_of (format_text 
 IsTold (File fault) before after = Appends before after (line_of (file_text fault))
 IsTold (Server fault) before after = Appends before after (line_of (serve_text fault))
 IsTold (Ping fault) before after = Appends before after (line_of (ping_text fault))
+
+-- The program ends with a failure that is no bad command line, and tells it, if that can be written.
+pub record EndsByFault {T E : Type 0} (words : List (List ℕ)) (unread left before after untold all : Option (List ℕ)) (told : Result T E) : Type 0 where
+  pub failure : Failure
+  pub status : status_of failure ≡ 1
+  pub fails : FailsBy words unread left before after failure
+  pub is_told : OnOk told (IsTold failure untold all)
 
 -- the failure tells of a refused command line, or of want of memory there
 abbrev pub Tells : Error → Failure → Type 0

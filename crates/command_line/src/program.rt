@@ -7,7 +7,7 @@ ghost use Rattle.recover_core.specs.Standing.{Stands};
 ghost use Rattle.journal_files.specs.Held.{ShowsHeld};
 ghost use Rattle.journal_files.specs.JournalFiles.{Shows};
 ghost use Rattle.command_line.specs.CommandLines.{AsksForScript};
-ghost use Rattle.command_line.specs.Failures.{IsDone, RunsToEnd, StopsBy, IsBeforehand, IsOfScript, IsTold, Tells, status_of, version_line};
+ghost use Rattle.command_line.specs.Failures.{EndsByFault, FailsBy, Finishes, RunsToEnd, StopsBy, IsBeforehand, IsOfScript, Tells, status_of, version_line};
 
 use crate::making::make_journal;
 use crate::parsing::{Refused, Subcommand, subcommand_of};
@@ -138,20 +138,15 @@ pub fn tool<T: Files<File = File> + Clock, S: AsStr, R: Read, W: Write, E: Write
     progress: &mut P,
 ) -> Ended
     ensures status { result.status ≤ 2 }
-    // What the words ask for is done, and there is nothing to tell.
-    ensures done { result.status ≡ 0 → IsDone (map S.text words.now) (R.remaining reader.old) (R.remaining reader.new) (W.contents writer.old) (W.contents writer.new)
+    // What the words ask for is done, and there is nothing to tell. A script was read to its end, and what it prints is written.
+    ensures done { result.status ≡ 0 → Finishes (map S.text words.now) (R.remaining reader.old) (R.remaining reader.new) (W.contents writer.old) (W.contents writer.new)
         × (errors.new ≡ errors.old) }
-    // Where the words ask for the script, it was read to its end, and what it prints is written.
-    ensures script { AsksForScript (map S.text words.now) → result.status ≡ 0
-        → RunsToEnd (R.remaining reader.old) (R.remaining reader.new) (W.contents writer.old) (W.contents writer.new) }
     // Words that ask for the script are no bad command line, and a bad one leaves the script unread and writes nothing.
     ensures refused { result.status ≡ 2 → (AsksForScript (map S.text words.now) → ⊥) × (reader.new ≡ reader.old) × (writer.new ≡ writer.old) }
     // A fault is the failure of what was asked for, that of a script where the words ask for it: what was read and written is
     // what it leaves, and it is told in one line.
-    ensures failed { result.status ≡ 1 → (failure : Failure) × (status_of failure ≡ 1)
-        × (AsksForScript (map S.text words.now) → IsOfScript failure)
-        × StopsBy failure (R.remaining reader.old) (R.remaining reader.new) (W.contents writer.old) (W.contents writer.new)
-        × OnOk result.told (IsTold failure (E.contents errors.old) (E.contents errors.new)) }
+    ensures failed { result.status ≡ 1 → EndsByFault (map S.text words.now) (R.remaining reader.old) (R.remaining reader.new) (W.contents writer.old) (W.contents writer.new)
+        (E.contents errors.old) (E.contents errors.new) result.told }
 {
     match run(rt, alloc, words, reader, writer, progress) {
         Ok(()) => Ended {
@@ -174,13 +169,10 @@ pub fn run<T: Files<File = File> + Clock, S: AsStr, R: Read, W: Write, P: Write>
     writer: &mut W,
     progress: &mut P,
 ) -> Result<(), Failure>
-    ensures ok { OnOk result (IsDone (map S.text words.now) (R.remaining reader.old) (R.remaining reader.new) (W.contents writer.old) (W.contents writer.new)) }
-    ensures script_ok { AsksForScript (map S.text words.now)
-        → OnOk result (RunsToEnd (R.remaining reader.old) (R.remaining reader.new) (W.contents writer.old) (W.contents writer.new)) }
+    ensures finishes { OnOk result (Finishes (map S.text words.now) (R.remaining reader.old) (R.remaining reader.new) (W.contents writer.old) (W.contents writer.new)) }
     ensures command_line { IfErr result (λ failure. status_of failure ≡ 2
         → (AsksForScript (map S.text words.now) → ⊥) × (reader.new ≡ reader.old) × (writer.new ≡ writer.old)) }
-    ensures script { IfErr result (λ failure. StopsBy failure (R.remaining reader.old) (R.remaining reader.new) (W.contents writer.old) (W.contents writer.new)) }
-    ensures of_script { AsksForScript (map S.text words.now) → IfErr result IsOfScript }
+    ensures fails { IfErr result (FailsBy (map S.text words.now) (R.remaining reader.old) (R.remaining reader.new) (W.contents writer.old) (W.contents writer.new)) }
 {
     match subcommand_of(alloc, words) {
         Ok(Subcommand::Script) => script(alloc, reader, writer),

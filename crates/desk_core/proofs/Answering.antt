@@ -1,6 +1,6 @@
 -- What a turn answers.
 use Rattle.std.proofs.Common.{◌≡◌, ℕ, ◌<◌, ◌≤◌, List, [], ◌∷◌, ◌++◌, Bool, true, false, Option, Some, None, length, refl, sym, ap, ◌∙◌, subst, arith, append-nil}
-use Rattle.std.specs.Prelude.{IsSome, option_map}
+use Rattle.std.specs.Prelude.{IfSome, IsSome, option_map}
 use Rattle.std.proofs.lemmas.List.{length-append}
 use Rattle.claim_core.specs.declared.limits.TheConstants.{WINDOW}
 use Rattle.claim_core.specs.Appends.{Appends, Refuses}
@@ -9,10 +9,12 @@ use Rattle.claim_core.specs.Seats.{SessionSeatValue}
 use Rattle.claim_core.specs.declared.refusals.Refused.{Refused}
 use Rattle.claim_core.specs.declared.refusals.Refused.TheVariants as refusals
 use Rattle.command_core.specs.Commands.{CommandValue}
+use Rattle.connection_core.specs.Connections.{ConnectionValue}
 use Rattle.connection_core.specs.declared.stage.Stage.{Stage}
 use Rattle.connection_core.specs.declared.stage.Stage.TheVariants.{Running}
 use Rattle.desk_core.specs.Answers.{Appended, Awaits, AwaitsBy, GoesOnYet, Grows, Heard, IsPressing, IsQuiet, IsRest, IsSatisfied, Leaves}
 use Rattle.desk_core.specs.Holding.{Holds}
+use Rattle.desk_core.specs.Steps.{SaysNext, TakesStep}
 use Rattle.desk_core.specs.declared.appending.Step.{Step}
 use Rattle.desk_core.specs.declared.appending.Step.TheVariants as steps
 use Rattle.desk_core.specs.declared.pending.Pending.{Pending}
@@ -26,6 +28,11 @@ pub grows_by : (window : ℕ) (s t : SessionSeatValue) (ticket : ℕ) (c : Comma
 grows_by window s t ticket c a =
     let more : length t.own ≡ length (s.own ++ (ticket, c) ∷ []) = ap (λ (x : SessionSeatValue). length x.own) a.added in
     omega (arith, more, length-append s.own ((ticket, c) ∷ []))
+
+pub spoken_grows : (command : CommandValue) (was is : ConnectionValue) (s t : SessionSeatValue) (o : Option ℕ) (ticket : ℕ) → o ≡ Some ticket → IfSome o (SaysNext command was s is t) → length s.own < length t.own
+spoken_grows command was is s t o ticket same spoken =
+    let so : SaysNext command was s is t ticket = subst (λ x. IfSome x (SaysNext command was s is t)) same spoken in
+    grows_by WINDOW s t ticket command so.appends
 
 none_appended : (s t : SessionSeatValue) → t.own ≡ s.own → (b : Bool) → b ≡ false → Appended b s t
 none_appended s t own true is = absurd (let e : true ≡ false = is in cc)
@@ -63,25 +70,15 @@ held_by (refusals.Busy mark) pending p step s t r h =
     let own : t.own ≡ s.own = ap (λ (x : SessionSeatValue). x.own) r.3 in
     subst (λ x. Grows x s t × Leaves x p t) (sym h.1) (own, (full_of p pending h.0, subst (λ l. WINDOW ≤ above mark l) (sym own) r.2))
 
-pub held_grows : {B : Type 0} (refused : Refused) (pending : Pending B) (p : Option (Pending B)) (step : Step) (s t : SessionSeatValue) → Refuses WINDOW s t refused → Holds pending refused p step → Grows step s t
-held_grows refused pending p step s t r h = (held_by refused pending p step s t r h).0
+pub held_takes : {B : Type 0} (refused : Refused) (pending : Pending B) (p : Option (Pending B)) (step : Step) (s t : SessionSeatValue) → Refuses WINDOW s t refused → Holds pending refused p step → TakesStep step s t p
+held_takes refused pending p step s t r h = let by = held_by refused pending p step s t r h in record { grows = by.0; leaves = by.1 }
 
-pub held_leaves : {B : Type 0} (refused : Refused) (pending : Pending B) (p : Option (Pending B)) (step : Step) (s t : SessionSeatValue) → Refuses WINDOW s t refused → Holds pending refused p step → Leaves step p t
-held_leaves refused pending p step s t r h = (held_by refused pending p step s t r h).1
-
-pub quiet_grows : (step : Step) (s : SessionSeatValue) → IsQuiet step → Grows step s s
-quiet_grows steps.Done s q = refl
-quiet_grows steps.Short s q = refl
-quiet_grows steps.Appended s q = absurd q
-quiet_grows (steps.Full mark) s q = absurd q
-quiet_grows steps.Rest s q = absurd q
-
-pub quiet_leaves : {B : Type 0} (step : Step) (p : Option (Pending B)) (s : SessionSeatValue) → IsQuiet step → Leaves step p s
-quiet_leaves steps.Done p s q = tt
-quiet_leaves steps.Short p s q = tt
-quiet_leaves steps.Appended p s q = absurd q
-quiet_leaves (steps.Full mark) p s q = absurd q
-quiet_leaves steps.Rest p s q = absurd q
+pub quiet_takes : {B : Type 0} (step : Step) (p : Option (Pending B)) (s : SessionSeatValue) → IsQuiet step → TakesStep step s s p
+quiet_takes steps.Done p s q = record { grows = refl; leaves = tt }
+quiet_takes steps.Short p s q = record { grows = refl; leaves = tt }
+quiet_takes steps.Appended p s q = absurd q
+quiet_takes (steps.Full mark) p s q = absurd q
+quiet_takes steps.Rest p s q = absurd q
 
 pub still_leaves : {B : Type 0} (step : Step) (p q : Option (Pending B)) (s t : SessionSeatValue) → q ≡ p → t.own ≡ s.own → Leaves step p s → Leaves step q t
 still_leaves steps.Done p q s t pending own l = tt

@@ -5,6 +5,7 @@ use Rattle.command_core.specs.Commands.{CommandValue}
 use Rattle.command_core.specs.declared.command.Op.{Op}
 use Rattle.frame_core.specs.declared.frame.Frame.{Frame}
 use Rattle.claim_core.specs.Appends.{Appends, Refuses}
+use Rattle.claim_core.specs.declared.limits.TheConstants.{WINDOW}
 use Rattle.claim_core.specs.Seats.{SessionSeatValue, with_seen}
 use Rattle.claim_core.specs.declared.refusals.Refused.{Refused}
 use Rattle.claim_core.specs.declared.refusals.Refused.TheVariants as refusals
@@ -24,9 +25,10 @@ use Rattle.session_core.specs.declared.act.Act.TheVariants.{Direct, Do, Close}
 use Rattle.desk_core.specs.Continues.{Continues}
 use Rattle.desk_core.specs.Conversations.{StaysOrEnds}
 use Rattle.desk_core.specs.Effects.{Effect, Said, Told, Untold, Tells, commands_of, told_of, untold_of}
-use Rattle.desk_core.specs.Steps.{GoesOn, TellsIt}
+use Rattle.desk_core.specs.Steps.{GoesOn, SaysNext, TellsIt}
 use Rattle.desk_core.specs.Halting.{FindsEnd, HasHalted, IsFinal}
 use Rattle.desk_core.specs.Histories.{Did, DoesWanted, HasTold, Heeds, Idles, Lives, LivesAt, LivesOn, Restaged, Steady, act_of, wanted_of}
+use Rattle.desk_core.specs.Relays.{ReadsMark}
 use Rattle.desk_core.specs.Spending.{Spends, ops_of, waiting_of}
 use Rattle.desk_core.specs.Slots.{IsNew, Served, Stays, Unserved}
 use Rattle.desk_core.specs.declared.pending.Pending.{Pending}
@@ -117,15 +119,15 @@ found_later s t mark seen no_less (inl stopped) = inl (ap (λ (x : SessionSeatVa
 found_later s t mark seen no_less (inr far) = inr (omega (arith, far, no_less))
 
 -- where the mark is read, and outputs are sent
-pub goes_reading : {B L : Type 0} (sent : L → Option (List (List ℕ))) (received : L → Option (List ℕ)) (was is : Slot B) (s t : SessionSeatValue) (l m : L) (mark : ℕ)
-    → StaysOrEnds was.connection.progress is.connection.progress → t ≡ with_seen s mark → s.seen ≤ t.seen → Served sent [] was l is m → Idles received was l is m → GoesOn sent received was s l is t m
-goes_reading sent received was is s t l m mark ends seen no_less served idles = record {
+pub goes_reading : {B L : Type 0} (sent : L → Option (List (List ℕ))) (received : L → Option (List ℕ)) (was is : Slot B) (s t : SessionSeatValue) (l m : L)
+    → StaysOrEnds was.connection.progress is.connection.progress → ReadsMark s t → Served sent [] was l is m → Idles received was l is m → GoesOn sent received was s l is t m
+goes_reading sent received was is s t l m ends reads served idles = record {
   effects = [];
-  added = ap (λ (x : SessionSeatValue). x.own) seen ∙ sym (append-nil s.own);
-  continues = reads_so was.connection.progress was.connection.progress is.connection.progress s s t mark (stays was.connection.progress s) ends seen;
+  added = ap (λ (x : SessionSeatValue). x.own) reads.seen ∙ sym (append-nil s.own);
+  continues = reads_so was.connection.progress was.connection.progress is.connection.progress s s t t.seen (stays was.connection.progress s) ends reads.seen;
   served = served;
   heeds = idles.heeds;
-  halts = λ before e. found_later s t mark seen no_less (before (idles.halts e));
+  halts = λ before e. found_later s t t.seen reads.seen reads.no_less (before (idles.halts e));
 }
 
 -- with what was wanted and done, and no bytes
@@ -271,11 +273,11 @@ pub said_it : {B : Type 0} (window : ℕ) (old new : ConnectionValue) (p : Optio
     → DoesWanted (Append c) (c.op ∷ []) old s new p t
 said_it window old new p s t c ticket executes a same none = record { effects = Said (ticket, c) ∷ []; added = ap (λ (x : SessionSeatValue). x.own) a.added; none_told = refl; halts = λ h. inl (subst HasHalted (ap (λ (x : ConnectionValue). x.stage) same) h); lives = said_so old new p c ticket executes same none }
 
-pub said_some : {B : Type 0} (window : ℕ) (old new : ConnectionValue) (p : Option (Pending B)) (s t : SessionSeatValue) (c : CommandValue) (o : Option ℕ) (ticket : ℕ) → o ≡ Some ticket → Executes old.stage
-    → IfSome o (λ n. Appends window s t n c × IsNext old.progress c × (new ≡ with_appended old (said_of c) n)) → p ≡ None → DoesWanted (Append c) (c.op ∷ []) old s new p t
-said_some window old new p s t c o ticket is executes spoken none =
-    let so = subst (λ x. IfSome x (λ n. Appends window s t n c × IsNext old.progress c × (new ≡ with_appended old (said_of c) n))) is spoken in
-    said_it window old new p s t c ticket executes so.0 so.2 none
+pub said_some : {B : Type 0} (old new : ConnectionValue) (p : Option (Pending B)) (s t : SessionSeatValue) (c : CommandValue) (o : Option ℕ) (ticket : ℕ) → o ≡ Some ticket → Executes old.stage
+    → IfSome o (SaysNext c old s new t) → p ≡ None → DoesWanted (Append c) (c.op ∷ []) old s new p t
+said_some old new p s t c o ticket is executes spoken none =
+    let so : SaysNext c old s new t ticket = subst (λ x. IfSome x (SaysNext c old s new t)) is spoken in
+    said_it WINDOW old new p s t c ticket executes so.appends so.connection none
 
 -- it may not be the next of the conversation, which is not so of what it wants
 pub never_dropped : {B : Type 0} (old new : ConnectionValue) (p : Option (Pending B)) (c : CommandValue) → Executes old.stage → (IsNext old.progress c → ⊥) → LivesOn (Append c) (c.op ∷ []) old new p []

@@ -17,7 +17,7 @@ use Rattle.desk_core.specs.declared.turned.Turned.{Turned}
 use Rattle.desk_core.specs.Answers.{Answers}
 use Rattle.desk_core.specs.Continues.{Continues}
 use Rattle.desk_core.specs.Conversations.{Converse, IsPart, Speaks, holds, number_of, opens, part_of}
-use Rattle.desk_core.specs.Desks.{Admits, AreApart, DeskValue, IsDesk, Leaves, Others, Touches, Turns, desk, seated_at, stand_of}
+use Rattle.desk_core.specs.Desks.{Admits, AreApart, DeskValue, IsDesk, Leaves, Others, TalkApart, Touches, Turns, desk, seated_at, stand_of}
 use Rattle.desk_core.specs.Effects.{commands_of}
 use Rattle.desk_core.specs.Halting.{FindsEnd}
 use Rattle.desk_core.specs.Histories.{Idles}
@@ -147,6 +147,9 @@ apart before own places d i j n s t si tj ns nt =
           let tj' : slice_get (stand_of places) j ≡ Some (progress_at (Some t)) = slice_get-map progress_at places j ∙ ap (λ o. option_map progress_at o) tj in
           absurd (omega (arith, two n (stand_of places) i j (progress_at (Some s)) (progress_at (Some t)) other si' tj' (holds_its n s.slot.connection.progress ns) (holds_its n t.slot.connection.progress nt), (d.parts n).most))
     ]
+
+pub talk_apart : {B L : Type 0} (before seat : SessionSeatValue) (places : List (Option (Seated B L))) → IsDesk before seat places → TalkApart (desk before seat places)
+talk_apart before seat places d = record { converse = converses before.own seat.own (stand_of places) d.speaks; apart = apart before.own seat.own places d.speaks }
 
 pub get_other : {X : Type 0} (xs : List X) (i k : ℕ) (y : X) → (k ≡ i → ⊥) → slice_get (set xs i y) k ≡ slice_get xs k
 get_other [] i k y other = refl

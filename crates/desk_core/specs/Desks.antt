@@ -7,7 +7,7 @@ use Rattle.desk_core.specs.declared.turned.Turned.{Turned}
 use Rattle.desk_core.specs.Answers.{Answers}
 use Rattle.desk_core.specs.Continues.{AreSaid}
 use Rattle.desk_core.specs.Effects.{Effect, commands_of, told_of}
-use Rattle.desk_core.specs.Conversations.{Speaks}
+use Rattle.desk_core.specs.Conversations.{Converse, Speaks}
 use Rattle.desk_core.specs.Halting.{FindsEnd, HasHalted}
 use Rattle.desk_core.specs.Histories.{Heeds, Idles}
 use Rattle.desk_core.specs.Places.{is_over, progress_at}
@@ -64,6 +64,12 @@ pub record Turns {B L : Type 0} (sent : L → Option (List (List ℕ))) (receive
 -- no two places have one session
 abbrev pub AreApart : {B L : Type 0} → List (Option (Seated B L)) → Type 0
 AreApart places = (i j n : ℕ) (s t : Seated _ _) → SitsAt places i s → SitsAt places j t → number_at s.slot ≡ Some n → number_at t.slot ≡ Some n → i ≡ j
+
+-- What is so of each desk: after what was its seat's own before, what belongs to each session is one conversation, and no two
+-- connections have one session.
+pub record TalkApart {B L : Type 0} (d : DeskValue B L) : Type 0 where
+  pub converse : Converse d.before.own d.seat.own
+  pub apart : AreApart d.places
 
 -- nobody sits there: the place is free, or the next one behind all
 abbrev pub IsFree : {B L : Type 0} → List (Option (Seated B L)) → ℕ → Type 0

@@ -1,5 +1,6 @@
 -- What one call of `relay` does.
 use Rattle.std.specs.Prelude.{◌≡◌, ◌≢◌, ℕ, ◌<◌, ◌≤◌, ◌⊎◌, List, Option, length}
+use Rattle.claim_core.specs.Seats.{SessionSeatValue, with_seen}
 use Rattle.command_core.specs.Outs.{OutValue}
 use Rattle.frame_core.specs.declared.frame.Verb.{Verb}
 use Rattle.frame_core.specs.Written.{written}
@@ -7,10 +8,22 @@ use Rattle.outbox_core.specs.Boxes.{TakerValue}
 use Rattle.outbox_core.specs.Takes.{Takes, TakesNothing}
 use Rattle.outbox_core.specs.declared.taker.Taken.TheVariants as took
 use Rattle.ws_core.specs.Sending.{with_message}
+use Rattle.ws_core.specs.declared.fault.LinkFault.{LinkFault}
+use Rattle.ws_core.specs.declared.fault.LinkFault.TheVariants.{Memory}
 use Rattle.desk_core.specs.declared.kept.Kept.{Kept}
 use Rattle.desk_core.specs.declared.kept.Kept.TheVariants as kept
 use Rattle.desk_core.specs.declared.kept.Relayed.{Relayed}
 use Rattle.desk_core.specs.declared.kept.Relayed.TheVariants as relayed
+
+-- The seat has read the ring's mark, which never falls, and nothing else has changed.
+pub record ReadsMark (old new : SessionSeatValue) : Type 0 where
+  pub seen : new ≡ with_seen old new.seen
+  pub no_less : old.seen ≤ new.seen
+
+-- A link refused a message, for that fault: after `Memory` it is as it was.
+pub record LinkRefuses {L : Type 0} (refuses : L → L → LinkFault → Type 0) (old new : L) (why : LinkFault) : Type 0 where
+  pub fault : refuses old new why
+  pub memory : why ≡ Memory → new ≡ old
 
 -- An outbox's taking end, the output that is kept, and what the link tells that it sent.
 pub record Passage : Type 0 where

@@ -1,15 +1,40 @@
 -- How a slot goes on at its seat.
 use Rattle.std.specs.Prelude.{◌≡◌, ◌++◌, ℕ, List, [], Option}
 use Rattle.frame_core.specs.declared.frame.Frame.{Frame}
+use Rattle.claim_core.specs.Appends.{Appends}
 use Rattle.claim_core.specs.Seats.{SessionSeatValue}
+use Rattle.claim_core.specs.declared.limits.TheConstants.{WINDOW}
+use Rattle.command_core.specs.Commands.{CommandValue}
+use Rattle.command_core.specs.declared.command.Op.{Op}
+use Rattle.connection_core.specs.Connections.{ConnectionValue, with_appended}
+use Rattle.connection_core.specs.Conversations.{IsNext, said_of}
 use Rattle.connection_core.specs.Stages.{Executes}
+use Rattle.connection_core.specs.declared.said.Wanted.{Wanted}
 use Rattle.connection_core.specs.declared.said.Wanted.TheVariants.{Tell}
+use Rattle.desk_core.specs.Answers.{Grows, Leaves}
 use Rattle.desk_core.specs.Continues.{Continues}
 use Rattle.desk_core.specs.Effects.{Effect, commands_of, told_of}
 use Rattle.desk_core.specs.Halting.{FindsEnd, HasHalted}
-use Rattle.desk_core.specs.Histories.{Heeds, LivesOn}
+use Rattle.desk_core.specs.Histories.{DoesWanted, Heeds, LivesOn}
 use Rattle.desk_core.specs.Slots.{Served}
+use Rattle.desk_core.specs.declared.appending.Step.{Step}
+use Rattle.desk_core.specs.declared.pending.Pending.{Pending}
 use Rattle.desk_core.specs.declared.slot.Slot.{Slot}
+
+-- A command was appended with that ticket, as the next of a connection's conversation.
+pub record SaysNext (command : CommandValue) (was : ConnectionValue) (old : SessionSeatValue) (is : ConnectionValue) (new : SessionSeatValue) (ticket : ℕ) : Type 0 where
+  pub appends : Appends WINDOW old new ticket command
+  pub next : IsNext was.progress command
+  pub connection : is ≡ with_appended was (said_of command) ticket
+
+-- One act took this step: the seat has a command more only if that is said, and if the window was full, an entry waits.
+pub record TakesStep {B : Type 0} (step : Step) (old new : SessionSeatValue) (pending : Option (Pending B)) : Type 0 where
+  pub grows : Grows step old new
+  pub leaves : Leaves step pending new
+
+-- what was wanted is done, beside which so much waits, if the slot appended yet
+abbrev pub CarriesOut : {B : Type 0} → Wanted → List Op → Slot B → SessionSeatValue → Slot B → SessionSeatValue → Type 0
+CarriesOut wanted waiting was old is new = Executes was.connection.stage → DoesWanted wanted waiting was.connection old is.connection is.pending new
 
 -- These effects were done at a slot, of what its client's bytes ask for next: its seat got the commands among them, and nothing
 -- else, which go on with its own conversation; and its link was sent the frames among them, beside its own session's outputs.

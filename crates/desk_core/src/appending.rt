@@ -69,15 +69,14 @@ impl Executed {
 impl<B: Bell> Slot<B> {
     ghost use Rattle.std.specs.Prelude.{◌∷◌, ◌⊎◌, [], Some};
     ghost use Rattle.outbox_core.specs.Boxes.{TakerValue};
-    ghost use Rattle.desk_core.specs.Answers.{Appended, Grows, IsQuiet, Leaves};
-    ghost use Rattle.connection_core.specs.Stages.{Executes};
+    ghost use Rattle.desk_core.specs.Answers.{Appended, IsQuiet, Leaves};
     ghost use Rattle.connection_core.specs.declared.said.Wanted.TheVariants.{Append};
     ghost use Rattle.desk_core.specs.Continues.{Continues};
     ghost use Rattle.desk_core.specs.Conversations.{StaysOrEnds};
     ghost use Rattle.desk_core.specs.Halting.{HasHalted, IsFinal};
     ghost use Rattle.desk_core.specs.Holding.{Holds};
-    ghost use Rattle.desk_core.specs.Steps.{GoesOn, TellsIt};
-    ghost use Rattle.desk_core.specs.Histories.{DoesWanted, LivesOn};
+    ghost use Rattle.desk_core.specs.Steps.{CarriesOut, GoesOn, TakesStep, TellsIt};
+    ghost use Rattle.desk_core.specs.Histories.{LivesOn};
     ghost use Rattle.desk_core.specs.Slots.{Stays};
 
     // Does what the connection wants, in order, until something has to wait or so much was done.
@@ -120,8 +119,7 @@ impl<B: Bell> Slot<B> {
     ) -> Step
         requires { seat.old.ring ≡ ring.now }
         ensures goes { GoesOn L.sent L.received self.old seat.old link.old self.new seat.new link.new }
-        ensures grows { Grows result seat.old seat.new }
-        ensures leaves { Leaves result self.new.pending seat.new }
+        ensures takes { TakesStep result seat.old seat.new self.new.pending }
         ensures unread { L.received link.new ≡ L.received link.old }
     {
         if !self.connection.stage().executes() {
@@ -154,9 +152,8 @@ impl<B: Bell> Slot<B> {
         requires nothing { self.old.pending ≡ None }
         ensures continues { Continues self.old.connection.progress seat.old self.new.connection.progress seat.new }
         ensures stays { Stays self.old self.new }
-        ensures lives { Executes self.old.connection.stage → DoesWanted (Append command) [] self.old.connection seat.old self.new.connection self.new.pending seat.new }
-        ensures grows { Grows result seat.old seat.new }
-        ensures leaves { Leaves result self.new.pending seat.new }
+        ensures lives { CarriesOut (Append command) [] self.old seat.old self.new seat.new }
+        ensures takes { TakesStep result seat.old seat.new self.new.pending }
     {
         if !self.connection.affords(command.op()) {
             drop(command);
@@ -184,9 +181,8 @@ impl<B: Bell> Slot<B> {
         ensures continues { Continues self.old.connection.progress seat.old self.new.connection.progress seat.new }
         ensures stays { Stays self.old self.new }
         ensures taker { (taker : TakerValue) → pending.taker ≡ Some taker → result ≡ Step.Appended → self.new.outbox ≡ Some taker }
-        ensures lives { Executes self.old.connection.stage → DoesWanted (Append pending.entry.command) (pending.entry.command.op ∷ []) self.old.connection seat.old self.new.connection self.new.pending seat.new }
-        ensures grows { Grows result seat.old seat.new }
-        ensures leaves { Leaves result self.new.pending seat.new }
+        ensures lives { CarriesOut (Append pending.entry.command) (pending.entry.command.op ∷ []) self.old seat.old self.new seat.new }
+        ensures takes { TakesStep result seat.old seat.new self.new.pending }
     {
         let Pending { entry, taker } = pending;
         match speak(ring, seat, &mut self.connection, entry) {

@@ -44,7 +44,7 @@ impl<B: Bell, L: Link + Drop> Desk<B, L> {
     ghost use Rattle.std.specs.Prelude.{◌≤◌};
     ghost use Rattle.claim_core.specs.Seats.{with_seen};
     ghost use Rattle.desk_core.specs.Conversations.{Converse};
-    ghost use Rattle.desk_core.specs.Desks.{Admits, AreApart, Leaves, Others, Turns, Touches, desk, seated_at};
+    ghost use Rattle.desk_core.specs.Desks.{Admits, Leaves, Others, TalkApart, Turns, Touches, desk, seated_at};
     ghost use Rattle.desk_core.specs.Places.{is_open_at, is_over_at};
     ghost use Rattle.desk_core.specs.declared.place.Seated.{Seated};
 
@@ -64,8 +64,7 @@ impl<B: Bell, L: Link + Drop> Desk<B, L> {
     pub fn len(&self) -> usize
         ensures count { result ≡ length self.now.places }
         ensures seat { (self.now.seat.ring ≡ self.now.before.ring) × (self.now.seat.number ≡ self.now.before.number) }
-        ensures converse { Converse self.now.before.own self.now.seat.own }
-        ensures apart { AreApart self.now.places }
+        ensures apart { TalkApart self.now }
     {
         self.places.len()
     }
@@ -120,8 +119,7 @@ impl<B: Bell, L: Link + Drop> Desk<B, L> {
         ensures turns { IfSome result (λ turned. Turns L.sent L.received self.old self.new at turned) }
         ensures none { IsNone result → self.new ≡ self.old }
         ensures some { IsSome (seated_at self.old.places at) → IsSome result }
-        ensures converse { Converse self.new.before.own self.new.seat.own }
-        ensures apart { AreApart self.new.places }
+        ensures apart { TalkApart self.new }
     {
         if at >= self.places.len() {
             return None;
@@ -135,8 +133,7 @@ impl<B: Bell, L: Link + Drop> Desk<B, L> {
         requires { self.old.seat.ring ≡ ring.now }
         ensures looks { self.new ≡ desk self.old.before (with_seen self.old.seat result) self.old.places }
         ensures no_less { self.old.seat.seen ≤ result }
-        ensures converse { Converse self.new.before.own self.new.seat.own }
-        ensures apart { AreApart self.new.places }
+        ensures apart { TalkApart self.new }
     {
         ring.look(&mut self.seat)
     }

@@ -3,7 +3,7 @@
 ghost use Rattle.std.specs.Prelude.{◌≡◌, ◌≢◌, true};
 ghost use Rattle.desk_core.specs.Conversations.{StaysOrEnds};
 ghost use Rattle.desk_core.specs.Histories.{Steady};
-ghost use Rattle.claim_core.specs.Seats.{with_seen};
+ghost use Rattle.desk_core.specs.Relays.{ReadsMark};
 
 use crate::kept::Relayed;
 use crate::relaying::relay;
@@ -32,7 +32,7 @@ pub enum PassedOn {
 }
 
 impl<B: Bell> Slot<B> {
-    ghost use Rattle.std.specs.Prelude.{◌≤◌, []};
+    ghost use Rattle.std.specs.Prelude.{[]};
     ghost use Rattle.desk_core.specs.Steps.{GoesOn};
     ghost use Rattle.desk_core.specs.Histories.{Idles};
     ghost use Rattle.desk_core.specs.Slots.{Served};
@@ -76,8 +76,7 @@ impl<B: Bell> Slot<B> {
     ) -> Result<Option<usize>, LinkFault>
         requires { seat.old.ring ≡ ring.now }
         ensures ends { StaysOrEnds self.old.connection.progress self.new.connection.progress }
-        ensures seen { seat.new ≡ with_seen seat.old seat.new.seen }
-        ensures no_less { seat.old.seen ≤ seat.new.seen }
+        ensures reads { ReadsMark seat.old seat.new }
         ensures served { Served L.sent [] self.old link.old self.new link.new }
         ensures lives { Idles L.received self.old link.old self.new link.new }
         ensures pending { self.new.pending ≡ self.old.pending }

@@ -1,10 +1,9 @@
 //! Outputs on their way from an outbox to a link.
 
-ghost use Rattle.std.specs.Prelude.{◌≡◌, ℕ, ◌≤◌, List, Option, IfOk, IfErr, OnErr, length};
+ghost use Rattle.std.specs.Prelude.{◌≡◌, ℕ, List, Option, IfOk, IfErr, OnErr, length};
 ghost use Rattle.frame_core.specs.Written.{written};
-ghost use Rattle.claim_core.specs.Seats.{with_seen};
 ghost use Rattle.ws_core.specs.Sending.{with_message};
-ghost use Rattle.desk_core.specs.Relays.{passage, Relays, IsRefused, Finds};
+ghost use Rattle.desk_core.specs.Relays.{passage, Relays, IsRefused, Finds, LinkRefuses, ReadsMark};
 
 use crate::kept::{Kept, Relayed};
 use claim_core::{BrokerRing, BrokerSeat, Released};
@@ -29,13 +28,11 @@ pub fn relay<B, L: Outgoing>(
     link: &mut L,
 ) -> Result<Relayed, LinkFault>
     requires { seat.old.ring ≡ ring.now }
-    ensures seen { seat.new ≡ with_seen seat.old seat.new.seen }
-    ensures no_less { seat.old.seen ≤ seat.new.seen }
+    ensures reads { ReadsMark seat.old seat.new }
     ensures relays { IfOk result (Relays session (passage taker.old kept.old (L.sent link.old)) (passage taker.new kept.new (L.sent link.new)) seat.new.seen) }
     ensures refused { IfErr result (λ fault. IsRefused session (passage taker.old kept.old (L.sent link.old)) (passage taker.new kept.new (L.sent link.new)) seat.new.seen) }
     ensures unread { L.received link.new ≡ L.received link.old }
-    ensures fault { IfErr result (L.refuses link.old link.new) }
-    ensures memory { IfErr result (λ fault. fault ≡ LinkFault.Memory → link.new ≡ link.old) }
+    ensures refuses { IfErr result (LinkRefuses L.refuses link.old link.new) }
 {
     match find(ring, seat, taker, kept) {
         Ok(released) if released.session() == session => pass(alloc, released, kept, link),
@@ -59,8 +56,7 @@ fn pass<L: Outgoing>(
         × (L.sent link.new ≡ with_message (written released.frame) (L.sent link.old))) }
     ensures untold { OnErr result ((kept.new ≡ Kept.Unsent released) × (L.sent link.new ≡ L.sent link.old)) }
     ensures unread { L.received link.new ≡ L.received link.old }
-    ensures fault { IfErr result (L.refuses link.old link.new) }
-    ensures memory { IfErr result (λ fault. fault ≡ LinkFault.Memory → link.new ≡ link.old) }
+    ensures refuses { IfErr result (LinkRefuses L.refuses link.old link.new) }
 {
     match link.send(alloc, &released) {
         Ok(()) => {
@@ -87,8 +83,7 @@ fn find<B>(
     kept: &mut Kept,
 ) -> Result<Released, Relayed>
     requires { seat.old.ring ≡ ring.now }
-    ensures seen { seat.new ≡ with_seen seat.old seat.new.seen }
-    ensures no_less { seat.old.seen ≤ seat.new.seen }
+    ensures reads { ReadsMark seat.old seat.new }
     ensures found { IfOk result (Finds kept.old kept.new taker.old taker.new seat.new.seen) }
     ensures none { IfErr result (λ relayed. (session : ℕ) (sent : Option (List (List ℕ))) → Relays session (passage taker.old kept.old sent) (passage taker.new kept.new sent) seat.new.seen relayed) }
 {

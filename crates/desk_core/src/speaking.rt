@@ -1,10 +1,10 @@
 //! How commands of a conversation get into the ring.
 
 ghost use Rattle.std.specs.Prelude.{◌≡◌, IfErr, IfOk, IfSome, IsNone};
-ghost use Rattle.claim_core.specs.Appends.{Appends, Refuses};
-ghost use Rattle.connection_core.specs.Connections.{with_appended};
-ghost use Rattle.connection_core.specs.Conversations.{IsNext, said_of};
+ghost use Rattle.claim_core.specs.Appends.{Refuses};
+ghost use Rattle.connection_core.specs.Conversations.{IsNext};
 ghost use Rattle.desk_core.specs.Continues.{Continues};
+ghost use Rattle.desk_core.specs.Steps.{SaysNext};
 
 use claim_core::{BrokerRing, BrokerSeat, Refused, WINDOW};
 use command_core::Entry;
@@ -20,8 +20,7 @@ pub fn speak<B: Drop>(
 ) -> Result<Option<u64>, (Entry<B>, Refused)>
     requires { seat.old.ring ≡ ring.now }
     ensures continues { Continues connection.old.progress seat.old connection.new.progress seat.new }
-    ensures spoken { IfOk result (λ said. IfSome said (λ ticket. Appends WINDOW seat.old seat.new ticket entry.command
-        × IsNext connection.old.progress entry.command × (connection.new ≡ with_appended connection.old (said_of entry.command) ticket))) }
+    ensures spoken { IfOk result (λ said. IfSome said (SaysNext entry.command connection.old seat.old connection.new seat.new)) }
     ensures dropped { IfOk result (λ said. IsNone said → (IsNext connection.old.progress entry.command → ⊥) × (seat.new ≡ seat.old) × (connection.new ≡ connection.old)) }
     ensures back { IfErr result (λ back. (back.0 ≡ entry) × Refuses WINDOW seat.old seat.new back.1 × (connection.new ≡ connection.old)) }
 {

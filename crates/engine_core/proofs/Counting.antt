@@ -3,9 +3,9 @@ use Rattle.std.proofs.Common.{◌≡◌, List, [], ◌∷◌, ◌++◌, ℕ, Opt
 use Rattle.std.specs.List.{fold}
 use Rattle.session_core.specs.declared.act.Act.{Act}
 use Rattle.engine_core.specs.declared.running_script.Connection.{Connection}
-use Rattle.session_core.specs.Sessions.{Hearing, Hears, loss_of}
+use Rattle.session_core.specs.Sessions.{loss_of}
 use Rattle.engine_core.specs.Queues.{QueueValue, Progress, ComeTo, acted}
-use Rattle.engine_core.specs.Running.{ScriptValue, connection_at, LosesSuch, ReceivesSuch}
+use Rattle.engine_core.specs.Running.{ScriptValue, connection_at, HearsSuch, LosesSuch, ReceivesSuch}
 
 -- what is done next is no such act, one after another
 abbrev pub ComeToNone : ℕ → (ℕ → QueueValue → Act → Type 0) → Progress → List Act → Type 0
@@ -37,16 +37,10 @@ module _ (Such : ℕ → QueueValue → Act → Type 0) where
     such = subst (λ (p : Progress). Such connection p.queue act) done such;
   }
 
-  pub receives_such : (s : ScriptValue) (n : ℕ) (bytes text : List ℕ) (taken : Connection) (acts : List Act) (session : Hearing)
-      → taken ≡ connection_at n s → Hears taken.session bytes acts session → text ≡ []
-      → ComeTo n Such (record { number = taken.number; queue = s.queue; text = text }) acts → ReceivesSuch Such s n bytes
-  receives_such s n bytes text taken acts session is_taken hears none come = record {
-    acts = acts;
-    session = session;
-    hears = subst (λ (c : Connection). Hears c.session bytes acts session) is_taken hears;
-    come = subst (λ (c : Connection). ComeTo n Such (record { number = c.number; queue = s.queue; text = [] }) acts) is_taken
-        (subst (λ t. ComeTo n Such (record { number = taken.number; queue = s.queue; text = t }) acts) none come);
-  }
+  pub receives_such : (s : ScriptValue) (n : ℕ) (bytes text : List ℕ) (taken : Connection) → taken ≡ connection_at n s → text ≡ []
+      → HearsSuch Such n bytes taken s.queue text → ReceivesSuch Such s n bytes
+  receives_such s n bytes text taken is_taken none hears =
+      subst (λ (c : Connection). HearsSuch Such n bytes c s.queue []) is_taken (subst (λ t. HearsSuch Such n bytes taken s.queue t) none hears)
 
   pub loses_such : (s : ScriptValue) (n : ℕ) (taken : Connection) (act : Option Act)
       → taken ≡ connection_at n s → act ≡ loss_of taken.session.phase → IsSomeAnd act (Such n s.queue) → LosesSuch Such s n

@@ -3,6 +3,7 @@ pub mod Receiving
 pub mod Telling
 pub mod Unfailed
 pub mod Counting
+pub mod Refusing
 pub mod LineByLine
 pub mod Pieces
 pub mod Turning

@@ -4,10 +4,12 @@ use Rattle.disk_core.specs.Memory.{Memory}
 use Rattle.flush_core.specs.declared.faults.FlushFault.{FlushFault}
 use Rattle.flush_core.specs.declared.faults.FlushFault.TheVariants as flush
 use Rattle.script_text.specs.ScriptLines.{IsCrash}
-use Rattle.engine_core.specs.Queues.{IsAny, LacksRoom, QueueValue}
-use Rattle.engine_core.specs.Running.{ScriptValue}
-use Rattle.engine_core.specs.Scripts.{HasFailed, OnRunning, RunsFlush, disk_of}
-use Rattle.engine_core.specs.StepFaults.{IsCrashTold, IsLineTold, IsNotOpened, IsOpeningTold, IsReason, IsRunTold}
+use Rattle.session_core.specs.declared.act.Act.{Act}
+use Rattle.engine_core.specs.Queues.{IsAny, IsFlush, IsTooFar, LacksRoom, QueueValue}
+use Rattle.engine_core.specs.Refusals.{RefusesActs, RefusesFlush, RefusesRunning, RefusesStep}
+use Rattle.engine_core.specs.Running.{ScriptValue, on_disk}
+use Rattle.engine_core.specs.Scripts.{ComesTo, HasFailed, OnRunning, RunsFlush, RunsTooFar, disk_of}
+use Rattle.engine_core.specs.StepFaults.{IsCrashTold, IsLineTold, IsNotOpened, IsOpeningTold, IsReason, IsStepTold}
 use Rattle.engine_core.specs.declared.fault.QueueFault.{QueueFault}
 use Rattle.engine_core.specs.declared.fault.QueueFault.TheVariants as queue
 use Rattle.engine_core.specs.declared.script.Script.{Script}
@@ -41,55 +43,66 @@ reason_of flush.Broken s line now full broken = broken refl
 reason_of (flush.Memory refused) s line now full broken = tt
 
 -- a line that runs, with what it leaves
-pub told_of_step : (s t : Script) (line : List ℕ) (fault : QueueFault) → (fault ≡ queue.Storing flush.Full → RunsFlush (LacksRoom (disk_of t).content) s line)
-    → (fault ≡ queue.Storing flush.Broken → HasFailed s ⊎ RunsFlush IsAny s line) → IsRunTold s t fault → IsLineTold s line (disk_of t) fault
-told_of_step (Running s) (Running t) line (queue.Memory refused) full broken told = told
-told_of_step (Running s) (Running t) line queue.CountTooLarge full broken told = told
-told_of_step (Running s) (Running t) line (queue.Opening fault) full broken told = absurd told
-told_of_step (Running s) (Running t) line (queue.Storing fault) full broken told = record { reason = reason_of fault (Running s) line t.disk full broken; cause = inl told.1 }
-told_of_step (Running s) (Stopped disk) line fault full broken told = absurd told
-told_of_step (Running s) Over line fault full broken told = absurd told
-told_of_step (Stopped disk) t line fault full broken told = absurd told
-told_of_step Over t line fault full broken told = absurd told
+told_of_step : (s t : ScriptValue) (line : List ℕ) (fault : QueueFault) → (fault ≡ queue.Storing flush.Full → RunsFlush (LacksRoom t.disk.content) (Running s) line)
+    → (fault ≡ queue.Storing flush.Broken → HasFailed (Running s) ⊎ RunsFlush IsAny (Running s) line) → IsStepTold s.disk.failures t.queue.durable t.disk.failures fault → IsLineTold (Running s) line t.disk fault
+told_of_step s t line (queue.Memory refused) full broken told = told
+told_of_step s t line queue.CountTooLarge full broken told = told
+told_of_step s t line (queue.Opening fault) full broken told = absurd told
+told_of_step s t line (queue.Storing fault) full broken told = record { reason = reason_of fault (Running s) line t.disk full broken; cause = inl told.1 }
+
+failed_or : (s : ScriptValue) (Flushes : Type 0) → (s.queue.durable ≡ true → Flushes) → HasFailed (Running s) ⊎ Flushes
+failed_or s Flushes flushes = by s.queue.durable flushes
+  where
+    by : (durable : Bool) → (durable ≡ true → Flushes) → (durable ≡ false) ⊎ Flushes
+    by true flushes = inr (flushes refl)
+    by false flushes = inl refl
+
+-- a step that flushes what a line does
+told_of_refusal : (s t : ScriptValue) (line : List ℕ) (fault : QueueFault) (GoesTooFar : Type 0) (Flushes : (QueueValue → Type 0) → Type 0) → ((Such : QueueValue → Type 0) → Flushes Such → RunsFlush Such (Running s) line)
+    → RefusesStep GoesTooFar Flushes (on_disk s) (on_disk t) fault → IsLineTold (Running s) line t.disk fault
+told_of_refusal s t line fault GoesTooFar Flushes runs refuses =
+    told_of_step s t line fault (λ e. runs (LacksRoom t.disk.content) (refuses.full e)) (λ e. failed_or s (RunsFlush IsAny (Running s) line) (λ durable. runs IsAny (refuses.broken e durable))) refuses.told
 
 -- `flush`
-pub flush_lacks : (s : Script) (line : List ℕ) (Such : QueueValue → Type 0) → line ≡ codes "flush" → OnRunning s (λ r. Such r.queue) → RunsFlush Such s line
-flush_lacks (Running s) line Such is such = inl (is, such)
-flush_lacks (Stopped disk) line Such is such = absurd such
-flush_lacks Over line Such is such = absurd such
+pub flush_told : (s t : Script) (line : List ℕ) (fault : QueueFault) → line ≡ codes "flush" → RefusesRunning (λ r. RefusesFlush (on_disk r)) s t fault → IsLineTold s line (disk_of t) fault
+flush_told (Running s) (Running t) line fault is refuses = told_of_refusal s t line fault ⊥ (λ Such. Such s.queue) (λ Such such. inl (is, such)) refuses
+flush_told (Running s) (Stopped disk) line fault is refuses = absurd refuses
+flush_told (Running s) Over line fault is refuses = absurd refuses
+flush_told (Stopped disk) t line fault is refuses = absurd refuses
+flush_told Over t line fault is refuses = absurd refuses
 
-pub flush_told : (s t : Script) (line : List ℕ) (fault : QueueFault) → line ≡ codes "flush" → (fault ≡ queue.Storing flush.Full → OnRunning s (λ r. LacksRoom (disk_of t).content r.queue)) → IsRunTold s t fault → IsLineTold s line (disk_of t) fault
-flush_told s t line fault is full told = told_of_step s t line fault (λ e. flush_lacks s line (LacksRoom (disk_of t).content) is (full e)) (λ e. inr (runs s told)) told
-  where
-    runs : (r : Script) → IsRunTold r t fault → RunsFlush IsAny r line
-    runs (Running r) so = inl (is, tt)
-    runs (Stopped disk) so = absurd so
-    runs Over so = absurd so
+pub flush_near : (s t : Script) (fault : QueueFault) → RefusesRunning (λ r. RefusesFlush (on_disk r)) s t fault → fault ≡ queue.CountTooLarge → ⊥
+flush_near (Running s) (Running t) fault refuses e = refuses.err e
+flush_near (Running s) (Stopped disk) fault refuses e = refuses
+flush_near (Running s) Over fault refuses e = refuses
+flush_near (Stopped disk) t fault refuses e = refuses
+flush_near Over t fault refuses e = refuses
 
 -- a line of a connection, which comes to such an act
-module _ (line : List ℕ) (Comes : (QueueValue → Type 0) → ScriptValue → Type 0) (comes : (Such : QueueValue → Type 0) (r : ScriptValue) → Comes Such r → RunsFlush Such (Running r) line) where
-  comes_full : (s : Script) (content : List ℕ) → OnRunning s (Comes (LacksRoom content)) → RunsFlush (LacksRoom content) s line
-  comes_full (Running s) content such = comes (LacksRoom content) s such
-  comes_full (Stopped disk) content such = absurd such
-  comes_full Over content such = absurd such
+module _ (line : List ℕ) (Comes : (ℕ → QueueValue → Act → Type 0) → ScriptValue → Type 0) (comes : (Such : ℕ → QueueValue → Act → Type 0) (r : ScriptValue) → Comes Such r → ComesTo Such r line) where
+  acts_told : (s t : Script) (fault : QueueFault) → RefusesRunning (λ r. RefusesActs (λ Such. Comes Such r) (on_disk r)) s t fault → IsLineTold s line (disk_of t) fault
+  acts_told (Running s) (Running t) fault refuses =
+      told_of_refusal s t line fault (Comes IsTooFar s) (λ Such. Comes (IsFlush Such) s) (λ Such come. inr (inr (comes (IsFlush Such) s come))) refuses
+  acts_told (Running s) (Stopped disk) fault refuses = absurd refuses
+  acts_told (Running s) Over fault refuses = absurd refuses
+  acts_told (Stopped disk) t fault refuses = absurd refuses
+  acts_told Over t fault refuses = absurd refuses
 
-  comes_broken : (s : Script) → OnRunning s (λ r. r.queue.durable ≡ true → Comes IsAny r) → HasFailed s ⊎ RunsFlush IsAny s line
-  comes_broken (Running s) such = by s.queue.durable such
-    where
-      by : (durable : Bool) → (durable ≡ true → Comes IsAny s) → (durable ≡ false) ⊎ RunsFlush IsAny (Running s) line
-      by true such = inr (comes IsAny s (such refl))
-      by false such = inl refl
-  comes_broken (Stopped disk) such = absurd such
-  comes_broken Over such = absurd such
+  acts_far : (s t : Script) (fault : QueueFault) → RefusesRunning (λ r. RefusesActs (λ Such. Comes Such r) (on_disk r)) s t fault → fault ≡ queue.CountTooLarge → RunsTooFar s line
+  acts_far (Running s) (Running t) fault refuses e = comes IsTooFar s (refuses.err e)
+  acts_far (Running s) (Stopped disk) fault refuses e = absurd refuses
+  acts_far (Running s) Over fault refuses e = absurd refuses
+  acts_far (Stopped disk) t fault refuses e = absurd refuses
+  acts_far Over t fault refuses e = absurd refuses
 
-  acts_told : (s t : Script) (fault : QueueFault) → (fault ≡ queue.Storing flush.Full → OnRunning s (Comes (LacksRoom (disk_of t).content)))
-      → (fault ≡ queue.Storing flush.Broken → OnRunning s (λ r. r.queue.durable ≡ true → Comes IsAny r)) → IsRunTold s t fault → IsLineTold s line (disk_of t) fault
-  acts_told s t fault full broken told = told_of_step s t line fault (λ e. comes_full s (disk_of t).content (full e)) (λ e. comes_broken s (broken e)) told
+  pub all_told : {A : Type 0} (s t : Script) (result : Result A QueueFault) → IfErr result (RefusesRunning (λ r. RefusesActs (λ Such. Comes Such r) (on_disk r)) s t) → IfErr result (IsLineTold s line (disk_of t))
+  all_told s t (Ok answer) refuses = tt
+  all_told s t (Err fault) refuses = acts_told s t fault refuses
 
-  pub all_told : {A : Type 0} (s t : Script) (result : Result A QueueFault) → IfErr result (λ fault. fault ≡ queue.Storing flush.Full → OnRunning s (Comes (LacksRoom (disk_of t).content)))
-      → IfErr result (λ fault. fault ≡ queue.Storing flush.Broken → OnRunning s (λ r. r.queue.durable ≡ true → Comes IsAny r)) → IfErr result (IsRunTold s t) → IfErr result (IsLineTold s line (disk_of t))
-  all_told s t (Ok answer) full broken told = tt
-  all_told s t (Err fault) full broken told = acts_told s t fault full broken told
+  pub all_far : {A : Type 0} (s t : Script) (result : Result A QueueFault) → IfErr result (RefusesRunning (λ r. RefusesActs (λ Such. Comes Such r) (on_disk r)) s t)
+      → IfErr result (λ fault. fault ≡ queue.CountTooLarge → RunsTooFar s line)
+  all_far s t (Ok answer) refuses = tt
+  all_far s t (Err fault) refuses = acts_far s t fault refuses
 
 -- a `crash`
 crash_runs : (s : Script) (line : List ℕ) (k : ℕ) (fill : Option ℕ) (Such : QueueValue → Type 0) → IsCrash line k fill → OnRunning s (λ r. Such r.queue) → RunsFlush Such s line

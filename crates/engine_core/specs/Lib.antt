@@ -2,6 +2,7 @@ pub mod Queues
 pub mod Running
 pub mod Scripts
 pub mod StepFaults
+pub mod Refusals
 pub mod Connections
 pub mod Runs
 pub mod OfQueue

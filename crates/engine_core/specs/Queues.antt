@@ -10,7 +10,7 @@ use Rattle.frame_core.specs.Written.{written}
 use Rattle.disk_core.specs.Memory.{Memory}
 use Rattle.command_core.specs.declared.command.Op.{Op}
 use Rattle.command_core.specs.declared.command.Op.TheVariants.{Open}
-use Rattle.command_core.specs.Commands.{CommandValue}
+use Rattle.command_core.specs.Commands.{CommandValue, Fits}
 use Rattle.command_core.specs.Outs.{OutValue}
 use Rattle.broker_core.specs.States.{State}
 use Rattle.broker_core.specs.Steps.{state_after, outs_of}
@@ -34,6 +34,10 @@ pub record QueueValue : Type 0 where
 pub record QueueOnDisk : Type 0 where
   pub queue : QueueValue
   pub disk : Memory
+
+-- none of the disk's calls fails
+abbrev pub StaysCalm : QueueOnDisk → QueueOnDisk → Type 0
+StaysCalm old new = new.disk.failures ≡ old.disk.failures
 
 -- a line that is printed for a connection: its number, a blank and the frame
 abbrev pub line_for : ℕ → Frame → List ℕ
@@ -88,6 +92,9 @@ pub record Progress : Type 0 where
   pub queue : QueueValue
   pub text : List ℕ
 
+abbrev pub progress_of : ℕ → QueueValue → List ℕ → Progress
+progress_of number queue text = record { number = number; queue = queue; text = text }
+
 -- an operation becomes a command of the connection's session; an Open gives the session its number
 abbrev pub as_command : ℕ → Op → Option (List ℕ) → ℕ → QueueValue → QueueValue
 as_command connection (Open client_id) receipt number queue = with_command connection (record { session = 0; op = Open client_id; receipt = receipt }) (with_opener connection queue)
@@ -96,6 +103,13 @@ as_command connection op receipt number queue = with_command connection (record 
 abbrev pub number_for : Op → ℕ → QueueValue → ℕ
 number_for (Open client_id) number queue = next_number queue
 number_for op number queue = number
+
+-- An operation has two numbers: that of the connection's session from then on, and that of the session which its command names.
+-- An Open names none, and its session gets the command's number.
+pub record IsNumbered (connection : ℕ) (op : Op) (before : ℕ) (old new : QueueValue) (numbers : ℕ × ℕ) : Type 0 where
+  pub number : numbers.0 ≡ number_for op before old
+  pub fits : (receipt : Option (List ℕ)) → Fits op 0 receipt → Fits op numbers.1 receipt
+  pub queue : (receipt : Option (List ℕ)) → as_command connection op receipt before old ≡ with_command connection (record { session = numbers.1; op = op; receipt = receipt }) new
 
 abbrev pub submitted : ℕ → Op → Option (List ℕ) → Progress → Progress
 submitted connection op receipt p =

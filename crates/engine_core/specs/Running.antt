@@ -9,7 +9,7 @@ use Rattle.broker_core.specs.States.{State}
 use Rattle.session_core.specs.Sessions.{Hearing, Hears, loss_of}
 use Rattle.session_core.specs.declared.act.Act.{Act}
 use Rattle.engine_core.specs.Connections.{new_connection}
-use Rattle.engine_core.specs.Queues.{QueueValue, Progress, ComeTo, IsTooFar, acted, acted_on}
+use Rattle.engine_core.specs.Queues.{QueueOnDisk, QueueValue, Progress, ComeTo, IsTooFar, acted, acted_on, progress_of}
 use Rattle.engine_core.specs.declared.running_script.Connection.{Connection}
 
 -- a script while its disk runs: its connections by rising number, the queue, and the disk
@@ -17,6 +17,10 @@ pub record ScriptValue : Type 0 where
   pub connections : List (ℕ × Connection)
   pub queue : QueueValue
   pub disk : Memory
+
+-- the queue of a script, with the disk
+abbrev pub on_disk : ScriptValue → QueueOnDisk
+on_disk s = record { queue = s.queue; disk = s.disk }
 
 -- with a journal of this state just opened on this disk: nobody is connected, and nothing waits
 abbrev pub beginning : State → Memory → ScriptValue
@@ -36,18 +40,30 @@ pub record Receives (s : ScriptValue) (n : ℕ) (bytes printed : List ℕ) (t : 
   pub acts : List Act
   pub session : Hearing
   pub hears : Hears (connection_at n s).session bytes acts session
-  pub within : ComeTo n IsTooFar (record { number = (connection_at n s).number; queue = s.queue; text = [] }) acts → ⊥
+  pub within : ComeTo n IsTooFar (progress_of (connection_at n s).number s.queue []) acts → ⊥
   pub progress : Progress
-  pub done : progress ≡ fold (acted n) (record { number = (connection_at n s).number; queue = s.queue; text = [] }) acts
+  pub done : progress ≡ fold (acted n) (progress_of (connection_at n s).number s.queue []) acts
   pub same_text : printed ≡ progress.text
   pub after : t ≡ record { connections = with_connection n (record { session = session; number = progress.number }) s.connections; queue = progress.queue; disk = t.disk }
 
--- a connection receives bytes of which one asks for such an act
-pub record ReceivesSuch (Such : ℕ → QueueValue → Act → Type 0) (s : ScriptValue) (n : ℕ) (bytes : List ℕ) : Type 0 where
+-- A connection acts on bytes: its session hears them, and what they ask for is done, act by act, and adds to a text. None of it is a
+-- command that comes once as many have been carried out as may be.
+pub record ActsOn (n : ℕ) (bytes : List ℕ) (old : Connection) (before : QueueValue) (text : List ℕ) (new : Connection) (after : QueueValue) (printed : List ℕ) : Type 0 where
+  pub acts : List Act
+  pub hears : Hears old.session bytes acts new.session
+  pub within : ComeTo n IsTooFar (progress_of old.number before text) acts → ⊥
+  pub done : progress_of new.number after printed ≡ fold (acted n) (progress_of old.number before text) acts
+
+-- a connection's session hears bytes of which one asks for such an act
+pub record HearsSuch (Such : ℕ → QueueValue → Act → Type 0) (n : ℕ) (bytes : List ℕ) (connection : Connection) (queue : QueueValue) (text : List ℕ) : Type 0 where
   pub acts : List Act
   pub session : Hearing
-  pub hears : Hears (connection_at n s).session bytes acts session
-  pub come : ComeTo n Such (record { number = (connection_at n s).number; queue = s.queue; text = [] }) acts
+  pub hears : Hears connection.session bytes acts session
+  pub come : ComeTo n Such (progress_of connection.number queue text) acts
+
+-- a connection receives bytes of which one asks for such an act
+abbrev pub ReceivesSuch : (ℕ → QueueValue → Act → Type 0) → ScriptValue → ℕ → List ℕ → Type 0
+ReceivesSuch Such s n bytes = HearsSuch Such n bytes (connection_at n s) s.queue []
 
 -- a connection is gone, and the end of its session is such an act
 pub record LosesSuch (Such : ℕ → QueueValue → Act → Type 0) (s : ScriptValue) (n : ℕ) : Type 0 where
@@ -60,6 +76,6 @@ pub record LosesSuch (Such : ℕ → QueueValue → Act → Type 0) (s : ScriptV
 pub record Loses (s : ScriptValue) (n : ℕ) (printed : List ℕ) (t : ScriptValue) : Type 0 where
   pub within : LosesSuch IsTooFar s n → ⊥
   pub progress : Progress
-  pub done : progress ≡ acted_on n (record { number = (connection_at n s).number; queue = s.queue; text = [] }) (loss_of (connection_at n s).session.phase)
+  pub done : progress ≡ acted_on n (progress_of (connection_at n s).number s.queue []) (loss_of (connection_at n s).session.phase)
   pub same_text : printed ≡ progress.text
   pub after : t ≡ record { connections = remove_entry (is_at (nat_cmp n)) s.connections; queue = progress.queue; disk = t.disk }

@@ -35,11 +35,6 @@ IsCrashTold (queue.Storing flush.Device) = ⊥
 IsCrashTold (queue.Storing fault) = Unit {0}
 IsCrashTold _ = ⊥
 
--- of a step of a script whose disk runs, with what the step leaves
-abbrev pub IsRunTold : Script → Script → QueueFault → Type 0
-IsRunTold (Running s) (Running t) fault = IsStepTold s.disk.failures t.queue.durable t.disk.failures fault
-IsRunTold _ _ fault = ⊥
-
 -- a disk is not opened: what is told of its content is so, and its calls failed, between then and now, just where that is told
 pub record IsNotOpened (disk : Memory) (fault : OpenFault) (now : Memory) : Type 0 where
   pub told : IsOpenTold fault disk.content

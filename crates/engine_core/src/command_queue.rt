@@ -44,9 +44,10 @@ const LAST_COUNT: u64 = 1 << 60;
 
 impl CommandQueue {
     ghost use Rattle.engine_core.specs.OfQueue.{IsMemory};
+    ghost use Rattle.engine_core.specs.Refusals.{RefusesCommand, RefusesFlush};
     ghost use Rattle.engine_core.specs.StepFaults.{IsStepTold};
-    ghost use Rattle.engine_core.specs.Queues.{QueueValue, flushed, flush_text, with_room, room_text, CountsTooFar, LacksRoom, number_for, as_command, is_full, with_command};
-    ghost use Rattle.std.specs.Prelude.{[], List, Option, ℕ};
+    ghost use Rattle.engine_core.specs.Queues.{IsNumbered, StaysCalm, flushed, flush_text, with_room, room_text, CountsTooFar, number_for, as_command, is_full, with_command};
+    ghost use Rattle.std.specs.Prelude.{[]};
 
     /// A queue in which nothing waits, over a journal that was just opened. No memory is taken.
     pub fn over(alloc: Global, journal: Journal<MemDisk>) -> CommandQueue
@@ -63,11 +64,9 @@ impl CommandQueue {
     /// Makes what waits durable, has the broker carry it out, and adds a line for each output to the text.
     pub fn flush(&mut self, alloc: Global, text: &mut String) -> Result<(), QueueFault>
         ensures state { OnOk result (self.new.queue ≡ flushed self.old.queue) }
-        ensures calm { OnOk result (self.new.disk.failures ≡ self.old.disk.failures) }
+        ensures calm { OnOk result (StaysCalm self.old self.new) }
         ensures text { OnOk result (string_bytes text.new ≡ string_bytes text.old ++ flush_text self.old.queue) }
-        ensures err { IfErr result (λ fault. fault ≢ QueueFault.CountTooLarge) }
-        ensures full { IfErr result (λ fault. fault ≡ QueueFault.Storing FlushFault.Full → LacksRoom self.new.disk.content self.old.queue) }
-        ensures told { IfErr result (IsStepTold self.old.disk.failures self.new.queue.durable self.new.disk.failures) }
+        ensures refuses { IfErr result (RefusesFlush self.old self.new) }
     {
         let waiting = mem::replace(&mut self.waiting, Vec::new(alloc));
         match self.journal.record(alloc, waiting) {
@@ -123,13 +122,10 @@ impl CommandQueue {
         requires { Fits op 0 receipt × IsOp op }
         ensures number { IfOk result (λ n. n ≡ number_for op number (with_room connection self.old.queue)) }
         ensures queue { OnOk result (self.new.queue ≡ as_command connection op receipt number (with_room connection self.old.queue)) }
-        ensures calm { OnOk result (self.new.disk.failures ≡ self.old.disk.failures) }
+        ensures calm { OnOk result (StaysCalm self.old self.new) }
         ensures text { OnOk result (string_bytes text.new ≡ string_bytes text.old ++ room_text connection self.old.queue) }
         ensures counts { OnOk result (CountsTooFar connection self.old.queue → ⊥) }
-        ensures err { IfErr result (λ fault. fault ≡ QueueFault.CountTooLarge → CountsTooFar connection self.old.queue) }
-        ensures full { IfErr result (λ fault. fault ≡ QueueFault.Storing FlushFault.Full → (is_full connection self.old.queue ≡ true) × LacksRoom self.new.disk.content self.old.queue) }
-        ensures broken { IfErr result (λ fault. fault ≡ QueueFault.Storing FlushFault.Broken → self.old.queue.durable ≡ true → is_full connection self.old.queue ≡ true) }
-        ensures told { IfErr result (IsStepTold self.old.disk.failures self.new.queue.durable self.new.disk.failures) }
+        ensures refuses { IfErr result (RefusesCommand connection self.old self.new) }
     {
         match self.make_room(alloc, connection, text) {
             Ok(()) => self.add(connection, number, op, receipt),
@@ -149,14 +145,11 @@ impl CommandQueue {
         text: &mut String,
     ) -> Result<(), QueueFault>
         ensures queue { OnOk result (self.new.queue ≡ with_room connection self.old.queue) }
-        ensures calm { OnOk result (self.new.disk.failures ≡ self.old.disk.failures) }
+        ensures calm { OnOk result (StaysCalm self.old self.new) }
         ensures text { OnOk result (string_bytes text.new ≡ string_bytes text.old ++ room_text connection self.old.queue) }
         ensures durable { OnOk result (self.new.queue.durable ≡ true) }
         ensures few { OnOk result (self.new.queue.state.count < 2 ^ 60) }
-        ensures err { IfErr result (λ fault. fault ≡ QueueFault.CountTooLarge → CountsTooFar connection self.old.queue) }
-        ensures full { IfErr result (λ fault. fault ≡ QueueFault.Storing FlushFault.Full → (is_full connection self.old.queue ≡ true) × LacksRoom self.new.disk.content self.old.queue) }
-        ensures broken { IfErr result (λ fault. fault ≡ QueueFault.Storing FlushFault.Broken → self.old.queue.durable ≡ true → is_full connection self.old.queue ≡ true) }
-        ensures told { IfErr result (IsStepTold self.old.disk.failures self.new.queue.durable self.new.disk.failures) }
+        ensures refuses { IfErr result (RefusesCommand connection self.old self.new) }
     {
         if self.is_full(connection) {
             self.flush(alloc, text)?;
@@ -222,10 +215,7 @@ impl CommandQueue {
         op: &Op,
     ) -> Result<(u64, u64), QueueFault>
         requires few { self.old.queue.state.count < 2 ^ 60 }
-        ensures number { IfOk result (λ numbers. numbers.0 ≡ number_for op.now number self.old.queue) }
-        ensures fits { IfOk result (λ numbers. (receipt : Option (List ℕ)) → Fits op.now 0 receipt → Fits op.now numbers.1 receipt) }
-        ensures queue { IfOk result (λ numbers. (receipt : Option (List ℕ))
-            → as_command connection op.now receipt number self.old.queue ≡ with_command connection (record { session = numbers.1; op = op.now; receipt = receipt }) self.new.queue) }
+        ensures numbers { IfOk result (IsNumbered connection op.now number self.old.queue self.new.queue) }
         ensures same { (self.new.queue.durable ≡ self.old.queue.durable) × (self.new.queue.state ≡ self.old.queue.state) × (self.new.disk ≡ self.old.disk) }
         ensures memory { IfErr result IsMemory }
     {

@@ -1,20 +1,20 @@
 //! A script while its disk runs: its connections and the queue.
 
-ghost use Rattle.std.specs.Prelude.{◌≡◌, ◌≢◌, ◌≤◌, ◌^◌, IfErr, IfOk, IfSome, IsSomeAnd, List, OnOk, string_bytes, true, unwrap_or};
+ghost use Rattle.std.specs.Prelude.{◌≡◌, ◌≤◌, ◌^◌, IfErr, IfOk, IfSome, IsSomeAnd, OnOk, string_bytes, unwrap_or};
 ghost use Rattle.std.specs.List.{AllByRecursion, fold};
-ghost use Rattle.session_core.specs.Sessions.{HasForm, Hearing, Hears};
+ghost use Rattle.session_core.specs.Sessions.{HasForm};
 ghost use Rattle.std.specs.BTreeMap.{is_at};
 ghost use Rattle.std.specs.Map.{lookup, remove_entry};
 ghost use Rattle.std.specs.Ordering.{nat_cmp};
 ghost use Rattle.engine_core.specs.Connections.{new_connection};
-ghost use Rattle.engine_core.specs.Queues.{ComeTo, IsAny, IsFlush, IsTooFar, LacksRoom, Progress, acted, acted_on};
-ghost use Rattle.engine_core.specs.StepFaults.{IsStepTold};
+ghost use Rattle.engine_core.specs.Queues.{ComeTo, IsTooFar, StaysCalm, acted, acted_on, progress_of};
+ghost use Rattle.engine_core.specs.Refusals.{RefusesActs};
+ghost use Rattle.engine_core.specs.Running.{ActsOn, HearsSuch};
 
 use crate::command_queue::CommandQueue;
 use crate::fault::QueueFault;
 use crate::printing::print_frame;
 use disk_core::MemDisk;
-use flush_core::FlushFault;
 use script_journal::Journal;
 use script_text::decode_text;
 use session_core::{Act, Session};
@@ -47,8 +47,9 @@ impl Model for RunningScript {
 impl RunningScript {
     ghost use Rattle.std.specs.Prelude.{◌≡◌, [], IfOk, IfErr, OnOk, false, true, string_bytes};
     ghost use Rattle.recover_core.specs.Standing.{Stands};
-    ghost use Rattle.engine_core.specs.Queues.{IsAny, IsFlush, IsTooFar, LacksRoom, flush_text, flushed};
-    ghost use Rattle.engine_core.specs.Running.{beginning, Loses, LosesSuch, Receives, ReceivesSuch};
+    ghost use Rattle.engine_core.specs.Queues.{flush_text, flushed};
+    ghost use Rattle.engine_core.specs.Refusals.{RefusesActs, RefusesFlush};
+    ghost use Rattle.engine_core.specs.Running.{beginning, Loses, LosesSuch, Receives, ReceivesSuch, on_disk};
 
     /// A script with nobody connected, over a journal that was just opened. No memory is taken.
     pub fn over(alloc: Global, journal: Journal<MemDisk>) -> RunningScript
@@ -67,9 +68,7 @@ impl RunningScript {
         ensures state { OnOk result (self.new ≡ record self.old { queue = flushed self.old.queue; disk = self.new.disk }) }
         ensures calm { OnOk result (self.new.disk.failures ≡ self.old.disk.failures) }
         ensures text { IfOk result (λ text. string_bytes text ≡ flush_text self.old.queue) }
-        ensures err { IfErr result (λ fault. fault ≢ QueueFault.CountTooLarge) }
-        ensures full { IfErr result (λ fault. fault ≡ QueueFault.Storing FlushFault.Full → LacksRoom self.new.disk.content self.old.queue) }
-        ensures told { IfErr result (IsStepTold self.old.disk.failures self.new.queue.durable self.new.disk.failures) }
+        ensures refuses { IfErr result (RefusesFlush (on_disk self.old) (on_disk self.new)) }
     {
         let mut text = String::new(alloc);
         self.queue.flush(alloc, &mut text)?;
@@ -96,10 +95,7 @@ impl RunningScript {
     pub fn receive(&mut self, alloc: Global, n: u8, bytes: &[u8]) -> Result<String, QueueFault>
         ensures ok { IfOk result (λ text. Receives self.old n bytes.now (string_bytes text) self.new) }
         ensures calm { OnOk result (self.new.disk.failures ≡ self.old.disk.failures) }
-        ensures err { IfErr result (λ fault. fault ≡ QueueFault.CountTooLarge → ReceivesSuch IsTooFar self.old n bytes.now) }
-        ensures full { IfErr result (λ fault. fault ≡ QueueFault.Storing FlushFault.Full → ReceivesSuch (IsFlush (LacksRoom self.new.disk.content)) self.old n bytes.now) }
-        ensures broken { IfErr result (λ fault. fault ≡ QueueFault.Storing FlushFault.Broken → self.old.queue.durable ≡ true → ReceivesSuch (IsFlush IsAny) self.old n bytes.now) }
-        ensures told { IfErr result (IsStepTold self.old.disk.failures self.new.queue.durable self.new.disk.failures) }
+        ensures refuses { IfErr result (RefusesActs (λ Such. ReceivesSuch Such self.old n bytes.now) (on_disk self.old) (on_disk self.new)) }
     {
         let mut connection = take_connection(alloc, &mut self.connections, n);
         let mut text = String::new(alloc);
@@ -120,10 +116,7 @@ impl RunningScript {
     pub fn lose(&mut self, alloc: Global, n: u8) -> Result<String, QueueFault>
         ensures ok { IfOk result (λ text. Loses self.old n (string_bytes text) self.new) }
         ensures calm { OnOk result (self.new.disk.failures ≡ self.old.disk.failures) }
-        ensures err { IfErr result (λ fault. fault ≡ QueueFault.CountTooLarge → LosesSuch IsTooFar self.old n) }
-        ensures full { IfErr result (λ fault. fault ≡ QueueFault.Storing FlushFault.Full → LosesSuch (IsFlush (LacksRoom self.new.disk.content)) self.old n) }
-        ensures broken { IfErr result (λ fault. fault ≡ QueueFault.Storing FlushFault.Broken → self.old.queue.durable ≡ true → LosesSuch (IsFlush IsAny) self.old n) }
-        ensures told { IfErr result (IsStepTold self.old.disk.failures self.new.queue.durable self.new.disk.failures) }
+        ensures refuses { IfErr result (RefusesActs (λ Such. LosesSuch Such self.old n) (on_disk self.old) (on_disk self.new)) }
     {
         let Connection {
             mut session,
@@ -165,18 +158,9 @@ fn hear(
     bytes: &[u8],
     text: &mut String,
 ) -> Result<(), QueueFault>
-    ensures ok { OnOk result ((acts : List Act) × Hears connection.old.session bytes.now acts connection.new.session
-        × (ComeTo n IsTooFar (record { number = connection.old.number; queue = queue.old.queue; text = string_bytes text.old }) acts → ⊥)
-        × (record { number = connection.new.number; queue = queue.new.queue; text = string_bytes text.new }
-        ≡ fold (acted n) (record { number = connection.old.number; queue = queue.old.queue; text = string_bytes text.old }) acts)) }
-    ensures err { IfErr result (λ fault. fault ≡ QueueFault.CountTooLarge → (acts : List Act) × (session : Hearing) × Hears connection.old.session bytes.now acts session
-        × ComeTo n IsTooFar (record { number = connection.old.number; queue = queue.old.queue; text = string_bytes text.old }) acts) }
-    ensures full { IfErr result (λ fault. fault ≡ QueueFault.Storing FlushFault.Full → (acts : List Act) × (session : Hearing) × Hears connection.old.session bytes.now acts session
-        × ComeTo n (IsFlush (LacksRoom queue.new.disk.content)) (record { number = connection.old.number; queue = queue.old.queue; text = string_bytes text.old }) acts) }
-    ensures broken { IfErr result (λ fault. fault ≡ QueueFault.Storing FlushFault.Broken → queue.old.queue.durable ≡ true → (acts : List Act) × (session : Hearing) × Hears connection.old.session bytes.now acts session
-        × ComeTo n (IsFlush IsAny) (record { number = connection.old.number; queue = queue.old.queue; text = string_bytes text.old }) acts) }
-    ensures calm { OnOk result (queue.new.disk.failures ≡ queue.old.disk.failures) }
-    ensures told { IfErr result (IsStepTold queue.old.disk.failures queue.new.queue.durable queue.new.disk.failures) }
+    ensures ok { OnOk result (ActsOn n bytes.now connection.old queue.old.queue (string_bytes text.old) connection.new queue.new.queue (string_bytes text.new)) }
+    ensures refuses { IfErr result (RefusesActs (λ Such. HearsSuch Such n bytes.now connection.old queue.old.queue (string_bytes text.old)) queue.old queue.new) }
+    ensures calm { OnOk result (StaysCalm queue.old queue.new) }
 {
     let acts = connection.session.feed(alloc, bytes)?;
     let number = do_acts(alloc, queue, n, connection.number, acts, text)?;
@@ -194,14 +178,10 @@ fn do_loss(
     text: &mut String,
 ) -> Result<u64, QueueFault>
     requires { IfSome act HasForm }
-    ensures ok { IfOk result (λ n. record { number = n; queue = queue.new.queue; text = string_bytes text.new }
-        ≡ acted_on connection (record { number = number; queue = queue.old.queue; text = string_bytes text.old }) act) }
+    ensures ok { IfOk result (λ n. progress_of n queue.new.queue (string_bytes text.new) ≡ acted_on connection (progress_of number queue.old.queue (string_bytes text.old)) act) }
     ensures within { OnOk result (IsSomeAnd act (IsTooFar connection queue.old.queue) → ⊥) }
-    ensures err { IfErr result (λ fault. fault ≡ QueueFault.CountTooLarge → IsSomeAnd act (IsTooFar connection queue.old.queue)) }
-    ensures full { IfErr result (λ fault. fault ≡ QueueFault.Storing FlushFault.Full → IsSomeAnd act (IsFlush (LacksRoom queue.new.disk.content) connection queue.old.queue)) }
-    ensures broken { IfErr result (λ fault. fault ≡ QueueFault.Storing FlushFault.Broken → queue.old.queue.durable ≡ true → IsSomeAnd act (IsFlush IsAny connection queue.old.queue)) }
-    ensures calm { OnOk result (queue.new.disk.failures ≡ queue.old.disk.failures) }
-    ensures told { IfErr result (IsStepTold queue.old.disk.failures queue.new.queue.durable queue.new.disk.failures) }
+    ensures refuses { IfErr result (RefusesActs (λ Such. IsSomeAnd act (Such connection queue.old.queue)) queue.old queue.new) }
+    ensures calm { OnOk result (StaysCalm queue.old queue.new) }
 {
     match act {
         Some(act) => do_act(alloc, queue, connection, number, act, text),
@@ -219,17 +199,10 @@ fn do_acts(
     text: &mut String,
 ) -> Result<u64, QueueFault>
     requires { AllByRecursion HasForm acts.items }
-    ensures ok { IfOk result (λ n. record { number = n; queue = queue.new.queue; text = string_bytes text.new }
-        ≡ fold (acted connection) (record { number = number; queue = queue.old.queue; text = string_bytes text.old }) acts.items) }
-    ensures within { OnOk result (ComeTo connection IsTooFar (record { number = number; queue = queue.old.queue; text = string_bytes text.old }) acts.items → ⊥) }
-    ensures err { IfErr result (λ fault. fault ≡ QueueFault.CountTooLarge
-        → ComeTo connection IsTooFar (record { number = number; queue = queue.old.queue; text = string_bytes text.old }) acts.items) }
-    ensures full { IfErr result (λ fault. fault ≡ QueueFault.Storing FlushFault.Full
-        → ComeTo connection (IsFlush (LacksRoom queue.new.disk.content)) (record { number = number; queue = queue.old.queue; text = string_bytes text.old }) acts.items) }
-    ensures broken { IfErr result (λ fault. fault ≡ QueueFault.Storing FlushFault.Broken → queue.old.queue.durable ≡ true
-        → ComeTo connection (IsFlush IsAny) (record { number = number; queue = queue.old.queue; text = string_bytes text.old }) acts.items) }
-    ensures calm { OnOk result (queue.new.disk.failures ≡ queue.old.disk.failures) }
-    ensures told { IfErr result (IsStepTold queue.old.disk.failures queue.new.queue.durable queue.new.disk.failures) }
+    ensures ok { IfOk result (λ n. progress_of n queue.new.queue (string_bytes text.new) ≡ fold (acted connection) (progress_of number queue.old.queue (string_bytes text.old)) acts.items) }
+    ensures within { OnOk result (ComeTo connection IsTooFar (progress_of number queue.old.queue (string_bytes text.old)) acts.items → ⊥) }
+    ensures refuses { IfErr result (RefusesActs (λ Such. ComeTo connection Such (progress_of number queue.old.queue (string_bytes text.old)) acts.items) queue.old queue.new) }
+    ensures calm { OnOk result (StaysCalm queue.old queue.new) }
 {
     let mut number = number;
     for act in acts {
@@ -247,14 +220,10 @@ fn do_act(
     text: &mut String,
 ) -> Result<u64, QueueFault>
     requires { HasForm act }
-    ensures ok { IfOk result (λ n. record { number = n; queue = queue.new.queue; text = string_bytes text.new }
-        ≡ acted connection (record { number = number; queue = queue.old.queue; text = string_bytes text.old }) act) }
+    ensures ok { IfOk result (λ n. progress_of n queue.new.queue (string_bytes text.new) ≡ acted connection (progress_of number queue.old.queue (string_bytes text.old)) act) }
     ensures within { OnOk result (IsTooFar connection queue.old.queue act → ⊥) }
-    ensures err { IfErr result (λ fault. fault ≡ QueueFault.CountTooLarge → IsTooFar connection queue.old.queue act) }
-    ensures full { IfErr result (λ fault. fault ≡ QueueFault.Storing FlushFault.Full → IsFlush (LacksRoom queue.new.disk.content) connection queue.old.queue act) }
-    ensures broken { IfErr result (λ fault. fault ≡ QueueFault.Storing FlushFault.Broken → queue.old.queue.durable ≡ true → IsFlush IsAny connection queue.old.queue act) }
-    ensures calm { OnOk result (queue.new.disk.failures ≡ queue.old.disk.failures) }
-    ensures told { IfErr result (IsStepTold queue.old.disk.failures queue.new.queue.durable queue.new.disk.failures) }
+    ensures refuses { IfErr result (RefusesActs (λ Such. Such connection queue.old.queue act) queue.old queue.new) }
+    ensures calm { OnOk result (StaysCalm queue.old queue.new) }
 {
     match act {
         Act::Do(op, receipt) => queue.submit(alloc, connection, number, op, receipt, text),

@@ -1,6 +1,6 @@
 //! A script as far as it has run, line by line.
 
-ghost use Rattle.std.specs.Prelude.{◌≡◌, ◌≢◌, ◌≤◌, ◌^◌, ◌++◌, List, ℕ, IfErr, IfNone, IfOk, IfSome, MatchOption, OnOk, true, string_bytes};
+ghost use Rattle.std.specs.Prelude.{◌≡◌, ◌≤◌, ◌^◌, ◌++◌, List, ℕ, IfErr, IfNone, IfOk, IfSome, MatchOption, OnOk, true, string_bytes};
 ghost use Rattle.script_journal.specs.Journals.{IsFull, StandsAfterFront};
 ghost use Rattle.script_journal.specs.Placed.{commands_of};
 ghost use Rattle.engine_core.specs.OfQueue.{IsMemory};
@@ -29,9 +29,10 @@ pub enum Script {
 
 impl Script {
     ghost use Rattle.script_text.specs.PercentTexts.{decoded};
-    ghost use Rattle.engine_core.specs.Queues.{IsAny, IsFlush, IsTooFar, LacksRoom, flush_text, flushed};
-    ghost use Rattle.engine_core.specs.Running.{Loses, LosesSuch, Receives, ReceivesSuch};
-    ghost use Rattle.engine_core.specs.StepFaults.{IsCrashTold, IsLineTold, IsOpeningTold, IsRunTold};
+    ghost use Rattle.engine_core.specs.Queues.{IsAny, LacksRoom, flush_text, flushed};
+    ghost use Rattle.engine_core.specs.Refusals.{RefusesActs, RefusesFlush, RefusesRunning};
+    ghost use Rattle.engine_core.specs.Running.{Loses, LosesSuch, Receives, ReceivesSuch, on_disk};
+    ghost use Rattle.engine_core.specs.StepFaults.{IsCrashTold, IsLineTold, IsOpeningTold};
     ghost use Rattle.engine_core.specs.Scripts.{Crashes, GoesBy, IsNotUnderstood, IsStopped, OnRunning, Opens, Prints, RunsTooFar, disk_of, is_there};
 
     /// Does what a line says, and answers what it prints; `None` where the line says nothing that is understood. The disk is
@@ -139,9 +140,7 @@ impl Script {
         ensures there { is_there self.new ≡ true }
         ensures ok { IfOk result (λ printed. MatchOption printed (IsStopped self.old × (self.new ≡ self.old))
             (λ text. GoesBy self.old (λ s u. (string_bytes text ≡ flush_text s.queue) × (u ≡ record s { queue = flushed s.queue; disk = u.disk })) self.new)) }
-        ensures err { IfErr result (λ fault. fault ≢ QueueFault.CountTooLarge) }
-        ensures full { IfErr result (λ fault. fault ≡ QueueFault.Storing FlushFault.Full → OnRunning self.old (λ s. LacksRoom (disk_of self.new).content s.queue)) }
-        ensures told { IfErr result (IsRunTold self.old self.new) }
+        ensures refuses { IfErr result (RefusesRunning (λ s. RefusesFlush (on_disk s)) self.old self.new) }
     {
         match self {
             Script::Running(script) => Ok(Some(script.flush(alloc)?)),
@@ -155,10 +154,7 @@ impl Script {
         ensures there { is_there self.new ≡ true }
         ensures ok { IfOk result (λ printed. MatchOption printed (IsStopped self.old × (self.new ≡ self.old))
             (λ text. GoesBy self.old (λ s u. Loses s n (string_bytes text) u) self.new)) }
-        ensures err { IfErr result (λ fault. fault ≡ QueueFault.CountTooLarge → OnRunning self.old (λ s. LosesSuch IsTooFar s n)) }
-        ensures full { IfErr result (λ fault. fault ≡ QueueFault.Storing FlushFault.Full → OnRunning self.old (λ s. LosesSuch (IsFlush (LacksRoom (disk_of self.new).content)) s n)) }
-        ensures broken { IfErr result (λ fault. fault ≡ QueueFault.Storing FlushFault.Broken → OnRunning self.old (λ s. s.queue.durable ≡ true → LosesSuch (IsFlush IsAny) s n)) }
-        ensures told { IfErr result (IsRunTold self.old self.new) }
+        ensures refuses { IfErr result (RefusesRunning (λ s. RefusesActs (λ Such. LosesSuch Such s n) (on_disk s)) self.old self.new) }
     {
         match self {
             Script::Running(script) => Ok(Some(script.lose(alloc, n)?)),
@@ -172,10 +168,7 @@ impl Script {
         ensures there { is_there self.new ≡ true }
         ensures ok { IfOk result (λ printed. MatchOption printed (IsStopped self.old × (self.new ≡ self.old))
             (λ answer. GoesBy self.old (λ s u. Receives s n (decoded text.now) (string_bytes answer) u) self.new)) }
-        ensures err { IfErr result (λ fault. fault ≡ QueueFault.CountTooLarge → OnRunning self.old (λ s. ReceivesSuch IsTooFar s n (decoded text.now))) }
-        ensures full { IfErr result (λ fault. fault ≡ QueueFault.Storing FlushFault.Full → OnRunning self.old (λ s. ReceivesSuch (IsFlush (LacksRoom (disk_of self.new).content)) s n (decoded text.now))) }
-        ensures broken { IfErr result (λ fault. fault ≡ QueueFault.Storing FlushFault.Broken → OnRunning self.old (λ s. s.queue.durable ≡ true → ReceivesSuch (IsFlush IsAny) s n (decoded text.now))) }
-        ensures told { IfErr result (IsRunTold self.old self.new) }
+        ensures refuses { IfErr result (RefusesRunning (λ s. RefusesActs (λ Such. ReceivesSuch Such s n (decoded text.now)) (on_disk s)) self.old self.new) }
     {
         match self {
             Script::Running(script) => {

@@ -5,3 +5,4 @@ pub mod Requests
 pub mod CloseCodes
 pub mod Sessions
 pub mod Worked
+pub mod Pieces

@@ -3,6 +3,7 @@
 ghost use Rattle.std.specs.Prelude.{◌≡◌, ◌<◌, ◌^◌, ◌++◌, [], List, ℕ, Some, ◌↔◌};
 ghost use Rattle.std.specs.Fmt.{decimal};
 ghost use Rattle.session_core.specs.Numbers.{decimal_value};
+ghost use Rattle.session_core.specs.Pieces.{HearsTo};
 ghost use Rattle.session_core.specs.Sessions.{Hearing, Hears, IsOver};
 ghost use Rattle.session_core.specs.declared.act.Act.{Act};
 
@@ -11,7 +12,7 @@ ghost use Rattle.session_core.specs.declared.act.Act.{Act};
 /// it hears once it is over gives nothing.
 pub fn pieces_are_heard_as_one()
     ensures joined { (s t u : Hearing) (a b : List ℕ) (acts more : List Act)
-        → Hears s a acts t → Hears t b more u → (v : Hearing) × Hears s (a ++ b) (acts ++ more) v × (v.phase ≡ u.phase) }
+        → Hears s a acts t → Hears t b more u → HearsTo s (a ++ b) (acts ++ more) u.phase }
     ensures one { (s t u : Hearing) (a : List ℕ) (acts more : List Act)
         → Hears s a acts t → Hears s a more u → (acts ≡ more) × (t.phase ≡ u.phase) }
     ensures kept { (s t u : Hearing) (a b : List ℕ) (acts more : List Act)

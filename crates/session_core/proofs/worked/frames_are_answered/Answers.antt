@@ -7,17 +7,17 @@ returns-clause-opens c = refl
 pub returns-clause-wrong_version : goal.returns-clause-wrong_version
 returns-clause-wrong_version c = refl
 
-pub returns-clause-too_early : goal.returns-clause-too_early
-returns-clause-too_early c = refl
+pub returns-clause-early : goal.returns-clause-early
+returns-clause-early c = refl
 
-pub returns-clause-bad_destination : goal.returns-clause-bad_destination
-returns-clause-bad_destination c = refl
+pub returns-clause-nowhere : goal.returns-clause-nowhere
+returns-clause-nowhere c = refl
 
 pub returns-clause-sends : goal.returns-clause-sends
 returns-clause-sends c = refl
 
-pub returns-clause-disconnects : goal.returns-clause-disconnects
-returns-clause-disconnects c = refl
+pub returns-clause-leaves : goal.returns-clause-leaves
+returns-clause-leaves c = refl
 
 pub returns-clause-ended : goal.returns-clause-ended
 returns-clause-ended c = refl

@@ -1,7 +1,7 @@
 use Rattle.std.proofs.Common.{subst}
-use Rattle.desk_core.specs.Desks.{AreApart, DeskValue}
-use Rattle.desk_core.proofs.Standing.{apart}
+use Rattle.desk_core.specs.Desks.{DeskValue, TalkApart}
+use Rattle.desk_core.proofs.Standing.{talk_apart}
 use Rattle.desk_core.proofs.desk.Desk.len.Goals as goal
 
 pub returns-clause-apart : goal.returns-clause-apart
-returns-clause-apart g c = subst (λ (d : DeskValue _ _). AreApart d.places) c.self.view_is (apart _ _ _ c.self.invariant.speaks)
+returns-clause-apart g c = subst (λ (d : DeskValue _ _). TalkApart d) c.self.view_is (talk_apart _ _ _ c.self.invariant)

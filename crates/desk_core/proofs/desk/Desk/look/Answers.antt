@@ -1,4 +1,4 @@
-use Rattle.desk_core.proofs.Standing.{apart, converses, looked, looks}
+use Rattle.desk_core.proofs.Standing.{looked, looks, talk_apart}
 use Rattle.desk_core.proofs.desk.Desk.look.Goals as goal
 
 pub invariant_of-self : goal.invariant_of-self
@@ -7,10 +7,6 @@ invariant_of-self g c = looked c.self.inside.before.value c.self.inside.seat c.l
 pub returns-clause-looks : goal.returns-clause-looks
 returns-clause-looks g c = looks c.args.self.now c.self.inside.before.value c.self.inside.seat c.look.new.seat c.look.result c.self.inside.places.items c.self.view_is c.look.ensures.seen
 
-pub returns-clause-converse : goal.returns-clause-converse
-returns-clause-converse g c =
-    converses _ _ _ (looked c.self.inside.before.value c.self.inside.seat c.look.new.seat c.look.result c.self.inside.places.items c.look.ensures.seen c.self.invariant).speaks
-
 pub returns-clause-apart : goal.returns-clause-apart
 returns-clause-apart g c =
-    apart _ _ _ (looked c.self.inside.before.value c.self.inside.seat c.look.new.seat c.look.result c.self.inside.places.items c.look.ensures.seen c.self.invariant).speaks
+    talk_apart _ _ _ (looked c.self.inside.before.value c.self.inside.seat c.look.new.seat c.look.result c.self.inside.places.items c.look.ensures.seen c.self.invariant)

@@ -1,15 +1,11 @@
 use Rattle.std.proofs.Common.{arith, ap, subst}
 use Rattle.std.specs.Prelude.{IsSome}
-use Rattle.desk_core.specs.Conversations.{Converse}
-use Rattle.desk_core.specs.Desks.{AreApart, DeskValue}
-use Rattle.desk_core.proofs.Standing.{apart, converses, if_some, others, same_desk, sits_there, stepped, turns}
+use Rattle.desk_core.specs.Desks.{DeskValue, TalkApart}
+use Rattle.desk_core.proofs.Standing.{if_some, others, same_desk, sits_there, stepped, talk_apart, turns}
 use Rattle.desk_core.proofs.desk.Desk.turn.Goals as goal
 
-pub returns-then-at-len-clause-converse : goal.returns-then-at-len-clause-converse
-returns-then-at-len-clause-converse g c = subst (λ (d : DeskValue _ _). Converse d.before.own d.seat.own) c.self.view_is (converses _ _ _ c.self.invariant.speaks)
-
 pub returns-then-at-len-clause-apart : goal.returns-then-at-len-clause-apart
-returns-then-at-len-clause-apart g c = subst (λ (d : DeskValue _ _). AreApart d.places) c.self.view_is (apart _ _ _ c.self.invariant.speaks)
+returns-then-at-len-clause-apart g c = subst (λ (d : DeskValue _ _). TalkApart d) c.self.view_is (talk_apart _ _ _ c.self.invariant)
 
 pub invariant_of-self : goal.invariant_of-self
 invariant_of-self g c =
@@ -37,12 +33,7 @@ returns-clause-some g c = λ some.
     c.turn_at.ensures.some (subst (λ o. IsSome o) (sits_there c.args.self.now c.self.inside.before.value c.self.inside.seat c.self.inside.places.items c.args.at c.index_mut.result.now
     c.self.view_is (omega (arith, c.if-at-len.false, c.len.ensures)) c.index_mut.ensures.value) some)
 
-pub returns-clause-converse : goal.returns-clause-converse
-returns-clause-converse g c =
-    converses _ _ _ (stepped c.self.inside.before.value c.self.inside.seat c.turn_at.new.seat c.self.inside.places.items c.args.at c.index_mut.result.now c.turn_at.new.place
-    (omega (arith, c.if-at-len.false, c.len.ensures)) c.index_mut.ensures.value c.turn_at.ensures.continues c.self.invariant).speaks
-
 pub returns-clause-apart : goal.returns-clause-apart
 returns-clause-apart g c =
-    apart _ _ _ (stepped c.self.inside.before.value c.self.inside.seat c.turn_at.new.seat c.self.inside.places.items c.args.at c.index_mut.result.now c.turn_at.new.place
-    (omega (arith, c.if-at-len.false, c.len.ensures)) c.index_mut.ensures.value c.turn_at.ensures.continues c.self.invariant).speaks
+    talk_apart _ _ _ (stepped c.self.inside.before.value c.self.inside.seat c.turn_at.new.seat c.self.inside.places.items c.args.at c.index_mut.result.now c.turn_at.new.place
+    (omega (arith, c.if-at-len.false, c.len.ensures)) c.index_mut.ensures.value c.turn_at.ensures.continues c.self.invariant)

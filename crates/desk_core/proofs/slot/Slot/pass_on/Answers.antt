@@ -9,24 +9,24 @@ loop-init g c = record { goes = goes_none g.L.Outgoing.sent g.L.Outgoing.receive
 pub returns-in-Ok-None-clause-goes : goal.returns-in-Ok-None-clause-goes
 returns-in-Ok-None-clause-goes g c =
     goes_then g.L.Outgoing.sent g.L.Outgoing.received _ c.loop.self _ _ c.loop.seat _ _ c.loop.link _ c.loop.invariant.goes
-    (goes_reading g.L.Outgoing.sent g.L.Outgoing.received _ _ _ _ _ _ _ c.pass_one.ensures.ends c.pass_one.ensures.seen c.pass_one.ensures.no_less c.pass_one.ensures.served c.pass_one.ensures.lives)
+    (goes_reading g.L.Outgoing.sent g.L.Outgoing.received _ _ _ _ _ _ c.pass_one.ensures.ends c.pass_one.ensures.reads c.pass_one.ensures.served c.pass_one.ensures.lives)
 
 pub returns-in-Ok-None-clause-own : goal.returns-in-Ok-None-clause-own
-returns-in-Ok-None-clause-own g c = ap (λ (s : SessionSeatValue). s.own) c.pass_one.ensures.seen ∙ c.loop.invariant.own
+returns-in-Ok-None-clause-own g c = ap (λ (s : SessionSeatValue). s.own) c.pass_one.ensures.reads.seen ∙ c.loop.invariant.own
 
 pub returns-in-Err-clause-goes : goal.returns-in-Err-clause-goes
 returns-in-Err-clause-goes g c =
     goes_then g.L.Outgoing.sent g.L.Outgoing.received _ c.loop.self _ _ c.loop.seat _ _ c.loop.link _ c.loop.invariant.goes
-    (goes_reading g.L.Outgoing.sent g.L.Outgoing.received _ _ _ _ _ _ _ c.pass_one.ensures.ends c.pass_one.ensures.seen c.pass_one.ensures.no_less c.pass_one.ensures.served c.pass_one.ensures.lives)
+    (goes_reading g.L.Outgoing.sent g.L.Outgoing.received _ _ _ _ _ _ c.pass_one.ensures.ends c.pass_one.ensures.reads c.pass_one.ensures.served c.pass_one.ensures.lives)
 
 pub returns-in-Err-clause-own : goal.returns-in-Err-clause-own
-returns-in-Err-clause-own g c = ap (λ (s : SessionSeatValue). s.own) c.pass_one.ensures.seen ∙ c.loop.invariant.own
+returns-in-Err-clause-own g c = ap (λ (s : SessionSeatValue). s.own) c.pass_one.ensures.reads.seen ∙ c.loop.invariant.own
 
 pub loop-preserved : goal.loop-preserved
 loop-preserved g c = record {
   goes = goes_then g.L.Outgoing.sent g.L.Outgoing.received _ c.loop.self _ _ c.loop.seat _ _ c.loop.link _ c.loop.invariant.goes
-      (goes_reading g.L.Outgoing.sent g.L.Outgoing.received _ _ _ _ _ _ _ c.pass_one.ensures.ends c.pass_one.ensures.seen c.pass_one.ensures.no_less c.pass_one.ensures.served c.pass_one.ensures.lives);
+      (goes_reading g.L.Outgoing.sent g.L.Outgoing.received _ _ _ _ _ _ c.pass_one.ensures.ends c.pass_one.ensures.reads c.pass_one.ensures.served c.pass_one.ensures.lives);
   pending = c.pass_one.ensures.pending ∙ c.loop.invariant.pending;
-  own = ap (λ (s : SessionSeatValue). s.own) c.pass_one.ensures.seen ∙ c.loop.invariant.own;
+  own = ap (λ (s : SessionSeatValue). s.own) c.pass_one.ensures.reads.seen ∙ c.loop.invariant.own;
   unread = c.pass_one.ensures.unread ∙ c.loop.invariant.unread;
 }

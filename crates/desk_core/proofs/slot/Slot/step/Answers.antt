@@ -1,7 +1,7 @@
 use Rattle.std.proofs.Common.{◌∙◌, refl, subst, sym}
 use Rattle.connection_core.specs.Stages.{Executes}
 use Rattle.connection_core.specs.declared.said.Wanted.TheVariants.{Append, Tell}
-use Rattle.desk_core.proofs.Answering.{quiet_grows, quiet_leaves}
+use Rattle.desk_core.proofs.Answering.{quiet_takes}
 use Rattle.desk_core.proofs.Going.{goes_done, goes_none, goes_pending, goes_rest, goes_telling, goes_wanted, not_some, still_executes}
 use Rattle.desk_core.proofs.slot.Slot.step.Goals as goal
 
@@ -38,8 +38,5 @@ returns-in-Rest-clause-goes g c =
     goes_rest g.L.Outgoing.sent g.L.Outgoing.received c.args.self.now _ c.args.seat.now c.args.link.now (subst Executes c.stage.ensures (c.executes.ensures.yes c.if-not-executes.false))
     (sym c.take.ensures.value ∙ not_some c.take.result c.in_default.not-Some) c.take.ensures.after refl refl c.in-Rest.ensures.wants
 
-pub returns-in-Tell-clause-grows : goal.returns-in-Tell-clause-grows
-returns-in-Tell-clause-grows g c = quiet_grows c.tell.result c.args.seat.now c.tell.ensures.quiet
-
-pub returns-in-Tell-clause-leaves : goal.returns-in-Tell-clause-leaves
-returns-in-Tell-clause-leaves g c = quiet_leaves c.tell.result _ c.args.seat.now c.tell.ensures.quiet
+pub returns-in-Tell-clause-takes : goal.returns-in-Tell-clause-takes
+returns-in-Tell-clause-takes g c = quiet_takes c.tell.result _ c.args.seat.now c.tell.ensures.quiet

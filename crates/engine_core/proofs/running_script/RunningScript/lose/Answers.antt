@@ -1,8 +1,9 @@
-use Rattle.std.proofs.Common.{◌≡◌, string_bytes, subst, true}
-use Rattle.engine_core.specs.Queues.{IsAny, IsFlush, IsTooFar, LacksRoom}
-use Rattle.engine_core.specs.Running.{Loses, LosesSuch, ScriptValue}
+use Rattle.std.proofs.Common.{IsSomeAnd, string_bytes, subst}
+use Rattle.engine_core.specs.Refusals.{RefusesActs}
+use Rattle.engine_core.specs.Running.{Loses, LosesSuch, on_disk}
 use Rattle.engine_core.proofs.Counting.{loses_such}
 use Rattle.engine_core.proofs.Receiving.{lost_by}
+use Rattle.engine_core.proofs.Refusing.{refuses_acts}
 use Rattle.engine_core.proofs.running_script.RunningScript.lose.Goals as goal
 use Rattle.engine_core.proofs.running_script.RunningScript.lose.Goals.{in-Ok, in-Err}
 
@@ -14,26 +15,11 @@ returns-clause-ok c = elim c.match-do_loss.branch [
   | in-Err w ↦ rw (w.result-is) tt
 ]
 
-pub returns-clause-err : goal.returns-clause-err
-returns-clause-err c = elim c.match-do_loss.branch [
+pub returns-clause-refuses : goal.returns-clause-refuses
+returns-clause-refuses c = elim c.match-do_loss.branch [
   | in-Ok w ↦ rw (w.result-is) tt
-  | in-Err w ↦ rw (w.result-is) (λ e. subst (λ s. LosesSuch IsTooFar s c.args.n) c.self.view_is
-      (loses_such IsTooFar (record { connections = c.self.inside.connections.entries; queue = c.self.inside.queue.queue; disk = c.self.inside.queue.disk }) c.args.n c.take_connection-session.result c.lost-act.result
-      c.take_connection-session.ensures.taken c.lost-act.ensures.act (w.in-Err.ensures.err e)))
-]
-
-pub returns-clause-full : goal.returns-clause-full
-returns-clause-full c = elim c.match-do_loss.branch [
-  | in-Ok w ↦ rw (w.result-is) tt
-  | in-Err w ↦ rw (w.result-is) (λ e. subst (λ s. LosesSuch (IsFlush (LacksRoom c.do_loss.new.queue.disk.content)) s c.args.n) c.self.view_is
-      (loses_such (IsFlush (LacksRoom c.do_loss.new.queue.disk.content)) (record { connections = c.self.inside.connections.entries; queue = c.self.inside.queue.queue; disk = c.self.inside.queue.disk }) c.args.n c.take_connection-session.result c.lost-act.result
-      c.take_connection-session.ensures.taken c.lost-act.ensures.act (w.in-Err.ensures.full e)))
-]
-
-pub returns-clause-broken : goal.returns-clause-broken
-returns-clause-broken c = elim c.match-do_loss.branch [
-  | in-Ok w ↦ rw (w.result-is) tt
-  | in-Err w ↦ rw (w.result-is) (λ e. subst (λ (s : ScriptValue). s.queue.durable ≡ true → LosesSuch (IsFlush IsAny) s c.args.n) c.self.view_is
-      (λ durable. loses_such (IsFlush IsAny) (record { connections = c.self.inside.connections.entries; queue = c.self.inside.queue.queue; disk = c.self.inside.queue.disk }) c.args.n c.take_connection-session.result c.lost-act.result
-      c.take_connection-session.ensures.taken c.lost-act.ensures.act (w.in-Err.ensures.broken e durable)))
+  | in-Err w ↦ rw (w.result-is) (subst (λ s. RefusesActs (λ Such. LosesSuch Such s c.args.n) (on_disk s) c.do_loss.new.queue w.in-Err.fault) c.self.view_is
+      (refuses_acts (λ Such. IsSomeAnd c.lost-act.result (Such c.args.n c.self.inside.queue.queue)) _ c.self.inside.queue c.do_loss.new.queue w.in-Err.fault
+      (λ Such such. loses_such Such (record { connections = c.self.inside.connections.entries; queue = c.self.inside.queue.queue; disk = c.self.inside.queue.disk }) c.args.n c.take_connection-session.result c.lost-act.result
+      c.take_connection-session.ensures.taken c.lost-act.ensures.act such) w.in-Err.ensures.refuses))
 ]
