@@ -91,6 +91,13 @@ announced port = codes "listening " ++ (decimal port ++ 10 ∷ [])
 abbrev pub ArePromised : TableId → List (PromisedHandle (Vec SessionSeatValue Global) SeatsBack) → Type 0
 ArePromised ring threads = All (λ (thread : PromisedHandle (Vec SessionSeatValue Global) SeatsBack). thread.promise.ring.value ≡ ring) threads
 
+-- the seats that no worker has are at this ring, one for each desk of a worker that is not started, and the started ones hand theirs
+-- back to it
+pub record IsStaffed (ring : TableId) (seats : List SessionSeatValue) (setups : List WorkerSetup) (workers : List (PromisedHandle (Vec SessionSeatValue Global) SeatsBack)) : Type 0 where
+  pub at : AreAt ring seats
+  pub desks : count_mailboxes setups ≡ length seats
+  pub promised : ArePromised ring workers
+
 -- What a server keeps: for each seat that it has, a desk of a worker that is not started.
 pub record KeepsServer (s : ServerValue) (setups : List WorkerSetup) (room : SeatRoom BellRope) (workers : List (PromisedHandle (Vec SessionSeatValue Global) SeatsBack)) : Type 0 where
   pub server_is : IsServer s

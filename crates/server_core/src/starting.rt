@@ -5,7 +5,7 @@ ghost use Rattle.atomic_table.specs.Seated.{TableId};
 ghost use Rattle.std.specs.Arc.{arc_value};
 ghost use Rattle.claim_core.specs.declared.limits.TheConstants.{SEATS};
 ghost use Rattle.event_log.specs.Faults.{IsNotStarted};
-ghost use Rattle.server_core.specs.Serving.{AreAllAt, AreAt, ArePromised, IsClosed, count_mailboxes};
+ghost use Rattle.server_core.specs.Serving.{AreAllAt, AreAt, IsClosed, IsStaffed, count_mailboxes};
 
 use crate::acceptor::Acceptor;
 use crate::log_thread::LogThread;
@@ -95,14 +95,10 @@ fn start_all<R>(
 ) -> Result<(), ServeFault>
 where
     R: Threads + Wait + Clock + Clone + Drop + Send + Sync + 'static,
-    requires seats { AreAt (arc_value shared.now).ring seats.old.items }
-    requires desks { count_mailboxes setups.old.items ≡ length seats.old.items }
-    requires workers { ArePromised (arc_value shared.now).ring workers.old.items }
+    requires staffed { IsStaffed (arc_value shared.now).ring seats.old.items setups.old.items workers.old.items }
     ensures all { OnOk result (seats.new.items ≡ []) }
-    ensures desks { count_mailboxes setups.new.items ≡ length seats.new.items }
     ensures count { OnOk result (length workers.new.items ≡ length workers.old.items + length setups.old.items) }
-    ensures at { AreAt (arc_value shared.now).ring seats.new.items }
-    ensures promised { ArePromised (arc_value shared.now).ring workers.new.items }
+    ensures staffed { IsStaffed (arc_value shared.now).ring seats.new.items setups.new.items workers.new.items }
     ensures refused { IfErr result IsNotStarted }
 {
     for _worker in 0..setups.len() {
@@ -123,14 +119,10 @@ fn start_one<R>(
 where
     R: Threads + Wait + Clock + Clone + Drop + Send + Sync + 'static,
     requires some { setups.old.items ≢ [] }
-    requires seats { AreAt (arc_value shared.now).ring seats.old.items }
-    requires desks { count_mailboxes setups.old.items ≡ length seats.old.items }
-    requires workers { ArePromised (arc_value shared.now).ring workers.old.items }
+    requires staffed { IsStaffed (arc_value shared.now).ring seats.old.items setups.old.items workers.old.items }
     ensures one { OnOk result (length setups.old.items ≡ length setups.new.items + 1) }
-    ensures desks { count_mailboxes setups.new.items ≡ length seats.new.items }
     ensures count { OnOk result (length workers.new.items ≡ length workers.old.items + 1) }
-    ensures at { AreAt (arc_value shared.now).ring seats.new.items }
-    ensures promised { ArePromised (arc_value shared.now).ring workers.new.items }
+    ensures staffed { IsStaffed (arc_value shared.now).ring seats.new.items setups.new.items workers.new.items }
     ensures refused { IfErr result IsNotStarted }
 {
     if workers.reserve(1).is_err() {
