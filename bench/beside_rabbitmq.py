@@ -1,9 +1,10 @@
 #!/usr/bin/env python3
 """Measures the built program `stompd serve` beside RabbitMQ, in turns, with the same load. README.md says what each case means.
 
-    python3 bench/beside_rabbitmq.py [PROGRAM] [--runs N] [--seconds N] [--folder FOLDER].. [--only CASE]..
+    python3 bench/beside_rabbitmq.py [PROGRAM] [--before OTHER] [--runs N] [--seconds N] [--folder FOLDER].. [--only CASE]..
 
-PROGRAM is the built program; without it, the one that bin/stompd leaves in crates/stompd/out. Debian's package rabbitmq-server
+PROGRAM is the built program; without it, the one that bin/stompd leaves in crates/stompd/out. OTHER is an earlier one, which takes its
+turn too. Debian's package rabbitmq-server
 has the other. What both keep is made in each FOLDER (/dev/shm, and the folder for temporary files), and removed.
 """
 
@@ -29,27 +30,29 @@ RATES = {
     "jobs": ("jobs (SEND, MESSAGE, ACK), 4 senders, 4 workers", ("queue", 4, 4), "jobs_a_second"),
     "fanout": ("messages from one sender to 16 subscribers", ("fanout", 16), "messages_a_second"),
 }
-BROKERS = {"stompd": {}, "RabbitMQ": SPEAKS}
+RABBITMQ, BEFORE = "RabbitMQ", "stompd before"
 
 
 class Bench:
     def __init__(self, words, load, counter, folder):
-        self.program, self.runs, self.seconds = words.program, words.runs, words.seconds
+        self.programs = {"stompd": words.program, **({BEFORE: words.before.resolve()} if words.before else {})}
+        self.brokers = [*self.programs, RABBITMQ]
+        self.runs, self.seconds = words.runs, words.seconds
         self.load, self.counter, self.folder = load, counter, folder
 
     def server(self, broker, environment=None):
         """A broker that has kept nothing yet."""
-        if broker == "RabbitMQ":
+        if broker == RABBITMQ:
             return RabbitMQ(self.folder / "rabbitmq", environment)
-        make_journal(self.program, self.folder / "journal", AREA, sparse=False)
-        return Server(self.program, self.folder / "journal", environment=environment)
+        make_journal(self.programs[broker], self.folder / "journal", AREA, sparse=False)
+        return Server(self.programs[broker], self.folder / "journal", environment=environment)
 
     def loaded(self, broker, server, *words):
-        return Load(self.load, server, *words, environment={**os.environ, **BROKERS[broker]})
+        return Load(self.load, server, *words, environment={**os.environ, **(SPEAKS if broker == RABBITMQ else {})})
 
     def in_turns(self, *words):
         """The loads of a case for each broker, first one and then the other, each on a server of its own."""
-        loads = {broker: [] for broker in BROKERS}
+        loads = {broker: [] for broker in self.brokers}
         for _ in range(self.runs):
             for broker, seen in loads.items():
                 with self.server(broker) as server:
@@ -79,7 +82,7 @@ def syncs(bench):
     seen = bench.folder / "seen"
     for text, words, name in (RATES[case] for case in ("one", "many", "jobs")):
         print(f"  syncs: {text}")
-        for broker in BROKERS:
+        for broker in bench.brokers:
             seen.write_bytes(bytes(16))
             environment = {**os.environ, "LD_PRELOAD": str(bench.counter), "SYNCS_SEEN": str(seen)}
             with bench.server(broker, environment) as server:
@@ -111,6 +114,7 @@ def main():
     parser = arguments("Measures stompd serve beside RabbitMQ.", runs=3)
     parser.add_argument("--seconds", type=int, default=3, help="how long a load is measured (3)")
     parser.add_argument("--folder", type=pathlib.Path, action="append", help="where the brokers keep what they keep")
+    parser.add_argument("--before", type=pathlib.Path, help="an earlier program, which takes its turn too")
     parser.add_argument("--only", choices=CASES, action="append", help="measure this case alone")
     words = parsed(parser)
     folders = words.folder or [pathlib.Path("/dev/shm"), pathlib.Path(tempfile.gettempdir())]

@@ -1,15 +1,16 @@
-use Rattle.std.specs.Prelude.{◌≡◌, ◌≤◌, List, ℕ, Bool, Some, None, Result, Ok, Err, filter, length, map, if◌then◌else◌}
+use Rattle.std.specs.Prelude.{◌≡◌, ◌≤◌, ◌+◌, List, ℕ, Bool, Some, None, Result, Ok, Err, filter, length, map, if◌then◌else◌}
 use Rattle.std.specs.List.{sum_by}
 use Rattle.std.specs.List.Sorted.{IsStrictlySortedBy}
 use Rattle.std.specs.Map.{keys_of}
 use Rattle.command_core.specs.declared.fault.Fault.{Fault}
 use Rattle.line_core.specs.declared.message.Message.{Message}
-use Rattle.line_core.specs.Flights.{has_delivery, mapped, unsettled}
+use Rattle.line_core.specs.Flights.{has_delivery, mapped, settled, unsettled}
 use Rattle.broker_state.specs.declared.subscription.Subscription.{Subscription}
 use Rattle.broker_core.specs.declared.precheck.Precheck.{Precheck}
 use Rattle.broker_core.specs.declared.precheck.PrecheckFlight.{PrecheckFlight}
 use Rattle.broker_core.specs.declared.precheck.PrecheckSize.{PrecheckSize}
 use Rattle.broker_state.specs.Dead.{is_dropped}
+use Rattle.broker_state.specs.Lists.{picked}
 use Rattle.broker_state.specs.Operations.{is_of}
 use Rattle.broker_state.specs.Parts.{copies_to}
 use Rattle.broker_state.specs.States.{State, bytes, held_bytes, held_messages}
@@ -56,6 +57,19 @@ kept_in deliveries = sum_by (λ item. one_kept item.1) deliveries
 
 abbrev pub kept_bytes_in : List (ℕ × PrecheckSize) → ℕ
 kept_bytes_in deliveries = sum_by (λ item. bytes_kept item.1) deliveries
+
+-- The deliveries of flights are a part of what a precheck counts as held.
+pub record HoldsFlights (precheck : Precheck) : Type 0 where
+  pub small : precheck.held.bytes ≤ 16777216
+  pub messages : deliveries_in precheck.flights.items ≤ precheck.held.messages
+  pub bytes : bytes_in precheck.flights.items ≤ precheck.held.bytes
+
+-- Those deliveries are settled that the delivery settles in its flight, and they are held no more.
+pub record SettlesFlight (delivery : ℕ) (old new : Precheck) (out : List (ℕ × PrecheckSize)) : Type 0 where
+  pub settled : (flight : PrecheckFlight) (others : List PrecheckFlight) → picked (has delivery) old.flights.items ≡ Some (flight, others)
+      → out ≡ settled flight.mode delivery flight.deliveries
+  pub messages : new.held.messages + length out ≡ old.held.messages
+  pub bytes : new.held.bytes + sum_by (λ item. item.1.bytes) out ≡ old.held.bytes
 
 -- What a precheck stands for: the state to which the members before would have led, from a state with these subscriptions.
 pub record StandsFor (session : ℕ) (durables : List (Name × List ℕ)) (subs : List Subscription) (precheck : Precheck) (s : State) : Type 0 where

@@ -14,7 +14,7 @@ ghost use Rattle.broker_state.specs.Names.{Name};
 ghost use Rattle.broker_state.specs.Operations.{acknowledged};
 ghost use Rattle.broker_state.specs.Parts.{IsFirst, NonePass, find_room, without_state};
 ghost use Rattle.broker_state.specs.States.{State};
-ghost use Rattle.broker_core.specs.Prechecks.{Leads, StandsFor, bytes_in, deliveries_in, flight_of, flights_of, has, kept_bytes_in, kept_in, left_by, sized};
+ghost use Rattle.broker_core.specs.Prechecks.{HoldsFlights, Leads, SettlesFlight, StandsFor, bytes_in, deliveries_in, flight_of, flights_of, has, kept_bytes_in, kept_in, left_by, sized};
 
 use broker_order::Order;
 use broker_state::{Held, MOST_BYTES, NackRule, Subscription, stand_in_order};
@@ -180,16 +180,10 @@ fn precheck_settle(
     precheck: &mut Precheck,
     delivery: u64,
 ) -> Result<Option<Vec<(u64, PrecheckSize)>>, AllocError>
-    requires small { precheck.old.held.bytes ≤ 16777216 }
-    requires messages { deliveries_in precheck.old.flights.items ≤ precheck.old.held.messages }
-    requires bytes { bytes_in precheck.old.flights.items ≤ precheck.old.held.bytes }
+    requires held { HoldsFlights precheck.old }
     ensures found { IfOk result (λ found. is_some found ≡ list_any (has delivery) precheck.old.flights.items) }
-    ensures settled { IfOk result (λ found. IfSome found (λ out. (flight : PrecheckFlight) (others : List PrecheckFlight)
-        → picked (has delivery) precheck.old.flights.items ≡ Some (flight, others)
-        → out.items ≡ settled flight.mode delivery flight.deliveries)) }
+    ensures settles { IfOk result (λ found. IfSome found (λ out. SettlesFlight delivery precheck.old precheck.new out.items)) }
     ensures flights { OnOk result (precheck.new.flights.items ≡ with_first (has delivery) (left_by delivery) precheck.old.flights.items) }
-    ensures messages { IfOk result (λ found. IfSome found (λ out. precheck.new.held.messages + length out.items ≡ precheck.old.held.messages)) }
-    ensures bytes { IfOk result (λ found. IfSome found (λ out. precheck.new.held.bytes + sum_by (λ item. item.1.bytes) out.items ≡ precheck.old.held.bytes)) }
 {
     let Some(at) = find_flight(precheck.flights.as_slice(), delivery) else {
         return Ok(None);

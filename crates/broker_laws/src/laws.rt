@@ -22,6 +22,7 @@ ghost use Rattle.broker_state.specs.Operations.{ended, message_of, restarted, fa
 ghost use Rattle.broker_state.specs.Sound.{IsSound};
 ghost use Rattle.broker_state.specs.States.{State, IsInOrder, bytes, empty_state, held_bytes, held_messages, is_open, standing, weight_of};
 ghost use Rattle.broker_state.specs.Waiting.{line_for};
+ghost use Rattle.broker_laws.specs.Copies.{AddsNothing, AreSingle, LeavesNewOut};
 ghost use Rattle.broker_state.specs.Steps.{Event, MayBefall, done, is_opening, outs_by, outs_of_by, state_after_all, state_after_by, step_by};
 
 /// Commands and then others do what the others do after the first, and give the outputs of both in turn.
@@ -98,11 +99,9 @@ pub fn messages_of_queues_are_in_one_place()
     ensures once { (weight : Message → ℕ) (s : State) (m : Message) → IsInOrder s → is_queue m.sending.destination ≡ true
         → weight_of weight (fanned_out s m) ≡ weight_of weight s + weight m }
     ensures later { (weight : Message → ℕ) (rule : NackRule) (s : State) (c : CommandValue) → IsInOrder s
-        → ((place : ℕ) (sending : SendingValue) → weight (message_of s.count place sending) ≡ 0)
-        → weight_of weight (step_by rule s c) ≤ weight_of weight s }
-    ensures restart { (weight : Message → ℕ) (s : State) → IsInOrder s → weight_of weight (restarted s) ≤ weight_of weight s }
-    ensures reached { (events : List Event) (number : MessageNumber) → AllByRecursion MayBefall events
-        → count_by (λ m. is_queue m.sending.destination && is_same number m.number) (standing (state_after_all empty_state events)) ≤ 1 }
+        → LeavesNewOut weight s → AddsNothing weight s (step_by rule s c) }
+    ensures restart { (weight : Message → ℕ) (s : State) → IsInOrder s → AddsNothing weight s (restarted s) }
+    ensures reached { (events : List Event) → AllByRecursion MayBefall events → AreSingle (state_after_all empty_state events) }
 {}
 
 /// A restart after a restart changes nothing more; it leaves the count, the number of the next delivery, the durable names

@@ -1,10 +1,12 @@
-use Rattle.std.specs.Prelude.{◌≡◌, List, Bool, true, Option, Some, None}
+use Rattle.std.specs.Prelude.{◌≡◌, ◌&&◌, List, ℕ, Bool, true, false, Option, Some, None}
 use Rattle.std.specs.List.{AllByRecursion, list_any}
+use Rattle.std.specs.Str.{bytes_eq}
 use Rattle.broker_state.specs.declared.subscription.Subscription.{Subscription}
 use Rattle.broker_state.specs.HandOut.{can_take}
 use Rattle.broker_state.specs.Names.{Name}
 use Rattle.broker_state.specs.Operations.{is_of, uses}
 use Rattle.broker_state.specs.States.{State}
+use Rattle.broker_state.specs.Waiting.{Shared, line_for, returned}
 use Rattle.broker_order.specs.Directories.{is_plain_at}
 use Rattle.broker_tables.specs.declared.due.Key.{Key}
 use Rattle.broker_tables.specs.declared.due.Key.TheVariants.{Session, Destination, Durable}
@@ -26,6 +28,18 @@ line_key sub = key_from sub sub.durable
 -- whether a subscription is under one of the keys
 abbrev pub is_due : List Key → Subscription → Bool
 is_due due sub = list_any (λ key. is_under key sub) due
+
+-- each subscription that passes is under one of the keys
+abbrev pub AllDue : (Subscription → Bool) → List Key → Type 0
+AllDue who due = (sub : Subscription) → who sub ≡ true → is_due due sub ≡ true
+
+-- whether a subscription has one of the durable names that are bound to a topic
+abbrev pub has_name_of : List ℕ → List (Name × List ℕ) → Subscription → Bool
+has_name_of to durables sub = list_any (λ durable. bytes_eq durable.1 to && uses durable.0 sub) durables
+
+-- the lines from which others are served stand as they were when that subscription's deliveries have returned to its line
+abbrev pub OthersStand : List Key → Subscription → Type 0
+OthersStand due sub = (lines : Shared) (other : Subscription) → is_due due other ≡ false → line_for (returned lines sub) other ≡ line_for lines other
 
 -- who can be served is due
 abbrev pub AreDue : List Key → State → Type 0

@@ -1,5 +1,4 @@
-use Rattle.std.specs.Prelude.{◌≡◌, ◌+◌, ◌-◌, ℕ, Some, drop, if◌then◌else◌}
-use Rattle.std.specs.List.{sum_by}
+use Rattle.std.specs.Prelude.{◌≡◌, ◌-◌, ℕ, Some, drop, if◌then◌else◌}
 use Rattle.command_core.specs.Outs.{OutValue}
 use Rattle.line_core.specs.declared.message.Message.{Message}
 use Rattle.line_core.specs.Lines.{first_of}
@@ -7,7 +6,8 @@ use Rattle.broker_state.specs.declared.held.Held.{Held}
 use Rattle.broker_state.specs.declared.subscription.Subscription.{Subscription}
 use Rattle.broker_state.specs.HandOut.{delivered, is_auto, message_out}
 use Rattle.broker_state.specs.States.{bytes}
-use Rattle.broker_state.specs.Waiting.{Shared, left_line, left_shared, line_for, weight_of_shared}
+use Rattle.broker_state.specs.Waiting.{Shared, left_line, left_shared, line_for}
+use Rattle.broker_tables.specs.Returns.{HandFirst}
 
 -- A subscription got the least message of its line, which left the line first; what is counted as held follows its mode.
 pub record IsHanded (number delivery : ℕ) (shared : Shared) (sub : Subscription) (held : Held) (shared_after : Shared) (sub_after : Subscription) (held_after : Held) (reply : OutValue) : Type 0 where
@@ -16,8 +16,7 @@ pub record IsHanded (number delivery : ℕ) (shared : Shared) (sub : Subscriptio
   pub taken : first_of (line_for shared sub) ≡ Some message
   pub rest : shared_after ≡ left_shared shared sub (drop 1 (line_for shared sub))
   pub line : left ≡ left_line sub (drop 1 (line_for shared sub))
-  pub weight : (weight : Message → ℕ) → weight_of_shared weight shared_after + sum_by weight left.line + sum_by weight (line_for shared sub)
-      ≡ weight_of_shared weight shared + sum_by weight sub.line + sum_by weight (drop 1 (line_for shared sub))
+  pub weight : HandFirst shared sub shared_after left (line_for shared sub)
   pub handed : sub_after ≡ delivered left delivery message
   pub out : reply ≡ message_out number left delivery message
   pub messages : held_after.messages ≡ (if is_auto left.mode then held.messages - 1 else held.messages)

@@ -4,7 +4,7 @@ ghost use Rattle.std.specs.Prelude.{◌≡◌, ◌+◌, ◌<◌, ◌≤◌, ◌�
 ghost use Rattle.std.specs.List.{AllByRecursion};
 ghost use Rattle.broker_state.specs.declared.subscription.Subscription.{Subscription};
 ghost use Rattle.broker_state.specs.HandOut.{can_take};
-ghost use Rattle.broker_tables.specs.Cursors.{AreAwaited, is_awaited};
+ghost use Rattle.broker_tables.specs.Cursors.{AreAwaited, AreAwaitedUnder, KeepsAwaited, count_before, is_awaited};
 ghost use Rattle.broker_tables.specs.Dues.{is_due, is_under};
 
 use crate::due::{Key, next_waiting};
@@ -103,12 +103,9 @@ impl Tables {
         from: usize,
     ) -> Result<(), AllocError>
         requires { from ≤ length self.now.subscriptions }
-        ensures kept { OnOk result ((standing : ℕ) (sub : Subscription) → is_awaited cursors.old.keys standing sub ≡ true
-            → is_awaited cursors.new.keys standing sub ≡ true) }
-        ensures added { OnOk result ((i : ℕ) (sub : Subscription) → slice_get self.now.subscriptions i ≡ Some sub → from ≤ i
-            → is_under key sub ≡ true → can_take self.now sub ≡ true → is_awaited cursors.new.keys (i + self.now.next_delivery) sub ≡ true) }
-        ensures after { OnOk result (count_by (λ cursor. nat_lt cursor.standing (from + self.now.next_delivery)) cursors.new.keys
-            ≤ count_by (λ cursor. nat_lt cursor.standing (from + self.now.next_delivery)) cursors.old.keys) }
+        ensures kept { OnOk result (KeepsAwaited cursors.old.keys cursors.new.keys) }
+        ensures added { OnOk result (AreAwaitedUnder key cursors.new.keys self.now from) }
+        ensures after { OnOk result (count_before (from + self.now.next_delivery) cursors.new.keys ≤ count_before (from + self.now.next_delivery) cursors.old.keys) }
     {
         let place = next_waiting(self.order(), self.shared(), &key, from);
         if place == self.order().len() {

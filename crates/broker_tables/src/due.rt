@@ -9,7 +9,7 @@ ghost use Rattle.broker_state.specs.Lists.{is_none};
 ghost use Rattle.broker_state.specs.Operations.{uses};
 ghost use Rattle.broker_state.specs.Waiting.{Shared, line_for, returned};
 ghost use Rattle.broker_order.specs.Tickets.{IsNext};
-ghost use Rattle.broker_tables.specs.Dues.{is_due, is_under, line_key};
+ghost use Rattle.broker_tables.specs.Dues.{AllDue, OthersStand, has_name_of, is_due, is_under, line_key};
 
 use crate::durable_names::{DurableNames, Names};
 use crate::shared_lines::SharedLines;
@@ -54,8 +54,8 @@ fn is_last(due: &[Key], key: &Key) -> bool
 /// Those under a key are due, unless that key was the last to be marked, so that they are due already. Where memory is
 /// refused, nothing changes.
 pub fn mark(due: &mut Vec<Key>, key: Key) -> Result<(), AllocError>
-    ensures kept { OnOk result ((sub : Subscription) → is_due due.old.items sub ≡ true → is_due due.new.items sub ≡ true) }
-    ensures marked { OnOk result ((sub : Subscription) → is_under key sub ≡ true → is_due due.new.items sub ≡ true) }
+    ensures kept { OnOk result (AllDue (is_due due.old.items) due.new.items) }
+    ensures marked { OnOk result (AllDue (is_under key) due.new.items) }
 {
     if !is_last(due.as_slice(), &key) {
         due.push(key)?;
@@ -75,9 +75,8 @@ pub fn line_key(sub: &Subscription) -> Result<Key, AllocError>
 
 /// Those are due that are served from the line of a subscription which ends, unless its line is its own.
 pub fn mark_line(due: &mut Vec<Key>, sub: &Subscription) -> Result<(), AllocError>
-    ensures kept { OnOk result ((other : Subscription) → is_due due.old.items other ≡ true → is_due due.new.items other ≡ true) }
-    ensures marked { OnOk result ((shared : Shared) (other : Subscription) → is_due due.new.items other ≡ false
-        → line_for (returned shared sub.now) other ≡ line_for shared other) }
+    ensures kept { OnOk result (AllDue (is_due due.old.items) due.new.items) }
+    ensures marked { OnOk result (OthersStand due.new.items sub.now) }
 {
     if !sub.has_own_line() {
         let key = line_key(sub)?;
@@ -88,8 +87,8 @@ pub fn mark_line(due: &mut Vec<Key>, sub: &Subscription) -> Result<(), AllocErro
 
 /// Each of these names is due. Where memory is refused, some of them may be.
 fn mark_all(due: &mut Vec<Key>, names: &Names) -> Result<(), AllocError>
-    ensures kept { OnOk result ((sub : Subscription) → is_due due.old.items sub ≡ true → is_due due.new.items sub ≡ true) }
-    ensures marked { OnOk result ((sub : Subscription) → list_any (λ name. uses name sub) names.now ≡ true → is_due due.new.items sub ≡ true) }
+    ensures kept { OnOk result (AllDue (is_due due.old.items) due.new.items) }
+    ensures marked { OnOk result (AllDue (λ sub. list_any (λ name. uses name sub) names.now) due.new.items) }
 {
     for name in names.all() {
         let name = name.clone()?;
@@ -100,9 +99,8 @@ fn mark_all(due: &mut Vec<Key>, names: &Names) -> Result<(), AllocError>
 
 /// Each durable name that is bound to that topic is due. Where memory is refused, some of them may be.
 pub fn mark_names(due: &mut Vec<Key>, durables: &DurableNames, to: &Dest) -> Result<(), AllocError>
-    ensures kept { OnOk result ((sub : Subscription) → is_due due.old.items sub ≡ true → is_due due.new.items sub ≡ true) }
-    ensures marked { OnOk result ((sub : Subscription) → list_any (λ durable. bytes_eq durable.1 to.now && uses durable.0 sub) durables.now ≡ true
-        → is_due due.new.items sub ≡ true) }
+    ensures kept { OnOk result (AllDue (is_due due.old.items) due.new.items) }
+    ensures marked { OnOk result (AllDue (has_name_of to.now durables.now) due.new.items) }
 {
     match durables.of_topic(to) {
         Some(names) => mark_all(due, names),

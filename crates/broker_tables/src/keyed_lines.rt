@@ -9,6 +9,7 @@ ghost use Rattle.line_core.specs.declared.message.Message.{Message};
 ghost use Rattle.line_core.specs.Lines.{first_of, inserted};
 ghost use Rattle.broker_state.specs.Lists.{is_none};
 ghost use Rattle.broker_state.specs.Names.{AreSame};
+ghost use Rattle.broker_tables.specs.Returns.{LoseFirst};
 ghost use Rattle.broker_state.specs.Waiting.{line_at, weight_of_lines, with_deliveries, with_line, with_message};
 
 use line_core::{Line, Message};
@@ -93,9 +94,7 @@ pub fn take<K: Ord + Drop>(
     ensures taken { IfOk result (λ m. m ≡ first_of (line_at K.cmp key.now lines.old.entries)) }
     ensures err { OnErr result (lines.new.entries ≡ remove_entry (is_at (K.cmp key.now)) lines.old.entries) }
     ensures rest { OnOk result (lines.new.entries ≡ with_line K.cmp key.now (drop 1 (line_at K.cmp key.now lines.old.entries)) lines.old.entries) }
-    ensures weight { OnOk result ((weight : Message → ℕ) → weight_of_lines weight lines.new.entries
-        + sum_by weight (line_at K.cmp key.now lines.old.entries)
-        ≡ weight_of_lines weight lines.old.entries + sum_by weight (drop 1 (line_at K.cmp key.now lines.old.entries))) }
+    ensures weight { OnOk result (LoseFirst lines.old.entries lines.new.entries (line_at K.cmp key.now lines.old.entries)) }
 {
     let Some((key, mut line)) = lines.remove_entry(key) else {
         return Ok(None);

@@ -13,9 +13,10 @@ ghost use Rattle.broker_state.specs.Operations.{is_of, settled_by};
 ghost use Rattle.broker_state.specs.States.{bytes, one};
 ghost use Rattle.broker_state.specs.Names.{text_cmp};
 ghost use Rattle.broker_state.specs.Waiting.{is_own, with_message};
-ghost use Rattle.broker_tables.specs.Dues.{is_due};
+ghost use Rattle.broker_tables.specs.Dues.{AllDue, is_due};
 ghost use Rattle.broker_order.specs.Directories.{is_plain_at};
-ghost use Rattle.broker_tables.specs.Refusals.{all_kept, all_kept_bytes, kept_bytes, kept_one};
+ghost use Rattle.broker_tables.specs.Places.{HoldsAt};
+ghost use Rattle.broker_tables.specs.Refusals.{ArePart, MovesHeld, all_kept, all_kept_bytes, bytes_of, kept_bytes, kept_one, messages_of, with_all_refused};
 
 use crate::acknowledging::find_awaiting;
 use crate::due::{Key, mark};
@@ -73,7 +74,7 @@ fn refused(alloc: Global, number: MessageNumber, message: Message) -> Result<Mes
 /// The bytes of those of some deliveries that the NACK of one settles.
 fn settled_bytes(mode: AckMode, delivery: u64, deliveries: &[(u64, Message)]) -> u64
     requires { length deliveries.now ≤ 4096 }
-    ensures bytes { result ≡ sum_by (λ delivery. bytes delivery.1) (settled mode delivery deliveries.now) }
+    ensures bytes { result ≡ bytes_of (settled mode delivery deliveries.now) }
     ensures small { result < 2 ^ 34 }
 {
     let mut bytes = 0;
@@ -115,9 +116,9 @@ fn bytes_to_keep(own: bool, mode: AckMode, delivery: u64, deliveries: &[(u64, Me
 fn finds_room(held: &Held, sub: &Subscription, delivery: u64) -> bool
     requires small { held.now.bytes ≤ 16777216 }
     requires few { length sub.now.unacknowledged ≤ 4096 }
-    requires part { sum_by (λ delivery. bytes delivery.1) (settled sub.now.mode delivery sub.now.unacknowledged) ≤ held.now.bytes }
+    requires part { bytes_of (settled sub.now.mode delivery sub.now.unacknowledged) ≤ held.now.bytes }
     ensures { result ≡ nat_le (held.now.bytes
-        - sum_by (λ delivery. bytes delivery.1) (settled sub.now.mode delivery sub.now.unacknowledged)
+        - bytes_of (settled sub.now.mode delivery sub.now.unacknowledged)
         + all_kept_bytes (is_own sub.now) (settled sub.now.mode delivery sub.now.unacknowledged)) 16777216 }
 {
     let deliveries = sub.unacknowledged.as_slice();
@@ -166,9 +167,7 @@ fn keep(
     requires places { first.place + length settled.items < 2 ^ 32 }
     requires few { held.old.messages + length settled.items ≤ 4096 }
     requires small { held.old.bytes + all_kept_bytes own settled.items ≤ 16777216 }
-    ensures lines { OnOk result (shared.new ≡ record shared.old {
-      queues = with_refused (refused_from (is_dropped own) first.command first.place settled.items) shared.old.queues;
-    }) }
+    ensures lines { OnOk result (shared.new ≡ with_all_refused own first settled.items shared.old) }
     ensures messages { OnOk result (held.new.messages ≡ held.old.messages + all_kept own settled.items) }
     ensures bytes { OnOk result (held.new.bytes ≡ held.old.bytes + all_kept_bytes own settled.items) }
 {
@@ -191,12 +190,11 @@ fn take_refused(
     delivery: u64,
 ) -> Result<Vec<(u64, Message)>, AllocError>
     requires place { at < length order.old }
-    requires known { (sub : Subscription) → slice_get order.old at ≡ Some sub → has_delivery delivery sub.unacknowledged ≡ true }
-    ensures kept { OnOk result ((sub : Subscription) → is_due due.old.items sub ≡ true → is_due due.new.items sub ≡ true) }
-    ensures session { OnOk result ((sub : Subscription) → is_of session sub ≡ true → is_due due.new.items sub ≡ true) }
-    ensures dead { OnOk result ((sub : Subscription) → is_plain_at dead_queue sub ≡ true → is_due due.new.items sub ≡ true) }
-    ensures settled { IfOk result (λ out. (sub : Subscription) → slice_get order.old at ≡ Some sub
-        → out.items ≡ settled sub.mode delivery sub.unacknowledged) }
+    requires known { HoldsAt order.old at (λ sub. has_delivery delivery sub.unacknowledged ≡ true) }
+    ensures kept { OnOk result (AllDue (is_due due.old.items) due.new.items) }
+    ensures session { OnOk result (AllDue (is_of session) due.new.items) }
+    ensures dead { OnOk result (AllDue (is_plain_at dead_queue) due.new.items) }
+    ensures settled { IfOk result (λ out. HoldsAt order.old at (λ sub. out.items ≡ settled sub.mode delivery sub.unacknowledged)) }
     ensures unsettled { OnOk result (order.new ≡ changed at (settled_by delivery) order.old) }
 {
     mark(due, Key::Session(session))?;
@@ -217,16 +215,10 @@ fn move_refused(
 ) -> Result<(), AllocError>
     requires within { (held.old.messages ≤ 4096) × (held.old.bytes ≤ 16777216) }
     requires places { first.place + length settled.items < 2 ^ 32 }
-    requires messages { sum_by (λ delivery. one delivery.1) settled.items ≤ held.old.messages }
-    requires bytes { sum_by (λ delivery. bytes delivery.1) settled.items ≤ held.old.bytes }
-    requires small { held.old.bytes - sum_by (λ delivery. bytes delivery.1) settled.items + all_kept_bytes own settled.items ≤ 16777216 }
-    ensures lines { OnOk result (shared.new ≡ record shared.old {
-      queues = with_refused (refused_from (is_dropped own) first.command first.place settled.items) shared.old.queues;
-    }) }
-    ensures messages { OnOk result (held.new.messages + sum_by (λ delivery. one delivery.1) settled.items
-        ≡ held.old.messages + all_kept own settled.items) }
-    ensures bytes { OnOk result (held.new.bytes + sum_by (λ delivery. bytes delivery.1) settled.items
-        ≡ held.old.bytes + all_kept_bytes own settled.items) }
+    requires part { ArePart settled.items held.old }
+    requires small { held.old.bytes - bytes_of settled.items + all_kept_bytes own settled.items ≤ 16777216 }
+    ensures lines { OnOk result (shared.new ≡ with_all_refused own first settled.items shared.old) }
+    ensures held { OnOk result (MovesHeld own settled.items held.old held.new) }
 {
     let_deliveries_go(held, settled.as_slice());
     keep(alloc, shared, held, own, first, settled)

@@ -11,7 +11,7 @@ ghost use Rattle.broker_state.specs.Parts.{copies_to, find_room, leaving};
 ghost use Rattle.broker_tables.specs.Sendings.{IsFannedOut};
 ghost use Rattle.broker_state.specs.Waiting.{is_own, with_message};
 ghost use Rattle.broker_order.specs.Directories.{is_plain_at};
-ghost use Rattle.broker_tables.specs.Dues.{is_due};
+ghost use Rattle.broker_tables.specs.Dues.{AllDue, has_name_of, is_due};
 
 use crate::due::{Key, mark, mark_names};
 use crate::durable_names::{DurableNames, Names};
@@ -185,10 +185,9 @@ fn mark_destination(
     durables: &DurableNames,
     to: &Dest,
 ) -> Result<(), AllocError>
-    ensures kept { OnOk result ((sub : Subscription) → is_due due.old.items sub ≡ true → is_due due.new.items sub ≡ true) }
-    ensures plain { OnOk result ((sub : Subscription) → is_plain_at to.now sub ≡ true → is_due due.new.items sub ≡ true) }
-    ensures named { OnOk result ((sub : Subscription) → list_any (λ durable. bytes_eq durable.1 to.now && uses durable.0 sub) durables.now ≡ true
-        → is_due due.new.items sub ≡ true) }
+    ensures kept { OnOk result (AllDue (is_due due.old.items) due.new.items) }
+    ensures plain { OnOk result (AllDue (is_plain_at to.now) due.new.items) }
+    ensures named { OnOk result (AllDue (has_name_of to.now durables.now) due.new.items) }
 {
     let own = to.clone()?;
     mark_names(due, durables, to)?;
@@ -205,10 +204,9 @@ fn take_in(
     order: &mut Order,
     message: Message,
 ) -> Result<(), AllocError>
-    ensures kept { OnOk result ((sub : Subscription) → is_due due.old.items sub ≡ true → is_due due.new.items sub ≡ true) }
-    ensures plain { OnOk result ((sub : Subscription) → is_plain_at message.sending.destination sub ≡ true → is_due due.new.items sub ≡ true) }
-    ensures named { OnOk result ((sub : Subscription) → list_any (λ durable. bytes_eq durable.1 message.sending.destination && uses durable.0 sub) durables.now ≡ true
-        → is_due due.new.items sub ≡ true) }
+    ensures kept { OnOk result (AllDue (is_due due.old.items) due.new.items) }
+    ensures plain { OnOk result (AllDue (is_plain_at message.sending.destination) due.new.items) }
+    ensures named { OnOk result (AllDue (has_name_of message.sending.destination durables.now) due.new.items) }
     ensures fanned { OnOk result (IsFannedOut message durables.now shared.old order.old shared.new order.new) }
 {
     match mark_destination(due, durables, message.sending.destination()) {

@@ -10,8 +10,8 @@ ghost use Rattle.line_core.specs.Lines.{first_of};
 ghost use Rattle.broker_state.specs.Lists.{is_none};
 ghost use Rattle.broker_state.specs.Names.{name_cmp, text_cmp};
 ghost use Rattle.broker_state.specs.States.{weight_of_subscription};
-ghost use Rattle.broker_tables.specs.Returns.{KeepsWeight, returned_to};
-ghost use Rattle.broker_state.specs.Waiting.{left_line, left_shared, line_at, line_for, returned, weight_of_lines, weight_of_shared, with_line, with_message};
+ghost use Rattle.broker_tables.specs.Returns.{HandFirst, KeepsWeight, LoseFirst, returned_to};
+ghost use Rattle.broker_state.specs.Waiting.{left_line, left_shared, line_at, line_for, returned, weight_of_shared, with_line, with_message};
 
 use crate::keyed_lines::{self, Side};
 use broker_state::{DurableName, Subscription, has_waiting, stand_in_order};
@@ -53,9 +53,7 @@ fn take_from_queue(
     ensures err { OnErr result (queues.new.entries ≡ remove_entry (is_at (text_cmp destination.now)) queues.old.entries) }
     ensures rest { OnOk result (queues.new.entries
         ≡ with_line text_cmp destination.now (drop 1 (line_at text_cmp destination.now queues.old.entries)) queues.old.entries) }
-    ensures weight { OnOk result ((weight : Message → ℕ) → weight_of_lines weight queues.new.entries
-        + sum_by weight (line_at text_cmp destination.now queues.old.entries)
-        ≡ weight_of_lines weight queues.old.entries + sum_by weight (drop 1 (line_at text_cmp destination.now queues.old.entries))) }
+    ensures weight { OnOk result (LoseFirst queues.old.entries queues.new.entries (line_at text_cmp destination.now queues.old.entries)) }
 {
     keyed_lines::take(queues, destination)
 }
@@ -117,10 +115,7 @@ impl SharedLines {
         requires { is_none (line_for self.old sub.old) ≡ false }
         ensures taken { IfOk result (λ m. first_of (line_for self.old sub.old) ≡ Some m) }
         ensures shared { OnOk result (self.new ≡ left_shared self.old sub.old (drop 1 (line_for self.old sub.old))) }
-        ensures weight { OnOk result ((weight : Message → ℕ) → weight_of_shared weight self.new + sum_by weight sub.new.line
-            + sum_by weight (line_for self.old sub.old)
-            ≡ weight_of_shared weight self.old + sum_by weight sub.old.line
-            + sum_by weight (drop 1 (line_for self.old sub.old))) }
+        ensures weight { OnOk result (HandFirst self.old sub.old self.new sub.new (line_for self.old sub.old)) }
         ensures line { OnOk result (sub.new ≡ left_line sub.old (drop 1 (line_for self.old sub.old))) }
     {
         let message = match &sub.durable {

@@ -12,8 +12,9 @@ ghost use Rattle.broker_state.specs.Operations.{begun, begun_for, client_in, end
 ghost use Rattle.broker_state.specs.Parts.{IsFirst, IsGivenAt, NonePass, but_at, leaving, without_at};
 ghost use Rattle.broker_state.specs.States.{bytes, one, weight_of_subscription};
 ghost use Rattle.broker_state.specs.Waiting.{Shared, line_for, returned, weight_of_shared};
-ghost use Rattle.broker_tables.specs.Dues.{is_due};
-ghost use Rattle.broker_tables.specs.Places.{place_for};
+ghost use Rattle.broker_tables.specs.Dues.{AllDue, OthersStand, is_due};
+ghost use Rattle.broker_tables.specs.Returns.{HoldsBoth, LetsGo};
+ghost use Rattle.broker_tables.specs.Places.{HoldsAt, place_for};
 ghost use Rattle.broker_state.specs.declared.subscription.Subscription.{Subscription};
 
 use crate::due::{Key, mark, mark_line};
@@ -174,8 +175,8 @@ fn enter(
     order: &mut Order,
     sub: Subscription,
 ) -> Result<(), AllocError>
-    ensures kept { OnOk result ((other : Subscription) → is_due due.old.items other ≡ true → is_due due.new.items other ≡ true) }
-    ensures marked { OnOk result ((other : Subscription) → is_of sub.session other ≡ true → is_due due.new.items other ≡ true) }
+    ensures kept { OnOk result (AllDue (is_due due.old.items) due.new.items) }
+    ensures marked { OnOk result (AllDue (is_of sub.session) due.new.items) }
     ensures waits { OnOk result (order.new ≡ order.old ++ sub ∷ []) }
 {
     match mark(due, Key::Session(sub.session)) {
@@ -196,19 +197,11 @@ fn let_go(
     held: &mut Held,
     sub: Subscription,
 ) -> Result<(), AllocError>
-    requires within { held.old.bytes ≤ 16777216 }
-    requires messages { weight_of_shared one shared.old + weight_of_subscription one sub ≤ held.old.messages }
-    requires bytes { weight_of_shared bytes shared.old + weight_of_subscription bytes sub ≤ held.old.bytes }
-    ensures kept { OnOk result ((other : Subscription) → is_due due.old.items other ≡ true → is_due due.new.items other ≡ true) }
-    ensures marked { OnOk result ((lines : Shared) (other : Subscription) → is_due due.new.items other ≡ false
-        → line_for (returned lines sub) other ≡ line_for lines other) }
+    requires held { HoldsBoth held.old shared.old sub }
+    ensures kept { OnOk result (AllDue (is_due due.old.items) due.new.items) }
+    ensures marked { OnOk result (OthersStand due.new.items sub) }
     ensures lines { OnOk result (shared.new ≡ returned shared.old sub) }
-    ensures messages { OnOk result (held.new.messages + weight_of_shared one shared.old + weight_of_subscription one sub
-        ≡ held.old.messages + weight_of_shared one shared.new) }
-    ensures bytes { OnOk result (held.new.bytes + weight_of_shared bytes shared.old + weight_of_subscription bytes sub
-        ≡ held.old.bytes + weight_of_shared bytes shared.new) }
-    ensures fewer { OnOk result (held.new.messages ≤ held.old.messages) }
-    ensures lighter { OnOk result (held.new.bytes ≤ held.old.bytes) }
+    ensures left { OnOk result (LetsGo held.old held.new shared.old shared.new sub) }
 {
     mark_line(due, &sub)?;
     let gone = shared.take_back(alloc, sub)?;
@@ -461,8 +454,7 @@ impl Tables {
     /// own; what vanishes with it is held no more.
     fn end_one(mut self, alloc: Global, at: usize) -> Result<Tables, AllocError>
         requires place { at < length self.subscriptions }
-        ensures ended { IfOk result (λ tables. (sub : Subscription) → slice_get self.subscriptions at ≡ Some sub
-            → tables ≡ without self sub (remove self.subscriptions at)) }
+        ensures ended { IfOk result (λ tables. HoldsAt self.subscriptions at (λ sub. tables ≡ without self sub (remove self.subscriptions at))) }
     {
         let sub = self.order.remove(at);
         match let_go(alloc, &mut self.due, &mut self.shared, &mut self.held, sub) {

@@ -12,8 +12,7 @@ ghost use Rattle.record_core.specs.Spellings.{IsSent, IsText, counted, optional,
 /// spelling of it begins another.
 pub fn parts_are_read_as_they_are_spelled()
     ensures byte { Format (λ (b : ℕ). b ∷ []) (λ b. b < 256) byte_at }
-    ensures number_of_four { Format (to_be_bytes w32) (λ n. n < 2 ^ 32) (number_at w32) }
-    ensures number_of_eight { Format (to_be_bytes w64) (λ n. n < 2 ^ 64) (number_at w64) }
+    ensures numbers { Format (to_be_bytes w32) (λ n. n < 2 ^ 32) (number_at w32) × Format (to_be_bytes w64) (λ n. n < 2 ^ 64) (number_at w64) }
     ensures text { Format counted IsText text_at }
     ensures optional { Format optional (λ text. IfSome text IsText) optional_at }
     ensures name { Format optional IsName name_at }

@@ -25,7 +25,7 @@ overflow_sub-precheck c =
     let flights = c.args.precheck.now.flights.items in
     let found = item_at flights c.in-Some.at first.within in
     let counts = settled_counts c.args.delivery flights c.in-Some.at found.0 c.in_ok-settled.settled.items found.1 (c.in_ok-settled.ensures.settled found.0 found.1) in
-    omega (arith, counts.0)
+    omega (arith, counts.0, c.requires.held.messages)
 
 pub sum_of-requires : goal.sum_of-requires
 sum_of-requires c =
@@ -33,7 +33,7 @@ sum_of-requires c =
     let flights = c.args.precheck.now.flights.items in
     let found = item_at flights c.in-Some.at first.within in
     let counts = settled_counts c.args.delivery flights c.in-Some.at found.0 c.in_ok-settled.settled.items found.1 (c.in_ok-settled.ensures.settled found.0 found.1) in
-    omega (arith, counts.1, ap (sum_by (λ item. item.1.bytes)) c.as_slice-2.ensures.value)
+    omega (arith, counts.1, c.requires.held.small, c.requires.held.bytes, ap (sum_by (λ item. item.1.bytes)) c.as_slice-2.ensures.value)
 
 pub overflow_sub-precheck-2 : goal.overflow_sub-precheck-2
 overflow_sub-precheck-2 c =
@@ -41,38 +41,28 @@ overflow_sub-precheck-2 c =
     let flights = c.args.precheck.now.flights.items in
     let found = item_at flights c.in-Some.at first.within in
     let counts = settled_counts c.args.delivery flights c.in-Some.at found.0 c.in_ok-settled.settled.items found.1 (c.in_ok-settled.ensures.settled found.0 found.1) in
-    omega (arith, counts.1, ap (sum_by (λ item. item.1.bytes)) c.as_slice-2.ensures.value)
+    omega (arith, counts.1, c.requires.held.bytes, ap (sum_by (λ item. item.1.bytes)) c.as_slice-2.ensures.value)
 
 pub returns-clause-found : goal.returns-clause-found
 returns-clause-found c =
     let first = subst (λ (l : List PrecheckFlight). IsFirst (has c.args.delivery) l c.in-Some.at) c.as_slice.ensures.value c.in-Some.ensures in
     sym (any_first (has c.args.delivery) c.args.precheck.now.flights.items c.in-Some.at first)
 
-pub returns-clause-settled : goal.returns-clause-settled
-returns-clause-settled c flight others is =
-    let first = subst (λ (l : List PrecheckFlight). IsFirst (has c.args.delivery) l c.in-Some.at) c.as_slice.ensures.value c.in-Some.ensures in
-    let flights = c.args.precheck.now.flights.items in
-    let found = item_at flights c.in-Some.at first.within in
-    let picks = same_Some (found.0, remove flights c.in-Some.at) (flight, others) (sym (picked_first (has c.args.delivery) flights c.in-Some.at found.0 first found.1) ∙ is) in
-    c.in_ok-settled.ensures.settled flight (found.1 ∙ ap (λ (p : PrecheckFlight × List PrecheckFlight). Some p.0) picks)
-
 pub returns-clause-flights : goal.returns-clause-flights
 returns-clause-flights c =
     let first = subst (λ (l : List PrecheckFlight). IsFirst (has c.args.delivery) l c.in-Some.at) c.as_slice.ensures.value c.in-Some.ensures in
     c.in_ok-settled.ensures.left ∙ sym (changed_first (has c.args.delivery) (left_by c.args.delivery) c.args.precheck.now.flights.items c.in-Some.at first)
 
-pub returns-clause-messages : goal.returns-clause-messages
-returns-clause-messages c =
+pub returns-clause-settles : goal.returns-clause-settles
+returns-clause-settles c =
     let first = subst (λ (l : List PrecheckFlight). IsFirst (has c.args.delivery) l c.in-Some.at) c.as_slice.ensures.value c.in-Some.ensures in
     let flights = c.args.precheck.now.flights.items in
     let found = item_at flights c.in-Some.at first.within in
     let counts = settled_counts c.args.delivery flights c.in-Some.at found.0 c.in_ok-settled.settled.items found.1 (c.in_ok-settled.ensures.settled found.0 found.1) in
-    omega (arith, counts.0)
-
-pub returns-clause-bytes : goal.returns-clause-bytes
-returns-clause-bytes c =
-    let first = subst (λ (l : List PrecheckFlight). IsFirst (has c.args.delivery) l c.in-Some.at) c.as_slice.ensures.value c.in-Some.ensures in
-    let flights = c.args.precheck.now.flights.items in
-    let found = item_at flights c.in-Some.at first.within in
-    let counts = settled_counts c.args.delivery flights c.in-Some.at found.0 c.in_ok-settled.settled.items found.1 (c.in_ok-settled.ensures.settled found.0 found.1) in
-    omega (arith, counts.1, ap (sum_by (λ item. item.1.bytes)) c.as_slice-2.ensures.value)
+    record {
+      settled = λ flight others is.
+          let picks = same_Some (found.0, remove flights c.in-Some.at) (flight, others) (sym (picked_first (has c.args.delivery) flights c.in-Some.at found.0 first found.1) ∙ is) in
+          c.in_ok-settled.ensures.settled flight (found.1 ∙ ap (λ (p : PrecheckFlight × List PrecheckFlight). Some p.0) picks);
+      messages = omega (arith, counts.0, c.requires.held.messages);
+      bytes = omega (arith, counts.1, c.requires.held.bytes, ap (sum_by (λ item. item.1.bytes)) c.as_slice-2.ensures.value);
+    }

@@ -9,8 +9,7 @@ use Rattle.record_core.proofs.laws.parts_are_read_as_they_are_spelled.Goals as g
 pub returns : goal.returns
 returns c = record {
   byte = byte;
-  number_of_four = number w32 (2 ^ 32) wide32;
-  number_of_eight = number w64 (2 ^ 64) wide64;
+  numbers = (number w32 (2 ^ 32) wide32, number w64 (2 ^ 64) wide64);
   text = text_format;
   optional = optional_format;
   name = name_format;

@@ -1,6 +1,7 @@
-use Rattle.std.proofs.Common.{◌∙◌, ap, arith, refl, remove, subst, sym}
+use Rattle.std.proofs.Common.{◌∙◌, ℕ, ap, arith, refl, remove, subst, sym}
 use Rattle.std.specs.List.{AllByRecursion, sum_by}
 use Rattle.std.proofs.lemmas.Option.{same_Some}
+use Rattle.line_core.specs.declared.message.Message.{Message}
 use Rattle.line_core.specs.Flights.{IsOver}
 use Rattle.broker_state.specs.States.{bytes, one, weight_of_subscription}
 use Rattle.broker_tables.specs.Tables.{shown}
@@ -10,13 +11,14 @@ use Rattle.broker_state.specs.Waiting.{Shared, line_for}
 use Rattle.broker_tables.proofs.Dues.{due_left}
 use Rattle.broker_tables.proofs.tables.Tables.end_one.Goals as goal
 
-pub let_go-requires-clause-messages : goal.let_go-requires-clause-messages
-let_go-requires-clause-messages c =
-    omega (arith, c.self.invariant.messages, sum_by-removed (weight_of_subscription one) c.self.inside.order c.args.at c.remove-sub.result c.remove-sub.ensures.taken)
-
-pub let_go-requires-clause-bytes : goal.let_go-requires-clause-bytes
-let_go-requires-clause-bytes c =
-    omega (arith, c.self.invariant.bytes, sum_by-removed (weight_of_subscription bytes) c.self.inside.order c.args.at c.remove-sub.result c.remove-sub.ensures.taken)
+pub let_go-requires-clause-held : goal.let_go-requires-clause-held
+let_go-requires-clause-held c =
+    let part = λ (weight : Message → ℕ). sum_by-removed (weight_of_subscription weight) c.self.inside.order c.args.at c.remove-sub.result c.remove-sub.ensures.taken in
+    record {
+      within = c.self.invariant.small;
+      messages = omega (arith, c.self.invariant.messages, part one);
+      bytes = omega (arith, c.self.invariant.bytes, part bytes);
+    }
 
 pub invariant_of-self : goal.invariant_of-self
 invariant_of-self c =
@@ -24,10 +26,10 @@ invariant_of-self c =
     let tallied = c.self.invariant in
     let done = c.in-Ok.ensures in
     record {
-      messages = omega (arith, tallied.messages, sum_by-removed (weight_of_subscription one) subs c.args.at c.remove-sub.result c.remove-sub.ensures.taken, ap (sum_by (weight_of_subscription one)) c.remove-sub.ensures.others, done.messages);
-      bytes = omega (arith, tallied.bytes, sum_by-removed (weight_of_subscription bytes) subs c.args.at c.remove-sub.result c.remove-sub.ensures.taken, ap (sum_by (weight_of_subscription bytes)) c.remove-sub.ensures.others, done.bytes);
-      few = omega (arith, tallied.few, done.fewer);
-      small = omega (arith, tallied.small, done.lighter);
+      messages = omega (arith, tallied.messages, sum_by-removed (weight_of_subscription one) subs c.args.at c.remove-sub.result c.remove-sub.ensures.taken, ap (sum_by (weight_of_subscription one)) c.remove-sub.ensures.others, done.left.messages);
+      bytes = omega (arith, tallied.bytes, sum_by-removed (weight_of_subscription bytes) subs c.args.at c.remove-sub.result c.remove-sub.ensures.taken, ap (sum_by (weight_of_subscription bytes)) c.remove-sub.ensures.others, done.left.bytes);
+      few = omega (arith, tallied.few, done.left.fewer);
+      small = omega (arith, tallied.small, done.left.lighter);
       next = subst (AllByRecursion (λ sub. IsOver c.self.inside.next_delivery sub.unacknowledged)) (sym c.remove-sub.ensures.others) (all_removed (λ sub. IsOver c.self.inside.next_delivery sub.unacknowledged) subs c.args.at tallied.next);
       deliveries = tallied.deliveries;
       ready =

@@ -53,23 +53,17 @@ move_refused-requires-clause-places c =
     let given = c.in-Ok.ensures.settled sub c.get.ensures in
     omega (arith, c.requires, ones items, part_of s c.args.session c.args.member c.args.delivery c.in-Some.at sub c.in-Some.ensures c.get.ensures one, ap (sum_by (λ delivery. one delivery.1)) given, c.self.invariant.messages, c.self.invariant.few)
 
-pub move_refused-requires-clause-messages : goal.move_refused-requires-clause-messages
-move_refused-requires-clause-messages c =
+pub move_refused-requires-clause-part : goal.move_refused-requires-clause-part
+move_refused-requires-clause-part c =
     let a = c.self.inside in
     let s = shown a.count a.next_delivery a.sessions.entries a.durables a.shared a.order in
     let sub = c.get.result.now in
-    let items = c.in-Ok.settled.items in
     let given = c.in-Ok.ensures.settled sub c.get.ensures in
-    omega (arith, part_of s c.args.session c.args.member c.args.delivery c.in-Some.at sub c.in-Some.ensures c.get.ensures one, ap (sum_by (λ delivery. one delivery.1)) given, c.self.invariant.messages)
-
-pub move_refused-requires-clause-bytes : goal.move_refused-requires-clause-bytes
-move_refused-requires-clause-bytes c =
-    let a = c.self.inside in
-    let s = shown a.count a.next_delivery a.sessions.entries a.durables a.shared a.order in
-    let sub = c.get.result.now in
-    let items = c.in-Ok.settled.items in
-    let given = c.in-Ok.ensures.settled sub c.get.ensures in
-    omega (arith, part_of s c.args.session c.args.member c.args.delivery c.in-Some.at sub c.in-Some.ensures c.get.ensures bytes, ap (sum_by (λ delivery. bytes delivery.1)) given, c.self.invariant.bytes)
+    let part = part_of s c.args.session c.args.member c.args.delivery c.in-Some.at sub c.in-Some.ensures c.get.ensures in
+    record {
+      messages = omega (arith, part one, ap (sum_by (λ delivery. one delivery.1)) given, c.self.invariant.messages);
+      bytes = omega (arith, part bytes, ap (sum_by (λ delivery. bytes delivery.1)) given, c.self.invariant.bytes);
+    }
 
 pub move_refused-requires-clause-small : goal.move_refused-requires-clause-small
 move_refused-requires-clause-small c =
@@ -106,7 +100,7 @@ invariant_of-self c =
     let part_bytes : gone_bytes ≤ a.held.bytes = omega (arith, part_of s c.args.session c.args.member c.args.delivery at sub c.in-Some.ensures c.get.ensures bytes, ap (sum_by (λ delivery. bytes delivery.1)) given, tallied.bytes) in
     let less : a.held.messages - gone + gone ≡ a.held.messages = omega (arith, part) in
     let less_bytes : a.held.bytes - gone_bytes + gone_bytes ≡ a.held.bytes = omega (arith, part_bytes) in
-    let counts = nack_counts s c.args.session c.args.member c.args.delivery at sub c.in-Some.ensures c.get.ensures queues few own_given items a.held.messages a.held.bytes (a.held.messages - gone) (a.held.bytes - gone_bytes) c.move_refused.new.held.messages c.move_refused.new.held.bytes own given tallied.messages tallied.bytes less less_bytes (omega (arith, done.messages, less)) (omega (arith, done.bytes, less_bytes)) in
+    let counts = nack_counts s c.args.session c.args.member c.args.delivery at sub c.in-Some.ensures c.get.ensures queues few own_given items a.held.messages a.held.bytes (a.held.messages - gone) (a.held.bytes - gone_bytes) c.move_refused.new.held.messages c.move_refused.new.held.bytes own given tallied.messages tallied.bytes less less_bytes (omega (arith, done.held.messages, less)) (omega (arith, done.held.bytes, less_bytes)) in
     let small = nack_small s c.args.session c.args.member c.args.delivery at sub c.in-Some.ensures c.get.ensures own_given items a.held.bytes (a.held.bytes - gone_bytes) own given less_bytes (sym c.finds_room.ensures ∙ fits) in
     let lines = nack_lines s c.args.session c.args.member c.args.delivery at sub c.in-Some.ensures c.get.ensures own_given items c.move_refused.new.shared own given done.lines in
     let left = c.in-Ok.ensures.unsettled in
@@ -116,7 +110,7 @@ invariant_of-self c =
       messages = counts.0 ∙ sym (ap held_messages state);
       bytes = counts.1 ∙ sym (ap held_bytes state);
       few = omega (arith, counts.0, nack_fewer s c.args.session c.args.member c.args.delivery at sub c.in-Some.ensures c.get.ensures queues few, few);
-      small = omega (arith, done.bytes, less_bytes, small);
+      small = omega (arith, done.held.bytes, less_bytes, small);
       next = subst (AllByRecursion IsUnder) (sym left) (all_changed IsUnder (settled_by c.args.delivery) (over_settled_by a.next_delivery c.args.delivery) a.order at tallied.next);
       deliveries = tallied.deliveries;
       ready =
