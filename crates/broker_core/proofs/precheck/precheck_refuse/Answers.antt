@@ -4,11 +4,13 @@ use Rattle.broker_core.specs.Prechecks.{kept_bytes_in, kept_in}
 use Rattle.broker_core.proofs.PrecheckSteps.{few_held, refuse_full, refuse_none, refuse_some, small_held}
 use Rattle.broker_core.proofs.precheck.precheck_refuse.Goals as goal
 
-pub precheck_settle-requires-clause-held : goal.precheck_settle-requires-clause-held
-precheck_settle-requires-clause-held c = record {
-  small = c.requires.4.small;
-  messages = few_held c.requires.0 c.requires.1 c.requires.2 c.args.precheck.now c.args.precheck.now c.requires.3 c.requires.4;
-  bytes = small_held c.requires.0 c.requires.1 c.requires.2 c.args.precheck.now c.args.precheck.now c.requires.3 c.requires.4;
+pub precheck_settle-requires : goal.precheck_settle-requires
+precheck_settle-requires c = record {
+  held = record {
+    small = c.requires.4.small;
+    messages = few_held c.requires.0 c.requires.1 c.requires.2 c.args.precheck.now c.args.precheck.now c.requires.3 c.requires.4;
+    bytes = small_held c.requires.0 c.requires.1 c.requires.2 c.args.precheck.now c.args.precheck.now c.requires.3 c.requires.4;
+  };
 }
 
 pub returns-in_default : goal.returns-in_default

@@ -11,13 +11,15 @@ use Rattle.broker_state.specs.Waiting.{Shared, line_for}
 use Rattle.broker_tables.proofs.Dues.{due_left}
 use Rattle.broker_tables.proofs.tables.Tables.end_one.Goals as goal
 
-pub let_go-requires-clause-held : goal.let_go-requires-clause-held
-let_go-requires-clause-held c =
+pub let_go-requires : goal.let_go-requires
+let_go-requires c =
     let part = λ (weight : Message → ℕ). sum_by-removed (weight_of_subscription weight) c.self.inside.order c.args.at c.remove-sub.result c.remove-sub.ensures.taken in
     record {
-      within = c.self.invariant.small;
-      messages = omega (arith, c.self.invariant.messages, part one);
-      bytes = omega (arith, c.self.invariant.bytes, part bytes);
+      held = record {
+        within = c.self.invariant.small;
+        messages = omega (arith, c.self.invariant.messages, part one);
+        bytes = omega (arith, c.self.invariant.bytes, part bytes);
+      };
     }
 
 pub invariant_of-self : goal.invariant_of-self
