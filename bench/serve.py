@@ -1,10 +1,10 @@
 #!/usr/bin/env python3
 """Measures the built program `stompd serve` over real files and loopback. README.md says what each figure means.
 
-    python3 bench/serve.py [PROGRAM] [--beside OTHER] [--runs N] [--seconds N] [--folder FOLDER].. [--only CASE]..
+    python3 bench/serve.py [PROGRAM] [--beside OTHER].. [--runs N] [--seconds N] [--folder FOLDER].. [--only CASE]..
 
-PROGRAM is the built program; without it, the one that bin/stompd leaves in crates/stompd/out. OTHER is another one: each case is run
-with both, in turn. The journals are made in each
+PROGRAM is the built program; without it, the one that bin/stompd leaves in crates/stompd/out. Each OTHER is one more: each case is run
+with all of them, in turn. The journals are made in each
 FOLDER (/dev/shm, and the folder for temporary files), and removed.
 """
 
@@ -292,7 +292,7 @@ def main():
     parser = arguments("Measures stompd serve.", runs=3)
     parser.add_argument("--seconds", type=int, default=5, help="how long a load is measured (5)")
     parser.add_argument("--folder", type=pathlib.Path, action="append", help="where the journals are made")
-    parser.add_argument("--beside", type=pathlib.Path, help="another built program, with which each case is run in turn")
+    parser.add_argument("--beside", type=pathlib.Path, action="append", default=[], help="another built program, with which each case is run in turn")
     parser.add_argument("--only", choices=CASES, action="append", help="measure this case alone")
     words = parsed(parser)
     folders = words.folder or [pathlib.Path("/dev/shm"), pathlib.Path(tempfile.gettempdir())]
@@ -302,7 +302,7 @@ def main():
         load, slower, counting = build_load(built), build_slow_sync(built), build_counting(built)
         for folder in folders:
             with tempfile.TemporaryDirectory(dir=folder) as name:
-                programs = [words.program, *([words.beside.resolve()] if words.beside else [])]
+                programs = [words.program, *(other.resolve() for other in words.beside)]
                 benches = [Bench(program, words, load, slower, counting, pathlib.Path(name)) for program in programs]
                 print(f"{folder}:")
                 syncs(benches[0])
