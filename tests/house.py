@@ -3,8 +3,8 @@
 
     python3 tests/house.py [--longest N]
 
-It prints a line for each count beside its bound, and the N longest contracts (10). It ends with status 1 if a count is over its bound, apart from
-contracts: their bound, 8 clauses and 600 characters, is told with how many are over it.
+It prints a line for each count beside its bound, and the N longest contracts that are over theirs (10). It ends with status 1 if a count is over
+its bound. A contract has at most 8 clauses and 600 characters.
 """
 
 import argparse
@@ -86,7 +86,7 @@ def main():
         print(f"    {size} lines: {what}")
     for characters, clauses, what in sorted(heavy, reverse=True)[:longest]:
         print(f"    {clauses} clauses, {characters} characters: {what}")
-    return 1 if words > MOST_WORDS or bare or long_bodies or long_files else 0
+    return 1 if words > MOST_WORDS or bare or long_bodies or long_files or heavy else 0
 
 
 if __name__ == "__main__":
