@@ -4,8 +4,7 @@
     python3 bench/serve.py [PROGRAM] [--beside OTHER].. [--runs N] [--seconds N] [--folder FOLDER].. [--only CASE]..
 
 PROGRAM is the built program; without it, the one that bin/stompd leaves in crates/stompd/out. Each OTHER is one more: each case is run
-with all of them, in turn. The journals are made in each
-FOLDER (/dev/shm, and the folder for temporary files), and removed.
+with all of them, in turn. The journals are made in each FOLDER (/dev/shm, and the folder for temporary files), and removed.
 """
 
 import concurrent.futures
