@@ -302,11 +302,7 @@ impl Tables {
 
     /// A subscription begins and waits last. Refused if it has a durable name that somebody uses or that is another topic's,
     /// or that were the 257th, and then the tables are as they were.
-    fn begin(
-        &mut self,
-        alloc: Global,
-        sub: Subscription,
-    ) -> Result<Result<(), Fault>, AllocError>
+    fn begin(&mut self, alloc: Global, sub: Subscription) -> Result<Result<(), Fault>, AllocError>
         requires fresh { (sub.line ≡ []) × (sub.unacknowledged ≡ []) }
         requires whole { self.old.broken ≡ false }
         ensures begun { IfOk result (λ r. begun self.old.state sub ≡ leaving r self.new.state) }
