@@ -1,19 +1,17 @@
 //! What waits is handed out.
 
-ghost use Rattle.std.specs.Prelude.{◌≡◌, ◌+◌, ◌-◌, ◌++◌, ◌∷◌, ◌<◌, ◌≤◌, ◌^◌, [], ℕ, List, IfOk, OnOk, Some, drop, false, if◌then◌else◌, length, nat_lt, not, remove, slice_get, true};
+ghost use Rattle.std.specs.Prelude.{◌≡◌, ◌+◌, ◌-◌, ◌++◌, ◌∷◌, ◌<◌, ◌≤◌, ◌^◌, [], ℕ, IfOk, OnOk, Some, drop, false, if◌then◌else◌, length, nat_lt, not, slice_get, true};
 ghost use Rattle.line_core.specs.Flights.{IsOver};
 ghost use Rattle.line_core.specs.Lines.{first_of};
-ghost use Rattle.broker_state.specs.HandOut.{ack_of, can_take, delivered, handed_to, is_auto, message_out, settled, waiting};
+ghost use Rattle.broker_state.specs.HandOut.{ack_of, can_take, delivered, is_auto, message_out, settled, waiting};
 ghost use Rattle.broker_state.specs.Lists.{is_none};
-ghost use Rattle.broker_state.specs.States.{State, bytes, one};
+ghost use Rattle.broker_state.specs.States.{bytes, one};
 ghost use Rattle.broker_state.specs.Waiting.{line_for, weight_of_shared};
 ghost use Rattle.broker_tables.specs.Cursors.{AreAwaited};
-ghost use Rattle.broker_tables.specs.Handing.{IsHanded};
-ghost use Rattle.broker_tables.specs.declared.cursors.Cursor.{Cursor};
+ghost use Rattle.broker_tables.specs.Handing.{GoesOn, IsHanded, IsServedAt, KeepsAwaiting, left_from};
+ghost use Rattle.broker_tables.specs.Places.{HoldsAt};
 ghost use Rattle.line_core.specs.declared.message.Message.{Message};
 ghost use Rattle.std.specs.List.{sum_by};
-ghost use Rattle.broker_state.specs.Settles.{SettlesSo};
-ghost use Rattle.command_core.specs.Outs.{OutValue};
 ghost use Rattle.broker_state.specs.declared.subscription.Subscription.{Subscription};
 
 use crate::cursors::Cursor;
@@ -176,14 +174,13 @@ impl Tables {
     ) -> Result<usize, AllocError>
         requires place { at < length self.old.state.subscriptions }
         requires whole { self.old.broken ≡ false }
-        ensures settles { IfOk result (λ from. (first : State) (before : List OutValue)
-            → SettlesSo first before self.old.state outs.old.items at → SettlesSo first before self.new.state outs.new.items from) }
-        ensures nearer { IfOk result (λ from. waiting self.new.state + (length self.new.state.subscriptions - from)
-            < waiting self.old.state + (length self.old.state.subscriptions - at)) }
+        ensures settles { IfOk result (λ from. GoesOn self.old.state outs.old.items at self.new.state outs.new.items from) }
+        ensures nearer { IfOk result (λ from. left_from self.new.state from < left_from self.old.state at) }
         ensures within { IfOk result (λ from. from ≤ length self.new.state.subscriptions) }
-        ensures awaited { IfOk result (λ from. (cursors : List Cursor) → AreAwaited cursors self.old.state at → AreAwaited cursors self.new.state from) }
+        ensures awaited { IfOk result (λ from. KeepsAwaiting self.old.state at self.new.state from) }
         ensures whole { OnOk result (self.new.broken ≡ false) }
     {
+        prove!(at < self.order().len());
         if !self.can_serve(at) {
             return Ok(at + 1);
         }
@@ -212,10 +209,9 @@ impl Tables {
     /// the MESSAGE.
     fn serve(&mut self, alloc: Global, at: usize) -> Result<Out, AllocError>
         requires place { at < length self.old.state.subscriptions }
-        requires ready { (sub : Subscription) → slice_get self.old.state.subscriptions at ≡ Some sub → can_take self.old.state sub ≡ true }
+        requires ready { HoldsAt self.old.state.subscriptions at (λ sub. can_take self.old.state sub ≡ true) }
         requires whole { self.old.broken ≡ false }
-        ensures handed { IfOk result (λ out. (sub : Subscription) → slice_get self.old.state.subscriptions at ≡ Some sub
-            → handed_to self.old.state (Some (sub, remove self.old.state.subscriptions at)) ≡ Some (record { state = self.new.state; out = out })) }
+        ensures handed { IfOk result (λ out. IsServedAt self.old.state at self.new.state out) }
         ensures waiting { OnOk result (waiting self.new.state + 1 ≡ waiting self.old.state) }
         ensures count { OnOk result (length self.new.state.subscriptions ≡ length self.old.state.subscriptions) }
         ensures whole { OnOk result (self.new.broken ≡ false) }

@@ -180,13 +180,9 @@ fn enter(
     ensures marked { OnOk result (AllDue (is_of sub.session) due.new.items) }
     ensures waits { OnOk result (order.new ≡ order.old ++ sub ∷ []) }
 {
-    match mark(due, Key::Session(sub.session)) {
-        Ok(()) => {
-            let sub = with_shared_id(alloc, sub)?;
-            order.add(alloc, sub)
-        }
-        Err(refused) => Err(refused),
-    }
+    mark(due, Key::Session(sub.session))?;
+    let sub = with_shared_id(alloc, sub)?;
+    order.add(alloc, sub)
 }
 
 /// What a subscription that has ended has not acknowledged stands in its line again, and those are due that are served from
@@ -309,22 +305,13 @@ impl Tables {
         ensures same { IfOk result (λ r. IsErr r → self.new ≡ self.old) }
         ensures whole { OnOk result (self.new.broken ≡ false) }
     {
-        match self.bind(alloc, &sub) {
-            Ok(Ok(())) => {
-                self.broken = true;
-                enter(alloc, &mut self.due, &mut self.order, sub)?;
-                self.broken = false;
-                Ok(Ok(()))
-            }
-            Ok(Err(fault)) => {
-                drop(sub);
-                Ok(Err(fault))
-            }
-            Err(refused) => {
-                drop(sub);
-                Err(refused)
-            }
+        if let Err(fault) = self.bind(alloc, &sub)? {
+            return Ok(Err(fault));
         }
+        self.broken = true;
+        enter(alloc, &mut self.due, &mut self.order, sub)?;
+        self.broken = false;
+        Ok(Ok(()))
     }
 
     /// The durable name of a subscription that is to begin is bound to its topic, unless it has none or the name is bound so
