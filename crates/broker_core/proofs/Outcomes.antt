@@ -7,8 +7,8 @@ use Rattle.broker_core.specs.Outcomes.{IsWholeOrEmpty}
 pub is_whole : (b : BrokerValue) → b.broken ≡ false → IsSound b.state → IsWholeOrEmpty b
 is_whole b whole sound = record {
   whole = λ _. sound;
-  messages = λ broken. absurd (sym whole ∙ broken);
-  bytes = λ broken. absurd (sym whole ∙ broken);
+  messages = λ broken. absurd (cc (whole, broken));
+  bytes = λ broken. absurd (cc (whole, broken));
 }
 
 -- one that was let go
@@ -17,7 +17,7 @@ empty_broker count = record { state = record empty_state { count = count }; brok
 
 pub is_empty : (b : BrokerValue) (count : ℕ) → b ≡ empty_broker count → IsWholeOrEmpty b
 is_empty b count is = subst IsWholeOrEmpty (sym is) (record {
-  whole = λ whole. absurd whole;
+  whole = λ whole. absurd (cc whole);
   messages = λ _. refl;
   bytes = λ _. refl;
 })
