@@ -1,6 +1,6 @@
-use Rattle.std.proofs.Common.{◌≡◌, ◌∙◌, ℕ, ap, false, refl, subst, sym, true}
+use Rattle.std.proofs.Common.{◌≡◌, ℕ, false, refl, subst, sym, true}
 use Rattle.broker_state.specs.Sound.{IsSound}
-use Rattle.broker_state.specs.States.{BrokerValue, State, empty_state, held_bytes, held_messages}
+use Rattle.broker_state.specs.States.{BrokerValue, empty_state}
 use Rattle.broker_core.specs.Outcomes.{IsWholeOrEmpty}
 
 -- a whole broker in a state that a broker can have

@@ -1,4 +1,4 @@
-use Rattle.std.proofs.Common.{◌≡◌, ◌∙◌, false, subst, sym}
+use Rattle.std.proofs.Common.{◌∙◌, subst, sym}
 use Rattle.broker_state.specs.Sound.{IsSound}
 use Rattle.broker_laws.proofs.SoundSteps.{sound_restart}
 use Rattle.broker_core.proofs.Outcomes.{is_whole}
