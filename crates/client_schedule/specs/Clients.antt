@@ -48,11 +48,11 @@ pub record Removes (old new : Clients) (n : ℕ) : Type 0 where
   pub timers : new.timers ≡ with_moment n NEVER old.timers
   pub retry : new.retry ≡ old.retry
 
--- where one is at the desk
-abbrev pub place_of : Standing → Option ℕ
-place_of (Seated place) = Some place
-place_of (Greeting greeting) = None
-place_of Away = None
+-- it sits at the desk
+abbrev pub is_seated : Standing → Bool
+is_seated Seated = true
+is_seated (Greeting greeting) = false
+is_seated Away = false
 
 -- where the client is that has a number
 abbrev pub standing_of : Option Client → Standing
@@ -64,7 +64,7 @@ standing_at n c = standing_of (client_at n c)
 
 -- one at the desk stays there while its turn lasts, and a handshake is taken out
 abbrev pub in_turn : Standing → Standing
-in_turn (Seated place) = Seated place
+in_turn Seated = Seated
 in_turn (Greeting greeting) = Away
 in_turn Away = Away
 

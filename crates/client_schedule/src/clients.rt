@@ -5,7 +5,7 @@ ghost use Rattle.std.specs.Option.{option_copied};
 ghost use Rattle.client_schedule.specs.declared.limits.TheConstants.{CLIENTS};
 ghost use Rattle.client_schedule.specs.declared.timers.TheConstants.{NEVER};
 ghost use Rattle.client_schedule.specs.Lines.{is_over};
-ghost use Rattle.client_schedule.specs.Clients.{begun, place_of};
+ghost use Rattle.client_schedule.specs.Clients.{begun, is_seated};
 ghost use Rattle.client_schedule.specs.Deadlines.{fresh};
 ghost use Rattle.client_schedule.specs.Timers.{IsDue, IsNotDue, looked_through};
 
@@ -25,8 +25,8 @@ use ws_core::Greeting;
 pub enum Standing {
     /// Its handshake is under way.
     Greeting(Greeting<ReadBudget<TcpStream>>),
-    /// It sits at that place of its worker's desk.
-    Seated(usize),
+    /// It sits at its desk, at the place that its number names.
+    Seated,
     /// Its handshake is just gone on with, or it is gone.
     Away,
 }
@@ -41,13 +41,13 @@ pub struct Client {
 }
 
 impl Client {
-    /// Its place at the desk, once it has one.
-    pub fn place(&self) -> Option<usize>
-        ensures { result ≡ place_of self.now.standing }
+    /// Whether it sits at its desk.
+    pub fn is_seated(&self) -> bool
+        ensures { result ≡ is_seated self.now.standing }
     {
         match self.standing {
-            Standing::Seated(place) => Some(place),
-            Standing::Greeting(_) | Standing::Away => None,
+            Standing::Seated => true,
+            Standing::Greeting(_) | Standing::Away => false,
         }
     }
 
@@ -58,13 +58,13 @@ impl Client {
     {
         self.is_short = false;
         match self.standing {
-            Standing::Seated(place) => Standing::Seated(place),
+            Standing::Seated => Standing::Seated,
             _ => mem::replace(&mut self.standing, Standing::Away),
         }
     }
 }
 
-/// The clients of a desk, by their numbers; the lines in which they stand; and when each is to be looked at.
+/// The clients of a desk, by their numbers, which name their places there too; the lines in which they stand; and when each is to be looked at.
 ///
 /// A number may stand in a line whose client has gone. Then there is a turn for which nobody is there, or in which the client that has the
 /// number now finds nothing.

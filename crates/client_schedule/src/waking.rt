@@ -2,7 +2,7 @@
 
 ghost use Rattle.std.specs.Prelude.{◌≡◌, MatchOption, cond, min, nat_lt, option_map};
 ghost use Rattle.client_schedule.specs.declared.timers.TheConstants.{NEVER};
-ghost use Rattle.client_schedule.specs.Clients.{ComesDue, IsWaitedFor, LooksBy, client_at, has_more, heard_greeting, is_short, moment_of, parts_now, place_of, standing_at, waited_by, woken_short};
+ghost use Rattle.client_schedule.specs.Clients.{ComesDue, IsWaitedFor, LooksBy, client_at, has_more, heard_greeting, is_seated, is_short, moment_of, parts_now, standing_at, waited_by, woken_short};
 
 use crate::clients::{Client, Clients, Standing};
 use crate::deadlines::{Due, Phase};
@@ -15,20 +15,20 @@ use desk_core::{Next, Turned};
 impl Clients {
     ghost use Rattle.client_schedule.specs.Turns.{gone_on, settled, woken};
 
-    /// The poll told this of a client's socket. It stands in line for a turn; its stream hears it if its handshake is under way. If it sits
-    /// at the desk its place is the answer, and its stream is to hear it there.
-    pub fn hear_of(&mut self, number: usize, told: Told, now: u64) -> Option<usize>
+    /// The poll told this of a client's socket. It stands in line for a turn; its stream hears it if its handshake is under way. Answers
+    /// whether it sits at the desk: its stream is to hear it there.
+    pub fn hear_of(&mut self, number: usize, told: Told, now: u64) -> bool
         ensures client { client_at number self.new ≡ option_map (heard_greeting told now) (client_at number self.old) }
         ensures rest { self.new ≡ record self.old { all = self.new.all; lines = woken number self.old.lines } }
-        ensures place { result ≡ place_of (standing_at number self.old) }
+        ensures seated { result ≡ is_seated (standing_at number self.old) }
     {
         self.wake(number);
         match self.all.get_mut(number) {
             Some(client) => {
                 client.hear_of(told, now);
-                client.place()
+                client.is_seated()
             }
-            None => None,
+            None => false,
         }
     }
 

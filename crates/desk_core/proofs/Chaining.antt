@@ -1,11 +1,13 @@
 -- How a connection lives through the calls of its desk.
-use Rattle.std.proofs.Common.{◌≡◌, ℕ, List, [], ◌∷◌, ◌++◌, Option, Some, None, length, refl, sym, ap, ◌∙◌, subst, inl, inr, append_assoc, append-nil}
-use Rattle.std.specs.Prelude.{◌==◌, cond, option_map, slice_get}
-use Rattle.std.proofs.lemmas.Bool.{cases_eq}
+use Rattle.std.proofs.Common.{◌≡◌, ℕ, List, [], ◌∷◌, ◌++◌, Option, Some, None, length, sym, ap, ◌∙◌, subst, inl, inr, append_assoc, append-nil}
+use Rattle.std.specs.Prelude.{◌==◌, cond, option_map}
+use Rattle.std.proofs.lemmas.Bool.{cases_eq, cases_lt}
+use Rattle.std.proofs.lemmas.List.{get_or_past}
+use Rattle.std.proofs.lemmas.Option.{get_or_from_slice_get, slice_get-get_or}
 use Rattle.desk_core.specs.declared.place.Seated.{Seated}
 use Rattle.desk_core.specs.Chains.{AreTaken, Calls, Chain, Lived, deeds_at, deeds_of, last_of}
 use Rattle.desk_core.specs.Effects.{Effect}
-use Rattle.desk_core.specs.Desks.{Admits, DeskValue, IsFree, SitsAt}
+use Rattle.desk_core.specs.Desks.{Admits, DeskValue, SitsAt, seated_at}
 use Rattle.desk_core.specs.Histories.{Heeds}
 use Rattle.desk_core.proofs.Going.{did, heeds_none, heeds_then}
 use Rattle.desk_core.proofs.Lists.{cond_other, cond_same}
@@ -13,13 +15,15 @@ use Rattle.desk_core.proofs.Lists.{cond_other, cond_same}
 one_seated : {X : Type 0} (o : Option (Option X)) (a b : X) → o ≡ Some (Some a) → o ≡ Some (Some b) → a ≡ b
 one_seated o a b x y = let both : Some (Some a) ≡ Some (Some b) = sym x ∙ y in cc
 
-none_there : {X : Type 0} (xs : List X) → slice_get xs (length xs) ≡ None
-none_there [] = refl
-none_there (x ∷ xs) = none_there xs
+never_free : {B L : Type 0} (places : List (Option (Seated B L))) (at : ℕ) (s : Seated B L) → seated_at places at ≡ None → SitsAt places at s → ⊥
+never_free places at s free sat = let both : None ≡ Some s = sym free ∙ get_or_from_slice_get places at (Some s) None sat in cc
 
-never_free : {B L : Type 0} (places : List (Option (Seated B L))) (at : ℕ) (s : Seated B L) → IsFree places at → SitsAt places at s → ⊥
-never_free places at s (inl free) sat = let both : Some None ≡ Some (Some s) = sym free ∙ sat in cc
-never_free places at s (inr last) sat = let both : None ≡ Some (Some s) = sym (none_there places) ∙ ap (λ k. slice_get places k) (sym last) ∙ sat in cc
+-- who is seated there sits there
+sits_there : {B L : Type 0} (places : List (Option (Seated B L))) (k : ℕ) (s : Seated B L) → seated_at places k ≡ Some s → SitsAt places k s
+sits_there places k s is = elim (cases_lt k (length places)) [
+  | inl within ↦ slice_get-get_or places k None within ∙ ap (λ x. Some x) is
+  | inr past ↦ let none : None ≡ Some s = sym (get_or_past places k None past) ∙ is in absurd (cc)
+]
 
 module _ {B L : Type 0} (sent : L → Option (List (List ℕ))) (received : L → Option (List ℕ)) where
   -- it goes on so from one to the other with these effects
@@ -33,11 +37,11 @@ module _ {B L : Type 0} (sent : L → Option (List (List ℕ))) (received : L �
   at_place old new at (inr (inr (link, inl admits))) s sat taken = absurd (never_free old.places at s admits.was_free sat)
   at_place old new at (inr (inr (link, inr leaves))) s sat taken = absurd (let both : Some None ≡ Some (Some taken.0) = sym leaves.free ∙ taken.1 in cc)
 
-  others_stay : (old new : DeskValue B L) (at : ℕ) → Calls sent received old new at → (k : ℕ) → (k ≡ at → ⊥) → slice_get new.places k ≡ slice_get old.places k
-  others_stay old new at (inl turn) k other = turn.2.others k other
-  others_stay old new at (inr (inl touch)) k other = touch.others.others k other
-  others_stay old new at (inr (inr (link, inl admits))) k other = admits.others k other
-  others_stay old new at (inr (inr (link, inr leaves))) k other = leaves.others.others k other
+  others_stay : (old new : DeskValue B L) (at : ℕ) → Calls sent received old new at → (k : ℕ) → (k ≡ at → ⊥) → (s : Seated B L) → SitsAt old.places k s → SitsAt new.places k s
+  others_stay old new at (inl turn) k other s sat = turn.2.others k other ∙ sat
+  others_stay old new at (inr (inl touch)) k other s sat = touch.others.others k other ∙ sat
+  others_stay old new at (inr (inr (link, inl admits))) k other s sat = sits_there new.places k s (admits.others k other ∙ get_or_from_slice_get old.places k (Some s) None sat)
+  others_stay old new at (inr (inr (link, inr leaves))) k other s sat = leaves.others.others k other ∙ sat
 
   one_call : (old new : DeskValue B L) (at place : ℕ) (c : Calls sent received old new at) (s : Seated B L) → SitsAt old.places place s → (t : Seated B L) × SitsAt new.places place t
       → Went new place s (cond (at == place) (deeds_of sent received old new at c) [])
@@ -46,7 +50,7 @@ module _ {B L : Type 0} (sent : L → Option (List (List ℕ))) (received : L �
         let so = at_place old new at c s (subst (λ k. SitsAt old.places k s) (sym same) sat) (taken.0, subst (λ k. SitsAt new.places k taken.0) (sym same) taken.1) in
         (so.0, subst (λ k. SitsAt new.places k so.0) same so.1, subst (λ d. Heeds received s.slot s.link so.0.slot so.0.link d) (sym (cond_same at place (deeds_of sent received old new at c) [] same)) so.2)
     | inr other ↦
-        (s, others_stay old new at c place (λ e. other (sym e)) ∙ sat, subst (λ d. Heeds received s.slot s.link s.slot s.link d) (sym (cond_other at place (deeds_of sent received old new at c) [] other)) (heeds_none received s.slot s.link).heeds)
+        (s, others_stay old new at c place (λ e. other (sym e)) s sat, subst (λ d. Heeds received s.slot s.link s.slot s.link d) (sym (cond_other at place (deeds_of sent received old new at c) [] other)) (heeds_none received s.slot s.link).heeds)
   ]
 
   all_calls : (place : ℕ) (from : Seated B L) (before : List Effect) (old : DeskValue B L) (others : List (DeskValue B L)) (chain : Chain sent received old others) (s : Seated B L) → SitsAt old.places place s

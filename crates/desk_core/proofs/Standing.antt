@@ -1,10 +1,10 @@
 -- What stands at a desk.
-use Rattle.std.proofs.Common.{◌≡◌, ℕ, zero, suc, ◌+◌, ◌-◌, ◌<◌, ◌≤◌, List, [], ◌∷◌, ◌++◌, Option, Some, None, true, length, take, drop, get_or, refl, sym, ap, ◌∙◌, subst, inl, inr, append-nil, arith}
-use Rattle.std.specs.Prelude.{IfSome, slice_get, set}
+use Rattle.std.proofs.Common.{◌≡◌, ℕ, zero, suc, ◌+◌, ◌-◌, ◌<◌, ◌≤◌, List, [], ◌∷◌, ◌++◌, Option, Some, None, Bool, true, false, length, take, drop, replicate, get_or, refl, sym, ap, ◌∙◌, subst, inl, inr, append-nil, append_assoc, arith}
+use Rattle.std.specs.Prelude.{IfSome, is_some, slice_get, set}
 use Rattle.std.specs.List.{AllByRecursion, sum_by}
 use Rattle.std.specs.Option.{option_map}
-use Rattle.std.proofs.lemmas.Bool.{cases_eq}
-use Rattle.std.proofs.lemmas.List.{length-append, length-set, length-map, map-set, map-append, set_split, set-get_or, get_or-set_same, get_or-set_other}
+use Rattle.std.proofs.lemmas.Bool.{cases_eq, cases_lt}
+use Rattle.std.proofs.lemmas.List.{length-append, length-set, length-map, length-replicate, map-set, map-append, set_split, set-get_or, get_or-set_same, get_or-set_other, get_or_append_left, get_or_past}
 use Rattle.std.proofs.lemmas.List.Sums.{sum_by-set, sum_by_push, get_or-le-sum_by}
 use Rattle.std.proofs.lemmas.Option.{slice_get-get_or, slice_get-map, slice_get_within, get_or_from_slice_get}
 use Rattle.claim_core.specs.Counts.{Pair}
@@ -17,7 +17,7 @@ use Rattle.desk_core.specs.declared.turned.Turned.{Turned}
 use Rattle.desk_core.specs.Answers.{Answers}
 use Rattle.desk_core.specs.Continues.{Continues}
 use Rattle.desk_core.specs.Conversations.{Converse, IsPart, Speaks, holds, number_of, opens, part_of}
-use Rattle.desk_core.specs.Desks.{Admits, AreApart, DeskValue, IsDesk, Leaves, Others, TalkApart, Touches, Turns, desk, seated_at, stand_of}
+use Rattle.desk_core.specs.Desks.{Admits, AreApart, DeskValue, IsDesk, Leaves, Others, TalkApart, Touches, Turns, desk, reaching, seated_at, stand_of}
 use Rattle.desk_core.specs.Effects.{commands_of}
 use Rattle.desk_core.specs.Halting.{FindsEnd}
 use Rattle.desk_core.specs.Histories.{Idles}
@@ -102,22 +102,32 @@ replaced before seat places at was is within there hs os d =
       };
     }
 
--- ── one more place ──
+-- ── free places are added ──
 
 silent_part : (n h h' o o' : ℕ) (ps : List Pair) → h' ≡ h + 0 → o' ≡ o + 0 → IsPart n h o ps → IsPart n h' o' ps
 silent_part n h h' o o' ps a b part = record { most = omega (arith, part.most); conversation = part.conversation; begun = λ some. part.begun (omega arith); opened = λ some. part.opened (omega arith) }
 
-pub admitted : {B L : Type 0} (before seat : SessionSeatValue) (places : List (Option (Seated B L))) (s : Option (Seated B L)) → progress_at s ≡ New → IsDesk before seat places → IsDesk before seat (places ++ s ∷ [])
-admitted before seat places s anew d =
-    let stand : stand_of (places ++ s ∷ []) ≡ stand_of places ++ New ∷ [] = map-append progress_at places (s ∷ []) ∙ ap (λ p. stand_of places ++ p ∷ []) anew in record {
+one_free : {B L : Type 0} (before seat : SessionSeatValue) (places : List (Option (Seated B L))) → IsDesk before seat places → IsDesk before seat (places ++ None ∷ [])
+one_free before seat places d =
+    let stand : stand_of (places ++ None ∷ []) ≡ stand_of places ++ Gone ∷ [] = map-append progress_at places (None ∷ []) in record {
       ring = d.ring;
       number = d.number;
       speaks = subst (λ l. Speaks before.own seat.own l) (sym stand) record {
         more = d.speaks.more;
         whole = d.speaks.whole;
-        parts = λ n. silent_part n _ _ _ _ (part_of n d.speaks.more) (sum_by_push (holds n) (stand_of places) New) (sum_by_push (opens n) (stand_of places) New) (d.speaks.parts n);
+        parts = λ n. silent_part n _ _ _ _ (part_of n d.speaks.more) (sum_by_push (holds n) (stand_of places) Gone) (sum_by_push (opens n) (stand_of places) Gone) (d.speaks.parts n);
       };
     }
+
+more_free : {B L : Type 0} (before seat : SessionSeatValue) (places : List (Option (Seated B L))) (n : ℕ) → IsDesk before seat places → IsDesk before seat (places ++ replicate n None)
+more_free before seat places zero d = subst (λ l. IsDesk before seat l) (sym (append-nil places)) d
+more_free before seat places (suc n) d =
+    subst (λ l. IsDesk before seat l) (append_assoc places (None ∷ []) (replicate n None)) (more_free before seat (places ++ None ∷ []) n (one_free before seat places d))
+
+pub within_reach : {B L : Type 0} (places all : List (Option (Seated B L))) (at : ℕ) → all ≡ reaching at places → at < length all
+within_reach {B} {L} places all at is =
+    let free : Option (Seated B L) = None in
+    omega (arith, ap length is, length-append places (replicate (at + 1 - length places) None), length-replicate (at + 1 - length places) free)
 
 -- ── what a desk shows ──
 
@@ -246,41 +256,37 @@ if_some (Some x) P Q so p = so x p
 
 -- ── one more client ──
 
-pub admits_in : {B L : Type 0} (old : DeskValue B L) (before seat : SessionSeatValue) (places : List (Option (Seated B L))) (at : ℕ) (seated : Seated B L) (link : L)
-    → desk before seat places ≡ old → slice_get places at ≡ Some None → seated.link ≡ link → IsNew seated.slot → Admits old (desk before seat (set places at (Some seated))) link at
-admits_in {B} {L} old before seat places at seated link same free link_is is_new = record {
-  seated = seated;
-  before = ap (λ (d : DeskValue B L). d.before) same;
-  seat = ap (λ (d : DeskValue B L). d.seat) same;
-  was_free = inl (ap (λ (d : DeskValue B L). slice_get d.places at) (sym same) ∙ free);
-  sits = get_same places at (Some seated) (slice_get_within places at None free);
-  link_is = link_is;
-  is_new = is_new;
-  others = λ k other. get_other places at k (Some seated) other ∙ ap (λ (d : DeskValue B L). slice_get d.places k) same;
-}
+-- who sits at a place sits there with free ones added
+nobody_past : {B L : Type 0} (places : List (Option (Seated B L))) (n k : ℕ) → length places ≤ k → seated_at (places ++ replicate n None) k ≡ None
+nobody_past [] zero k past = get_or_past [] k None past
+nobody_past [] (suc n) zero past = refl
+nobody_past [] (suc n) (suc k) past = nobody_past [] n k (omega arith)
+nobody_past (x ∷ places) n zero past = absurd (omega (arith, past))
+nobody_past (x ∷ places) n (suc k) past = nobody_past places n k (omega (arith, past))
 
-get_pushed : {X : Type 0} (xs : List X) (y : X) → slice_get (xs ++ y ∷ []) (length xs) ≡ Some y
-get_pushed [] y = refl
-get_pushed (x ∷ xs) y = get_pushed xs y
+still_there : {B L : Type 0} (places : List (Option (Seated B L))) (n k : ℕ) → seated_at (places ++ replicate n None) k ≡ seated_at places k
+still_there places n k = elim (cases_lt k (length places)) [
+  | inl within ↦ get_or_append_left places (replicate n None) None k within
+  | inr past ↦ nobody_past places n k past ∙ sym (get_or_past places k None past)
+]
 
-get_before : {X : Type 0} (xs : List X) (k : ℕ) (y : X) → (k ≡ length xs → ⊥) → slice_get (xs ++ y ∷ []) k ≡ slice_get xs k
-get_before [] zero y other = absurd (other refl)
-get_before [] (suc k) y other = refl
-get_before (x ∷ xs) zero y other = refl
-get_before (x ∷ xs) (suc k) y other = get_before xs k y (λ e. other (ap suc e))
-
-pub admits_last : {B L : Type 0} (old : DeskValue B L) (before seat : SessionSeatValue) (places : List (Option (Seated B L))) (all : List (Option (Seated B L))) (at : ℕ) (seated : Seated B L) (link : L)
-    → desk before seat places ≡ old → all ≡ places ++ Some seated ∷ [] → at ≡ length places → seated.link ≡ link → IsNew seated.slot → Admits old (desk before seat all) link at
-admits_last {B} {L} old before seat places all at seated link same all_is at_is link_is is_new = record {
-  seated = seated;
-  before = ap (λ (d : DeskValue B L). d.before) same;
-  seat = ap (λ (d : DeskValue B L). d.seat) same;
-  was_free = inr (at_is ∙ ap (λ (d : DeskValue B L). length d.places) same);
-  sits = ap (λ l. slice_get l at) all_is ∙ ap (λ k. slice_get (places ++ Some seated ∷ []) k) at_is ∙ get_pushed places (Some seated);
-  link_is = link_is;
-  is_new = is_new;
-  others = λ k other. ap (λ l. slice_get l k) all_is ∙ get_before places k (Some seated) (λ e. other (e ∙ sym at_is)) ∙ ap (λ (d : DeskValue B L). slice_get d.places k) same;
-}
+pub admits : {B L : Type 0} (old : DeskValue B L) (before seat : SessionSeatValue) (places all : List (Option (Seated B L))) (at : ℕ) (is : Option (Seated B L)) (seated : Seated B L) (link : L)
+    → desk before seat places ≡ old → all ≡ reaching at places → seated_at old.places at ≡ None → is ≡ Some seated → seated.link ≡ link → IsNew seated.slot → Admits old (desk before seat (set all at is)) link at
+admits {B} {L} old before seat places all at is seated link same reach free sits link_is is_new =
+    let long : length all ≡ length places + (at + 1 - length places) =
+        ap length reach ∙ length-append places (replicate (at + 1 - length places) None) ∙ ap (λ n. length places + n) (length-replicate (at + 1 - length places) None) in
+    let of_old : length places ≡ length old.places = ap (λ (d : DeskValue B L). length d.places) same in record {
+      seated = seated;
+      before = ap (λ (d : DeskValue B L). d.before) same;
+      seat = ap (λ (d : DeskValue B L). d.seat) same;
+      was_free = free;
+      sits = get_same all at is (within_reach places all at reach) ∙ ap (λ x. Some x) sits;
+      link_is = link_is;
+      is_new = is_new;
+      others = λ k other.
+          get_or-set_other all at k is None other ∙ ap (λ l. seated_at l k) reach ∙ still_there places (at + 1 - length places) k ∙ ap (λ (d : DeskValue B L). seated_at d.places k) same;
+      count = omega (arith, length-set all at is, long, of_old);
+    }
 
 -- ── a client is let go ──
 
@@ -305,12 +311,13 @@ pub vacated : {B L : Type 0} (before seat : SessionSeatValue) (places : List (Op
 vacated before seat places at was is within there none d =
     subst (λ o. IsDesk before seat (set places at o)) (sym none) (replaced before seat places at was None within there (λ n. (none_goes n (progress_at was)).0) (λ n. (none_goes n (progress_at was)).1) d)
 
-pub taken_place : {B L : Type 0} (before seat : SessionSeatValue) (places : List (Option (Seated B L))) (at : ℕ) (was is : Option (Seated B L)) → slice_get places at ≡ Some None → was ≡ get_or places at was
-    → progress_at is ≡ New → IsDesk before seat places → IsDesk before seat (set places at is)
-taken_place before seat places at was is free there anew d =
-    let within : at < length places = slice_get_within places at None free in
-    replaced before seat places at was is within there (λ n. subst (λ p. holds n p ≤ holds n (progress_at was)) (sym anew) (none_goes n (progress_at was)).0)
-    (λ n. subst (λ p. opens n p ≤ opens n (progress_at was)) (sym anew) (none_goes n (progress_at was)).1) d
+-- at one of the places to which free ones were added somebody sits who was not heard yet
+pub taken_place : {B L : Type 0} (before seat : SessionSeatValue) (places all : List (Option (Seated B L))) (at : ℕ) (was is : Option (Seated B L)) → all ≡ reaching at places → was ≡ get_or all at was
+    → progress_at is ≡ New → IsDesk before seat places → IsDesk before seat (set all at is)
+taken_place before seat places all at was is reach there anew d =
+    replaced before seat all at was is (within_reach places all at reach) there (λ n. subst (λ p. holds n p ≤ holds n (progress_at was)) (sym anew) (none_goes n (progress_at was)).0)
+    (λ n. subst (λ p. opens n p ≤ opens n (progress_at was)) (sym anew) (none_goes n (progress_at was)).1)
+    (subst (λ l. IsDesk before seat l) (sym reach) (more_free before seat places (at + 1 - length places) d))
 
 pub leaves_at : {B L : Type 0} (old : DeskValue B L) (before seat : SessionSeatValue) (places : List (Option (Seated B L))) (at : ℕ) (was is : Option (Seated B L)) (seated : Seated B L)
     → desk before seat places ≡ old → at < length places → was ≡ get_or places at was → was ≡ Some seated → is ≡ None → is_over_at was ≡ true → Leaves old (desk before seat (set places at is)) at seated.link
@@ -318,16 +325,9 @@ leaves_at {B} {L} old before seat places at was is seated same within there it n
     subst (λ o. Leaves old (desk before seat (set places at o)) at seated.link) (sym none)
     (leaves_it old before seat places at seated same within (subst (λ o. o ≡ get_or places at o) it there) (subst (λ (o : Option (Seated B L)). is_over_at o ≡ true) it over))
 
-pub pushed : {B L : Type 0} (before seat : SessionSeatValue) (places all : List (Option (Seated B L))) (s : Option (Seated B L)) → all ≡ places ++ s ∷ [] → progress_at s ≡ New → IsDesk before seat places → IsDesk before seat all
-pushed before seat places all s is anew d = subst (λ l. IsDesk before seat l) (sym is) (admitted before seat places s anew d)
-
-pub admits_at : {B L : Type 0} (old : DeskValue B L) (before seat : SessionSeatValue) (places : List (Option (Seated B L))) (at : ℕ) (is : Option (Seated B L)) (seated : Seated B L) (link : L)
-    → desk before seat places ≡ old → slice_get places at ≡ Some None → is ≡ Some seated → seated.link ≡ link → IsNew seated.slot → Admits old (desk before seat (set places at is)) link at
-admits_at old before seat places at is seated link same free it link_is is_new =
-    subst (λ o. Admits old (desk before seat (set places at o)) link at) (sym it) (admits_in old before seat places at seated link same free link_is is_new)
-
-pub last_place : {X : Type 0} (xs all : List X) (y : X) (count : ℕ) → all ≡ xs ++ y ∷ [] → count ≡ length all → count - 1 ≡ length xs
-last_place xs all y count is counted = omega (arith, counted, ap length is, length-append xs (y ∷ []))
+pub nobody_is : {X : Type 0} (o : Option X) (b : Bool) → b ≡ is_some o → b ≡ false → o ≡ None
+nobody_is None b is none = refl
+nobody_is (Some x) b is none = absurd (let e : true ≡ false = sym is ∙ none in cc)
 
 -- where nobody sits nothing is done
 pub same_desk : {B L : Type 0} (old : DeskValue B L) (before seat after : SessionSeatValue) (places : List (Option (Seated B L))) (at : ℕ) (was is : Option (Seated B L))

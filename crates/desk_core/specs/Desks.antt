@@ -1,7 +1,9 @@
 -- What contracts see of a desk.
-use Rattle.std.specs.Prelude.{◌≡◌, ◌≢◌, ◌⊎◌, ℕ, List, ◌++◌, Option, Some, None, true, map, length, get_or, slice_get}
+use Rattle.std.specs.Prelude.{◌≡◌, ◌≢◌, ◌+◌, ◌-◌, ℕ, List, ◌++◌, Option, Some, None, IsSome, true, map, max, length, replicate, get_or, slice_get}
 use Rattle.claim_core.specs.Seats.{SessionSeatValue}
 use Rattle.connection_core.specs.declared.progress.Progress.{Progress}
+use Rattle.desk_core.specs.declared.place.NotAdmitted.{NotAdmitted}
+use Rattle.desk_core.specs.declared.place.NotAdmitted.TheVariants.{Memory, Taken}
 use Rattle.desk_core.specs.declared.place.Seated.{Seated}
 use Rattle.desk_core.specs.declared.turned.Turned.{Turned}
 use Rattle.desk_core.specs.Answers.{Answers}
@@ -71,20 +73,27 @@ pub record TalkApart {B L : Type 0} (d : DeskValue B L) : Type 0 where
   pub converse : Converse d.before.own d.seat.own
   pub apart : AreApart d.places
 
--- nobody sits there: the place is free, or the next one behind all
-abbrev pub IsFree : {B L : Type 0} → List (Option (Seated B L)) → ℕ → Type 0
-IsFree places at = (slice_get places at ≡ Some None) ⊎ (at ≡ length places)
+-- the same places, and free ones up to that
+abbrev pub reaching : {B L : Type 0} → ℕ → List (Option (Seated B L)) → List (Option (Seated B L))
+reaching at places = places ++ replicate (at + 1 - length places) None
 
--- The link's client sits at a place that was free, and was not heard yet. All other places stay as they were.
+-- The link's client sits at that place, where nobody sat, and was not heard yet. Who sits at any other place is who sat there, and places
+-- were added up to that one alone.
 pub record Admits {B L : Type 0} (old new : DeskValue B L) (link : L) (at : ℕ) : Type 0 where
   pub seated : Seated B L
   pub before : new.before ≡ old.before
   pub seat : new.seat ≡ old.seat
-  pub was_free : IsFree old.places at
+  pub was_free : seated_at old.places at ≡ None
   pub sits : SitsAt new.places at seated
   pub link_is : seated.link ≡ link
   pub is_new : IsNew seated.slot
-  pub others : (k : ℕ) → k ≢ at → slice_get new.places k ≡ slice_get old.places k
+  pub others : (k : ℕ) → k ≢ at → seated_at new.places k ≡ seated_at old.places k
+  pub count : length new.places ≡ max (length old.places) (at + 1)
+
+-- why nobody was taken in at that place
+abbrev pub IsWhy : {B L : Type 0} → List (Option (Seated B L)) → ℕ → NotAdmitted → Type 0
+IsWhy places at Taken = IsSome (seated_at places at)
+IsWhy places at Memory = seated_at places at ≡ None
 
 -- What sat at that place had ended, and its place is free.
 pub record Leaves {B L : Type 0} (old new : DeskValue B L) (at : ℕ) (link : L) : Type 0 where

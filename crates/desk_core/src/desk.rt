@@ -1,21 +1,21 @@
 //! A desk: one seat, and many connections that speak through it.
 
-ghost use Rattle.std.specs.Prelude.{◌≡◌, IfOk, IfSome, IsNone, length};
+ghost use Rattle.std.specs.Prelude.{◌≡◌, IfErr, IfSome, IsNone, OnOk, is_some, length};
 
-use crate::place::{Place, Seated};
-use crate::placing::{give_up_at, is_free, lose_at, ping_at, take_place, turn_at, vacate};
+use crate::place::{NotAdmitted, Place, Seated};
+use crate::placing::{add_places, give_up_at, lose_at, ping_at, take_place, turn_at, vacate};
 use crate::ringers::Ringers;
 use crate::slot::Slot;
 use crate::turned::Turned;
 use claim_core::{BrokerRing, BrokerSeat};
 use outbox_core::{Bell, OutSender};
-use std::alloc::{AllocError, Global};
+use std::alloc::Global;
 use std::marker::Model;
 use std::snapshot::Snapshot;
 use ws_core::Link;
 
-/// One seat at the broker, and the connections that speak through it, each at a place of its own. Contracts see the seat as it was
-/// when the desk was made and as it is, and what sits at the places.
+/// One seat at the broker, and the connections that speak through it, each at a place of its own, which is its client's number. Contracts
+/// see the seat as it was when the desk was made and as it is, and what sits at the places.
 ///
 /// Behind what was the seat's own when the desk was made, what belongs to each session is one conversation, and no two
 /// connections have one session: that is so of each desk, whatever was called of it.
@@ -23,8 +23,6 @@ use ws_core::Link;
 pub struct Desk<B: Bell, L> {
     seat: BrokerSeat<OutSender<B>>,
     pub(crate) places: Vec<Place<B, L>>,
-    // Places from which a connection went, to be taken again.
-    free: Vec<usize>,
     // The seat as it was when the desk was made.
     before: Snapshot<BrokerSeat<OutSender<B>>>,
 }
@@ -40,13 +38,12 @@ impl<B: Bell, L> Model for Desk<B, L> {
 }
 
 impl<B: Bell, L: Link + Drop> Desk<B, L> {
-    ghost use Rattle.std.specs.Prelude.{[], None, OnErr, IsSome, Some, slice_get, true};
+    ghost use Rattle.std.specs.Prelude.{[], OnErr, IsSome, true};
     ghost use Rattle.std.specs.Prelude.{◌≤◌};
     ghost use Rattle.claim_core.specs.Seats.{with_seen};
     ghost use Rattle.desk_core.specs.Conversations.{Converse};
-    ghost use Rattle.desk_core.specs.Desks.{Admits, Leaves, Others, TalkApart, Turns, Touches, desk, seated_at};
+    ghost use Rattle.desk_core.specs.Desks.{Admits, IsWhy, Leaves, Others, TalkApart, Turns, Touches, desk, seated_at};
     ghost use Rattle.desk_core.specs.Places.{is_open_at, is_over_at};
-    ghost use Rattle.desk_core.specs.declared.place.Seated.{Seated};
 
     /// A desk with no connection. No memory is taken.
     pub fn new(alloc: Global, seat: BrokerSeat<OutSender<B>>) -> Desk<B, L>
@@ -56,7 +53,6 @@ impl<B: Bell, L: Link + Drop> Desk<B, L> {
             before: Snapshot::of(&seat),
             seat,
             places: Vec::new(alloc),
-            free: Vec::new(alloc),
         }
     }
 
@@ -69,37 +65,37 @@ impl<B: Bell, L: Link + Drop> Desk<B, L> {
         self.places.len()
     }
 
-    /// Takes a client in, at a free place, which it answers. Where memory is refused, its link is let go.
-    pub fn admit(&mut self, alloc: Global, link: L) -> Result<usize, AllocError>
-        ensures ok { IfOk result (Admits self.old self.new link) }
+    /// Takes a client in at that place, if nobody sits there. Places under it that there were not are free ones. Where it is refused,
+    /// nothing has changed, and its link is let go.
+    pub fn admit(&mut self, alloc: Global, at: usize, link: L) -> Result<(), NotAdmitted>
+        ensures ok { OnOk result (Admits self.old self.new link at) }
         ensures err { OnErr result (self.new ≡ self.old) }
+        ensures why { IfErr result (IsWhy self.old.places at) }
     {
-        let seated = Seated {
-            slot: Slot::new(alloc),
-            link,
-        };
-        match self.free_place() {
-            Some(at) => {
-                take_place(&mut self.places[at], seated);
-                Ok(at)
+        if self.is_taken(at) {
+            drop(link);
+            return Err(NotAdmitted::Taken);
+        }
+        match add_places(&mut self.places, at) {
+            Ok(()) => {
+                let slot = Slot::new(alloc);
+                take_place(&mut self.places[at], Seated { slot, link });
+                Ok(())
             }
-            None => {
-                self.places.push(Some(seated))?;
-                Ok(self.places.len() - 1)
+            Err(_) => {
+                drop(link);
+                Err(NotAdmitted::Memory)
             }
         }
     }
 
-    // A place that is free, to be taken now.
-    fn free_place(&mut self) -> Option<usize>
-        ensures same { self.new ≡ self.old }
-        ensures free { IfSome result (λ at. slice_get self.new.places at ≡ Some None) }
+    // Whether somebody sits there.
+    fn is_taken(&self, at: usize) -> bool
+        ensures { result ≡ is_some (seated_at self.now.places at) }
     {
-        let at = self.free.pop()?;
-        if is_free(self.places.as_slice(), at) {
-            Some(at)
-        } else {
-            None
+        match self.places.get(at) {
+            Some(Some(_)) => true,
+            _ => false,
         }
     }
 
@@ -188,8 +184,6 @@ impl<B: Bell, L: Link + Drop> Desk<B, L> {
         }
         let Seated { slot, link } = vacate(&mut self.places[at])?;
         drop(slot);
-        // Where memory is refused for it, the place is taken no more.
-        let _ = self.free.push(at);
         Some(link)
     }
 
@@ -202,11 +196,9 @@ impl<B: Bell, L: Link + Drop> Desk<B, L> {
         let Desk {
             seat,
             places,
-            free,
             before,
         } = self;
         drop(places);
-        drop(free);
         drop(before);
         seat
     }

@@ -22,7 +22,7 @@ mod turning;
 pub use desk::Desk;
 pub use kept::{Kept, Relayed};
 pub use laws::a_connection_at_a_desk_lives_one_life;
-pub use place::Seated;
+pub use place::{NotAdmitted, Seated};
 pub use relaying::relay;
 pub use ringers::Ringers;
 pub use slot::Slot;

@@ -12,6 +12,15 @@ pub struct Seated<B: Bell, L> {
     pub(crate) link: L,
 }
 
+/// Why a client is not taken in at a place.
+#[derive(Clone, Copy, PartialEq, Eq, Debug)]
+pub enum NotAdmitted {
+    /// Somebody sits there.
+    Taken,
+    /// Memory was refused.
+    Memory,
+}
+
 /// A place at a desk, free or not.
 pub(crate) type Place<B, L> = Option<Seated<B, L>>;
 

@@ -1,7 +1,8 @@
 //! What is done at a place of a desk.
 
-ghost use Rattle.std.specs.Prelude.{◌≡◌, Some, None, IfSome, IsNone, IsSome, true, slice_get};
+ghost use Rattle.std.specs.Prelude.{◌≡◌, Some, None, IfSome, IsNone, IsSome, OnErr, OnOk, true};
 ghost use Rattle.desk_core.specs.Continues.{Continues};
+ghost use Rattle.desk_core.specs.Desks.{reaching};
 ghost use Rattle.desk_core.specs.Places.{ServedAt, UnservedAt, is_over_at, progress_at};
 
 use crate::place::{Place, Seated};
@@ -9,7 +10,7 @@ use crate::ringers::Ringers;
 use crate::turned::Turned;
 use claim_core::{BrokerRing, BrokerSeat};
 use outbox_core::{Bell, OutSender};
-use std::alloc::Global;
+use std::alloc::{AllocError, Global};
 use std::mem;
 use ws_core::Link;
 
@@ -96,9 +97,20 @@ pub fn take_place<B: Bell, L: Drop>(place: &mut Place<B, L>, seated: Seated<B, L
     drop(mem::replace(place, Some(seated)));
 }
 
-// Whether there is that place, and nobody sits there.
-pub fn is_free<B: Bell, L>(places: &[Place<B, L>], at: usize) -> bool
-    ensures { result ≡ true → slice_get places.now at ≡ Some None }
+// Sees that there is that place: what is missing up to it is added, free. Where memory is refused, nothing is.
+pub fn add_places<B: Bell, L>(places: &mut Vec<Place<B, L>>, at: usize) -> Result<(), AllocError>
+    ensures ok { OnOk result (places.new.items ≡ reaching at places.old.items) }
+    ensures err { OnErr result (places.new.items ≡ places.old.items) }
 {
-    matches!(places.get(at), Some(None))
+    if at < places.len() {
+        return Ok(());
+    }
+    let Some(missing) = (at - places.len()).checked_add(1) else {
+        return Err(AllocError);
+    };
+    places.reserve(missing)?;
+    for _place in 0..missing {
+        places.push_reserved(None);
+    }
+    Ok(())
 }

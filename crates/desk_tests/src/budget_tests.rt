@@ -56,7 +56,7 @@ type Came = (u64, Option<u16>, bool);
 fn run(alloc: Global, texts: &[&[u8]], wanted: &[&[u8]]) -> Option<Came> {
     let client = Client::new(alloc, texts, 0)?;
     let mut room = Room::with_areas(alloc, 262_144)?;
-    let place = room.admit(alloc, client);
+    let sits = room.admit(alloc, 0, client);
     room.go_round(alloc, 60);
     let count = room.count();
     let came = match room.dismiss(0) {
@@ -69,7 +69,7 @@ fn run(alloc: Global, texts: &[&[u8]], wanted: &[&[u8]]) -> Option<Came> {
     };
     drop(room);
     let (code, right) = came?;
-    if place == Some(0) {
+    if sits {
         Some((count?, code, right))
     } else {
         None

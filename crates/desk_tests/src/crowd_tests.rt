@@ -60,7 +60,7 @@ fn admit_all(alloc: Global, desk: &mut MemDesk, first: u32)
 {
     for i in 0..CLIENTS {
         if let Some(client) = client_of(alloc, first + i) {
-            let _ = desk.admit(alloc, client);
+            let _ = desk.admit(alloc, i as usize, client);
         }
     }
 }

@@ -72,8 +72,8 @@ fn desk_of_two(alloc: Global, seat: HubSeat) -> Option<MemDesk>
     let second = Client::new(alloc, &[CONNECT], 0);
     match (first, second) {
         (Some(first), Some(second)) => {
-            let _ = desk.admit(alloc, first);
-            let _ = desk.admit(alloc, second);
+            let _ = desk.admit(alloc, 0, first);
+            let _ = desk.admit(alloc, 1, second);
             Some(desk)
         }
         _ => None,

@@ -126,9 +126,9 @@ const ROWS: [Row; 6] = [
 const ROUNDS: u32 = 40;
 
 fn admit_all(alloc: Global, room: &mut Room, guests: &[Guest]) {
-    for guest in guests {
+    for (at, guest) in guests.iter().enumerate() {
         if let Some(client) = Client::new(alloc, guest.texts, guest.stuck) {
-            let _ = room.admit(alloc, client);
+            room.admit(alloc, at, client);
         }
     }
 }
@@ -181,10 +181,10 @@ fn run_cut(alloc: Global, stream: &[u8], at: usize, wanted: &[&[u8]]) -> Option<
     let client = Client::new(alloc, &[front, rest], 0)?;
     let mut room = Room::new(alloc)?;
     admit_all(alloc, &mut room, &[SILENT]);
-    let place = room.admit(alloc, client);
+    let sits = room.admit(alloc, 1, client);
     room.go_round(alloc, ROUNDS);
     let count = room.count();
-    let right = place == Some(1) && has_heard(&room, 1, wanted);
+    let right = sits && has_heard(&room, 1, wanted);
     drop(room);
     Some((count?, right))
 }
@@ -221,9 +221,9 @@ fn dismisses(room: &mut Room, at: usize) -> bool {
     }
 }
 
-// A subscriber that takes nothing goes while a message waits for it, and another takes its place: the place, and whether that one
+// A subscriber that takes nothing goes while a message waits for it, and another takes its place: whether it sits there, and whether it
 // heard its own CONNECTED alone.
-fn run_again(alloc: Global) -> Option<(Option<usize>, bool)> {
+fn run_again(alloc: Global) -> Option<(bool, bool)> {
     let mut room = Room::new(alloc)?;
     admit_all(
         alloc,
@@ -242,16 +242,16 @@ fn run_again(alloc: Global) -> Option<(Option<usize>, bool)> {
     room.go_round(alloc, 2);
     let left = sits && has_heard(&room, 0, &[]) && dismisses(&mut room, 0);
     let next = Client::new(alloc, &[CONNECT], 0)?;
-    let place = room.admit(alloc, next);
+    let sits_there = room.admit(alloc, 0, next);
     room.go_round(alloc, ROUNDS);
     let right = left && has_heard(&room, 0, &[CONNECTED]);
     drop(room);
-    Some((place, right))
+    Some((sits_there, right))
 }
 
 #[test]
 fn who_takes_a_place_hears_nothing_of_the_one_before(rt: HostRuntime) -> Result<(), Fail> {
-    assert_eq!(rt; run_again(rt.alloc()), Some((Some(0), true)));
+    assert_eq!(rt; run_again(rt.alloc()), Some((true, true)));
     Ok(())
 }
 
@@ -261,7 +261,7 @@ fn turns_of_one_short_of_memory(alloc: Global) -> Option<[bool; 2]> {
     let client = Client::new(alloc, &[CONNECT, SEND], 0)?;
     client.run_short(1);
     let mut room = Room::new(alloc)?;
-    let _ = room.admit(alloc, client);
+    room.admit(alloc, 0, client);
     let opened = room.turn(alloc, 0).is_some() && room.flush(alloc);
     let short = room.turn(alloc, 0);
     let unread = room.turn(alloc, 0);

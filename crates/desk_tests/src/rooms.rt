@@ -97,9 +97,9 @@ impl Room {
         }
     }
 
-    /// A client comes in; its place.
-    pub fn admit(&mut self, alloc: Global, client: Client) -> Option<usize> {
-        self.desk.admit(alloc, client).ok()
+    /// A client comes in, at that place; whether it sits there now.
+    pub fn admit(&mut self, alloc: Global, at: usize, client: Client) -> bool {
+        self.desk.admit(alloc, at, client).is_ok()
     }
 
     /// One turn of the client there.

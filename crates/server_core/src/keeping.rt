@@ -40,9 +40,9 @@ impl<'a, R: Wait + Clock + Drop> Service<'a, R> {
             return;
         };
         self.count(number, 0);
-        if let Some(place) = self.place_of(number) {
+        if self.is_seated(number) {
             self.shared.wakeups.log().count(Kind::TookMost);
-            self.desk.lose(place);
+            self.desk.lose(number);
             self.clients.wake(number);
         }
         if self.shared.memory.is_over() {
@@ -50,8 +50,11 @@ impl<'a, R: Wait + Clock + Drop> Service<'a, R> {
         }
     }
 
-    // The place at the desk of a client that has one.
-    fn place_of(&self, number: usize) -> Option<usize> {
-        self.clients.get(number)?.place()
+    // Whether that client sits at the desk.
+    fn is_seated(&self, number: usize) -> bool {
+        match self.clients.get(number) {
+            Some(client) => client.is_seated(),
+            None => false,
+        }
     }
 }

@@ -129,9 +129,8 @@ impl<'a, R: Wait + Clock + Drop> Service<'a, R> {
     pub(crate) fn hear_of(&mut self, number: usize, told: Told, now: u64)
         ensures shared { self.new.shared ≡ self.old.shared }
     {
-        let place = self.clients.hear_of(number, told, now);
-        if let Some(place) = place
-            && let Some(link) = self.desk.link(place)
+        if self.clients.hear_of(number, told, now)
+            && let Some(link) = self.desk.link(number)
         {
             link.stream().tell(told);
         }
@@ -264,23 +263,19 @@ impl<'a, R: Wait + Clock + Drop> Service<'a, R> {
         let Some(client) = self.clients.get(number) else {
             return;
         };
-        let place = client.place();
-        let phase = match place {
-            Some(place) if self.desk.is_open(place) => Phase::Open,
-            Some(_) => Phase::Unopened,
-            None => Phase::Greeting,
-        };
-        match (self.clients.come_due(number, phase, self.now), place) {
-            (Due::Ping, Some(place)) => self.desk.ping(place),
+        let is_seated = client.is_seated();
+        let phase = self.phase_of(number, is_seated);
+        match self.clients.come_due(number, phase, self.now) {
+            Due::Ping if is_seated => self.desk.ping(number),
             // Its turn writes what waits.
-            (Due::Write, Some(_)) => self.clients.wake(number),
-            (Due::GivenUp, Some(place)) => {
-                let kind = self.why_given_up(phase, place);
+            Due::Write if is_seated => self.clients.wake(number),
+            Due::GivenUp if is_seated => {
+                let kind = self.why_given_up(phase, number);
                 self.shared.wakeups.log().count(kind);
-                self.desk.lose(place);
+                self.desk.lose(number);
                 self.clients.wake(number);
             }
-            (Due::GivenUp, None) => {
+            Due::GivenUp => {
                 self.shared.wakeups.log().count(Kind::Unopened);
                 self.leave(number);
             }
@@ -288,9 +283,20 @@ impl<'a, R: Wait + Clock + Drop> Service<'a, R> {
         }
     }
 
+    // How far a client has come, by whether it sits at the desk.
+    fn phase_of(&self, number: usize, is_seated: bool) -> Phase {
+        if !is_seated {
+            Phase::Greeting
+        } else if self.desk.is_open(number) {
+            Phase::Open
+        } else {
+            Phase::Unopened
+        }
+    }
+
     // Why a client at the desk is given up that has come so far.
-    fn why_given_up(&self, phase: Phase, place: usize) -> Kind {
-        let takes_nothing = match self.desk.link(place) {
+    fn why_given_up(&self, phase: Phase, number: usize) -> Kind {
+        let takes_nothing = match self.desk.link(number) {
             Some(link) => link.waits(),
             None => false,
         };
@@ -342,14 +348,14 @@ impl<'a, R: Wait + Clock + Drop> Service<'a, R> {
         ensures shared { self.new.shared ≡ self.old.shared }
     {
         match standing {
-            Standing::Seated(place) => self.turn(number, place),
+            Standing::Seated => self.turn(number),
             Standing::Greeting(greeting) => self.greet(number, greeting),
             Standing::Away => {}
         }
     }
 
     // Gives a client at the desk its turns.
-    fn turn(&mut self, number: usize, place: usize)
+    fn turn(&mut self, number: usize)
         ensures shared { self.new.shared ≡ self.old.shared }
     {
         let ropes = Ropes {
@@ -357,7 +363,7 @@ impl<'a, R: Wait + Clock + Drop> Service<'a, R> {
             client: number,
         };
         let desk = &mut self.desk;
-        let Some(turned) = take_turns(self.alloc, &self.shared.ring, desk, place, &ropes) else {
+        let Some(turned) = take_turns(self.alloc, &self.shared.ring, desk, &ropes) else {
             return;
         };
         if turned.appended {
@@ -365,37 +371,37 @@ impl<'a, R: Wait + Clock + Drop> Service<'a, R> {
         }
         match turned.next {
             Next::Over(_) => {
-                drop(self.desk.dismiss(place));
+                drop(self.desk.dismiss(number));
                 self.leave(number);
             }
             _ => {
-                let flow = self.flow(place);
+                let flow = self.flow(number);
                 self.clients.settle(number, turned, flow, self.now);
-                let holds = self.desk.held(place);
+                let holds = self.desk.held(number);
                 self.count(number, holds);
                 if self.parting {
-                    self.part(number, place, turned.next);
+                    self.part(number, turned.next);
                 }
             }
         }
     }
 
     // Parts with a client that has nothing more to do at once: it hears the close.
-    fn part(&mut self, number: usize, place: usize, next: Next)
+    fn part(&mut self, number: usize, next: Next)
         ensures shared { self.new.shared ≡ self.old.shared }
     {
         match next {
             Next::Go | Next::Write | Next::Close | Next::Over(_) => {}
             Next::Read | Next::Room(_) | Next::Output(_) | Next::Memory => {
-                self.desk.give_up(place);
+                self.desk.give_up(number);
                 self.clients.wake(number);
             }
         }
     }
 
     // What the stream of a client at the desk tells.
-    fn flow(&self, place: usize) -> Flow {
-        match self.desk.link(place) {
+    fn flow(&self, number: usize) -> Flow {
+        match self.desk.link(number) {
             Some(link) => link.stream().flow(),
             None => Flow {
                 taken: 0,
@@ -418,10 +424,8 @@ impl<'a, R: Wait + Clock + Drop> Service<'a, R> {
                 self.clients
                     .stand(number, Standing::Greeting(greeting), has_rest);
             }
-            Greeted::Accepted(link) => match self.desk.admit(self.alloc, link) {
-                Ok(place) => {
-                    self.clients.stand(number, Standing::Seated(place), true);
-                }
+            Greeted::Accepted(link) => match self.desk.admit(self.alloc, number, link) {
+                Ok(()) => self.clients.stand(number, Standing::Seated, true),
                 Err(_) => self.leave(number),
             },
             Greeted::Refused(refusal) => {
@@ -442,26 +446,25 @@ impl<'a, R: Wait + Clock + Drop> Service<'a, R> {
     }
 }
 
-// The turns of the client at that place: after each that put a command into the ring and left more to do it has another, up to `TURNS`.
+// The turns of the client of those ropes: after each that put a command into the ring and left more to do it has another, up to `TURNS`.
 // So what its link has read already comes into one block. They came to what the last of them did; something was heard or appended if it
 // was in one of them. `None` if there is no client.
 fn take_turns(
     alloc: Global,
     ring: &ServerRing,
     desk: &mut ClientDesk,
-    place: usize,
     ropes: &Ropes<'_>,
 ) -> Option<Turned>
     requires { desk.old.seat.ring ≡ ring.now }
     ensures { desk.new.seat.ring ≡ desk.old.seat.ring }
 {
-    let mut last = desk.turn(alloc, ring, place, ropes)?;
+    let mut last = desk.turn(alloc, ring, ropes.client, ropes)?;
     let (appended, mut heard) = (last.appended, last.heard);
     for _turn in 1..TURNS {
         if !last.appended || !matches!(last.next, Next::Go) {
             break;
         }
-        match desk.turn(alloc, ring, place, ropes) {
+        match desk.turn(alloc, ring, ropes.client, ropes) {
             Some(turned) => {
                 heard |= turned.heard;
                 last = turned;

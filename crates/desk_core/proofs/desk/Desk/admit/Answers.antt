@@ -1,30 +1,18 @@
-use Rattle.std.proofs.Common.{◌≡◌, ◌∙◌, None, Some, ap, arith, sym, subst, refl}
-use Rattle.std.specs.Prelude.{slice_get}
+use Rattle.std.proofs.Common.{ap, arith, refl, ◌∙◌}
 use Rattle.connection_core.specs.Connections.{ConnectionValue}
-use Rattle.desk_core.specs.Desks.{DeskValue}
 use Rattle.desk_core.specs.Places.{progress_at}
-use Rattle.desk_core.proofs.Standing.{admits_at, admits_last, last_place, pushed, taken_place}
+use Rattle.desk_core.proofs.Standing.{admits, nobody_is, taken_place, within_reach}
 use Rattle.desk_core.proofs.desk.Desk.admit.Goals as goal
+
+pub index_mut-requires : goal.index_mut-requires
+index_mut-requires g c = omega (arith, within_reach c.self.inside.places.items c.add_places.new.places.items c.args.at c.in-Ok.ensures.ok)
 
 pub invariant_of-self : goal.invariant_of-self
 invariant_of-self g c =
-    taken_place c.self.inside.before.value c.self.inside.seat c.self.inside.places.items c.in-Some.at c.index_mut.result.now c.take_place.new.place
-    (subst (λ (d : DeskValue _ _). slice_get d.places c.in-Some.at ≡ Some None) (sym c.self.view_is) c.in-Some.ensures.free) c.index_mut.ensures.value
-    (ap progress_at c.take_place.ensures ∙ ap (λ (x : ConnectionValue). x.progress) c.new.ensures.connection) c.self.invariant
+    taken_place c.self.inside.before.value c.self.inside.seat c.self.inside.places.items c.add_places.new.places.items c.args.at c.index_mut.result.now c.take_place.new.place
+    c.in-Ok.ensures.ok c.index_mut.ensures.value (ap progress_at c.take_place.ensures ∙ ap (λ (x : ConnectionValue). x.progress) c.new-slot.ensures.connection) c.self.invariant
 
-pub invariant_of-self-in-None : goal.invariant_of-self-in-None
-invariant_of-self-in-None g c =
-    pushed c.self.inside.before.value c.self.inside.seat c.self.inside.places.items c.push.new.self.items _ c.in_ok-push-in-None.ensures.items
-    (ap (λ (x : ConnectionValue). x.progress) c.new.ensures.connection) c.self.invariant
-
-pub returns-in-Some-clause-ok : goal.returns-in-Some-clause-ok
-returns-in-Some-clause-ok g c =
-    admits_at c.args.self.now c.self.inside.before.value c.self.inside.seat c.self.inside.places.items c.in-Some.at c.take_place.new.place _ c.args.link
-    (c.self.view_is ∙ c.free_place.ensures.same) (subst (λ (d : DeskValue _ _). slice_get d.places c.in-Some.at ≡ Some None) (sym c.self.view_is) c.in-Some.ensures.free)
-    c.take_place.ensures refl c.new.ensures
-
-pub returns-in_ok-push-in-None-clause-ok : goal.returns-in_ok-push-in-None-clause-ok
-returns-in_ok-push-in-None-clause-ok g c =
-    let all = c.in_ok-push-in-None.ensures.items in
-    admits_last c.args.self.now c.self.inside.before.value c.self.inside.seat c.self.inside.places.items c.push.new.self.items _ _ c.args.link
-    (c.self.view_is ∙ c.free_place.ensures.same) all (last_place c.self.inside.places.items c.push.new.self.items _ c.len.result all (omega (arith, c.len.ensures))) refl c.new.ensures
+pub returns-in-Ok-clause-ok : goal.returns-in-Ok-clause-ok
+returns-in-Ok-clause-ok g c =
+    admits c.args.self.now c.self.inside.before.value c.self.inside.seat c.self.inside.places.items c.add_places.new.places.items c.args.at c.take_place.new.place _ c.args.link
+    c.self.view_is c.in-Ok.ensures.ok (nobody_is _ c.is_taken.result c.is_taken.ensures c.if-is_taken.false) c.take_place.ensures refl c.new-slot.ensures
