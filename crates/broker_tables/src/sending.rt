@@ -98,7 +98,7 @@ fn copy_to_all(
         ≡ record shared.old { names = fold (λ more name. with_message name_cmp name message.now more) shared.old.names names.now }) }
 {
     for name in names.all() {
-        shared.put_under(alloc, name.clone()?, message.clone()?)?;
+        shared.put_under(alloc, name, message.clone()?)?;
     }
     Ok(())
 }
