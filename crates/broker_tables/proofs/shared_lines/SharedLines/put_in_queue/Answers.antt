@@ -1,4 +1,4 @@
-use Rattle.std.proofs.Common.{◌≡◌, ◌∙◌, ◌+◌, List, ℕ, Result, ap, arith}
+use Rattle.std.proofs.Common.{◌≡◌, ◌∙◌, List, ℕ, ap, arith}
 use Rattle.std.proofs.lemmas.Result.{on_ok_weaker}
 use Rattle.broker_state.specs.Names.{text_cmp}
 use Rattle.broker_state.specs.Waiting.{Lines, Shared, weight_of_lines, weight_of_shared, with_message}
