@@ -1,9 +1,8 @@
 //! What a frame asks for, or why it is refused.
 
-ghost use Rattle.std.specs.Prelude.{◌≡◌, IfOk, Some};
-ghost use Rattle.record_core.specs.Texts.{IsHeaderText};
+ghost use Rattle.std.specs.Prelude.{◌≡◌, IfOk};
 ghost use Rattle.session_core.specs.ReadFrames.{IsRead};
-ghost use Rattle.session_core.specs.Requests.{asked, asked_first, aborts, acks, begins, commits, connects, nacks, sends, subscribes, subscribes_by, unsubscribes};
+ghost use Rattle.session_core.specs.Requests.{asked, asked_first, aborts, acks, begins, commits, connects, nacks, sends, subscribes, unsubscribes};
 
 use crate::headers::{
     ack_mode, client_id, delivery, durable_name, durable_name_at, header, kept_headers, text,
@@ -11,7 +10,7 @@ use crate::headers::{
 use crate::versions::offers_version;
 use command_core::{Fault, Member, Op};
 use frame_core::{Frame, Verb, first};
-use record_core::{AckMode, Dest, DestFault, HeaderText, Sending};
+use record_core::{Dest, DestFault, HeaderText, Sending};
 use std::alloc::{AllocError, Global};
 
 /// What a frame of an open session asks for.
@@ -111,41 +110,17 @@ fn subscribe(alloc: Global, frame: &Frame) -> Result<Result<Request, Fault>, All
     let Some(id) = first(frame, "id") else {
         return Ok(Err(Fault::MissingHeader));
     };
-    let mode = ack_mode(frame);
-    match Dest::read(alloc, destination) {
-        Ok(destination) => match mode {
-            Some(mode) => subscribe_to(alloc, frame, id, destination, mode),
-            None => Ok(Err(Fault::BadHeaderValue)),
-        },
-        Err(DestFault::Bad) => Ok(Err(Fault::BadDestination)),
-        Err(DestFault::Memory(refused)) => {
-            if mode.is_none() {
-                return Ok(Err(Fault::BadHeaderValue));
-            }
-            Err(refused)
-        }
+    match (Dest::read(alloc, destination), ack_mode(frame)) {
+        (Err(DestFault::Bad), _) => Ok(Err(Fault::BadDestination)),
+        (_, None) => Ok(Err(Fault::BadHeaderValue)),
+        (Err(DestFault::Memory(refused)), Some(_)) => Err(refused),
+        (Ok(destination), Some(mode)) => Ok(Ok(Request::Ask(Op::Subscribe {
+            id: text(alloc, id)?,
+            durable: durable_name_at(alloc, &destination, frame)?,
+            destination,
+            mode,
+        }))),
     }
-}
-
-fn subscribe_to(
-    alloc: Global,
-    frame: &Frame,
-    id: &str,
-    destination: Dest,
-    mode: AckMode,
-) -> Result<Result<Request, Fault>, AllocError>
-    requires read { IsRead frame.now }
-    requires id { IsHeaderText id.now }
-    ensures { IfOk result (λ r. r ≡ subscribes_by frame.now destination id.now (Some mode)) }
-{
-    let durable = durable_name_at(alloc, &destination, frame)?;
-    let id = text(alloc, id)?;
-    Ok(Ok(Request::Ask(Op::Subscribe {
-        id,
-        durable,
-        destination,
-        mode,
-    })))
 }
 
 fn unsubscribe(alloc: Global, frame: &Frame) -> Result<Result<Request, Fault>, AllocError>
