@@ -339,33 +339,14 @@ fn a_snapshot_that_is_too_long_breaks_the_area(rt: HostRuntime) -> Result<(), Fa
 // after which nothing is done any more.
 fn fails_to_move(rt: &impl Abort, alloc: Global, passed: u64) -> Result<bool, Fail> {
     let mut disk = formatted(alloc)?;
-    match front(rt, alloc, &mut disk) {
-        Ok((mut area, old)) => {
-            drop(old);
-            let mut fuse = FuseDisk::new(disk, passed);
-            let failed = fails_over(rt, alloc, &mut fuse, &mut area);
-            drop(area);
-            drop(fuse);
-            failed
-        }
-        Err(fail) => {
-            drop(disk);
-            Err(fail)
-        }
-    }
-}
-
-fn fails_over<D: Disk>(
-    rt: &impl Abort,
-    alloc: Global,
-    disk: &mut D,
-    area: &mut Area,
-) -> Result<bool, Fail> {
-    assert!(rt; area.size() == 4_096 && disk.size() == SIZE);
-    match move_over(rt, alloc, disk, area, &[0; 32]) {
+    let (mut area, old) = front(rt, alloc, &mut disk)?;
+    drop(old);
+    let mut fuse = FuseDisk::new(disk, passed);
+    assert!(rt; area.size() == 4_096 && fuse.size() == SIZE);
+    match move_over(rt, alloc, &mut fuse, &mut area, &[0; 32]) {
         Ok(()) => Ok(false),
         Err(AreaFault::Device) => {
-            expect_broken(rt, alloc, disk, area);
+            expect_broken(rt, alloc, &mut fuse, &mut area);
             Ok(true)
         }
         Err(fault) => Err(Fail::from(fault)),
