@@ -90,7 +90,7 @@ impl Progress {
         }
     }
 
-    // Where nothing more is appended.
+    // The progress once nothing more is appended.
     pub(crate) fn over(self) -> Progress
         ensures { result ≡ over self }
     {
