@@ -109,8 +109,8 @@ fn wait_in_their_own(subscriptions: &[Subscription]) -> bool
     subscriptions.iter().all(|sub| waits_in_its_own(sub))
 }
 
-/// Whether no line is empty, and messages stand in lines of their destination alone and only where they may. None may
-/// stand twice in a line and what is unacknowledged from it.
+/// Whether no line is empty, messages stand only where they may, in lines of their destination, and none stands twice
+/// in a line and what is unacknowledged from it.
 pub fn has_lines(alloc: Global, parts: &Parts) -> Result<bool, AllocError>
     ensures { IfOk result (λ yes. IsTrue yes ↔ HasLines (state_of_parts parts.now)) }
 {

@@ -25,7 +25,7 @@ use record_core::AckMode;
 use std::alloc::{AllocError, Global};
 
 /// What decides whether a message that is not acknowledged finds room: its bytes, and those that it has in the queue of
-/// refused messages, unless it is dropped once it is refused.
+/// refused messages. It has none there if it is dropped once it is refused.
 #[derive(Clone, Copy)]
 struct PrecheckSize {
     bytes: u64,

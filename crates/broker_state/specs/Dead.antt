@@ -24,7 +24,7 @@ dead_queue = codes "/queue/dead"
 abbrev pub is_dropped : Bool → Message → Bool
 is_dropped own m = own || bytes_eq m.sending.destination dead_queue
 
--- a refused message as it goes to the queue of those, with its headers and body as they were
+-- a refused message as it goes to the queue of refused ones, with its headers and body as they were
 abbrev pub refused : ℕ → ℕ → Message → Message
 refused command place m = message_of command place (record m.sending { destination = dead_queue })
 

@@ -153,7 +153,7 @@ forgotten s name = record s {
   shared = record s.shared { names = remove_entry (is_at (name_cmp name)) s.shared.names };
 }
 
--- a durable name is given up that is known and that nobody uses
+-- a durable name that is known and that nobody uses is given up
 abbrev pub given_up : State → Name → Result State Fault
 given_up s name = if is_some (topic_of name s.durables) && not (list_any (uses name) s.subscriptions) then Ok (forgotten s name) else Err DurableSubscription
 

@@ -143,7 +143,7 @@ impl Tables {
     }
 
     /// Hands out what waits to the subscriptions that cursors await. They are gone through once, in waiting order: one that
-    /// could not be served before those behind it were can't be served after.
+    /// could not be served before those behind it were can't be served afterwards.
     fn settle_by(
         &mut self,
         alloc: Global,

@@ -89,7 +89,7 @@ fn is_used(order: &Order, name: &DurableName, but: Option<usize>) -> bool
     }
 }
 
-/// Whether a durable name that is bound to that topic may be used for a subscription of that destination: it has to be the
+/// Whether a durable name that is bound to that topic may be used for a subscription of that destination. It has to be the
 /// same topic, and nobody else may use the name.
 fn may_be_used(order: &Order, name: &DurableName, topic: &Dest, destination: &Dest) -> bool
     ensures { result ≡ (bytes_eq topic.now destination.now && not (list_any (uses name.now) order.now)) }
@@ -258,8 +258,8 @@ impl Tables {
     }
 
     /// A subscription begins and waits last, under a durable name if one is given. It is refused if the session has one of
-    /// that id, or 16. With a durable name, it is refused if the session's client has no name, or if the durable name is used
-    /// by somebody, is another topic's, or would be the 257th. The tables are as they were then. If memory is refused, they
+    /// that id, or 16. With a durable name, it is refused if the session's client has none itself, or if somebody uses the
+    /// name, it is another topic's, or it would be the 257th. The tables are as they were then. If memory is refused, they
     /// may be broken.
     pub fn subscribe(
         &mut self,

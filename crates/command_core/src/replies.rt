@@ -200,7 +200,7 @@ fn add_own_headers(
     add_number(alloc, headers, Word::ContentLength, length)
 }
 
-/// The MESSAGE of these headers and those that were sent, with the body that was.
+/// The MESSAGE with these headers and those that were sent, and with the body that was sent.
 fn message(mut headers: Vec<(Text, Text)>, sending: Sending) -> Result<Frame, AllocError>
     ensures { IfOk result (λ frame. frame ≡ record { verb = Verb.Message; headers = headers.items ++ sending.headers; body = sending.body }) }
 {

@@ -18,7 +18,7 @@ pub enum Role {
 }
 
 impl Role {
-    /// Of an operation.
+    /// The role of an operation.
     pub fn of(op: &Op) -> Role
         ensures { result ≡ role_of op.now }
     {

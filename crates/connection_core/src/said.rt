@@ -18,7 +18,7 @@ pub struct Said {
 impl Said {
     ghost use Rattle.connection_core.specs.Conversations.{said_of};
 
-    /// Of a command.
+    /// What a command is to its session.
     pub fn of(command: &Command) -> Said
         ensures { result ≡ said_of command.now }
     {

@@ -1,4 +1,4 @@
-//! How many bytes a snapshot has. To know it, no memory is taken. A sum that eight bytes can't hold stays at the greatest
+//! How many bytes a snapshot has. No memory is taken to know it. A sum that eight bytes can't hold stays at the greatest
 //! number that they can.
 
 ghost use Rattle.std.specs.Prelude.{◌≡◌, ◌<◌, ◌^◌, [], false, length, option_map};
