@@ -13,7 +13,7 @@ use Rattle.broker_state.specs.declared.subscription.Subscription.{Subscription}
 abbrev pub seen_cmp : {K : Type 0} → (K → K → Ordering) → Bor K × MessageNumber → Bor K × MessageNumber → Ordering
 seen_cmp cmp x y = ordering_then (cmp x.0.now y.0.now) (by_number x.1 y.1)
 
--- one where a message of that number was seen under that key, and else none
+-- one if a message of that number was seen under that key, and else none
 abbrev pub seen_at : {K : Type 0} → (K → K → Ordering) → BTreeSet (Bor K × MessageNumber) → K → MessageNumber → ℕ
 seen_at cmp seen key number = cond (contains (seen_cmp cmp) seen (record { ref_ptr = (0, 0); now = key }, number)) 1 0
 
@@ -21,8 +21,7 @@ seen_at cmp seen key number = cond (contains (seen_cmp cmp) seen (record { ref_p
 abbrev pub count_of : MessageNumber → List Message → ℕ
 count_of number messages = count_by (λ m. is_same number m.number) messages
 
--- Each call tells from which key's line a subscription takes: from that of the key which is given and of no other, or from
--- none.
+-- Each call tells from which key's line a subscription takes: from that of the given key and of no other, or from none.
 abbrev pub Tells : {K : Type 0} → (K → K → Ordering) → (Bor Subscription → Option (Bor K) → Type 0) → (K → Subscription → Bool) → Type 0
 Tells {K} cmp post takes =
     (sub : Bor Subscription) (result : Option (Bor K)) → post sub result

@@ -1,4 +1,4 @@
-//! Whether the parts of a state, as they are read from a snapshot, go together to one that a broker can have.
+//! Whether the parts of a state, as they are read from a snapshot, make up a state that a broker can have.
 
 #![tactic(auto)]
 

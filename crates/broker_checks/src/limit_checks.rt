@@ -21,7 +21,7 @@ const MOST: Held = Held {
     bytes: MOST_BYTES,
 };
 
-/// The room that a message leaves, where it fits.
+/// The room that a message leaves, if it fits.
 fn room_beside(room: Held, message: &Message) -> Option<Held>
     ensures { IsLeft room (λ weight. weight message.now) result }
 {
@@ -30,7 +30,7 @@ fn room_beside(room: Held, message: &Message) -> Option<Held>
     Some(Held { messages, bytes })
 }
 
-/// The room that the messages of a line leave, where they fit.
+/// The room that the messages of a line leave, if they fit.
 fn room_beside_line(room: Held, line: &Line) -> Option<Held>
     ensures { IsLeft room (λ weight. sum_by weight line.now) result }
 {
@@ -41,7 +41,7 @@ fn room_beside_line(room: Held, line: &Line) -> Option<Held>
     Some(left)
 }
 
-/// The room that the messages of lines leave, where they fit.
+/// The room that the messages of lines leave, if they fit.
 fn room_beside_lines<K: Ord>(room: Held, lines: &BTreeMap<K, Line>) -> Option<Held>
     ensures { IsLeft room (λ weight. weight_of_lines weight lines.now.entries) result }
 {
@@ -52,7 +52,7 @@ fn room_beside_lines<K: Ord>(room: Held, lines: &BTreeMap<K, Line>) -> Option<He
     Some(left)
 }
 
-/// The room that the messages of deliveries leave, where they fit.
+/// The room that the messages of deliveries leave, if they fit.
 fn room_beside_deliveries(room: Held, deliveries: &[(u64, Message)]) -> Option<Held>
     ensures { IsLeft room (λ weight. sum_by (λ delivery. weight delivery.1) deliveries.now) result }
 {
@@ -63,7 +63,7 @@ fn room_beside_deliveries(room: Held, deliveries: &[(u64, Message)]) -> Option<H
     Some(left)
 }
 
-/// The room that the messages of a subscription leave, where they fit.
+/// The room that the messages of a subscription leave, if they fit.
 fn room_beside_subscription(room: Held, sub: &Subscription) -> Option<Held>
     ensures { IsLeft room (λ weight. weight_of_subscription weight sub.now) result }
 {
@@ -71,7 +71,7 @@ fn room_beside_subscription(room: Held, sub: &Subscription) -> Option<Held>
     room_beside_deliveries(left, sub.unacknowledged.as_slice())
 }
 
-/// The room that the messages of subscriptions leave, where they fit.
+/// The room that the messages of subscriptions leave, if they fit.
 fn room_beside_subscriptions(room: Held, subscriptions: &[Subscription]) -> Option<Held>
     ensures { IsLeft room (λ weight. sum_by (weight_of_subscription weight) subscriptions.now) result }
 {
@@ -82,7 +82,7 @@ fn room_beside_subscriptions(room: Held, subscriptions: &[Subscription]) -> Opti
     Some(left)
 }
 
-/// The room that all messages leave, where they fit.
+/// The room that all messages leave, if they fit.
 fn room_beside_all(room: Held, parts: &Parts) -> Option<Held>
     ensures { IsLeft room (λ weight. weight_of weight (state_of_parts parts.now)) result }
 {
@@ -98,7 +98,7 @@ fn are_within(parts: &Parts) -> bool
     room_beside_all(MOST, parts).is_some()
 }
 
-/// How much is held, where that is no more than may be.
+/// How much is held, which is no more than may be.
 pub fn held_of(parts: &Parts) -> Held
     requires messages { held_messages (state_of_parts parts.now) ≤ 4096 }
     requires bytes { held_bytes (state_of_parts parts.now) ≤ 16777216 }

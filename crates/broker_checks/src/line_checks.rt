@@ -1,4 +1,4 @@
-//! Whether lines have messages of their destination alone, and what else stands where it may.
+//! Whether lines have only messages of their destination, and all else stands where it may.
 
 ghost use Rattle.std.specs.Prelude.{◌≡◌, ◌↔◌, [], IfOk, IfSome, IsTrue, false, true};
 ghost use Rattle.std.specs.List.{AllByRecursion};
@@ -42,21 +42,21 @@ fn deliveries_are_to(deliveries: &[(u64, Message)], to: &Dest) -> bool
     deliveries.iter().all(|(_, message)| is_to(message, to))
 }
 
-/// Whether a line is of a queue, is not empty and has messages to the queue alone.
+/// Whether a line is of a queue, is not empty and has only messages to the queue.
 fn is_of_queue(to: &Dest, line: &Line) -> bool
     ensures { IsTrue result ↔ ((is_queue to.now ≡ true) × (is_none line.now ≡ false) × AreTo to.now line.now) }
 {
     to.is_queue() && !line.is_empty() && line_is_to(line, to)
 }
 
-/// Whether the lines of queues are not empty and have messages to their queues alone.
+/// Whether the lines of queues are not empty and have only messages to their queues.
 fn are_of_queues(queues: &BTreeMap<Dest, Line>) -> bool
     ensures { IsTrue result ↔ AllByRecursion (λ line. (is_queue line.0 ≡ true) × (is_none line.1 ≡ false) × AreTo line.0 line.1) queues.now.entries }
 {
     queues.iter().all(|(to, line)| is_of_queue(to, line))
 }
 
-/// Whether a line of a durable name is not empty and has messages to the name's topic alone.
+/// Whether a line of a durable name is not empty and has only messages to the name's topic.
 fn is_of_name(durables: &BTreeMap<DurableName, Dest>, name: &DurableName, line: &Line) -> bool
     ensures { IsTrue result
         ↔ ((is_none line.now ≡ false) × IfSome (topic_of name.now durables.now.entries) (λ topic. AreTo topic line.now)) }
@@ -67,7 +67,7 @@ fn is_of_name(durables: &BTreeMap<DurableName, Dest>, name: &DurableName, line: 
     }
 }
 
-/// Whether the lines of durable names are not empty and have messages to their names' topics alone.
+/// Whether the lines of durable names are not empty and have only messages to their names' topics.
 fn are_of_names(parts: &Parts) -> bool
     ensures { IsTrue result
         ↔ AllByRecursion (λ line. (is_none line.1 ≡ false) × IfSome (topic_of line.0 parts.now.durables.entries) (λ topic. AreTo topic line.1))
@@ -80,7 +80,7 @@ fn are_of_names(parts: &Parts) -> bool
         .all(|(name, line)| is_of_name(durables, name, line))
 }
 
-/// Whether a subscription has messages to its destination alone.
+/// Whether a subscription has only messages to its destination.
 fn has_its_own(sub: &Subscription) -> bool
     ensures { IsTrue result ↔ AreTo sub.now.destination (had_by sub.now) }
 {
@@ -88,29 +88,29 @@ fn has_its_own(sub: &Subscription) -> bool
         && deliveries_are_to(sub.unacknowledged.as_slice(), &sub.destination)
 }
 
-/// Whether each subscription has messages to its destination alone.
+/// Whether each subscription has only messages to its destination.
 fn have_their_own(subscriptions: &[Subscription]) -> bool
     ensures { IsTrue result ↔ AllByRecursion (λ sub. AreTo sub.destination (had_by sub)) subscriptions.now }
 {
     subscriptions.iter().all(|sub| has_its_own(sub))
 }
 
-/// Whether a subscription has messages in its line only where that is one of its own.
+/// Whether a subscription has messages in its line only if that is one of its own.
 fn waits_in_its_own(sub: &Subscription) -> bool
     ensures { IsTrue result ↔ (is_own sub.now ≡ false → sub.now.line ≡ []) }
 {
     sub.has_own_line() || sub.line.is_empty()
 }
 
-/// Whether each subscription has messages in its line only where that is one of its own.
+/// Whether each subscription has messages in its line only if that is one of its own.
 fn wait_in_their_own(subscriptions: &[Subscription]) -> bool
     ensures { IsTrue result ↔ AllByRecursion (λ sub. is_own sub ≡ false → sub.line ≡ []) subscriptions.now }
 {
     subscriptions.iter().all(|sub| waits_in_its_own(sub))
 }
 
-/// Whether no line is empty, messages stand in lines of their destination alone and only where they may, and none stands
-/// twice in a line and what is unacknowledged from it.
+/// Whether no line is empty, messages stand only where they may, in lines of their destination, and none stands twice
+/// in a line and what is unacknowledged from it.
 pub fn has_lines(alloc: Global, parts: &Parts) -> Result<bool, AllocError>
     ensures { IfOk result (λ yes. IsTrue yes ↔ HasLines (state_of_parts parts.now)) }
 {

@@ -19,7 +19,8 @@ use record_core::{Dest, HeaderText};
 use std::alloc::{AllocError, Global};
 use std::collections::{BTreeMap, BTreeSet};
 
-/// Whether the messages of a line have numbers that differ and that were not seen under the key. They were seen then.
+/// Whether the messages of a line have numbers that differ and that were not seen under the key. If so, they are seen
+/// from then on.
 fn line_is_new<'a, K: Ord>(
     seen: &mut BTreeSet<(&'a K, MessageNumber)>,
     key: &'a K,
@@ -39,7 +40,8 @@ fn line_is_new<'a, K: Ord>(
     Ok(true)
 }
 
-/// Whether the messages of deliveries have numbers that differ and that were not seen under the key. They were seen then.
+/// Whether the messages of deliveries have numbers that differ and that were not seen under the key. If so, they are seen
+/// from then on.
 fn deliveries_are_new<'a, K: Ord>(
     seen: &mut BTreeSet<(&'a K, MessageNumber)>,
     key: &'a K,
@@ -61,7 +63,8 @@ fn deliveries_are_new<'a, K: Ord>(
     Ok(true)
 }
 
-/// Whether the messages of each line have numbers that differ and that were not seen under its key. They were seen then.
+/// Whether the messages of each line have numbers that differ and that were not seen under its key. If so, they are seen
+/// from then on.
 fn lines_are_new<'a, K: Ord>(
     seen: &mut BTreeSet<(&'a K, MessageNumber)>,
     lines: &'a BTreeMap<K, Line>,
@@ -80,7 +83,7 @@ fn lines_are_new<'a, K: Ord>(
     Ok(true)
 }
 
-/// The queue from which a subscription takes its messages, where it is one of a queue.
+/// The queue from which a subscription takes its messages, if it is one of a queue.
 fn queue_of(sub: &Subscription) -> Option<&Dest>
     ensures { MatchOption result ((to : List ℕ) → takes_from to sub.now ≡ false)
         (λ queue. (to : List ℕ) → takes_from to sub.now ≡ is_at (text_cmp to) queue.now) }
@@ -91,7 +94,7 @@ fn queue_of(sub: &Subscription) -> Option<&Dest>
     }
 }
 
-/// The durable name that a subscription uses, where it uses one.
+/// The durable name that a subscription uses, if it uses one.
 fn name_of(sub: &Subscription) -> Option<&DurableName>
     ensures { MatchOption result ((name : Name) → uses name sub.now ≡ false)
         (λ own. (name : Name) → uses name sub.now ≡ is_at (name_cmp name) own.now) }
@@ -103,7 +106,7 @@ fn name_of(sub: &Subscription) -> Option<&DurableName>
 }
 
 /// Whether what the subscriptions of each key have not acknowledged has numbers that differ and that were not seen under
-/// the key, where `key_of` tells the key of a subscription.
+/// the key. `key_of` tells the key of a subscription.
 fn unacknowledged_are_new<'a, K: Ord, F: Fn(&'a Subscription) -> Option<&'a K>>(
     seen: &mut BTreeSet<(&'a K, MessageNumber)>,
     subscriptions: &'a [Subscription],
@@ -126,8 +129,8 @@ fn unacknowledged_are_new<'a, K: Ord, F: Fn(&'a Subscription) -> Option<&'a K>>(
     Ok(true)
 }
 
-/// Whether of each key no message stands twice: in its line, or in what is unacknowledged by its subscriptions, of which
-/// `key_of` tells the key.
+/// Whether for each key no message stands twice in its line and what its subscriptions have not acknowledged. `key_of`
+/// tells the key of a subscription.
 fn are_once_by<'a, K: Ord, F: Fn(&'a Subscription) -> Option<&'a K>>(
     alloc: Global,
     lines: &'a BTreeMap<K, Line>,
@@ -147,7 +150,7 @@ fn are_once_by<'a, K: Ord, F: Fn(&'a Subscription) -> Option<&'a K>>(
     unacknowledged_are_new(&mut seen, subscriptions, key_of)
 }
 
-/// Whether of each queue no message stands twice in its line and what is unacknowledged.
+/// Whether for each queue no message stands twice in its line and what is unacknowledged.
 pub fn are_once_in_queues(alloc: Global, parts: &Parts) -> Result<bool, AllocError>
     ensures { IfOk result (λ yes. IsTrue yes
         ↔ ((to : List ℕ) → AreOnce (line_at text_cmp to parts.now.queues.entries ++ unacknowledged_by (takes_from to) parts.now.subscriptions.items))) }
@@ -156,7 +159,7 @@ pub fn are_once_in_queues(alloc: Global, parts: &Parts) -> Result<bool, AllocErr
     are_once_by(alloc, &parts.queues, subscriptions, |sub| queue_of(sub))
 }
 
-/// Whether of each durable name no message stands twice in its line and what is unacknowledged.
+/// Whether for each durable name no message stands twice in its line and what is unacknowledged.
 pub fn are_once_under_names(alloc: Global, parts: &Parts) -> Result<bool, AllocError>
     ensures { IfOk result (λ yes. IsTrue yes
         ↔ ((name : Name) → AreOnce (line_at name_cmp name parts.now.names.entries ++ unacknowledged_by (uses name) parts.now.subscriptions.items))) }

@@ -47,7 +47,7 @@ fn is_bound_to(parts: &Parts, name: &DurableName, topic: &Dest) -> bool
     }
 }
 
-/// Whether the durable name of a subscription, where it has one, is of its session's client and bound to its topic.
+/// Whether the durable name of a subscription, if it has one, is of its session's client and bound to its topic.
 fn owns_name(parts: &Parts, sub: &Subscription) -> bool
     ensures { IsTrue result ↔ OwnsName (state_of_parts parts.now) sub.now }
 {
@@ -87,7 +87,7 @@ fn have_own_names(alloc: Global, subscriptions: &[Subscription]) -> Result<bool,
     Ok(true)
 }
 
-/// Whether lines stand under bound names alone.
+/// Whether lines stand only under bound names.
 fn are_bound(parts: &Parts) -> bool
     ensures { IsTrue result ↔ AllByRecursion (λ line. IsSome (topic_of line.0 parts.now.durables.entries)) parts.now.names.entries }
 {
@@ -98,8 +98,8 @@ fn are_bound(parts: &Parts) -> bool
         .all(|(name, _)| durables.contains_key(name))
 }
 
-/// Whether at most 256 durable names are bound, each to a topic, one subscription at most has each, as one of its client
-/// and of its topic, and lines stand under bound names alone.
+/// Whether at most 256 durable names are bound, each to a topic, and at most one subscription has each, as one of its
+/// client and of its topic. Lines may stand only under bound names.
 pub fn has_names(alloc: Global, parts: &Parts) -> Result<bool, AllocError>
     ensures { IfOk result (λ yes. IsTrue yes ↔ HasNames (state_of_parts parts.now)) }
 {

@@ -102,7 +102,7 @@ fn is_over_all(next_delivery: u64, subscriptions: &[Subscription]) -> bool
         .all(|sub| is_over_those_of(next_delivery, sub))
 }
 
-/// Whether deliveries have numbers that differ and that were not seen. They were seen then.
+/// Whether deliveries have numbers that differ and that were not seen. If so, they are seen from then on.
 fn are_new(seen: &mut BTreeSet<u64>, deliveries: &[(u64, Message)]) -> Result<bool, AllocError>
     ensures new { IfOk result (λ yes. IsTrue yes
         ↔ ((delivery : ℕ) → cond (contains nat_cmp seen.old delivery) 1 0 + count_by (λ d. d.0 == delivery) deliveries.now ≤ 1)) }
@@ -132,8 +132,8 @@ fn are_once(alloc: Global, subscriptions: &[Subscription]) -> Result<bool, Alloc
     Ok(true)
 }
 
-/// Whether messages are of commands that are counted, and deliveries are under the next one, which is at most 2^63, and
-/// none is unacknowledged twice.
+/// Whether messages are of commands that are counted, deliveries are under the next one, which is at most 2^63, and none
+/// is unacknowledged twice.
 pub fn has_numbers(alloc: Global, parts: &Parts) -> Result<bool, AllocError>
     ensures { IfOk result (λ yes. IsTrue yes ↔ HasNumbers (state_of_parts parts.now)) }
 {
@@ -155,8 +155,8 @@ fn sessions_are_counted(parts: &Parts) -> bool
     parts.sessions.iter().all(|(session, _)| *session < count)
 }
 
-/// Whether the parts stand in order: maps do, so that it is to be seen whether sessions were opened by commands that are
-/// counted.
+/// Whether the parts stand in order. Maps do, so it only has to be seen whether sessions were opened by commands that
+/// are counted.
 pub fn is_in_order(parts: &Parts) -> bool
     ensures { IsTrue result ↔ IsInOrder (state_of_parts parts.now) }
 {

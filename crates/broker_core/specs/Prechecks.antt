@@ -26,7 +26,7 @@ sized own m = record { bytes = bytes m; refused = if is_dropped own m then None 
 abbrev pub flight_of : Subscription → PrecheckFlight
 flight_of sub = record { mode = sub.mode; deliveries = mapped (sized (is_own sub)) sub.unacknowledged }
 
--- the subscriptions of a session so, in waiting order
+-- the subscriptions of a session in that form, in waiting order
 abbrev pub flights_of : ℕ → List Subscription → List PrecheckFlight
 flights_of session subs = map flight_of (filter (is_of session) subs)
 
@@ -82,7 +82,8 @@ pub record StandsFor (session : ℕ) (durables : List (Name × List ℕ)) (subs 
   pub queues : IsStrictlySortedBy text_cmp (keys_of s.shared.queues)
   pub copies : (to : List ℕ) → copies_to to s.durables s.subscriptions ≡ copies_to to durables subs
 
--- A member is refused in the precheck with what it is refused with, and else the precheck stands for the state that it leaves.
+-- A member is refused in the precheck with the fault that it is refused with. Else the precheck stands for the state that it
+-- leaves.
 abbrev pub Leads : ℕ → List (Name × List ℕ) → List Subscription → Precheck → Result (Unit {0}) Fault → Result State Fault → Type 0
 Leads session durables subs precheck (Ok _) (Ok s) = StandsFor session durables subs precheck s
 Leads session durables subs precheck (Err fault) (Err other) = fault ≡ other

@@ -18,7 +18,7 @@ pub fn answer_open(alloc: Global, number: u64, outs: &mut Vec<Out>) -> Result<()
     Ok(())
 }
 
-/// RECEIPT where one was asked for.
+/// RECEIPT, if one was asked for.
 pub fn answer_done(
     alloc: Global,
     number: u64,
@@ -36,7 +36,7 @@ pub fn answer_done(
     Ok(())
 }
 
-/// ERROR, with the receipt where one was asked for.
+/// ERROR, with the receipt if one was asked for.
 pub fn answer_refused(
     alloc: Global,
     number: u64,

@@ -20,9 +20,8 @@ use std::alloc::{AllocError, Global};
 use std::collections::BTreeMap;
 use std::marker::Model;
 
-/// The broker: it carries out commands one after another, numbered from 0, and answers each. Contracts see its state
-/// and whether it is broken. It breaks if memory is refused within a command, and stays so for good: it holds nothing
-/// then.
+/// The broker: it carries out commands one after another, numbered from 0, and answers each. Contracts see its state and
+/// whether it is broken. It breaks if memory is refused within a command, and stays so for good. It holds nothing then.
 #[derive(Drop)]
 pub struct Broker {
     tables: Tables,
@@ -64,8 +63,9 @@ impl Broker {
     }
 
     /// Carries out the command of the next number, and answers its outputs. A NACK keeps what it settles: it goes to
-    /// `/queue/dead`, unless it is of a plain subscription of a topic or was refused before. `Memory` if memory is refused:
-    /// what it held is let go then, its count stays, and from then on the answer is `Broken`, which changes nothing.
+    /// `/queue/dead`, unless it is of a plain subscription of a topic or was refused before. The answer is `Memory` if
+    /// memory is refused. Then what the broker held is let go, its count stays, and from then on the answer is `Broken`,
+    /// which changes nothing.
     pub fn step(&mut self, alloc: Global, command: Command) -> Result<Vec<Out>, BrokerFault>
         requires { self.old.state.count < 2 ^ 62 }
         ensures state { OnOk result (self.new.state ≡ step self.old.state command) }
@@ -76,7 +76,8 @@ impl Broker {
     }
 
     /// Carries out the command of the next number as `step` does, but for a NACK: it drops all messages that it settles, as
-    /// an ACK does. So the commands of a journal of version 1 were carried out. `Memory` and `Broken` as `step`.
+    /// an ACK does. The commands of a journal of version 1 were carried out so. It answers `Memory` and `Broken` as `step`
+    /// does.
     pub fn step_v1(&mut self, alloc: Global, command: Command) -> Result<Vec<Out>, BrokerFault>
         requires { self.old.state.count < 2 ^ 62 }
         ensures state { OnOk result (self.new.state ≡ step_v1 self.old.state command) }
@@ -112,9 +113,9 @@ impl Broker {
         }
     }
 
-    /// Ends every session with its subscriptions, as a stop does, and hands nothing out: what was not acknowledged stands
-    /// in its line again, but for plain subscriptions of topics. `Memory` if memory is refused: what it held is let go
-    /// then, its count stays, and from then on the answer is `Broken`, which changes nothing.
+    /// Ends every session with its subscriptions, as a stop does, and hands nothing out. What was not acknowledged stands
+    /// in its line again, but for plain subscriptions of topics. The answer is `Memory` if memory is refused. Then what the
+    /// broker held is let go, its count stays, and from then on the answer is `Broken`, which changes nothing.
     pub fn restart(&mut self, alloc: Global) -> Result<(), BrokerFault>
         ensures state { OnOk result (self.new.state ≡ restarted self.old.state) }
         ensures outcome { IsOutcome self.old self.new result }
@@ -154,7 +155,7 @@ impl Broker {
         self.tables.next_delivery()
     }
 
-    /// The open sessions, each with the name of its client where it has one.
+    /// The open sessions, each with the name of its client if it has one.
     pub fn sessions(&self) -> &BTreeMap<u64, Option<GivenName>>
         ensures { result.now.entries ≡ self.now.state.sessions }
     {

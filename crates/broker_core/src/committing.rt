@@ -19,7 +19,7 @@ pub fn have_few_members(op: &Op)
     }
 }
 
-/// A member of a transaction is carried out. Refused as it is, and then the tables are as they were.
+/// A member of a transaction is carried out. If it is refused, the tables are as they were.
 fn apply(
     tables: &mut Tables,
     alloc: Global,
@@ -41,8 +41,8 @@ fn apply(
     }
 }
 
-/// The members of a transaction are carried out in their order, or refused together, and then the tables are as they were:
-/// so they are checked before the first of them is carried out. If memory is refused, the tables may be broken.
+/// The members of a transaction are carried out in their order, or refused together, and then the tables are as they were.
+/// So they are checked before the first of them is carried out. If memory is refused, the tables may be broken.
 pub fn commit(
     tables: &mut Tables,
     alloc: Global,
@@ -61,7 +61,7 @@ pub fn commit(
     }
 }
 
-/// Members are carried out in their order, up to the first one that is refused: what those before it did stays.
+/// Members are carried out in their order, up to the first one that is refused. What those before it did stays.
 fn apply_all(
     tables: &mut Tables,
     alloc: Global,

@@ -18,9 +18,9 @@ use command_core::{Command, Fault, Op, Out};
 use record_core::HeaderText;
 use std::alloc::{AllocError, Global};
 
-/// Carries out the command whose number is how many were carried out before it, counts it, and answers its outputs: the
-/// MESSAGEs that it hands out, and then what answers it. A NACK goes by that rule. If memory is refused, the tables may be
-/// broken.
+/// Carries out the command whose number is how many were carried out before it, counts it, and answers its outputs. These
+/// are the MESSAGEs that it hands out, and then what answers it. A NACK goes by that rule. If memory is refused, the
+/// tables may be broken.
 pub fn execute(
     tables: &mut Tables,
     alloc: Global,
@@ -137,7 +137,7 @@ fn end_and_settle(
     tables.settle(alloc, outs)
 }
 
-/// An operation of an open session other than its end, before anything is handed out; refused as it is, and then the
+/// An operation of an open session other than its end is carried out, before anything is handed out. If it is refused, the
 /// tables are as they were.
 fn execute_operation(
     tables: &mut Tables,

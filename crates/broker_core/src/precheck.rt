@@ -1,4 +1,4 @@
-//! A transaction is tried on what decides over its refusal.
+//! A transaction is tried on what decides whether it is refused.
 
 ghost use Rattle.std.specs.Prelude.{◌≡◌, ◌+◌, ◌*◌, ◌≤◌, ◌^◌, ◌<◌, IfOk, IfSome, List, MatchOption, OnOk, Ok, Err, Some, ℕ, false, if◌then◌else◌, is_some, length, slice_get, true};
 ghost use Rattle.std.specs.List.{list_any, sum_by};
@@ -25,7 +25,7 @@ use record_core::AckMode;
 use std::alloc::{AllocError, Global};
 
 /// What decides whether a message that is not acknowledged finds room: its bytes, and those that it has in the queue of
-/// refused messages, unless it is dropped once it is refused.
+/// refused messages. It has none there if it is dropped once it is refused.
 #[derive(Clone, Copy)]
 struct PrecheckSize {
     bytes: u64,
@@ -46,7 +46,7 @@ struct Precheck {
     flights: Vec<PrecheckFlight>,
 }
 
-/// The sizes of a message of a subscription, where it is said whether that has a line of its own.
+/// The sizes of a message of a subscription. `own` says whether that has a line of its own.
 fn sized(own: bool, message: &Message) -> PrecheckSize
     ensures { result ≡ sized own message.now }
 {
@@ -125,7 +125,7 @@ fn sum_of(settled: &[(u64, PrecheckSize)]) -> u64
     bytes
 }
 
-/// How many of settled deliveries are kept where they are refused.
+/// How many of settled deliveries are kept if they are refused.
 fn kept_of(settled: &[(u64, PrecheckSize)]) -> u64
     ensures kept { result ≡ kept_in settled.now }
     ensures few { result ≤ length settled.now }
@@ -154,7 +154,7 @@ fn kept_bytes_of(settled: &[(u64, PrecheckSize)]) -> u64
     bytes
 }
 
-/// The flight in that place has a delivery acknowledged that it has; gives what is settled.
+/// The flight in that place has a delivery acknowledged, which it has. Gives what is settled.
 fn settle_at(
     flights: &mut Vec<PrecheckFlight>,
     at: usize,
@@ -174,8 +174,8 @@ fn settle_at(
     }
 }
 
-/// A delivery is settled in a precheck, with those that its mode settles besides; gives them, or none where no flight has
-/// the delivery, and then nothing changes.
+/// A delivery is settled in a precheck, with the others that its mode settles, and these are given. If no flight has the
+/// delivery, nothing is given, and nothing changes.
 fn precheck_settle(
     precheck: &mut Precheck,
     delivery: u64,
@@ -194,7 +194,7 @@ fn precheck_settle(
     Ok(Some(settled))
 }
 
-/// A delivery is acknowledged in a precheck. Refused where no flight has it, and then nothing changes.
+/// A delivery is acknowledged in a precheck. This is refused if no flight has it, and then nothing changes.
 fn precheck_acknowledge(
     precheck: &mut Precheck,
     delivery: u64,
@@ -211,8 +211,8 @@ fn precheck_acknowledge(
     Ok(Ok(()))
 }
 
-/// A delivery is refused in a precheck, by the rule that keeps. Refused where no flight has it, or where what is kept finds no
-/// room once all that is settled has gone.
+/// A delivery is refused in a precheck, by the rule that keeps. The NACK is refused if no flight has the delivery, or if what
+/// is kept finds no room once all that is settled has gone.
 fn precheck_refuse(precheck: &mut Precheck, delivery: u64) -> Result<Result<(), Fault>, AllocError>
     requires { (session : ℕ) × (durables : List (Name × List ℕ)) × (subs : List Subscription) × (s : State)
         × StandsFor session durables subs precheck.old s }
@@ -250,7 +250,7 @@ fn precheck_nack(
     }
 }
 
-/// So many copies of so many bytes are kept in a precheck. Refused where they find no room, and then nothing changes.
+/// So many copies of so many bytes are kept in a precheck. They are refused if they find no room, and then nothing changes.
 fn precheck_send(precheck: &mut Precheck, copies: u64, size: u64) -> Result<(), Fault>
     requires size { size < 2 ^ 21 }
     requires few { precheck.old.held.messages ≤ 4096 }
@@ -303,7 +303,7 @@ fn begin(alloc: Global, tables: &Tables, session: u64) -> Result<Precheck, Alloc
     })
 }
 
-/// Whether the members of a transaction are refused, and with what: nothing is carried out.
+/// Whether the members of a transaction are refused, and with what. Nothing is carried out.
 pub fn precheck_members(
     alloc: Global,
     rule: NackRule,

@@ -16,11 +16,11 @@ abbrev pub Awaiting : State → ℕ → ℕ → (Subscription → Type 0) → Ty
 Awaiting s session delivery P =
     (sub : Subscription) (others : List Subscription) → picked (awaits session delivery) s.subscriptions ≡ Some (sub, others) → P sub
 
--- a message weighs what it weighs once it is refused
+-- a message weighs the same once it is refused
 abbrev pub IsOfContent : (Message → ℕ) → Type 0
 IsOfContent weight = (command place : ℕ) (m : Message) → weight (refused command place m) ≡ weight m
 
--- what is dropped weighs, of what the NACK of a delivery settles
+-- what the dropped messages weigh, of those that the NACK of a delivery settles
 abbrev pub weight_dropped : (Message → ℕ) → ℕ → Subscription → ℕ
 weight_dropped weight delivery sub =
     sum_by (λ d. if is_dropped (is_own sub) d.1 then weight d.1 else 0) (settled sub.mode delivery sub.unacknowledged)

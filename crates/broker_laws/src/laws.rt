@@ -54,19 +54,19 @@ pub fn outputs_have_the_number_of_their_command()
         → AllByRecursion (λ out. out.number ≡ s.count) (outs_by rule s c) }
 {}
 
-/// What an operation does that is refused, a transaction too, is the end of its session and nothing else.
+/// A refused operation, a transaction too, ends its session and does nothing else.
 pub fn refused_operations_end_their_session()
     ensures { (rule : NackRule) (s : State) (session : ℕ) (op : Op) (fault : Fault) → is_opening op ≡ false → is_open s session ≡ true
         → executed rule s session op ≡ Err fault → done rule s session op ≡ ended s session }
 {}
 
-/// Once all is handed out nothing is left to be handed out.
+/// Once all is handed out, nothing is left to be handed out.
 pub fn handing_out_ends()
     ensures { (s : State) → IsInOrder s → hand_out (settled s).state ≡ None }
 {}
 
-/// A delivery takes its message out of the state where the mode is `auto`, and leaves it there as it was with the others:
-/// whatever a message may weigh.
+/// A delivery takes its message out of the state if the mode is `auto`. With the other modes it leaves the message there
+/// as it was. This holds whatever a message may weigh.
 pub fn deliveries_in_auto_leave_the_state()
     ensures { (weight : Message → ℕ) (s : State) (sub : Subscription) (others : List Subscription) (m : Message) (rest : List Message)
         → IsInOrder s → picked (can_take s) s.subscriptions ≡ Some (sub, others) → line_for s.shared sub ≡ m ∷ rest
@@ -92,8 +92,8 @@ pub fn messages_have_numbers_of_commands()
         → AllByRecursion (λ m. m.number.command < (state_after_all empty_state events).count) (standing (state_after_all empty_state events)) }
 {}
 
-/// A message to a queue is put into one place, and later commands make no more of it, whatever a message may weigh. So
-/// after any commands and restarts, where transactions have at most 64 members, at most one message to a queue has each
+/// A message to a queue is put into one place, and later commands make no more of it, whatever a message may weigh.
+/// Transactions have at most 64 members. So after any commands and restarts at most one message to a queue has each
 /// number, of all that stand in lines and unacknowledged.
 pub fn messages_of_queues_are_in_one_place()
     ensures once { (weight : Message → ℕ) (s : State) (m : Message) → IsInOrder s → is_queue m.sending.destination ≡ true
@@ -104,8 +104,8 @@ pub fn messages_of_queues_are_in_one_place()
     ensures reached { (events : List Event) → AllByRecursion MayBefall events → AreSingle (state_after_all empty_state events) }
 {}
 
-/// A restart after a restart changes nothing more; it leaves the count, the number of the next delivery, the durable names
-/// with their topics, and what each queue and each durable name keeps.
+/// A restart after a restart changes nothing more. A restart leaves the count, the number of the next delivery, the
+/// durable names with their topics, and what each queue and each durable name keeps.
 pub fn restarts_keep_what_is_kept()
     ensures again { (s : State) → restarted (restarted s) ≡ restarted s }
     ensures numbers { (s : State) → ((restarted s).count ≡ s.count) × ((restarted s).next_delivery ≡ s.next_delivery) }

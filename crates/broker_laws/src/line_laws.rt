@@ -8,8 +8,8 @@ ghost use Rattle.broker_state.specs.States.{IsInOrder, State, empty_state};
 ghost use Rattle.broker_state.specs.Steps.{step_by};
 ghost use Rattle.command_core.specs.Commands.{CommandValue};
 
-/// No line that stays is empty. Messages stand in lines of their destination alone, and are unacknowledged there; in a
-/// line and what is unacknowledged from it none stands twice. Nothing stands at first, and each restart keeps this, and each
+/// No line that stays is empty. Messages stand only in lines of their destination, and are unacknowledged there. In a line
+/// and what is unacknowledged from it none stands twice. Nothing stands at first. Each restart keeps this, and so does each
 /// command whose transaction has at most 64 members, as all have.
 pub fn lines_keep_their_messages()
     ensures first { HasLines empty_state }

@@ -7,8 +7,8 @@ ghost use Rattle.broker_state.specs.Operations.{restarted};
 ghost use Rattle.broker_state.specs.Steps.{step_by};
 ghost use Rattle.command_core.specs.Commands.{CommandValue};
 
-/// Messages have numbers of commands that are counted; deliveries are under the next one, and none is unacknowledged
-/// twice: so in the first state, and each command and each restart keeps it so.
+/// Messages have numbers of commands that are counted. Deliveries are under the next one, and none is unacknowledged
+/// twice. So it is in the first state, and each command and each restart keeps it so.
 pub fn numbers_stay_under_the_next()
     ensures first { HasNumbers empty_state }
     ensures step { (rule : NackRule) (s : State) (c : CommandValue) → IsInOrder s → HasNumbers s → HasNumbers (step_by rule s c) }

@@ -5,7 +5,7 @@ ghost use Rattle.broker_state.specs.States.{empty_state, held_messages};
 ghost use Rattle.broker_state.specs.Steps.{state_after, state_after_v1};
 ghost use Rattle.broker_laws.specs.Worked.{dead, refuses_both, refuses_each, two_sent};
 
-/// Two messages of a queue are refused by command 4: by one NACK they have the places 64 and 65, and as members of a
+/// Command 4 refuses two messages of a queue. By one NACK they have the places 64 and 65, and as members of a
 /// transaction 64 and 80. By the rule of version 1 nothing is left of them.
 pub fn refused_messages_are_numbered()
     ensures one { (state_after empty_state (two_sent ++ refuses_both ∷ [])).shared.queues

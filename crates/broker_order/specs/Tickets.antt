@@ -4,7 +4,7 @@ use Rattle.std.specs.List.{AllByRecursion}
 use Rattle.std.specs.Map.{lookup}
 use Rattle.std.specs.declared.cmp.Ordering.{Ordering}
 
--- each ticket is under those behind it
+-- each ticket is under those after it
 abbrev pub IsRising : List ℕ → Type 0
 IsRising [] = ⊤
 IsRising (t ∷ tickets) = AllByRecursion (λ u. t < u) tickets × IsRising tickets
@@ -19,7 +19,7 @@ members passes [] xs = []
 members passes (t ∷ tickets) [] = []
 members passes (t ∷ tickets) (x ∷ xs) = if passes x then t ∷ members passes tickets xs else members passes tickets xs
 
--- the tickets under a key, none where the key has no group
+-- the tickets under a key, none if the key has no group
 abbrev pub group_of : {K : Type 0} → (K → K → Ordering) → List (K × List ℕ) → K → List ℕ
 group_of cmp groups key = unwrap_or (lookup (is_at (cmp key)) groups) []
 

@@ -13,7 +13,7 @@ use record_core::Dest;
 use std::alloc::{AllocError, Global};
 use std::collections::BTreeMap;
 
-/// The tickets of subscriptions, by what they are looked for.
+/// The tickets of subscriptions, by what these are looked for.
 #[derive(Drop)]
 pub struct Directory {
     /// By session.
@@ -36,7 +36,7 @@ impl Directory {
         }
     }
 
-    /// A subscription joins, with a ticket over all others. Where memory is refused, part of it may be done.
+    /// A subscription joins, with a ticket over all others. If memory is refused, part of it may be done.
     pub fn join(&mut self, alloc: Global, sub: &Subscription, ticket: u64) -> Result<(), AllocError>
         requires { (tickets : List ℕ) × (subs : List Subscription) × (length tickets ≡ length subs)
             × IsDirectory self.old tickets subs × AllByRecursion (λ t. t < ticket) tickets }
@@ -50,7 +50,7 @@ impl Directory {
         }
     }
 
-    /// A subscription leaves, which has that ticket.
+    /// The subscription that has that ticket leaves.
     pub fn leave(&mut self, sub: &Subscription, ticket: u64)
         ensures { (tickets : List ℕ) (subs : List Subscription) (at : ℕ) → IsRising tickets
             → slice_get tickets at ≡ Some ticket → slice_get subs at ≡ Some sub.now
@@ -63,7 +63,7 @@ impl Directory {
         }
     }
 
-    /// A subscription that has that ticket leaves to join again: its groups stay, so that they aren't made anew.
+    /// The subscription that has that ticket leaves to join again: its groups stay, so that they aren't made anew.
     pub fn step_aside(&mut self, sub: &Subscription, ticket: u64)
         ensures { (tickets : List ℕ) (subs : List Subscription) (at : ℕ) → IsRising tickets
             → slice_get tickets at ≡ Some ticket → slice_get subs at ≡ Some sub.now

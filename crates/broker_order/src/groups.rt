@@ -10,7 +10,7 @@ use crate::tickets::Tickets;
 use std::alloc::{AllocError, Global};
 use std::collections::BTreeMap;
 
-/// A ticket begins the group under that key, which has none. Where memory is refused, nothing changes.
+/// A ticket begins the group under that key, which has none. If memory is refused, nothing changes.
 fn begin<K: Ord + Clone + Drop>(
     alloc: Global,
     groups: &mut BTreeMap<K, Tickets>,
@@ -29,7 +29,7 @@ fn begin<K: Ord + Clone + Drop>(
     Ok(())
 }
 
-/// A ticket joins the group under that key, as its last. Where memory is refused, nothing changes.
+/// A ticket joins the group under that key, as its last. If memory is refused, nothing changes.
 pub fn join<K: Ord + Clone + Drop>(
     alloc: Global,
     groups: &mut BTreeMap<K, Tickets>,
@@ -48,7 +48,7 @@ pub fn join<K: Ord + Clone + Drop>(
     begin(alloc, groups, key, ticket)
 }
 
-/// Takes a ticket out of the group under that key, which stays; answers whether it is empty then.
+/// Takes a ticket out of the group under that key, which stays. It answers whether the group is empty then.
 pub fn take_from<K: Ord + Drop>(groups: &mut BTreeMap<K, Tickets>, key: &K, ticket: u64) -> bool
     ensures left { (q : K) → group_of K.cmp groups.new.entries q
         ≡ (if is_at (K.cmp key.now) q then without ticket (group_of K.cmp groups.old.entries q) else group_of K.cmp groups.old.entries q) }

@@ -20,13 +20,12 @@ use std::alloc::{AllocError, Global};
 use std::collections::VecDeque;
 use std::marker::Model;
 
-/// The subscriptions in waiting order: the first one that can be served is served next, and then waits last. Contracts
-/// see the list of them. Those of a session, of a destination or of a durable name are found without a look at the
-/// others.
+/// The subscriptions in waiting order: the first one that can be served is served next, and then waits last. Contracts see
+/// the list of them. Those of a session, of a destination or of a durable name are found without a look at the others.
 #[derive(Drop)]
 pub struct Order {
     all: VecDeque<Slot>,
-    /// The number of each, in the same place: by it the directory knows the subscription, whose place changes.
+    /// The number of each, in the same place. By it the directory knows the subscription, whose place changes.
     tickets: Tickets,
     next_ticket: u64,
     directory: Directory,
@@ -62,7 +61,7 @@ fn number(alloc: Global, all: &VecDeque<Slot>) -> Result<(Tickets, Directory), A
     Ok((tickets, directory))
 }
 
-/// A subscription gets a ticket over all others, and joins the directory. Where memory is refused, part of it may be done.
+/// A subscription gets a ticket over all others, and joins the directory. If memory is refused, part of it may be done.
 fn enroll(
     alloc: Global,
     tickets: &mut Tickets,
@@ -78,8 +77,8 @@ fn enroll(
     tickets.add(ticket)
 }
 
-/// A ticket that may still be given: the next one, or where that is the last number that there is, the next one after all
-/// subscriptions got new ones. Where memory is refused, nothing changes.
+/// A ticket that may still be given: the next one. If that is the last number that there is, it is the next one after all
+/// subscriptions got new ones. If memory is refused, nothing changes.
 fn free_ticket(
     alloc: Global,
     all: &VecDeque<Slot>,
@@ -100,7 +99,7 @@ fn free_ticket(
     Ok(all.len() as u64)
 }
 
-/// A subscription waits last; gives the next ticket. Where memory is refused, part of it may be done.
+/// Puts a subscription last, and gives the next ticket. If memory is refused, part of it may be done.
 fn enter(
     alloc: Global,
     all: &mut VecDeque<Slot>,
@@ -120,7 +119,7 @@ fn enter(
     Ok(ticket + 1)
 }
 
-/// How many tickets a group has, where there is one.
+/// How many tickets a group has, if there is one.
 fn count_in(group: Option<&Tickets>) -> usize
     ensures len { result ≡ length (unwrap_or (option_copied group.entry) []) }
     ensures small { result < 2 ^ 63 }
@@ -131,7 +130,7 @@ fn count_in(group: Option<&Tickets>) -> usize
     }
 }
 
-/// The place of the first subscription from a place on whose ticket is in a group, or the end.
+/// The place of the first subscription, from a place on, whose ticket is in a group, or the end.
 fn next_in(tickets: &Tickets, group: Option<&Tickets>, from: usize) -> usize
     requires { from ≤ length tickets.now }
     ensures { (passes : Subscription → Bool) (subs : List Subscription) → length tickets.now ≡ length subs
@@ -147,7 +146,7 @@ fn next_in(tickets: &Tickets, group: Option<&Tickets>, from: usize) -> usize
     next_of(tickets, group, from)
 }
 
-/// The place of the first subscription from a place on whose ticket is in that group, or the end.
+/// The place of the first subscription, from a place on, whose ticket is in that group, or the end.
 fn next_of(tickets: &Tickets, group: &Tickets, from: usize) -> usize
     requires { from < length tickets.now }
     ensures { (passes : Subscription → Bool) (subs : List Subscription) → length tickets.now ≡ length subs
@@ -215,7 +214,7 @@ impl Order {
         self.all[at].get()
     }
 
-    /// One more, which waits last. Where memory is refused, none is left.
+    /// One more, which waits last. If memory is refused, none is left.
     pub fn add(&mut self, alloc: Global, sub: Subscription) -> Result<(), AllocError>
         ensures ok { OnOk result (self.new ≡ self.old ++ sub ∷ []) }
         ensures err { OnErr result (self.new ≡ []) }
@@ -240,7 +239,7 @@ impl Order {
         }
     }
 
-    /// Takes the one in that place out. No memory is taken.
+    /// Takes out the one in that place. No memory is taken.
     pub fn remove(&mut self, at: usize) -> Subscription
         requires { at < length self.old }
         ensures taken { slice_get self.old at ≡ Some result }
@@ -253,7 +252,7 @@ impl Order {
         sub
     }
 
-    /// Takes the one in that place out, which is to be added again soon: what finds it keeps room for it. No memory is taken.
+    /// Takes out the one in that place, which is to be added again soon: what finds it keeps room for it. No memory is taken.
     pub fn lift(&mut self, at: usize) -> Subscription
         requires { at < length self.old }
         ensures taken { slice_get self.old at ≡ Some result }
@@ -266,7 +265,7 @@ impl Order {
         sub
     }
 
-    /// The own line of the one in that place gets a message. Where memory is refused, nothing changes.
+    /// The own line of the one in that place gets a message. If memory is refused, nothing changes.
     pub fn put(&mut self, at: usize, message: Message) -> Result<(), AllocError>
         requires { at < length self.old }
         ensures ok { OnOk result (self.new ≡ changed at (λ sub. record sub { line = inserted message sub.line }) self.old) }
@@ -276,8 +275,8 @@ impl Order {
         slot.put(message)
     }
 
-    /// The one in that place has a delivery acknowledged, with those that its mode settles besides; gives what is settled.
-    /// Where memory is refused, nothing changes.
+    /// The one in that place has a delivery acknowledged, with the others that its mode settles. It gives what is settled. If
+    /// memory is refused, nothing changes.
     pub fn settle(&mut self, at: usize, delivery: u64) -> Result<Vec<(u64, Message)>, AllocError>
         requires place { at < length self.old }
         requires known { (sub : Subscription) → slice_get self.old at ≡ Some sub → has_delivery delivery sub.unacknowledged ≡ true }

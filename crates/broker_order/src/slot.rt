@@ -27,7 +27,7 @@ impl Model for Slot {
 }
 
 impl Slot {
-    /// A slot for a subscription. Where memory is refused, it is dropped.
+    /// A slot for a subscription. If memory is refused, the subscription is dropped.
     pub fn new(alloc: Global, sub: Subscription) -> Result<Slot, AllocError>
         ensures { IfOk result (λ slot. slot ≡ sub) }
     {
@@ -43,14 +43,14 @@ impl Slot {
         &self.sub
     }
 
-    /// Takes the subscription out.
+    /// Takes out the subscription.
     pub fn into_subscription(self) -> Subscription
         ensures { result ≡ self }
     {
         Box::into_inner(self.sub)
     }
 
-    /// Its own line gets a message. Where memory is refused, nothing changes.
+    /// Its own line gets a message. If memory is refused, nothing changes.
     pub fn put(&mut self, message: Message) -> Result<(), AllocError>
         ensures ok { OnOk result (self.new ≡ record self.old { line = inserted message self.old.line }) }
         ensures same { OnErr result (self.new ≡ self.old) }
@@ -59,7 +59,7 @@ impl Slot {
         self.sub.line.put(message)
     }
 
-    /// It has a delivery acknowledged, with those that its mode settles besides; gives what is settled. Where memory is
+    /// It has a delivery acknowledged, with the others that its mode settles, and gives what is settled. If memory is
     /// refused, nothing changes.
     pub fn settle(&mut self, delivery: u64) -> Result<Vec<(u64, Message)>, AllocError>
         requires { has_delivery delivery self.old.unacknowledged ≡ true }

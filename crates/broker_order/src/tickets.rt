@@ -52,7 +52,7 @@ impl Tickets {
         self.all[at]
     }
 
-    /// How many are under a ticket: its own place, where it is there.
+    /// How many are under a ticket: its own place, if it is there.
     pub fn place_of(&self, ticket: u64) -> usize
         ensures within { result ≤ length self.now }
         ensures under { (i t : ℕ) → slice_get self.now i ≡ Some t → i < result → t < ticket }
@@ -65,7 +65,7 @@ impl Tickets {
         }
     }
 
-    /// One more, over all others. Where memory is refused, nothing changes.
+    /// One more, over all others. If memory is refused, nothing changes.
     pub fn add(&mut self, ticket: u64) -> Result<(), AllocError>
         requires { AllByRecursion (λ t. t < ticket) self.old }
         ensures ok { OnOk result (self.new ≡ self.old ++ ticket ∷ []) }
@@ -75,7 +75,7 @@ impl Tickets {
         Ok(())
     }
 
-    /// Takes the ticket in that place out.
+    /// Takes out the ticket in that place.
     pub fn remove(&mut self, at: usize) -> u64
         requires { at < length self.old }
         ensures taken { slice_get self.old at ≡ Some result }
@@ -85,7 +85,7 @@ impl Tickets {
         self.all.remove(at).unwrap()
     }
 
-    /// Takes a ticket out, where it is there.
+    /// Takes out a ticket, if it is there.
     pub fn take_out(&mut self, ticket: u64)
         ensures { self.new ≡ without ticket self.old }
     {

@@ -19,25 +19,25 @@ use Rattle.broker_state.specs.Waiting.{Lines, is_own, line_at, with_message}
 abbrev pub dead_queue : List ℕ
 dead_queue = codes "/queue/dead"
 
--- A refused message is dropped where its subscription has a line of its own, which is a plain one of a topic, or where it
--- was refused before.
+-- A refused message is dropped if its subscription is a plain one of a topic, which has a line of its own, or if the
+-- message was refused before.
 abbrev pub is_dropped : Bool → Message → Bool
 is_dropped own m = own || bytes_eq m.sending.destination dead_queue
 
--- a refused message as it goes to the queue of those, with its headers and body as they were
+-- a refused message as it goes to the queue of refused ones, with its headers and body as they were
 abbrev pub refused : ℕ → ℕ → Message → Message
 refused command place m = message_of command place (record m.sending { destination = dead_queue })
 
--- Of settled messages, each that isn't dropped, as it goes to the queue of refused ones: all are counted, from that place
--- on, those too that are dropped.
+-- Of settled messages, each that isn't dropped, as it goes to the queue of refused ones. All are counted from that place
+-- on, even those that are dropped.
 abbrev pub refused_from : (Message → Bool) → ℕ → ℕ → List (ℕ × Message) → List Message
 refused_from drops command place [] = []
 refused_from drops command place (delivery ∷ deliveries) =
     let others = refused_from drops command (place + 1) deliveries in
     if drops delivery.1 then others else refused command place delivery.1 ∷ others
 
--- The place of the first message that is settled by a NACK, of that place among the members of its command: the places
--- under 64 are those of SENDs, and each NACK has 16, as many as a subscription has unacknowledged messages at most.
+-- The place of the first message that a NACK settles, if the NACK has that place among the members of its command. The
+-- places under 64 are those of SENDs. Each NACK has 16, as many as a subscription has unacknowledged messages at most.
 abbrev pub first_place : ℕ → ℕ
 first_place member = 64 + 16 * member
 
@@ -58,7 +58,7 @@ with_refused messages lines = fold (λ more m. with_message text_cmp dead_queue 
 abbrev pub keeping : List Message → State → State
 keeping messages s = record s { shared = record s.shared { queues = with_refused messages s.shared.queues } }
 
--- a state, where what it holds is within the limits
+-- a state, if what it holds is within the limits
 abbrev pub with_room : State → Result State Fault
 with_room s = if is_within s then Ok s else Err NoRoom
 
@@ -68,13 +68,13 @@ keeping_from messages (Ok s) = with_room (keeping messages s)
 keeping_from messages (Err fault) = Err fault
 
 -- A NACK settles what an ACK would settle. What it keeps then stands in the queue of refused messages, and it is refused
--- where all of that finds no room.
+-- if all of that finds no room.
 abbrev pub nacked : NackRule → State → ℕ → ℕ → ℕ → Result State Fault
 nacked Drops s session member delivery = acknowledged s session delivery
 nacked Keeps s session member delivery = keeping_from (kept_by_nack s session member delivery) (acknowledged s session delivery)
 
--- What has become of a delivery of a subscription after the NACK of one of them: it is not settled, or the rule drops its
--- message, or that stands in the queue of refused messages with its headers and body.
+-- What has become of a delivery of a subscription after the NACK of one of them. It is not settled, or the rule drops its
+-- message, or the message stands in the queue of refused messages with its headers and body.
 abbrev pub IsStill : State → State → ℕ → Subscription → ℕ × Message → Type 0
 IsStill s t delivery sub d =
     (settles sub.mode delivery d.0 ≡ false) ⊎ (is_dropped (is_own sub) d.1 ≡ true)

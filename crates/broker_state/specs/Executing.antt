@@ -15,7 +15,7 @@ applied rule s session place (members.Send sending) = sent s place sending
 applied rule s session place (members.Ack delivery) = acknowledged s session delivery
 applied rule s session place (members.Nack delivery) = nacked rule s session place delivery
 
--- The members of a transaction are applied in their order, from that place on, with nothing handed out between them; where
+-- The members of a transaction are applied in their order, from that place on, with nothing handed out between them. If
 -- one is refused, all are (STOMP 1.2, "COMMIT").
 abbrev pub committed : NackRule → State → ℕ → ℕ → List Member → Result State Fault
 committed rule s session place [] = Ok s

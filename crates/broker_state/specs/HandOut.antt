@@ -28,7 +28,7 @@ pub record Handed : Type 0 where
   pub state : State
   pub out : OutValue
 
--- the number by which a delivery is acknowledged, where it is to be
+-- the number by which a delivery is acknowledged, if it is to be
 abbrev pub ack_of : Subscription → ℕ → Option ℕ
 ack_of sub delivery = if is_auto sub.mode then None else Some delivery
 
@@ -44,7 +44,7 @@ message_out number sub delivery m = record {
 abbrev pub delivered : Subscription → ℕ → Message → Subscription
 delivered sub delivery m = record sub { unacknowledged = if is_auto sub.mode then sub.unacknowledged else sub.unacknowledged ++ (delivery, m) ∷ [] }
 
--- a subscription gets the least message of its line, and then waits last behind the others
+-- a subscription gets the least message of its line, and then waits last, after the others
 abbrev pub handed : State → Subscription → List Subscription → Message → List Message → Handed
 handed s sub others m rest = record {
   state = record s {
@@ -84,7 +84,7 @@ abbrev pub settling : ℕ → State → Settling
 settling zero s = record { state = s; outs = [] }
 settling (suc n) s = elim (hand_out s) as (λ o. Settling) [ None ↦ record { state = s; outs = [] } | Some h ↦ behind h (settling n h.state) ]
 
--- Deliveries one after another until none can be made: each takes a message out of a line, so there are at most as many
--- as wait.
+-- Deliveries one after another until none can be made. Each takes a message out of a line, so there are at most as many
+-- as messages wait.
 abbrev pub settled : State → Settling
 settled s = settling (waiting s) s

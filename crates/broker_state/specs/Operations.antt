@@ -42,7 +42,7 @@ fanned_out s m =
 abbrev pub is_within : State → Bool
 is_within s = nat_le (held_messages s) 4096 && nat_le (held_bytes s) 16777216
 
--- A SEND is accepted where all its copies find room, before any is handed out (STOMP 1.2, "SEND").
+-- A SEND is accepted if all its copies find room, before any is handed out (STOMP 1.2, "SEND").
 abbrev pub sent : State → ℕ → SendingValue → Result State Fault
 sent s place sending =
     let t = fanned_out s (message_of s.count place sending) in
@@ -56,14 +56,14 @@ is_of session sub = session == sub.session
 abbrev pub is_named : ℕ → List ℕ → Subscription → Bool
 is_named session id sub = is_of session sub && bytes_eq id sub.id
 
--- the client-id of a session, where it has one
+-- the client-id of a session, if it has one
 abbrev pub client_in : List (ℕ × Option (List ℕ)) → ℕ → Option (List ℕ)
 client_in sessions session = unwrap_or (lookup (is_at (nat_cmp session)) sessions) None
 
 abbrev pub client_of : State → ℕ → Option (List ℕ)
 client_of s session = client_in s.sessions session
 
--- the topic to which a durable name is bound, where it is
+-- the topic to which a durable name is bound, if it is
 abbrev pub topic_of : Name → List (Name × List ℕ) → Option (List ℕ)
 topic_of name durables = lookup (is_at (name_cmp name)) durables
 
@@ -80,7 +80,7 @@ fresh session id destination mode name =
 abbrev pub with_subscription : State → Subscription → State
 with_subscription s sub = record s { subscriptions = s.subscriptions ++ sub ∷ [] }
 
--- a durable name that is bound is used again, where nobody uses it and its topic is the subscription's
+-- a durable name that is bound is used again, if nobody uses it and its topic is the subscription's
 abbrev pub used_again : State → Subscription → Name → List ℕ → Result State Fault
 used_again s sub name topic =
     if bytes_eq topic sub.destination && not (list_any (uses name) s.subscriptions) then Ok (with_subscription s sub) else Err DurableSubscription
@@ -95,7 +95,7 @@ bound s sub name =
 abbrev pub begun_under : State → Subscription → Name → Result State Fault
 begun_under s sub name = elim (topic_of name s.durables) as (λ o. Result State Fault) [ None ↦ bound s sub name | Some topic ↦ used_again s sub name topic ]
 
--- a subscription begins, under its durable name where it has one
+-- a subscription begins, under its durable name if it has one
 abbrev pub begun_by : State → Subscription → Option Name → Result State Fault
 begun_by s sub None = Ok (with_subscription s sub)
 begun_by s sub (Some name) = begun_under s sub name
@@ -108,7 +108,7 @@ abbrev pub named : Option (List ℕ) → List ℕ → Result (Option Name) Fault
 named None name = Err NoClientId
 named (Some client) name = Ok (Some (client, name))
 
--- the durable name of a client's subscription, where one is given; on a queue it is left away
+-- the durable name of a client's subscription, if one is given; for a queue it is left out
 abbrev pub name_for : Option (List ℕ) → List ℕ → Option (List ℕ) → Result (Option Name) Fault
 name_for client destination None = Ok None
 name_for client destination (Some name) = if is_queue destination then Ok None else named client name
@@ -117,7 +117,7 @@ abbrev pub begun_for : State → ℕ → List ℕ → List ℕ → AckMode → R
 begun_for s session id destination mode (Ok name) = begun s (fresh session id destination mode name)
 begun_for s session id destination mode (Err fault) = Err fault
 
--- A SUBSCRIBE is refused where the session has a subscription of that id, or 16; the new one waits last (STOMP 1.2,
+-- A SUBSCRIBE is refused if the session has a subscription of that id, or 16. The new one waits last (STOMP 1.2,
 -- "SUBSCRIBE").
 abbrev pub subscribed : State → ℕ → List ℕ → List ℕ → AckMode → Option (List ℕ) → Result State Fault
 subscribed s session id destination mode durable =
@@ -133,7 +133,7 @@ abbrev pub ended_one : State → Option (Subscription × List Subscription) → 
 ended_one s None = Err UnknownSubscription
 ended_one s (Some p) = Ok (without s p.0 p.1)
 
--- An UNSUBSCRIBE by id ends the subscription of that id, and is refused where there is none (STOMP 1.2, "UNSUBSCRIBE").
+-- An UNSUBSCRIBE by id ends the subscription of that id, and is refused if there is none (STOMP 1.2, "UNSUBSCRIBE").
 abbrev pub unsubscribed : State → ℕ → List ℕ → Result State Fault
 unsubscribed s session id = ended_one s (picked (is_named session id) s.subscriptions)
 
@@ -141,7 +141,7 @@ abbrev pub or_same : State → Result State Fault → State
 or_same s (Ok t) = t
 or_same s (Err fault) = s
 
--- the state without the session's subscription of that id, where an id is given and there is one
+-- the state without the session's subscription of that id, if an id is given and there is one
 abbrev pub without_named : State → ℕ → Option (List ℕ) → State
 without_named s session None = s
 without_named s session (Some id) = or_same s (unsubscribed s session id)
@@ -153,7 +153,7 @@ forgotten s name = record s {
   shared = record s.shared { names = remove_entry (is_at (name_cmp name)) s.shared.names };
 }
 
--- a durable name is given up that is known and that nobody uses
+-- a durable name that is known and that nobody uses is given up
 abbrev pub given_up : State → Name → Result State Fault
 given_up s name = if is_some (topic_of name s.durables) && not (list_any (uses name) s.subscriptions) then Ok (forgotten s name) else Err DurableSubscription
 
@@ -162,7 +162,7 @@ abbrev pub given_up_for : State → Option (List ℕ) → List ℕ → Result St
 given_up_for s None name = Err NoClientId
 given_up_for s (Some client) name = given_up s (client, name)
 
--- an UNSUBSCRIBE by durable name, after the end of the subscription of that id where one is given, or by id alone
+-- an UNSUBSCRIBE by durable name, after the end of the subscription of that id if one is given, or by id alone
 abbrev pub unsubscribed_by : State → ℕ → Option (List ℕ) → Option (List ℕ) → Result State Fault
 unsubscribed_by s session id (Some name) = given_up_for (without_named s session id) (client_of s session) name
 unsubscribed_by s session (Some id) None = unsubscribed s session id
@@ -172,11 +172,11 @@ unsubscribed_by s session None None = Err UnknownSubscription
 abbrev pub awaits : ℕ → ℕ → Subscription → Bool
 awaits session delivery sub = is_of session sub && has_delivery delivery sub.unacknowledged
 
--- the subscription once the delivery is acknowledged, with those that its mode settles besides
+-- the subscription once the delivery is acknowledged, with the others that its mode settles
 abbrev pub settled_by : ℕ → Subscription → Subscription
 settled_by delivery sub = record sub { unacknowledged = unsettled sub.mode delivery sub.unacknowledged }
 
--- An ACK settles what its session has not acknowledged, and is refused where that delivery isn't there (STOMP 1.2, "ACK").
+-- An ACK settles what its session has not acknowledged, and is refused if that delivery isn't there (STOMP 1.2, "ACK").
 abbrev pub acknowledged : State → ℕ → ℕ → Result State Fault
 acknowledged s session delivery =
     if list_any (awaits session delivery) s.subscriptions

@@ -26,8 +26,8 @@ abbrev pub leaving : Result (Unit {0}) Fault → State → Result State Fault
 leaving (Ok _) s = Ok s
 leaving (Err fault) s = Err fault
 
--- how many copies of a message to that destination the broker keeps: one in a queue's line, or one for each durable name of
--- the topic and for each of its subscriptions with a line of its own
+-- How many copies of a message to that destination the broker keeps. A queue's line gets one. Else each durable name of the
+-- topic gets one, and so does each of the topic's subscriptions with a line of its own.
 abbrev pub copies_to : List ℕ → List (Name × List ℕ) → List Subscription → ℕ
 copies_to to durables subs =
     if is_queue to then 1 else count_by (λ durable. bytes_eq durable.1 to) durables + count_by (λ sub. is_own sub && bytes_eq sub.destination to) subs
@@ -46,17 +46,17 @@ abbrev pub is_end : Op → Bool
 is_end (End _) = true
 is_end _ = false
 
--- the state once the subscription in that place has ended, where a place is given
+-- the state once the subscription in that place has ended, if a place is given
 abbrev pub without_at : State → Option ℕ → State
 without_at s None = s
 without_at s (Some at) = elim (slice_get s.subscriptions at) as (λ o. State) [ None ↦ s | Some sub ↦ without s sub (remove s.subscriptions at) ]
 
--- the list without the item in that place, where a place is given
+-- the list without the item in that place, if a place is given
 abbrev pub but_at : {X : Type 0} → List X → Option ℕ → List X
 but_at xs None = xs
 but_at xs (Some at) = remove xs at
 
--- the place is that of the session's subscription of that id; there is none where there is no such one, or no id
+-- the place is that of the session's subscription of that id; there is none if there is no such subscription, or no id
 abbrev pub IsGivenAt : ℕ → Option (List ℕ) → List Subscription → Option ℕ → Type 0
 IsGivenAt session None subs place = place ≡ None
 IsGivenAt session (Some id) subs place = MatchOption place (NonePass (is_named session id) subs) (λ at. IsFirst (is_named session id) subs at)

@@ -23,7 +23,7 @@ abbrev pub window_of : AckMode → ℕ
 window_of Auto = 0
 window_of _ = 16
 
--- Subscriptions are of open sessions, at most 16 of each, under ids that differ; few deliveries are unacknowledged, and none
+-- Subscriptions are of open sessions, at most 16 of each, under ids that differ. Few deliveries are unacknowledged, and none
 -- with `auto`.
 pub record HasSubscriptions (s : State) : Type 0 where
   pub of_open : AllByRecursion (λ sub. is_open s sub.session ≡ true) s.subscriptions
@@ -35,8 +35,8 @@ pub record HasSubscriptions (s : State) : Type 0 where
 abbrev pub OwnsName : State → Subscription → Type 0
 OwnsName s sub = IfSome sub.durable (λ name. (client_of s sub.session ≡ Some name.0) × (topic_of name s.durables ≡ Some sub.destination))
 
--- At most 256 durable names are bound, each to a topic; one subscription at most has each; and lines stand under bound names
--- alone.
+-- At most 256 durable names are bound, each to a topic, and at most one subscription has each. Lines stand only under bound
+-- names.
 pub record HasNames (s : State) : Type 0 where
   pub few : length s.durables ≤ 256
   pub topics : AllByRecursion (λ durable. is_queue durable.1 ≡ false) s.durables
@@ -64,8 +64,9 @@ AreTo to messages = AllByRecursion (λ m. m.sending.destination ≡ to) messages
 abbrev pub AreOnce : List Message → Type 0
 AreOnce messages = (number : MessageNumber) → count_by (λ m. is_same number m.number) messages ≤ 1
 
--- No line that stays is empty. Messages stand in lines of their destination alone, and unacknowledged likewise; only a line
--- of a subscription's own has messages there. In a line and what is unacknowledged from it no message stands twice.
+-- No line that stays is empty. Messages stand only in lines of their destination, and are unacknowledged only there. A
+-- subscription has messages in its line only if that is one of its own. In a line and what is unacknowledged from it no
+-- message stands twice.
 pub record HasLines (s : State) : Type 0 where
   pub queues : AllByRecursion (λ line. (is_queue line.0 ≡ true) × (is_none line.1 ≡ false) × AreTo line.0 line.1) s.shared.queues
   pub names : AllByRecursion (λ line. (is_none line.1 ≡ false) × IfSome (topic_of line.0 s.durables) (λ topic. AreTo topic line.1)) s.shared.names

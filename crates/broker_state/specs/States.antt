@@ -11,9 +11,9 @@ use Rattle.broker_state.specs.declared.subscription.Subscription.{Subscription}
 use Rattle.broker_state.specs.Names.{Name, name_cmp, text_cmp}
 use Rattle.broker_state.specs.Waiting.{Shared, weight_of_shared}
 
--- What the broker knows: how many commands it has carried out, the number of the next delivery, the open sessions with
--- their client-id by rising number, the topic of each durable name by rising name, the lines that stay when a subscription
--- ends, and the subscriptions in waiting order.
+-- What the broker knows: how many commands it has carried out, the number of the next delivery, and the open sessions with
+-- their client-id by rising number. Then come the topic of each durable name by rising name, the lines that stay when a
+-- subscription ends, and the subscriptions in waiting order.
 pub record State : Type 0 where
   pub count : ℕ
   pub next_delivery : ℕ
@@ -67,7 +67,7 @@ pub record BrokerValue : Type 0 where
   pub broken : Bool
 
 -- Sessions stand by rising number, and were opened by commands that are counted. Durable names stand by rising name, and so
--- do their lines; queues stand by rising bytes of their destination.
+-- do their lines. Queues stand by rising bytes of their destination.
 pub record IsInOrder (s : State) : Type 0 where
   pub sessions : IsStrictlySortedBy nat_cmp (keys_of s.sessions)
   pub opened : AllByRecursion (λ session. session.0 < s.count) s.sessions
@@ -75,6 +75,6 @@ pub record IsInOrder (s : State) : Type 0 where
   pub names : IsStrictlySortedBy name_cmp (keys_of s.shared.names)
   pub queues : IsStrictlySortedBy text_cmp (keys_of s.shared.queues)
 
--- The next delivery is over all that are not acknowledged.
+-- The number of the next delivery is over those of all that are not acknowledged.
 abbrev pub IsNext : State → Type 0
 IsNext s = AllByRecursion (λ sub. IsOver s.next_delivery sub.unacknowledged) s.subscriptions

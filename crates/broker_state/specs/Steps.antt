@@ -21,7 +21,7 @@ abbrev pub accepted_or_ended : State → ℕ → Result State Fault → State
 accepted_or_ended s session (Ok t) = t
 accepted_or_ended s session (Err fault) = ended s session
 
--- what an operation does before anything is handed out: nothing where its session isn't open
+-- what an operation does before anything is handed out: nothing if its session isn't open
 abbrev pub done : NackRule → State → ℕ → Op → State
 done rule s session (Open client_id) = opened s client_id
 done rule s session op = if is_open s session then accepted_or_ended s session (executed rule s session op) else s
@@ -46,19 +46,19 @@ step = step_by Keeps
 abbrev pub step_v1 : State → CommandValue → State
 step_v1 = step_by Drops
 
--- RECEIPT where one was asked for
+-- RECEIPT if one was asked for
 abbrev pub receipts : Option (List ℕ) → List Frame
 receipts None = []
 receipts (Some id) = receipt_frame id ∷ []
 
--- what the end of a session is answered with: RECEIPT where one was asked for, nothing where the connection is lost, or
--- ERROR (STOMP 1.2, "DISCONNECT" and "ERROR")
+-- what the end of a session is answered with: RECEIPT if one was asked for, nothing if the connection is lost, or ERROR
+-- (STOMP 1.2, "DISCONNECT" and "ERROR")
 abbrev pub farewell : End → Option (List ℕ) → List Frame
 farewell Bye receipt = receipts receipt
 farewell Lost receipt = []
 farewell (Bad fault) receipt = error_frame fault receipt ∷ []
 
--- what an operation that was refused is answered with, or one that was not: ERROR, or RECEIPT where one was asked for
+-- what an operation is answered with: ERROR if it was refused, and else RECEIPT if one was asked for
 abbrev pub verdict : Result State Fault → Option (List ℕ) → List Frame
 verdict (Ok _) receipt = receipts receipt
 verdict (Err fault) receipt = error_frame fault receipt ∷ []
@@ -106,7 +106,7 @@ abbrev pub outs_of : State → List CommandValue → List OutValue
 outs_of = outs_of_by Keeps
 
 -- What befalls a broker: a command by one rule of NACK or the other, or a restart. A journal that was written by the old
--- rule is gone on with by the new one.
+-- rule goes on by the new one.
 pub data Event : Type 0 where
   a_command : NackRule → CommandValue → Event
   a_restart : Event

@@ -14,7 +14,7 @@ use Rattle.broker_state.specs.Names.{Name, name_cmp, text_cmp}
 abbrev pub Lines : Type 0 → Type 0
 Lines K = List (K × List Message)
 
--- the line under a key, empty where there is none
+-- the line under a key, empty if there is none
 abbrev pub line_at : {K : Type 0} → (K → K → Ordering) → K → Lines K → List Message
 line_at cmp key lines = unwrap_or (lookup (is_at (cmp key)) lines) []
 

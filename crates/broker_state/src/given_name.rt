@@ -34,7 +34,7 @@ impl GivenName {
         GivenName { text }
     }
 
-    /// A name that may be absent, and is not empty where it is there; it moves: no memory is taken.
+    /// A name that may be absent, and is not empty if it is there. It moves: no memory is taken.
     pub fn optional(name: Option<HeaderText>) -> Option<GivenName>
         requires { IsGiven name }
         ensures { result ≡ name }

@@ -15,5 +15,5 @@ pub const MOST_SUBSCRIPTIONS: usize = 16;
 /// How many durable names there may be.
 pub const MOST_NAMES: usize = 256;
 
-/// From this number on nothing is delivered.
+/// From this number on, nothing is delivered.
 pub const LAST_DELIVERY: u64 = 1 << 63;

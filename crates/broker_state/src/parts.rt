@@ -14,7 +14,7 @@ pub struct Parts {
     pub count: u64,
     /// The number of the next delivery.
     pub next_delivery: u64,
-    /// The open sessions, each with the name of its client where it has one.
+    /// The open sessions, each with the name of its client if it has one.
     pub sessions: BTreeMap<u64, Option<GivenName>>,
     /// The topic of each durable name.
     pub durables: BTreeMap<DurableName, Dest>,
@@ -22,6 +22,6 @@ pub struct Parts {
     pub names: BTreeMap<DurableName, Line>,
     /// The lines of queues that have messages.
     pub queues: BTreeMap<Dest, Line>,
-    /// In waiting order.
+    /// The subscriptions, in waiting order.
     pub subscriptions: Vec<Subscription>,
 }

@@ -16,9 +16,9 @@ pub struct Subscription {
     pub destination: Dest,
     /// How it acknowledges them (header `ack`).
     pub mode: AckMode,
-    /// The durable name under which its messages are kept, where it has one; the destination is a topic then.
+    /// The durable name under which its messages are kept, if it has one; the destination is a topic then.
     pub durable: Option<DurableName>,
-    /// What waits for it, where it is one of a topic with no durable name; the messages of a queue wait in the queue's
+    /// What waits for it, if it is one of a topic with no durable name. The messages of a queue wait in the queue's
     /// line, and those of a durable name in the name's.
     pub line: Line,
     /// What was delivered and is not acknowledged, by the number of the delivery. Nothing with `auto`.

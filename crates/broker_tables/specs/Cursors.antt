@@ -11,7 +11,7 @@ use Rattle.broker_tables.specs.Dues.{is_under}
 abbrev pub is_awaited : List Cursor → ℕ → Subscription → Bool
 is_awaited cursors standing sub = list_any (λ cursor. nat_le cursor.standing standing && is_under cursor.key sub) cursors
 
--- who was awaited still is
+-- a subscription that was awaited still is
 abbrev pub KeepsAwaited : List Cursor → List Cursor → Type 0
 KeepsAwaited old new = (standing : ℕ) (sub : Subscription) → is_awaited old standing sub ≡ true → is_awaited new standing sub ≡ true
 

@@ -41,6 +41,6 @@ has_name_of to durables sub = list_any (λ durable. bytes_eq durable.1 to && use
 abbrev pub OthersStand : List Key → Subscription → Type 0
 OthersStand due sub = (lines : Shared) (other : Subscription) → is_due due other ≡ false → line_for (returned lines sub) other ≡ line_for lines other
 
--- who can be served is due
+-- a subscription that can be served is due
 abbrev pub AreDue : List Key → State → Type 0
 AreDue due s = AllByRecursion (λ sub. can_take s sub ≡ true → is_due due sub ≡ true) s.subscriptions

@@ -17,7 +17,8 @@ use Rattle.broker_tables.specs.Returns.{HandFirst}
 abbrev pub IsServedAt : State → ℕ → State → OutValue → Type 0
 IsServedAt s at t out = HoldsAt s.subscriptions at (λ sub. handed_to s (Some (sub, remove s.subscriptions at)) ≡ Some (record { state = t; out = out }))
 
--- whatever was handed out before: those who wait from a place on are still to be served, and then those from the other on
+-- whatever was handed out before: the subscriptions that wait from a place on are still to be served, and then those from
+-- the other on
 abbrev pub GoesOn : State → List OutValue → ℕ → State → List OutValue → ℕ → Type 0
 GoesOn s outs at t outs_after from = (first : State) (before : List OutValue) → SettlesSo first before s outs at → SettlesSo first before t outs_after from
 
@@ -25,7 +26,7 @@ GoesOn s outs at t outs_after from = (first : State) (before : List OutValue) �
 abbrev pub left_from : State → ℕ → ℕ
 left_from s at = waiting s + (length s.subscriptions - at)
 
--- whoever the cursors await from a place on, they await from the other on too
+-- the subscriptions that the cursors await from a place on, they await from the other on too
 abbrev pub KeepsAwaiting : State → ℕ → State → ℕ → Type 0
 KeepsAwaiting s at t from = (cursors : List Cursor) → AreAwaited cursors s at → AreAwaited cursors t from
 

@@ -9,7 +9,7 @@ use Rattle.broker_state.specs.Operations.{is_named, is_of}
 abbrev pub HoldsAt : List Subscription → ℕ → (Subscription → Type 0) → Type 0
 HoldsAt subs at P = (sub : Subscription) → slice_get subs at ≡ Some sub → P sub
 
--- whether a session may have one more subscription, of that id: not where it has one of that id, or 16
+-- whether a session may have one more subscription, of that id: not if it has one of that id, or 16
 abbrev pub place_for : List Subscription → ℕ → List ℕ → Result (Unit {0}) Fault
 place_for subs session id =
     if list_any (is_named session id) subs then Err SubscriptionIdInUse

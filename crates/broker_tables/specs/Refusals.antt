@@ -12,7 +12,7 @@ use Rattle.broker_state.specs.Waiting.{Shared}
 abbrev pub refused_bytes : Message → ℕ
 refused_bytes m = size_of (record m.sending { destination = dead_queue })
 
--- what a refused message counts for there: nothing where it is dropped
+-- what a refused message counts for there: nothing if it is dropped
 abbrev pub kept_bytes : Bool → Message → ℕ
 kept_bytes own m = if is_dropped own m then 0 else refused_bytes m
 

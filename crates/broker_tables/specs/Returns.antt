@@ -23,7 +23,7 @@ HandFirst shared sub shared_after sub_after line = (weight : Message → ℕ)
     → weight_of_shared weight shared_after + sum_by weight sub_after.line + sum_by weight line
     ≡ weight_of_shared weight shared + sum_by weight sub.line + sum_by weight (drop 1 line)
 
--- What counts as held is more than what stands in those lines and in a subscription together.
+-- What counts as held is at least what stands in those lines and in a subscription together.
 pub record HoldsBoth (held : Held) (shared : Shared) (sub : Subscription) : Type 0 where
   pub within : held.bytes ≤ 16777216
   pub messages : weight_of_shared one shared + weight_of_subscription one sub ≤ held.messages

@@ -12,7 +12,7 @@ abbrev pub shown : ℕ → ℕ → List (ℕ × Option (List ℕ)) → List (Nam
 shown count next_delivery sessions durables shared subscriptions =
     record { count = count; next_delivery = next_delivery; sessions = sessions; durables = durables; shared = shared; subscriptions = subscriptions }
 
--- What tables keep: what is counted is tallied, and who can be served is due to be.
+-- What tables keep: what is counted is tallied, and a subscription that can be served is due to be.
 pub record IsKept (s : State) (held : Held) (due : List Key) : Type 0 where
   pub messages : held.messages ≡ held_messages s
   pub bytes : held.bytes ≡ held_bytes s
@@ -22,8 +22,8 @@ pub record IsKept (s : State) (held : Held) (due : List Key) : Type 0 where
   pub deliveries : s.next_delivery ≤ 2 ^ 63
   pub ready : AreDue due s
 
--- What is counted is what the state holds, which is within the limits; and the next delivery has a number that none has
--- which is not acknowledged, and which is at most 2^63.
+-- What is counted is what the state holds, which is within the limits. The next delivery has a number that no
+-- unacknowledged one has, and that is at most 2^63.
 pub record IsTallied (s : State) (held : Held) : Type 0 where
   pub messages : held.messages ≡ held_messages s
   pub bytes : held.bytes ≡ held_bytes s

@@ -9,7 +9,7 @@ use Rattle.broker_state.specs.Names.{Name, text_cmp}
 abbrev pub names_of : List ℕ → List (Name × List ℕ) → List Name
 names_of to durables = map (λ durable. durable.0) (filter (λ durable. bytes_eq durable.1 to) durables)
 
--- the names that stand under a key, none where there are none
+-- the names that stand under a key, none if there are none
 abbrev pub names_at : {K : Type 0} → (K → K → Ordering) → List (K × List Name) → K → List Name
 names_at cmp groups key = unwrap_or (lookup (is_at (cmp key)) groups) []
 

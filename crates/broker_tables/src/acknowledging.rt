@@ -27,8 +27,8 @@ pub(crate) fn find_awaiting(order: &Order, session: u64, delivery: u64) -> Optio
 }
 
 impl Tables {
-    /// A delivery of a session is acknowledged, with those that the mode of its subscription settles besides. Refused if the
-    /// session has no such delivery, and then the tables are as they were. If memory is refused, they are broken.
+    /// A delivery of a session is acknowledged, with the others that the mode of its subscription settles. It is refused if
+    /// the session has no such delivery, and then the tables are as they were. If memory is refused, they are broken.
     pub fn acknowledge(
         &mut self,
         session: u64,

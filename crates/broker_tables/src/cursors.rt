@@ -1,4 +1,4 @@
-//! From where on somebody may be served, for each key that is due.
+//! From where on a subscription may be served, for each key that is due.
 
 ghost use Rattle.std.specs.Prelude.{◌≡◌, ◌+◌, ◌<◌, ◌≤◌, ◌∷◌, ◌^◌, ℕ, IfNone, IfOk, IfSome, OnOk, Some, count_by, false, length, nat_lt, slice_get, true};
 ghost use Rattle.std.specs.List.{AllByRecursion};
@@ -12,16 +12,16 @@ use crate::tables::Tables;
 use std::alloc::{AllocError, Global};
 use std::collections::BTreeSet;
 
-/// Nobody under the key stands before that standing who can be served. The *standing* of a subscription is its place and the
-/// number of the next delivery together: each delivery takes one out before it and adds one at the end, so it stays until it
-/// is served itself. Cursors are in order of their standing, and then of their keys.
+/// No subscription under the key that can be served stands before that standing. The *standing* of a subscription is its
+/// place and the number of the next delivery together. Each delivery takes one out before it and adds one at the end, so its
+/// standing stays until it is served itself. Cursors are in order of their standing, and then of their keys.
 #[derive(PartialEq, Eq, PartialOrd, Ord, Drop)]
 pub struct Cursor {
     pub standing: u64,
     pub key: Key,
 }
 
-/// Takes the least cursor out, if it is under that standing.
+/// Takes out the least cursor, if it is under that standing.
 fn take_under(cursors: &mut BTreeSet<Cursor>, standing: u64) -> Option<Cursor>
     ensures taken { IfSome result (λ cursor. cursors.old.keys ≡ cursor ∷ cursors.new.keys) }
     ensures under { IfSome result (λ cursor. cursor.standing < standing) }
@@ -73,8 +73,8 @@ impl Tables {
         cursors_for(alloc, self, self.due.as_slice())
     }
 
-    /// The place of the first subscription from a place on that may be one that can be served, or the end. Cursors that are
-    /// behind are moved on first. Where memory is refused, some of them may be gone.
+    /// The place of the first subscription, from a place on, that may be one that can be served, or the end. Cursors that
+    /// are behind are moved on first. If memory is refused, some of them may be gone.
     pub(crate) fn next_ready(
         &self,
         cursors: &mut BTreeSet<Cursor>,
@@ -97,8 +97,8 @@ impl Tables {
         Ok(least_place(cursors, self.next_delivery(), end))
     }
 
-    /// A cursor for the first subscription under a key, from a place on, for which something waits, unless there is none.
-    /// Where memory is refused, nothing changes.
+    /// A cursor for the first subscription under a key, from a place on, for which something waits, unless there is none. If
+    /// memory is refused, nothing changes.
     fn add_cursor(
         &self,
         cursors: &mut BTreeSet<Cursor>,

@@ -1,4 +1,4 @@
-//! Who may be able to take a message since all was last handed out.
+//! Which subscriptions may be able to take a message since all was last handed out.
 
 ghost use Rattle.std.specs.Prelude.{◌≡◌, ◌<◌, ◌≤◌, ◌&&◌, ℕ, IfOk, OnOk, Some, false, length, slice_get, true};
 ghost use Rattle.std.specs.List.{list_any};
@@ -51,7 +51,7 @@ fn is_last(due: &[Key], key: &Key) -> bool
     }
 }
 
-/// Those under a key are due, unless that key was the last to be marked, so that they are due already. Where memory is
+/// Those under a key are due, unless that key was the last to be marked, so that they are due already. If memory is
 /// refused, nothing changes.
 pub fn mark(due: &mut Vec<Key>, key: Key) -> Result<(), AllocError>
     ensures kept { OnOk result (AllDue (is_due due.old.items) due.new.items) }
@@ -73,7 +73,7 @@ pub fn line_key(sub: &Subscription) -> Result<Key, AllocError>
     }
 }
 
-/// Those are due that are served from the line of a subscription which ends, unless its line is its own.
+/// The subscriptions that are served from the line of one that ends are due, unless that line is its own.
 pub fn mark_line(due: &mut Vec<Key>, sub: &Subscription) -> Result<(), AllocError>
     ensures kept { OnOk result (AllDue (is_due due.old.items) due.new.items) }
     ensures marked { OnOk result (OthersStand due.new.items sub.now) }
@@ -85,7 +85,7 @@ pub fn mark_line(due: &mut Vec<Key>, sub: &Subscription) -> Result<(), AllocErro
     Ok(())
 }
 
-/// Each of these names is due. Where memory is refused, some of them may be.
+/// Each of these names is due. If memory is refused, some of them may be.
 fn mark_all(due: &mut Vec<Key>, names: &Names) -> Result<(), AllocError>
     ensures kept { OnOk result (AllDue (is_due due.old.items) due.new.items) }
     ensures marked { OnOk result (AllDue (λ sub. list_any (λ name. uses name sub) names.now) due.new.items) }
@@ -97,7 +97,7 @@ fn mark_all(due: &mut Vec<Key>, names: &Names) -> Result<(), AllocError>
     Ok(())
 }
 
-/// Each durable name that is bound to that topic is due. Where memory is refused, some of them may be.
+/// Each durable name that is bound to that topic is due. If memory is refused, some of them may be.
 pub fn mark_names(due: &mut Vec<Key>, durables: &DurableNames, to: &Dest) -> Result<(), AllocError>
     ensures kept { OnOk result (AllDue (is_due due.old.items) due.new.items) }
     ensures marked { OnOk result (AllDue (has_name_of to.now durables.now) due.new.items) }
@@ -131,7 +131,8 @@ fn next_under(order: &Order, key: &Key, from: usize) -> usize
     }
 }
 
-/// The place of the first subscription under a key, from a place on, or the end; the end too where nothing waits for them.
+/// The place of the first subscription under a key, from a place on, or the end. It is the end too if nothing waits for
+/// them.
 pub fn next_waiting(order: &Order, shared: &SharedLines, key: &Key, from: usize) -> usize
     requires { from ≤ length order.now }
     ensures after { from ≤ result }

@@ -1,4 +1,4 @@
-//! The durable names, and those of a topic without a look at the others.
+//! The durable names. Those of a topic are found without a look at the others.
 
 ghost use Rattle.std.specs.Prelude.{◌≡◌, [], ℕ, List, IfOk, None, OnErr, OnOk, length, true, unwrap_or, if◌then◌else◌};
 ghost use Rattle.std.specs.BTreeMap.{insert_entry, is_at};
@@ -49,7 +49,7 @@ impl Names {
         &self.all
     }
 
-    /// One more, at its place. Where memory is refused, nothing changes.
+    /// One more, at its place. If memory is refused, nothing changes.
     fn add(&mut self, name: DurableName) -> Result<(), AllocError>
         ensures ok { OnOk result (self.new ≡ insert_key name_cmp self.old name) }
         ensures same { OnErr result (self.new ≡ self.old) }
@@ -58,7 +58,7 @@ impl Names {
         Ok(())
     }
 
-    /// Takes a name out, where it is there.
+    /// Takes out a name, if it is there.
     fn take_out(&mut self, name: &DurableName)
         ensures { self.new ≡ remove_key (is_at (name_cmp name.now)) self.old }
     {
@@ -66,7 +66,7 @@ impl Names {
     }
 }
 
-/// The names under that key begin with this one; it has none. Where memory is refused, nothing changes.
+/// This name begins those under that key, which has none. If memory is refused, nothing changes.
 fn begin<K: Ord + Clone + Drop>(
     alloc: Global,
     groups: &mut BTreeMap<K, Names>,
@@ -87,7 +87,7 @@ fn begin<K: Ord + Clone + Drop>(
     Ok(())
 }
 
-/// A name joins those under that key, at its place. Where memory is refused, nothing changes.
+/// A name joins those under that key, at its place. If memory is refused, nothing changes.
 fn join<K: Ord + Clone + Drop>(
     alloc: Global,
     groups: &mut BTreeMap<K, Names>,
@@ -106,7 +106,7 @@ fn join<K: Ord + Clone + Drop>(
     begin(alloc, groups, key, name)
 }
 
-/// Takes a name out of those under that key; answers whether none is left.
+/// Takes a name out of those under that key, and answers whether none is left.
 fn take_from<K: Ord + Drop>(groups: &mut BTreeMap<K, Names>, key: &K, name: &DurableName) -> bool
     ensures left { (q : K) → names_at K.cmp groups.new.entries q
         ≡ (if is_at (K.cmp key.now) q then remove_key (is_at (name_cmp name.now)) (names_at K.cmp groups.old.entries q) else names_at K.cmp groups.old.entries q) }
@@ -206,14 +206,14 @@ impl DurableNames {
         &self.topics
     }
 
-    /// The names that are bound to a topic, where there are some.
+    /// The names that are bound to a topic, if there are some.
     pub fn of_topic(&self, to: &Dest) -> Option<&Names>
         ensures { unwrap_or (option_copied result) [] ≡ names_of to.now self.now }
     {
         self.groups.get(to)
     }
 
-    /// A name that is not bound is bound to a topic. Where memory is refused, nothing changes.
+    /// A name that is not bound is bound to a topic. If memory is refused, nothing changes.
     pub fn bind(
         &mut self,
         alloc: Global,
@@ -246,7 +246,7 @@ impl DurableNames {
     }
 }
 
-/// A name is bound to a topic. Where memory is refused, nothing changes.
+/// A name is bound to a topic. If memory is refused, nothing changes.
 fn bind_to(
     topics: &mut BTreeMap<DurableName, Dest>,
     name: &DurableName,

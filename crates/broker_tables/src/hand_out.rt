@@ -25,7 +25,7 @@ use record_core::AckMode;
 use std::alloc::{AllocError, Global};
 use std::collections::BTreeSet;
 
-/// The number by which a delivery is acknowledged, where it is to be.
+/// The number by which a delivery is acknowledged, if it is to be.
 fn ack_of(sub: &Subscription, delivery: u64) -> Option<u64>
     ensures { result ≡ ack_of sub.now delivery }
 {
@@ -54,7 +54,7 @@ fn reply(
     Out::new(alloc, number, sub.session, frame)
 }
 
-/// A message is unacknowledged by that number of its delivery.
+/// A message becomes unacknowledged, under that number of its delivery.
 fn keep(sub: &mut Subscription, delivery: u64, message: &Message) -> Result<(), AllocError>
     requires { IsOver delivery sub.old.unacknowledged }
     ensures { OnOk result (sub.new ≡ record sub.old { unacknowledged = sub.old.unacknowledged ++ (delivery, message.now) ∷ [] }) }
@@ -63,7 +63,8 @@ fn keep(sub: &mut Subscription, delivery: u64, message: &Message) -> Result<(), 
     sub.unacknowledged.add(delivery, copy)
 }
 
-/// A message goes to a subscription, by that number of its delivery; gives the MESSAGE. With `auto` it is held no more.
+/// A message goes to a subscription, by that number of its delivery. Gives the MESSAGE. With `auto` the message is held no
+/// more.
 fn deliver(
     alloc: Global,
     number: u64,
@@ -92,8 +93,8 @@ fn deliver(
     }
 }
 
-/// The least message of a subscription's line, which has one, goes to the subscription, by that number of its delivery;
-/// gives the MESSAGE. With `auto` it is held no more.
+/// The least message of a subscription's line, which has one, goes to the subscription, by that number of its delivery.
+/// Gives the MESSAGE. With `auto` the message is held no more.
 fn hand_to(
     alloc: Global,
     number: u64,
@@ -112,7 +113,7 @@ fn hand_to(
     deliver(alloc, number, sub, delivery, message, held)
 }
 
-/// A subscription that was served waits last; gives its MESSAGE.
+/// Puts back a subscription that was served, which waits last then, and gives its MESSAGE.
 fn wait_last(
     alloc: Global,
     order: &mut Order,
@@ -129,7 +130,7 @@ fn wait_last(
 }
 
 impl Tables {
-    /// Hands out what waits, one delivery after another, until nothing can be handed out; adds the MESSAGEs in their
+    /// Hands out what waits, one delivery after another, until nothing can be handed out, and adds the MESSAGEs in their
     /// order. If memory is refused, the tables may be broken.
     pub fn settle(&mut self, alloc: Global, outs: &mut Vec<Out>) -> Result<(), AllocError>
         requires whole { self.old.broken ≡ false }
@@ -141,8 +142,8 @@ impl Tables {
         self.settle_by(alloc, &mut cursors, outs)
     }
 
-    /// Hands out what waits to those whom cursors await. They are gone through once, in waiting order: anyone who could not
-    /// be served before those behind it were can't be served after.
+    /// Hands out what waits to the subscriptions that cursors await. They are gone through once, in waiting order: one that
+    /// could not be served before those behind it were can't be served afterwards.
     fn settle_by(
         &mut self,
         alloc: Global,
@@ -164,8 +165,8 @@ impl Tables {
         Ok(())
     }
 
-    /// Serves the subscription in that place, if it can be served, and adds the MESSAGE. Answers from where to go on: from
-    /// the next place if it was not served, and else from the same, where the next one stands then.
+    /// Serves the subscription in that place, if it can be served, and adds the MESSAGE. It answers from where to go on:
+    /// from the next place if it was not served, and else from the same, where the next one stands then.
     fn try_serve(
         &mut self,
         alloc: Global,
@@ -205,7 +206,7 @@ impl Tables {
         self.has_number() && sub.has_room() && self.shared.has_message(sub)
     }
 
-    /// The subscription in that place, which can be served, gets the least message of its line, and then waits last; gives
+    /// The subscription in that place, which can be served, gets the least message of its line, and then waits last. Gives
     /// the MESSAGE.
     fn serve(&mut self, alloc: Global, at: usize) -> Result<Out, AllocError>
         requires place { at < length self.old.state.subscriptions }

@@ -16,7 +16,7 @@ use line_core::{Line, Message};
 use std::alloc::{AllocError, Global};
 use std::collections::BTreeMap;
 
-/// Takes the line under that key out, an empty one where there is none.
+/// Takes out the line under that key, an empty one if there is none.
 pub fn take_line<K: Ord + Drop>(alloc: Global, lines: &mut BTreeMap<K, Line>, key: &K) -> Line
     ensures line { result ≡ line_at K.cmp key.now lines.old.entries }
     ensures others { lines.new.entries ≡ remove_entry (is_at (K.cmp key.now)) lines.old.entries }
@@ -29,8 +29,8 @@ pub fn take_line<K: Ord + Drop>(alloc: Global, lines: &mut BTreeMap<K, Line>, ke
     }
 }
 
-/// Takes the line under that key out, with the key; an empty one under a copy of the key if there is none. If memory is
-/// refused for the copy, no line has changed.
+/// Takes out the line under that key, with the key. If there is none, gives an empty one under a copy of the key. If
+/// memory is refused for the copy, no line has changed.
 pub fn take_entry<K: Ord + Clone + Drop>(
     alloc: Global,
     lines: &mut BTreeMap<K, Line>,
@@ -78,7 +78,7 @@ pub enum Side {
     Front,
 }
 
-/// Puts a message into a line, to its place by number.
+/// Puts a message into a line, at its place by number.
 pub fn put_into(line: &mut Line, message: Message, from: Side) -> Result<(), AllocError>
     ensures ok { OnOk result (line.new ≡ inserted message line.old) }
     ensures same { OnErr result (line.new ≡ line.old) }
@@ -89,7 +89,7 @@ pub fn put_into(line: &mut Line, message: Message, from: Side) -> Result<(), All
     }
 }
 
-/// Puts a message into the line under that key, to its place by number. If memory is refused, that line is gone, and the
+/// Puts a message into the line under that key, at its place by number. If memory is refused, that line is gone, and the
 /// others stand.
 pub fn put<K: Ord + Clone + Drop>(
     alloc: Global,
@@ -110,7 +110,7 @@ pub fn put<K: Ord + Clone + Drop>(
     put_line(lines, key, line)
 }
 
-/// Takes the least message out of the line under that key. Where memory is refused, that line is gone, and the others
+/// Takes the least message out of the line under that key. If memory is refused, that line is gone, and the others
 /// stand.
 pub fn take<K: Ord + Drop>(
     lines: &mut BTreeMap<K, Line>,
@@ -130,8 +130,8 @@ pub fn take<K: Ord + Drop>(
     Ok(message)
 }
 
-/// Puts the messages of deliveries back into the line under that key, each to its place by number, which is looked for
-/// from the front. Where memory is refused, that line may be gone, and the others stand.
+/// Puts the messages of deliveries back into the line under that key, each at its place by number, which is looked for
+/// from the front. If memory is refused, that line may be gone, and the others stand.
 pub fn put_back<K: Ord + Clone + Drop>(
     alloc: Global,
     lines: &mut BTreeMap<K, Line>,

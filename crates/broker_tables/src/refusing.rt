@@ -44,8 +44,8 @@ fn dead_queue(alloc: Global) -> Result<Dest, AllocError>
     }
 }
 
-/// Whether a refused message is dropped: where its subscription has a line of its own, which `own` says, since it is a
-/// plain one of a topic; and where it was refused before, so that its destination is `/queue/dead` already.
+/// Whether a refused message is dropped. It is if its subscription has a line of its own, which `own` says, since that is a
+/// plain one of a topic. It also is if it was refused before, so that its destination is `/queue/dead` already.
 pub fn is_dropped(own: bool, message: &Message) -> bool
     ensures { result ≡ is_dropped own message.now }
 {
@@ -61,7 +61,7 @@ pub fn refused_size(sending: &Sending) -> u64
     (others + DEAD_QUEUE.len()) as u64
 }
 
-/// A refused message as it goes to the queue of those, under that number.
+/// A refused message as it goes to the queue of refused messages, under that number.
 fn refused(alloc: Global, number: MessageNumber, message: Message) -> Result<Message, AllocError>
     ensures { IfOk result (λ kept. kept ≡ refused number.command number.place message) }
 {
@@ -71,7 +71,7 @@ fn refused(alloc: Global, number: MessageNumber, message: Message) -> Result<Mes
     Ok(Message { number, sending })
 }
 
-/// The bytes of those of some deliveries that the NACK of one settles.
+/// The bytes of those deliveries that the NACK of one of them settles.
 fn settled_bytes(mode: AckMode, delivery: u64, deliveries: &[(u64, Message)]) -> u64
     requires { length deliveries.now ≤ 4096 }
     ensures bytes { result ≡ bytes_of (settled mode delivery deliveries.now) }
@@ -86,7 +86,7 @@ fn settled_bytes(mode: AckMode, delivery: u64, deliveries: &[(u64, Message)]) ->
     bytes
 }
 
-/// The bytes that a refused message counts for in the queue of those: none where it is dropped.
+/// The bytes that a refused message counts for in the queue of refused messages: none if it is dropped.
 fn kept_bytes(own: bool, message: &Message) -> u64
     ensures bytes { result ≡ kept_bytes own message.now }
     ensures small { result < 2 ^ 22 }
@@ -97,7 +97,7 @@ fn kept_bytes(own: bool, message: &Message) -> u64
     refused_size(&message.sending)
 }
 
-/// The bytes that those of some deliveries which the NACK of one settles count for in the queue of refused messages.
+/// The bytes that some deliveries count for in the queue of refused messages: those that the NACK of one of them settles.
 fn bytes_to_keep(own: bool, mode: AckMode, delivery: u64, deliveries: &[(u64, Message)]) -> u64
     requires { length deliveries.now ≤ 4096 }
     ensures bytes { result ≡ all_kept_bytes own (settled mode delivery deliveries.now) }
@@ -127,7 +127,7 @@ fn finds_room(held: &Held, sub: &Subscription, delivery: u64) -> bool
     held.bytes - gone + kept <= MOST_BYTES
 }
 
-/// A settled message goes to the queue of refused ones, under that number, and is held there, unless it is dropped. Where
+/// A settled message goes to the queue of refused ones, under that number, and is held there, unless it is dropped. If
 /// memory is refused, the line of that queue may be gone.
 fn keep_one(
     alloc: Global,
@@ -155,7 +155,7 @@ fn keep_one(
 }
 
 /// Settled messages that are kept go to the queue of refused ones, and are held there. The first that is settled has that
-/// number, and each further one the next place, dropped or not. Where memory is refused, part of it may be done.
+/// number, and each further one the next place, dropped or not. If memory is refused, part of it may be done.
 fn keep(
     alloc: Global,
     shared: &mut SharedLines,
@@ -179,8 +179,8 @@ fn keep(
     Ok(())
 }
 
-/// What the refusal of a delivery settles leaves the subscription in that place; those of the session are due, and those of
-/// the queue of refused messages. Where memory is refused, some of them may be.
+/// What the refusal of a delivery settles leaves the subscription in that place. Those of the session are due, and those of
+/// the queue of refused messages. If memory is refused, some of them may be.
 fn take_refused(
     alloc: Global,
     due: &mut Vec<Key>,
@@ -204,7 +204,7 @@ fn take_refused(
 }
 
 /// Settled messages are held no more where they were, and those that are kept go to the queue of refused ones, from that
-/// number on. Where memory is refused, part of it may be done.
+/// number on. If memory is refused, part of it may be done.
 fn move_refused(
     alloc: Global,
     shared: &mut SharedLines,
@@ -225,10 +225,10 @@ fn move_refused(
 }
 
 impl Tables {
-    /// A delivery of a session is refused, with those that the mode of its subscription settles besides, by that place among
-    /// the members of the command that is being carried out, which is 0 for a plain NACK. By the rule that keeps, those go
-    /// to `/queue/dead` that are not dropped. Refused if the session has no such delivery, or if what is kept finds no room,
-    /// and then the tables are as they were. If memory is refused, they may be broken.
+    /// A delivery of a session is refused, with the others that the mode of its subscription settles. The NACK has that
+    /// place among the members of the command that is being carried out, which is 0 for a plain one. By the rule that keeps,
+    /// those that are not dropped go to `/queue/dead`. The NACK is refused if the session has no such delivery, or if what
+    /// is kept finds no room, and then the tables are as they were. If memory is refused, they may be broken.
     pub fn nack(
         &mut self,
         alloc: Global,

@@ -44,8 +44,8 @@ fn listeners_of(order: &Order, to: &Dest) -> u64
     order.count_at(to) as u64
 }
 
-/// How many copies of a message to that destination are to be kept: one in a queue's line, or one for each durable name of
-/// a topic and for each of its subscriptions with a line of its own.
+/// How many copies of a message to that destination are to be kept. A queue's line gets one. Else each durable name of the
+/// topic gets one, and so does each of the topic's subscriptions with a line of its own.
 pub fn copies_to(tables: &Tables, to: &Dest) -> u64
     ensures { result ≡ copies_to to.now tables.now.state.durables tables.now.state.subscriptions }
 {
@@ -178,8 +178,8 @@ fn fan_out(
     }
 }
 
-/// Those are due that may be served once a message has gone to that destination. Where memory is refused, some of them may
-/// be.
+/// The subscriptions are due that may be served once a message has gone to that destination. If memory is refused, some of
+/// them may be.
 fn mark_destination(
     due: &mut Vec<Key>,
     durables: &DurableNames,
@@ -194,8 +194,8 @@ fn mark_destination(
     mark(due, Key::Destination(own))
 }
 
-/// A message goes into its lines, and those are due that may be served from them. Where memory is refused, part of it may
-/// be done.
+/// A message goes into its lines, and the subscriptions that may be served from them are due. If memory is refused, part of
+/// it may be done.
 fn take_in(
     alloc: Global,
     due: &mut Vec<Key>,
@@ -216,8 +216,8 @@ fn take_in(
 }
 
 impl Tables {
-    /// A message is sent by the command that is being carried out, at that place among its members. Refused if its copies
-    /// find no room, and then the tables are as they were. If memory is refused, the tables may be broken.
+    /// A message is sent by the command that is being carried out, at that place among its members. It is refused if its
+    /// copies find no room, and then the tables are as they were. If memory is refused, the tables may be broken.
     pub fn send(
         &mut self,
         alloc: Global,

@@ -44,7 +44,7 @@ pub(crate) struct Gone {
     pub deliveries: Vec<(u64, Message)>,
 }
 
-/// Takes the least message out of the line of that queue. Where memory is refused, that line is gone, and the others stand.
+/// Takes the least message out of the line of that queue. If memory is refused, that line is gone, and the others stand.
 fn take_from_queue(
     queues: &mut BTreeMap<Dest, Line>,
     destination: &Dest,
@@ -109,8 +109,8 @@ impl SharedLines {
         has_waiting(&self.names, &self.queues, sub)
     }
 
-    /// Takes the least message for a subscription out of its line, which has one. Where memory is refused, that line is
-    /// gone, and the others stand.
+    /// Takes the least message for a subscription out of its line, which has one. If memory is refused, that line is gone,
+    /// and the others stand.
     pub(crate) fn take_for(&mut self, sub: &mut Subscription) -> Result<Message, AllocError>
         requires { is_none (line_for self.old sub.old) ≡ false }
         ensures taken { IfOk result (λ m. first_of (line_for self.old sub.old) ≡ Some m) }
@@ -129,8 +129,8 @@ impl SharedLines {
         Ok(message.unwrap())
     }
 
-    /// Puts a message into the line of the queue that it was sent to. Where memory is refused, that line may be gone, and
-    /// the others stand.
+    /// Puts a message into the line of the queue that it was sent to. If memory is refused, that line may be gone, and the
+    /// others stand.
     pub(crate) fn put_in_queue(&mut self, alloc: Global, message: Message) -> Result<(), AllocError>
         ensures shared { OnOk result (self.new
             ≡ record self.old { queues = with_message text_cmp message.sending.destination message self.old.queues }) }
@@ -142,8 +142,7 @@ impl SharedLines {
         keyed_lines::put_line(&mut self.queues, queue, line)
     }
 
-    /// Puts a message into the line under that durable name. Where memory is refused, that line is gone, and the others
-    /// stand.
+    /// Puts a message into the line under that durable name. If memory is refused, that line is gone, and the others stand.
     pub(crate) fn put_under(
         &mut self,
         alloc: Global,
@@ -156,8 +155,8 @@ impl SharedLines {
         keyed_lines::put(alloc, &mut self.names, name, message, Side::Back)
     }
 
-    /// A subscription has ended: what it has not acknowledged stands in its line again, unless the line was its own; gives
-    /// what vanishes with it. Where memory is refused, its line may be gone, and the others stand.
+    /// A subscription has ended: what it has not acknowledged stands in its line again, unless the line was its own. Gives
+    /// what vanishes with it. If memory is refused, its line may be gone, and the others stand.
     pub(crate) fn take_back(&mut self, alloc: Global, sub: Subscription) -> Result<Gone, AllocError>
         ensures shared { OnOk result (self.new ≡ returned self.old sub) }
         ensures weight { IfOk result (λ gone. (weight : Message → ℕ) → weight_of_shared weight self.new + sum_by weight gone.line
@@ -187,9 +186,8 @@ impl SharedLines {
         }
     }
 
-    /// The messages of deliveries stand in the line of that durable name or else of that queue again; gives those of a
-    /// line of a subscription's own, which stays as it is. Where memory is refused, the line may be gone, and the others
-    /// stand.
+    /// The messages of deliveries stand in the line of that durable name or else of that queue again. Gives those of a line
+    /// of a subscription's own, which stays as it is. If memory is refused, the line may be gone, and the others stand.
     fn return_deliveries(
         &mut self,
         alloc: Global,
@@ -206,7 +204,7 @@ impl SharedLines {
         }
     }
 
-    /// The messages of deliveries stand in the line of that durable name again; nothing is given. Where memory is refused,
+    /// The messages of deliveries stand in the line of that durable name again, and nothing is given. If memory is refused,
     /// the line may be gone, and the others stand.
     fn return_to_name(
         &mut self,
@@ -223,8 +221,8 @@ impl SharedLines {
         }
     }
 
-    /// The messages of deliveries stand in the line of that queue again; gives those of a topic, whose lines stay as they
-    /// are. Where memory is refused, the line may be gone, and the others stand.
+    /// The messages of deliveries stand in the line of that queue again. Gives those of a topic, whose lines stay as they
+    /// are. If memory is refused, the line may be gone, and the others stand.
     fn return_to_queue(
         &mut self,
         alloc: Global,
@@ -243,7 +241,7 @@ impl SharedLines {
         }
     }
 
-    /// Takes the line under that durable name out, where there is one.
+    /// Takes out the line under that durable name, if there is one.
     pub(crate) fn forget(&mut self, alloc: Global, name: &DurableName) -> Line
         ensures line { result ≡ line_at name_cmp name.now self.old.names }
         ensures empty { line_at name_cmp name.now self.new.names ≡ [] }

@@ -44,7 +44,7 @@ fn find_named(order: &Order, session: u64, id: &HeaderText) -> Option<usize>
     None
 }
 
-/// Where the subscription of that session and id waits, where an id is given.
+/// Where the subscription of that session and id waits, if an id is given.
 fn find_given(order: &Order, session: u64, id: &Option<HeaderText>) -> Option<usize>
     ensures { IsGivenAt session id.now order.now result }
 {
@@ -54,7 +54,7 @@ fn find_given(order: &Order, session: u64, id: &Option<HeaderText>) -> Option<us
     }
 }
 
-/// Whether a session may have one more subscription, of that id: refused where it has one of that id, or 16.
+/// Whether a session may have one more subscription, of that id. It is refused if it has one of that id, or 16.
 fn find_place(order: &Order, session: u64, id: &HeaderText) -> Result<(), Fault>
     ensures { result ≡ place_for order.now session id.now }
 {
@@ -75,7 +75,7 @@ fn is_used_between(order: &Order, name: &DurableName, from: usize, to: usize) ->
     order.next_under(name, from) < to
 }
 
-/// Whether a subscription has the durable name, other than the one in that place where a place is given.
+/// Whether a subscription has the durable name, other than the one in that place if a place is given.
 fn is_used(order: &Order, name: &DurableName, but: Option<usize>) -> bool
     requires { IfSome but (λ at. at < length order.now) }
     ensures { result ≡ list_any (uses name.now) (but_at order.now but) }
@@ -89,7 +89,7 @@ fn is_used(order: &Order, name: &DurableName, but: Option<usize>) -> bool
     }
 }
 
-/// Whether a durable name that is bound to that topic may be used for a subscription of that destination: it has to be the
+/// Whether a durable name that is bound to that topic may be used for a subscription of that destination. It has to be the
 /// same topic, and nobody else may use the name.
 fn may_be_used(order: &Order, name: &DurableName, topic: &Dest, destination: &Dest) -> bool
     ensures { result ≡ (bytes_eq topic.now destination.now && not (list_any (uses name.now) order.now)) }
@@ -169,7 +169,7 @@ fn with_shared_id(alloc: Global, sub: Subscription) -> Result<Subscription, Allo
     }
 }
 
-/// A subscription that begins waits last, and those of its session are due. Where memory is refused, they may be.
+/// A subscription that begins waits last, and those of its session are due. If memory is refused, they may be.
 fn enter(
     alloc: Global,
     due: &mut Vec<Key>,
@@ -185,8 +185,8 @@ fn enter(
     order.add(alloc, sub)
 }
 
-/// What a subscription that has ended has not acknowledged stands in its line again, and those are due that are served from
-/// it, unless the line was its own; what vanishes with it is held no more. Where memory is refused, part of it may be done.
+/// What an ended subscription has not acknowledged stands in its line again, and the subscriptions that are served from it
+/// are due, unless the line was its own. What vanishes with it is held no more. If memory is refused, part of it may be done.
 fn let_go(
     alloc: Global,
     due: &mut Vec<Key>,
@@ -218,7 +218,8 @@ impl Tables {
         }
     }
 
-    /// The durable name of a session's subscription, if one is given; none on a queue. Refused if its client has no name.
+    /// The durable name of a session's subscription, if one is given; none for a queue. It is refused if its client has no
+    /// name.
     fn name_for(
         &self,
         session: u64,
@@ -237,8 +238,8 @@ impl Tables {
         }
     }
 
-    /// The durable name of a session's subscription of that id, which is to begin, if one is given. Refused if the session
-    /// has one of that id, or 16, and with a durable name if the session's client has no name.
+    /// The durable name of a session's subscription of that id, which is to begin, if one is given. It is refused if the
+    /// session has one of that id, or 16, and with a durable name if the session's client has no name.
     fn find_name(
         &self,
         session: u64,
@@ -256,9 +257,10 @@ impl Tables {
         }
     }
 
-    /// A subscription begins and waits last, under a durable name if one is given. Refused if the session has one of that
-    /// id, or 16; with a durable name, if the session's client has no name, if somebody uses the durable name or it is
-    /// another topic's, and if it were the 257th. The tables are as they were then. If memory is refused, they may be broken.
+    /// A subscription begins and waits last, under a durable name if one is given. It is refused if the session has one of
+    /// that id, or 16. With a durable name, it is refused if the session's client has none itself, or if somebody uses the
+    /// name, it is another topic's, or it would be the 257th. The tables are as they were then. If memory is refused, they
+    /// may be broken.
     pub fn subscribe(
         &mut self,
         alloc: Global,
@@ -296,8 +298,8 @@ impl Tables {
         }
     }
 
-    /// A subscription begins and waits last. Refused if it has a durable name that somebody uses or that is another topic's,
-    /// or that were the 257th, and then the tables are as they were.
+    /// A subscription begins and waits last. It is refused if it has a durable name that somebody uses, that is another
+    /// topic's, or that would be the 257th. The tables are as they were then.
     fn begin(&mut self, alloc: Global, sub: Subscription) -> Result<Result<(), Fault>, AllocError>
         requires fresh { (sub.line ≡ []) × (sub.unacknowledged ≡ []) }
         requires whole { self.old.broken ≡ false }
@@ -315,7 +317,8 @@ impl Tables {
     }
 
     /// The durable name of a subscription that is to begin is bound to its topic, unless it has none or the name is bound so
-    /// already. Refused if somebody uses the name or it is another topic's, or it were the 257th, and then nothing changes.
+    /// already. It is refused if somebody uses the name, if it is another topic's, or if it would be the 257th. Nothing
+    /// changes then.
     fn bind(&mut self, alloc: Global, sub: &Subscription) -> Result<Result<(), Fault>, AllocError>
         ensures begun { IfOk result (λ r. begun self.old.state sub.now ≡ leaving r (with_subscription self.new.state sub.now)) }
         ensures same { IfOk result (λ r. IsErr r → self.new ≡ self.old) }
@@ -341,10 +344,10 @@ impl Tables {
         }
     }
 
-    /// The subscription of that id ends, or a durable name of the session's client is given up, with its line; if both are
-    /// given, a subscription of that id ends first, if there is one. Refused if no name is given and the session has no
-    /// subscription of that id; with a name, if the client has none itself, and if the durable name is unknown or somebody
-    /// uses it. The tables are as they were then. If memory is refused, they may be broken.
+    /// The subscription of that id ends, or a durable name of the session's client is given up, with its line. If both are
+    /// given, a subscription of that id ends first, if there is one. It is refused if no name is given and the session has no
+    /// subscription of that id. With a name, it is refused if the client has none itself, if the durable name is unknown, or
+    /// if somebody uses it. The tables are as they were then. If memory is refused, they may be broken.
     pub fn unsubscribe(
         &mut self,
         alloc: Global,
@@ -372,8 +375,8 @@ impl Tables {
     }
 
     /// The subscription in that place ends, if one is given, and then a durable name of the session's client is given up,
-    /// with its line. Refused if the client has no name itself, and if the durable name is unknown or another subscription
-    /// uses it; the tables are as they were then.
+    /// with its line. It is refused if the client has no name itself, if the durable name is unknown, or if another
+    /// subscription uses it. The tables are as they were then.
     fn give_up(
         &mut self,
         alloc: Global,
@@ -400,8 +403,8 @@ impl Tables {
         }
     }
 
-    /// The subscription in that place ends, if one is given, and then a durable name is given up, with its line. Refused if
-    /// the name is unknown or another subscription uses it; the tables are as they were then.
+    /// The subscription in that place ends, if one is given, and then a durable name is given up, with its line. It is
+    /// refused if the name is unknown or another subscription uses it. The tables are as they were then.
     fn give_up_name(
         &mut self,
         alloc: Global,
@@ -449,7 +452,7 @@ impl Tables {
     }
 
     /// The subscription in that place ends: what it has not acknowledged stands in its line again, unless the line was its
-    /// own; what vanishes with it is held no more.
+    /// own. What vanishes with it is held no more.
     fn end_one(&mut self, alloc: Global, at: usize) -> Result<(), AllocError>
         requires place { at < length self.old.state.subscriptions }
         requires whole { self.old.broken ≡ false }

@@ -19,10 +19,10 @@ use std::collections::BTreeMap;
 use std::marker::Model;
 use std::mem;
 
-/// How many commands were carried out, the open sessions, the durable names, the lines that stay and the subscriptions,
-/// and how much is held, so that nobody needs to count it. Contracts see the state that they show, and whether they are
-/// broken. They are if memory was refused within an operation, which has done a part of its work then. What is counted as
-/// held is what the state of whole tables holds.
+/// How many commands were carried out, the open sessions, the durable names, the lines that stay and the subscriptions.
+/// How much is held stands there too, so that nobody needs to count it. Contracts see the state that they show, and
+/// whether they are broken. They are if memory was refused within an operation, which has then done a part of its work.
+/// What is counted as held is what the state of whole tables holds.
 #[derive(Drop)]
 pub struct Tables {
     pub(crate) count: u64,
@@ -33,8 +33,8 @@ pub struct Tables {
     pub(crate) shared: SharedLines,
     pub(crate) order: Order,
     pub(crate) held: Held,
-    /// Who can be served is under one of these keys: they grow with what a command touches, and none is left once all is
-    /// handed out.
+    /// A subscription that can be served is under one of these keys. They grow with what a command touches, and none is
+    /// left once all is handed out.
     pub(crate) due: Vec<Key>,
     // An operation is under way, or was refused memory.
     pub(crate) broken: bool,
@@ -109,7 +109,7 @@ impl Tables {
         self.next_delivery
     }
 
-    /// The open sessions, each with the name of its client where it has one.
+    /// The open sessions, each with the name of its client if it has one.
     pub fn sessions(&self) -> &BTreeMap<u64, Option<GivenName>>
         ensures { result.now.entries ≡ self.now.state.sessions }
     {
@@ -151,7 +151,7 @@ impl Tables {
         self.broken
     }
 
-    /// Lets all go: tables after so many commands that are broken, and hold nothing.
+    /// Lets all go: the tables are broken then, after so many commands, and hold nothing.
     pub fn let_go(&mut self, alloc: Global, count: u64)
         ensures { self.new ≡ record { state = record empty_state { count = count }; broken = true } }
     {

@@ -12,7 +12,7 @@ op_of (members.Send sending) = Send sending
 op_of (members.Ack delivery) = Ack delivery
 op_of (members.Nack delivery) = Nack delivery
 
--- The form of an operation: a client's name and a durable one aren't empty, a durable name comes with a topic alone, and
+-- The form of an operation: a client's name and a durable one aren't empty. A durable name comes only with a topic, and
 -- what ends a subscription has an id or a name.
 abbrev pub IsOp : Op → Type 0
 IsOp (Open client_id) = IsGiven client_id

@@ -1,4 +1,4 @@
--- Commands, read from the front of bytes: what is read and the bytes behind it, or nothing where no spelling begins them.
+-- Commands, read from the front of bytes: what is read and the bytes after it, or nothing if no spelling begins them.
 use Rattle.std.specs.Prelude.{◌==◌, ◌&&◌, ◌||◌, ℕ, Bool, true, List, [], ◌∷◌, Option, Some, None, is_some, not, if◌then◌else◌}
 use Rattle.std.specs.Int.{w64}
 use Rattle.command_core.specs.declared.command.End.{End as ending}
@@ -52,7 +52,7 @@ unsubscribe_at bytes = do
   durable ← name_at id.1
   if is_some id.0 || is_some durable.0 then Some (Unsubscribe id.0 durable.0, durable.1) else None
 
--- a member, behind the byte for its kind
+-- a member, after the byte for its kind
 unfoldable pub member_behind : ℕ → Reader Member
 member_behind kind bytes =
     if kind == 2 then made kinds.Send (sending_at bytes)

@@ -14,7 +14,7 @@ connected session = record {
   body = [];
 }
 
--- the header that names the frame that asked for a receipt, where one did
+-- the header that names the frame that asked for a receipt, if one did
 abbrev pub receipt_header : Option (List ℕ) → List (List ℕ × List ℕ)
 receipt_header None = []
 receipt_header (Some id) = (codes "receipt-id", id) ∷ []
@@ -23,11 +23,11 @@ receipt_header (Some id) = (codes "receipt-id", id) ∷ []
 abbrev pub receipt_frame : List ℕ → Frame
 receipt_frame id = record { verb = verbs.Receipt; headers = receipt_header (Some id); body = [] }
 
--- STOMP 1.2, "ERROR": what is wrong, and the frame that was, where it asked for a receipt
+-- STOMP 1.2, "ERROR": what is wrong, and which frame was, if it asked for a receipt
 abbrev pub error_frame : Fault → Option (List ℕ) → Frame
 error_frame fault receipt = record { verb = verbs.Error; headers = (codes "message", text_of fault) ∷ receipt_header receipt; body = [] }
 
--- the header that names a delivery for its acknowledgement, where one is expected
+-- the header that names a delivery for its acknowledgement, if one is expected
 abbrev pub ack_header : Option ℕ → List (List ℕ × List ℕ)
 ack_header None = []
 ack_header (Some delivery) = (codes "ack", decimal delivery) ∷ []
@@ -41,7 +41,7 @@ abbrev pub own_headers : List ℕ → List ℕ → Option ℕ → SendingValue �
 own_headers subscription id delivery sending =
     (codes "subscription", subscription) ∷ (codes "message-id", id) ∷ (codes "destination", sending.destination) ∷ (ack_header delivery ++ (codes "content-length", decimal (length sending.body)) ∷ [])
 
--- STOMP 1.2, "MESSAGE": what was sent, to a subscription, with the headers that the message keeps behind the broker's own
+-- STOMP 1.2, "MESSAGE": what was sent, to a subscription, with the headers that the message keeps after the broker's own
 abbrev pub message_frame : List ℕ → ℕ → ℕ → Option ℕ → SendingValue → Frame
 message_frame subscription command place delivery sending = record {
   verb = verbs.Message;

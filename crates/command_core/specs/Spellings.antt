@@ -24,7 +24,7 @@ member (kinds.Nack delivery) = 6 ∷ to_be_bytes w64 delivery
 abbrev pub members : List Member → List ℕ
 members ms = to_be_bytes w16 (length ms) ++ flat_map member ms
 
--- how a session ends; where it did what it may not, the code of its fault
+-- how a session ends; if it did what it may not do, also the code of its fault
 abbrev pub end : ending → List ℕ
 end Bye = 0 ∷ []
 end Lost = 1 ∷ []

@@ -15,7 +15,7 @@ pub enum End {
     Bye,
     /// The connection is gone.
     Lost,
-    /// The client did what it may not, and is told so.
+    /// The client did what it may not do, and is told so.
     Bad(Fault),
 }
 
@@ -28,16 +28,16 @@ pub enum Op {
     },
     /// A message goes out.
     Send(Sending),
-    /// A subscription begins, under an id of the session's own. With a name, which is not empty and comes with a topic
-    /// alone, it is a durable one: its messages are kept under that name while nobody listens.
+    /// A subscription begins, under an id of the session's own. With a name, which is not empty and comes only with a
+    /// topic, it is a durable one: its messages are kept under that name while nobody listens.
     Subscribe {
         id: HeaderText,
         destination: Dest,
         mode: AckMode,
         durable: Option<HeaderText>,
     },
-    /// The subscription of that id ends; with a name, the durable subscription of that name is given up. One of them at
-    /// least is there.
+    /// The subscription of that id ends. With a name, the durable subscription of that name is given up. At least one
+    /// of them is there.
     Unsubscribe {
         id: Option<HeaderText>,
         durable: Option<HeaderText>,
@@ -48,7 +48,7 @@ pub enum Op {
     Nack(u64),
     /// The members of a transaction are carried out in their order, all of them or none.
     Commit(Members),
-    /// Nothing: it stands for a frame that does nothing yet and whose receipt is asked for.
+    /// Nothing: it stands for a frame that does nothing yet but asks for a receipt.
     Note,
     /// It ends.
     End(End),
@@ -70,9 +70,9 @@ impl From<Member> for Op {
 }
 
 /// A command: which session asks for what, and the receipt that it asks for with it. Contracts see it as these three.
-/// Of an Open the session is 0, since its number is given by the broker, and no receipt goes with an Open (STOMP 1.2,
-/// "Header receipt") nor with the end of a lost connection. A client's name and a durable one are not empty, a durable
-/// name comes with a topic alone, and what ends a subscription has an id or a name.
+/// An Open has the session 0, since the broker gives the session its number. No receipt goes with an Open (STOMP 1.2,
+/// "Header receipt") or with the end of a lost connection. A client's name and a durable one are not empty. A durable
+/// name comes only with a topic, and what ends a subscription has an id or a name.
 #[derive(Drop)]
 pub struct Command {
     session: u64,
@@ -103,7 +103,7 @@ impl Command {
         }
     }
 
-    /// The number of the session that it is of; an Open, which makes the session, has 0.
+    /// The number of the session that it belongs to. An Open, which makes the session, has 0.
     pub fn session(&self) -> u64
         ensures value { result ≡ self.now.session }
         ensures form { IsCommand self.now }
@@ -119,7 +119,7 @@ impl Command {
         &self.op
     }
 
-    /// The text that a RECEIPT brings back, where one was asked for (header `receipt`).
+    /// The text that a RECEIPT brings back, if one was asked for (header `receipt`).
     pub fn receipt(&self) -> &Option<HeaderText>
         ensures value { result.now ≡ self.now.receipt }
         ensures form { IsCommand self.now }

@@ -45,7 +45,7 @@ fn read_end(bytes: &[u8]) -> Result<(End, &[u8]), DecodeFault>
     }
 }
 
-// Whether a durable name comes with a queue, as none may.
+// Whether a durable name comes with a queue, which may have none.
 fn is_of_queue(durable: &Option<HeaderText>, destination: &Dest) -> bool
     ensures { result ≡ (is_some durable.now && is_queue destination.now) }
 {
@@ -84,7 +84,7 @@ fn read_unsubscribe(alloc: Global, bytes: &[u8]) -> Result<(Op, &[u8]), DecodeFa
     Ok((Op::Unsubscribe { id, durable }, rest))
 }
 
-// A member, behind the byte for its kind.
+// A member, after the byte for its kind.
 #[tactic(auto, unfolding(crate::specs::Reading::member_behind))]
 fn read_member_behind(alloc: Global, kind: u8, bytes: &[u8]) -> Result<(Member, &[u8]), DecodeFault>
     ensures { Gives (λ x. (x.0, x.1.now)) result (member_behind kind bytes.now) }
@@ -150,7 +150,7 @@ fn read_operation(alloc: Global, bytes: &[u8]) -> Result<(Op, &[u8]), DecodeFaul
     }
 }
 
-// Whether session and receipt are such as the operation asks for.
+// Whether session and receipt have the form that the operation asks for.
 fn fits(op: &Op, session: u64, receipt: &Option<HeaderText>) -> bool
     ensures { result ≡ fits_with op.now session receipt.now }
 {
@@ -181,7 +181,7 @@ pub fn decode(alloc: Global, bytes: &[u8]) -> Result<(Command, usize), DecodeFau
     ensures length { IfOk result (λ d. d.1 ≤ length bytes.now) }
     // It is the command's.
     ensures spelled { IfOk result (λ d. Spells (take d.1 bytes.now) d.0) }
-    // Where none is found, no front of the bytes is the record of a command.
+    // If none is found, no front of the bytes is the record of a command.
     ensures none { IfErr result (λ e.
         e ≡ DecodeFault.NoSpelling → (c : CommandValue) (n : ℕ) → Spells (take n bytes.now) c → ⊥) }
 {

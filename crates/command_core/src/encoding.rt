@@ -139,7 +139,7 @@ fn put_command(out: &mut Vec<u8>, command: &Command) -> Result<(), AllocError>
     put_operation(out, command.op())
 }
 
-/// The record of a command, which is its one spelling. It fails only where memory for the whole record is refused.
+/// The record of a command, which is its one spelling. It fails only if memory for the whole record is refused.
 pub fn encode(alloc: Global, command: &Command) -> Result<Vec<u8>, AllocError>
     ensures { IfOk result (λ spelling. Spells spelling.items command.now) }
 {

@@ -8,8 +8,9 @@ use crate::encoding::encode;
 use std::alloc::Global;
 use std::marker::Model;
 
-/// A command with its record, made before the command gets its place in the journal, so that nothing can fail in between.
-/// With an Open may come where the outputs of its session go. Contracts see the command and that box.
+/// A command with its record, which is made before the command gets its place in the journal, so that nothing can fail in
+/// between. With an Open may come an outbox: the box that the outputs of its session go to. Contracts see the command and
+/// that box.
 #[derive(Drop)]
 pub struct Entry<B> {
     command: Command,
@@ -29,7 +30,7 @@ impl<B> Model for Entry<B> {
 }
 
 impl<B> Entry<B> {
-    /// The command with its record. Where memory for the record is refused, command and box come back.
+    /// The command with its record. If memory for the record is refused, command and box come back.
     pub fn new(
         alloc: Global,
         command: Command,
@@ -62,7 +63,7 @@ impl<B> Entry<B> {
         &self.bytes
     }
 
-    /// Where the outputs of the session go that the command opens.
+    /// The box that the outputs go to of the session that the command opens.
     pub fn outbox(&self) -> &Option<B>
         ensures { result.now ≡ self.now.outbox }
     {

@@ -83,7 +83,7 @@ impl Fault {
         }
     }
 
-    /// The fault of that number, or `None` where it is none of 1 to 20.
+    /// The fault of that number, or `None` if it is none of 1 to 20.
     pub fn from_code(code: u8) -> Option<Fault>
         ensures { MatchOption result
             ((fault : Fault) → code_of fault ≢ code)
@@ -115,7 +115,7 @@ impl Fault {
     }
 }
 
-/// The value of an ERROR frame's `message` header: the code and what is wrong, as `E3 undefined escape`.
+/// The value of an ERROR frame's `message` header: the code and what is wrong, such as `E3 undefined escape`.
 pub fn fault_text(fault: Fault) -> &'static str
     ensures { result.now ≡ text_of fault }
 {

@@ -30,7 +30,7 @@ impl Model for Out {
 }
 
 impl Out {
-    /// Takes memory for the frame's box; where that is refused, the frame is let go.
+    /// Takes memory for the frame's box. If that is refused, the frame is let go.
     pub fn new(alloc: Global, number: u64, session: u64, frame: Frame) -> Result<Out, AllocError>
         requires { Writable frame }
         ensures { IfOk result (λ out. out ≡ record { number = number; session = session; frame = frame }) }

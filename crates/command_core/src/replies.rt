@@ -12,7 +12,7 @@ use frame_core::{Bytes, Frame, Headers, Text, Verb, Word};
 use record_core::{Dest, HeaderText, Sending};
 use std::alloc::{AllocError, Global};
 
-/// Adds a header behind the others.
+/// Adds a header after the others.
 fn add_header(headers: &mut Vec<(Text, Text)>, name: Word, value: Text) -> Result<(), AllocError>
     ensures { OnOk result (headers.new.items ≡ headers.old.items ++ (word_bytes name, value) ∷ []) }
 {
@@ -20,7 +20,7 @@ fn add_header(headers: &mut Vec<(Text, Text)>, name: Word, value: Text) -> Resul
     Ok(())
 }
 
-/// Adds a header whose value is a copy of this.
+/// Adds a header whose value is a copy of this text.
 fn add_text(
     alloc: Global,
     headers: &mut Vec<(Text, Text)>,
@@ -62,7 +62,7 @@ pub fn connected_reply(alloc: Global, session: u64) -> Result<Frame, AllocError>
     })
 }
 
-/// The RECEIPT that was asked for by that text (STOMP 1.2, "RECEIPT").
+/// The RECEIPT that was asked for with that text (STOMP 1.2, "RECEIPT").
 pub fn receipt_reply(alloc: Global, receipt: HeaderText) -> Result<Frame, AllocError>
     ensures value { IfOk result (λ frame. frame ≡ receipt_frame receipt) }
     ensures form { IfOk result (λ frame. Writable frame) }
@@ -89,7 +89,7 @@ fn add_receipt(
     Ok(())
 }
 
-/// The ERROR that tells a fault, and which frame it was where that asked for a receipt (STOMP 1.2, "ERROR").
+/// The ERROR that tells a fault, and names the frame if that asked for a receipt (STOMP 1.2, "ERROR").
 pub fn error_reply(
     alloc: Global,
     fault: Fault,
@@ -122,7 +122,7 @@ fn add_ack(
     }
 }
 
-/// Adds the header that tells which message it is.
+/// Adds the header that says which message it is.
 fn add_id(
     alloc: Global,
     headers: &mut Vec<(Text, Text)>,
@@ -148,7 +148,7 @@ fn add_copy(
     add_header(headers, name, value.into_text())
 }
 
-/// Adds the header that tells where a message was sent to.
+/// Adds the header that says where a message was sent to.
 fn add_destination(headers: &mut Vec<(Text, Text)>, destination: &Dest) -> Result<(), AllocError>
     ensures { OnOk result (headers.new.items ≡ headers.old.items ++ (codes "destination", destination.now) ∷ []) }
 {
@@ -156,7 +156,7 @@ fn add_destination(headers: &mut Vec<(Text, Text)>, destination: &Dest) -> Resul
     add_header(headers, Word::Destination, destination.into_text())
 }
 
-/// Adds the headers that tell to whom a message goes, and which one it is.
+/// Adds the headers that say to whom a message goes, and which one it is.
 fn add_names(
     alloc: Global,
     headers: &mut Vec<(Text, Text)>,
@@ -200,7 +200,7 @@ fn add_own_headers(
     add_number(alloc, headers, Word::ContentLength, length)
 }
 
-/// The MESSAGE of these headers and those that were sent, with the body that was.
+/// The MESSAGE with these headers and those that were sent, and with the body that was sent.
 fn message(mut headers: Vec<(Text, Text)>, sending: Sending) -> Result<Frame, AllocError>
     ensures { IfOk result (λ frame. frame ≡ record { verb = Verb.Message; headers = headers.items ++ sending.headers; body = sending.body }) }
 {
@@ -213,8 +213,8 @@ fn message(mut headers: Vec<(Text, Text)>, sending: Sending) -> Result<Frame, Al
     })
 }
 
-/// The MESSAGE that gives what was sent to a subscription of that id (STOMP 1.2, "MESSAGE"): the message's number is that
-/// of its command and its place there; `delivery` is the number by which it is acknowledged, where it is to be.
+/// The MESSAGE that gives what was sent to a subscription of that id (STOMP 1.2, "MESSAGE"). The message's number is that
+/// of its command and its place there. `delivery` is the number by which it is acknowledged, if it is to be.
 pub fn message_reply(
     alloc: Global,
     subscription: &HeaderText,

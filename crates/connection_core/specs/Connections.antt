@@ -24,7 +24,7 @@ use Rattle.connection_core.specs.declared.progress.Progress.TheVariants.{New, Op
 use Rattle.connection_core.specs.declared.stage.Stage.{Stage}
 use Rattle.connection_core.specs.declared.stage.Stage.TheVariants.{Running, GivingUp, Closing, Leaving}
 
--- Its session of STOMP; what that asked for and is still to be done; how far its conversation with the broker has come; what stands of
+-- Its session of STOMP; what that asked for that is still to be done; how far its conversation with the broker has come; what stands of
 -- its session in a snapshot; the number of the DISCONNECT whose RECEIPT is the last frame; and what is to be done with it.
 pub record ConnectionValue : Type 0 where
   pub session : Hearing
@@ -66,8 +66,8 @@ loss_of (Open number) = Some (Do (ops.End ends.Lost) None)
 loss_of (Ended number) = None
 loss_of Gone = None
 
--- The act is the next: the first of those that wait; or, where none waits and the connection is lost, what its loss asks for.
--- Nothing else of the connection has changed.
+-- The act is the next: the first of those that wait or, if none waits and the connection is lost, what its loss asks for. Nothing else of
+-- the connection has changed.
 pub record Takes (old new : ConnectionValue) (act : Option Act) : Type 0 where
   pub first : (one : Act) (others : List Act) → all_of old.acts ≡ one ∷ others → (act ≡ Some one) × (all_of new.acts ≡ others) × (new.session ≡ old.session)
   pub loss : all_of old.acts ≡ [] → IsLost old.stage → (act ≡ loss_of old.progress) × (all_of new.acts ≡ []) × (new.session ≡ old.session)
@@ -75,28 +75,29 @@ pub record Takes (old new : ConnectionValue) (act : Option Act) : Type 0 where
   pub again : new.acts.again ≡ None
   pub same : new ≡ record old { session = new.session; acts = new.acts }
 
--- once its session has ended it is closed
+-- once its session has ended, it is closed
 abbrev pub closed_behind : Progress → Stage → Stage
 closed_behind New stage = Closing Bye
 closed_behind (Open number) stage = stage
 closed_behind (Ended number) stage = Closing Bye
 closed_behind Gone stage = Closing Bye
 
--- where a session's close is heard: behind a DISCONNECT at once, unless its RECEIPT is still to be sent; behind an ERROR once that is sent
+-- the stage once a session's close is heard: after a DISCONNECT at once, unless its RECEIPT is still to be sent; after an ERROR once that
+-- is sent
 abbrev pub closed_by : CloseCode → Option ℕ → Progress → Stage → Stage
 closed_by NormalClosure None progress stage = closed_behind progress stage
 closed_by NormalClosure (Some number) progress stage = stage
 closed_by ProtocolError last progress stage = stage
 
--- What an operation asks for: its command, where that may be the next of the conversation.
+-- What an operation asks for: its command, if that may be the next of the conversation.
 abbrev pub Asks : Progress → Op → Option (List ℕ) → Wanted → Type 0
 Asks progress op receipt (Append command) = (command ≡ asked progress op receipt) × IsNext progress command
 Asks progress op receipt Done = IsNext progress (asked progress op receipt) → ⊥
 Asks progress op receipt (Tell notice) = ⊥
 Asks progress op receipt Rest = ⊥
 
--- What is wanted is what the next act asks for: that its command is appended, or that a frame is told. A close asks for nothing
--- from outside. Where there is no act, the connection rests.
+-- What is wanted is what the next act asks for: that its command is appended, or that a frame is told. A close asks for nothing from
+-- outside. If there is no act, the connection rests.
 abbrev pub WantsBy : ConnectionValue → ConnectionValue → Option Act → Wanted → Type 0
 WantsBy old new (Some (Do op receipt)) wanted = Asks old.progress op receipt wanted × (new.stage ≡ old.stage)
 WantsBy old new (Some (Direct frame)) wanted = (wanted ≡ Tell frame) × (new.stage ≡ old.stage)
@@ -118,8 +119,8 @@ abbrev pub with_appended : ConnectionValue → Said → ℕ → ConnectionValue
 with_appended old said ticket =
     record old { progress = after old.progress said.role ticket; last = cond said.is_last (Some ticket) old.last }
 
--- The frame of that command and verb was sent. Behind an ERROR the connection is closed and nothing more is appended (STOMP 1.2,
--- "ERROR"); behind the RECEIPT of the DISCONNECT it is closed ("DISCONNECT").
+-- The frame of that command and verb was sent. After an ERROR the connection is closed and nothing more is appended (STOMP 1.2, "ERROR").
+-- After the RECEIPT of the DISCONNECT it is closed ("DISCONNECT").
 abbrev pub IsSent : ConnectionValue → ℕ → Verb → ConnectionValue → Type 0
 IsSent old number verbs.Error new = new ≡ record old { progress = over old.progress; stage = Closing Bad }
 IsSent old number verbs.Receipt new =

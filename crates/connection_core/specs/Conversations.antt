@@ -31,7 +31,7 @@ IsNext (Open number) c = (c.session ≡ number) × (role_of c.op ≢ Opens)
 IsNext (Ended number) c = ⊥
 IsNext Gone c = ⊥
 
--- the session's number as a command of that role has it: 0 of an Open, which has none yet, and where no session is open
+-- the session's number as a command of that role has it: 0 for an Open, which has none yet, and if no session is open
 abbrev pub session_of : Progress → Role → ℕ
 session_of progress Opens = 0
 session_of (Open number) role = number
@@ -55,7 +55,7 @@ IsFinished (Open number) = ⊥
 IsFinished (Ended number) = Unit {0}
 IsFinished Gone = Unit {0}
 
--- where nothing more is appended
+-- the progress once nothing more is appended
 abbrev pub over : Progress → Progress
 over New = Gone
 over (Open number) = Ended number

@@ -11,8 +11,9 @@ use Rattle.connection_core.specs.declared.footprint.TheConstants.{SESSION_BYTES}
 abbrev pub part : Option (List ℕ) → ℕ → Part
 part id bytes = record { id = id; bytes = bytes }
 
--- What a command adds, as a snapshot spells it. An Open adds its session: a number of 8 bytes, and the client's name. A SUBSCRIBE adds
--- its subscription: the session's number, its id, its destination, a byte for its mode, its durable name, and two counts of messages, of 4 bytes.
+-- What a command adds, as a snapshot spells it. An Open adds its session: a number of 8 bytes, and the client's name. A SUBSCRIBE adds its
+-- subscription: the session's number, its id, its destination, a byte for its mode, its durable name, and two counts of messages, of 4
+-- bytes.
 abbrev pub parts_of : Op → List Part
 parts_of (ops.Open client_id) = part None (8 + option_size client_id) ∷ []
 parts_of (ops.Subscribe id destination mode durable) = part (Some id) (17 + text_size id + text_size destination + option_size durable) ∷ []
@@ -41,11 +42,11 @@ total parts = sum_by (λ (one : Part). one.bytes) parts
 abbrev pub footprint : List Op → ℕ
 footprint ops = total (standing ops)
 
--- behind each of these commands the session keeps within its bytes
+-- after each of these commands the session keeps within its bytes
 abbrev pub IsWithin : List Op → Type 0
 IsWithin ops = (k : ℕ) → footprint (take k ops) ≤ SESSION_BYTES
 
--- what stands behind one command more
+-- what stands after one more command
 abbrev pub charged : List Part → Op → List Part
 charged parts (ops.Open client_id) = parts ++ parts_of (ops.Open client_id)
 charged parts (ops.Subscribe id destination mode durable) = parts ++ parts_of (ops.Subscribe id destination mode durable)

@@ -6,8 +6,8 @@ use Rattle.connection_core.specs.Connections.{ConnectionValue}
 use Rattle.connection_core.specs.Tasks.{all_of}
 use Rattle.connection_core.specs.declared.stage.Stage.TheVariants.{Running}
 
--- These bytes were heard, however they were cut, and of all that they ask for these acts were taken, the first ones: the others wait.
--- While the connection runs its session stands where those bytes bring one.
+-- These bytes were heard, however they were cut. Of all that they ask for these acts were taken, the first ones: the others wait.
+-- While the connection runs, its session stands where those bytes bring one.
 pub record HasHeard (bytes : List ℕ) (taken : List Act) (c : ConnectionValue) : Type 0 where
   pub session : Hearing
   pub hears : Hears fresh bytes (taken ++ all_of c.acts) session

@@ -13,7 +13,7 @@ Executes (Closing ended) = ⊥
 Executes (Parting ended) = ⊥
 Executes (Over ended) = ⊥
 
--- it ends so by itself, and not since the broker takes nothing more
+-- it ends so by itself, and not because the broker takes nothing more
 abbrev pub IsOwnEnd : Ended → Type 0
 IsOwnEnd Bye = Unit {0}
 IsOwnEnd Lost = Unit {0}
@@ -29,7 +29,8 @@ IsEnding (Parting ended) = IsOwnEnd ended
 IsEnding Leaving = ⊥
 IsEnding (Over ended) = IsOwnEnd ended
 
--- Behind the end of its link. A close that could not be said any more is none behind a DISCONNECT or an ERROR.
+-- The stage after the end of its link. A close that could not be said any more counts as none after a DISCONNECT or
+-- an ERROR.
 abbrev pub lost : Stage → Stage
 lost Running = Leaving
 lost GivingUp = Leaving
@@ -40,25 +41,25 @@ lost (Closing ended) = Over ended
 lost (Parting ended) = Over ended
 lost (Over ended) = Over ended
 
--- where it is given up: behind a close, or the end of its link, that is nothing new
+-- the stage once it is given up: after a close, or the end of its link, that is nothing new
 abbrev pub given_up : Stage → Stage
 given_up Running = GivingUp
 given_up stage = stage
 
--- where the broker takes nothing more
+-- the stage once the broker takes nothing more
 abbrev pub stopped : Stage → Stage
 stopped Running = Closing Stopped
 stopped GivingUp = Closing Stopped
 stopped Leaving = Closing Stopped
 stopped stage = stage
 
--- where nothing that was asked for is left to be done
+-- the stage once nothing that was asked for is left to be done
 abbrev pub rested : Stage → Stage
 rested GivingUp = Closing Lost
 rested Leaving = Over Lost
 rested stage = stage
 
--- where the close was said
+-- the stage once the close was said
 abbrev pub parted : Stage → Stage
 parted (Closing ended) = Parting ended
 parted stage = stage

@@ -1,4 +1,4 @@
-//! What a session has asked for and is still to be done.
+//! What a session has asked for that is still to be done.
 
 ghost use Rattle.std.specs.Prelude.{◌≡◌, ◌≢◌, ◌++◌, [], None, Some, true, false, option_to_list, IfSome};
 ghost use Rattle.std.specs.List.{AllByRecursion};
@@ -11,7 +11,7 @@ use std::collections::VecDeque;
 use std::marker::Model;
 
 /// The acts of a session that are still to be done, in their order, each in its form. Contracts see the one that was tried
-/// and is to be tried again, and those behind it.
+/// and is to be tried again, and those after it.
 #[derive(Drop)]
 pub(crate) struct Acts {
     again: Option<Act>,
@@ -71,7 +71,7 @@ impl Acts {
         }
     }
 
-    // Puts the act back that came last, to be the next again.
+    // Puts back the act that came last, to be the next again.
     pub(crate) fn put_back(&mut self, act: Act)
         requires form { HasForm act }
         requires first { self.old.again ≡ None }

@@ -18,15 +18,15 @@ use std::alloc::{AllocError, Global};
 use std::marker::Model;
 use std::mem;
 
-/// One connection: what came goes in, what is to be done comes out, one at a time and in order, and what became of it goes in again.
+/// One connection. What came goes in, and what is to be done comes out, one at a time and in order. What became of it goes in again.
 ///
-/// What it wants appended is one conversation with the broker: an Open, then commands of the session whose number is the Open's
-/// ticket, and at most one End, behind which it wants nothing. These are what the client's bytes ask for, in that order,
-/// however they were cut; and where the connection is lost while its session is open, the session's end.
+/// What it wants appended is one conversation with the broker: an Open, then commands of the session whose number is the Open's ticket,
+/// and at most one End. After the End it wants nothing. These are what the client's bytes ask for, in that order, however they were cut.
+/// If the connection is lost while its session is open, the session's end is one of them.
 #[derive(Drop)]
 pub struct Connection {
     session: Session,
-    // What the session has asked for and is still to be done.
+    // What the session has asked for that is still to be done.
     acts: Acts,
     progress: Progress,
     // What stands of its session in a snapshot, with the command that is under way.
@@ -59,7 +59,7 @@ impl Connection {
     ghost use Rattle.connection_core.specs.declared.stage.Stage.TheVariants.{Closing};
     ghost use Rattle.connection_core.specs.declared.ended.Ended.TheVariants as ended;
 
-    /// One whose client was not heard yet. No memory is taken.
+    /// A connection whose client was not heard yet. No memory is taken.
     pub fn new(alloc: Global) -> Connection
         ensures value { result ≡ unheard }
         ensures life { HasHeard [] [] result }
@@ -110,7 +110,8 @@ impl Connection {
         self.session.held()
     }
 
-    /// Hears the next bytes of its client. Where memory is refused the connection is given up: of these bytes nothing is asked for.
+    /// Hears the next bytes of its client. If memory is refused, the connection is given up, and nothing that these bytes ask for is
+    /// done.
     pub fn hear(&mut self, alloc: Global, bytes: &[u8]) -> Result<(), SessionFault>
         requires { Listens self.old }
         ensures heard { OnOk result (HearsBytes self.old bytes.now self.new) }
@@ -161,7 +162,7 @@ impl Connection {
         self.footprint.admits(op)
     }
 
-    /// Counts a command that is to be appended. Where memory is refused for that, nothing has changed.
+    /// Counts a command that is to be appended. If memory is refused for that, nothing has changed.
     pub fn charge(&mut self, alloc: Global, op: &Op) -> Result<(), AllocError>
         requires { total (charged self.old.footprint op.now) ≤ SESSION_BYTES }
         ensures ok { OnOk result (self.new ≡ record self.old { footprint = charged self.old.footprint op.now }) }
@@ -170,7 +171,7 @@ impl Connection {
         self.footprint.charge(alloc, op)
     }
 
-    /// Its next command would have its session pass `SESSION_BYTES`: it is given up, and what waits of what its client has asked for
+    /// Its next command would make its session pass `SESSION_BYTES`. It is given up, and what its client has asked for and still waits
     /// is dropped. No memory is taken.
     pub fn cut_off(&mut self, alloc: Global)
         ensures { self.new ≡ record self.old { acts = tasks None []; stage = given_up self.old.stage } }
@@ -216,7 +217,7 @@ impl Connection {
         }
     }
 
-    // The next act: those that wait come first. Where the connection is lost, the end of its session is the last.
+    // The next act: those that wait come first. If the connection is lost, the end of its session is the last.
     fn next_act(&mut self) -> Option<Act>
         ensures takes { Takes self.old self.new result }
         ensures form { IfSome result HasForm }
@@ -228,7 +229,7 @@ impl Connection {
         }
     }
 
-    // The command of an operation, where it may be the next of the conversation.
+    // The command of an operation, if it may be the next of the conversation.
     fn ask(&self, op: Op, receipt: Option<HeaderText>) -> Wanted
         requires { HasForm (acts.Do op receipt) }
         ensures asks { Asks self.now.progress op receipt result }
@@ -244,8 +245,8 @@ impl Connection {
         }
     }
 
-    // A fault closes the connection once its ERROR is sent, a DISCONNECT at once or once its RECEIPT is sent. Its End comes before;
-    // here it is made sure of.
+    // A fault closes the connection once its ERROR is sent. A DISCONNECT closes it at once, or once its RECEIPT is sent. Its End comes
+    // before; here it is made sure of.
     fn close(&mut self, code: CloseCode)
         ensures { self.new ≡ record self.old { stage = closed_by code self.old.last self.old.progress self.old.stage } }
     {
@@ -254,7 +255,7 @@ impl Connection {
         }
     }
 
-    /// Memory was refused for the command that it wanted appended: it is the next again.
+    /// Memory was refused for the command that it wanted appended: the command is the next again.
     pub fn retry(&mut self, command: Command)
         requires form { HasForm (acts.Do command.op command.receipt) }
         requires first { self.old.acts.again ≡ None }
@@ -264,7 +265,7 @@ impl Connection {
         self.acts.put_back(Act::Do(op, receipt));
     }
 
-    /// Memory was refused for the frame that it wanted to be told: it is the next again.
+    /// Memory was refused for the frame that it wanted to be told: the frame is the next again.
     pub fn retry_telling(&mut self, notice: Notice)
         requires first { self.old.acts.again ≡ None }
         ensures { self.new ≡ record self.old { acts = record self.old.acts { again = Some (acts.Direct notice) } } }
@@ -282,7 +283,7 @@ impl Connection {
         }
     }
 
-    /// The frame that it wanted to be told was sent, an ERROR: nothing more is appended, and it is to be closed.
+    /// The frame that it wanted to be told, an ERROR, was sent. Nothing more is appended, and the connection is to be closed.
     pub fn told(&mut self)
         ensures { self.new ≡ record self.old { progress = over self.old.progress; stage = Closing ended.Bad } }
     {
@@ -327,7 +328,7 @@ fn loss_of(progress: Progress) -> Option<Act>
     }
 }
 
-// Once the session has ended the connection is closed.
+// Once the session has ended, the connection is closed.
 fn closed_behind(progress: Progress, stage: Stage) -> Stage
     ensures { result ≡ closed_behind progress stage }
 {

@@ -3,7 +3,7 @@
 /// Why a connection is over.
 #[derive(Clone, Copy, Debug, PartialEq, Eq)]
 pub enum Ended {
-    /// It was closed behind the client's DISCONNECT.
+    /// It was closed after the client's DISCONNECT.
     Bye,
     /// It is gone, or was given up.
     Lost,

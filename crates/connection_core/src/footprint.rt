@@ -8,9 +8,9 @@ use record_core::{HeaderText, option_size, text_size};
 use std::alloc::{AllocError, Global};
 use std::marker::Model;
 
-/// How many bytes a session may have in a snapshot of the broker, beside the messages that are held: its client's name, and the ids,
-/// destinations and durable names of its subscriptions, with the numbers beside them. 16,384 sessions of so many are 134,217,728
-/// bytes: with all that may be held beside them they fit into each of the two areas of a journal of 512 MiB.
+/// How many bytes a session may have in a snapshot of the broker, beside the messages that are held. They are its client's name, and
+/// the ids, destinations and durable names of its subscriptions, with the numbers beside them. 16,384 sessions of so many are
+/// 134,217,728 bytes. With all that may be held beside them they fit into each of the two areas of a journal of 512 MiB.
 pub const SESSION_BYTES: u64 = 8_192;
 
 /// What one command adds to a snapshot: an Open its session, a SUBSCRIBE its subscription, which has an id.
@@ -66,7 +66,7 @@ impl Footprint {
         }
     }
 
-    // Adds what the command adds, and drops what it ends. Where memory is refused, which only what adds takes, it is as it was.
+    // Adds what the command adds, and drops what it ends. If memory is refused, it is as it was; only what adds takes memory.
     pub(crate) fn charge(&mut self, alloc: Global, op: &Op) -> Result<(), AllocError>
         requires { total (charged self.old op.now) ≤ SESSION_BYTES }
         ensures ok { OnOk result (self.new ≡ charged self.old op.now) }

@@ -18,7 +18,7 @@ pub enum Role {
 }
 
 impl Role {
-    /// Of an operation.
+    /// The role of an operation.
     pub fn of(op: &Op) -> Role
         ensures { result ≡ role_of op.now }
     {
@@ -90,7 +90,7 @@ impl Progress {
         }
     }
 
-    // Where nothing more is appended.
+    // The progress once nothing more is appended.
     pub(crate) fn over(self) -> Progress
         ensures { result ≡ over self }
     {

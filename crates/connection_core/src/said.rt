@@ -18,7 +18,7 @@ pub struct Said {
 impl Said {
     ghost use Rattle.connection_core.specs.Conversations.{said_of};
 
-    /// Of a command.
+    /// What a command is to its session.
     pub fn of(command: &Command) -> Said
         ensures { result ≡ said_of command.now }
     {
@@ -39,9 +39,9 @@ fn is_farewell(op: &Op) -> bool
 /// What a connection wants next.
 #[derive(Drop)]
 pub enum Wanted {
-    /// That the command is appended: `appended` tells it the ticket, or `retry` gives the command back where memory was refused.
+    /// That the command is appended: `appended` tells it the ticket, or `retry` gives the command back if memory was refused.
     Append(Command),
-    /// That the frame is sent at once, the last one: `told` says that it was, or `retry_telling` gives it back where memory was
+    /// That the frame is sent at once, the last one: `told` says that it was, or `retry_telling` gives it back if memory was
     /// refused.
     Tell(Notice),
     /// Nothing now; it may want something more at once.

@@ -9,16 +9,16 @@ use crate::ended::Ended;
 /// What is to be done with a connection.
 #[derive(Clone, Copy, PartialEq, Eq)]
 pub enum Stage {
-    /// Its client is heard, what that asks for is appended, and what may leave is sent.
+    /// Its client is heard, what the client asks for is appended, and what may leave is sent.
     Running,
-    /// It is given up, and to be closed. What was asked for before is still appended, and then that it is lost: the broker hears
-    /// of it before the link is closed.
+    /// It is given up, and to be closed. What was asked for before is still appended, and then its loss: the broker hears of
+    /// that before the link is closed.
     GivingUp,
-    /// Its link is to be closed; it ends so.
+    /// Its link is to be closed; it ends in that way.
     Closing(Ended),
-    /// Its link has said that it closes, and the peer's close is waited for; it ends so.
+    /// Its link has said that it closes, and the peer's close is waited for; it ends in that way.
     Parting(Ended),
-    /// Its link is over. What was asked for before is still appended, and then that it is lost.
+    /// Its link is over. What was asked for before is still appended, and then its loss.
     Leaving,
     /// It has ended.
     Over(Ended),
@@ -33,7 +33,7 @@ impl Stage {
         matches!(self, Stage::Running | Stage::GivingUp | Stage::Leaving)
     }
 
-    // Whether the loss of the connection is the last that is asked for.
+    // Whether the loss of the connection is the last thing that is asked for.
     pub(crate) fn is_lost(self) -> bool
         ensures yes { result ≡ true → (self ≡ GivingUp) ⊎ (self ≡ Leaving) }
         ensures no { result ≡ false → (self ≢ GivingUp) × (self ≢ Leaving) }
@@ -41,7 +41,7 @@ impl Stage {
         matches!(self, Stage::GivingUp | Stage::Leaving)
     }
 
-    // Behind the end of its link.
+    // The stage after the end of its link.
     pub(crate) fn lost(self) -> Stage
         ensures { result ≡ lost self }
     {
@@ -54,7 +54,7 @@ impl Stage {
         }
     }
 
-    // Where it is given up.
+    // The stage once it is given up.
     pub(crate) fn given_up(self) -> Stage
         ensures { result ≡ given_up self }
     {
@@ -64,7 +64,7 @@ impl Stage {
         }
     }
 
-    // Where the broker takes nothing more.
+    // The stage once the broker takes nothing more.
     pub(crate) fn stopped(self) -> Stage
         ensures { result ≡ stopped self }
     {
@@ -74,7 +74,7 @@ impl Stage {
         }
     }
 
-    // Where nothing that was asked for is left to be done.
+    // The stage once nothing that was asked for is left to be done.
     pub(crate) fn rested(self) -> Stage
         ensures { result ≡ rested self }
     {

@@ -22,13 +22,13 @@ escape_of c =
     else if c == 92 then Some 92
     else None
 
--- this byte, and then the text, where both are there
+-- this byte, and then the text, if both are there
 abbrev pub behind : Option ℕ → Option (List ℕ) → Option (List ℕ)
 behind None text = None
 behind (Some b) None = None
 behind (Some b) (Some text) = Some (b ∷ text)
 
--- What written bytes mean, if anything: a backslash and the byte behind it are an escape, every other byte is itself.
+-- What written bytes mean, if anything: a backslash and the byte after it are an escape, every other byte is itself.
 abbrev pub unescaped : List ℕ → Option (List ℕ)
 unescaped [] = Some []
 unescaped (b ∷ []) = if b == 92 then None else Some (b ∷ [])

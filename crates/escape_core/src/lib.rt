@@ -65,8 +65,8 @@ pub fn is_plain(text: &[u8]) -> bool
 }
 
 /// The text as it is written in a header: CR, LF, colon and backslash as their escapes, every other byte as itself
-/// (STOMP 1.2, "Value Encoding"). Room for the longest result, two bytes for each of the text's, is taken at once;
-/// where it is refused, that is the error.
+/// (STOMP 1.2, "Value Encoding"). Room for the longest result, two bytes for each of the text's, is taken at once. If it
+/// is refused, that is the error.
 pub fn escape(alloc: Global, text: &[u8]) -> Result<Vec<u8>, AllocError>
     ensures { IfOk result (λ written. written.items ≡ escaped text.now) }
 {
@@ -98,8 +98,8 @@ pub fn is_defined(bytes: &[u8]) -> bool
 /// The text that written bytes mean: each escape is the byte that it stands for, and every other byte is itself. Room
 /// for the longest result, one byte for each that is written, is taken at once.
 ///
-/// It is `Undefined` just where a backslash begins none of the four escapes or ends the bytes, which is looked at before
-/// any room is taken; `Memory`, where the room was refused, is answered for bytes with a meaning alone.
+/// It is `Undefined` just if a backslash begins none of the four escapes or ends the bytes. That is looked at before any
+/// room is taken. So `Memory`, if the room was refused, is answered only for bytes with a meaning.
 pub fn unescape(alloc: Global, bytes: &[u8]) -> Result<Vec<u8>, EscapeFault>
     ensures ok { IfOk result (λ text. unescaped bytes.now ≡ Some text.items) }
     ensures undefined { (result ≡ Err EscapeFault.Undefined) ↔ (unescaped bytes.now ≡ None) }

@@ -12,7 +12,7 @@ use Rattle.frame_core.specs.Parts.{IsPartOfHead, IsBoundedHead, IsPartOfBody, Pl
 
 -- Each fact below says of bytes that they end at the very byte that decides a fault.
 
--- a NUL in a line, or another byte than LF behind a CR
+-- a NUL in a line, or a byte other than LF after a CR
 pub record HasStrayByte (bytes : List ℕ) : Type 0 where
   pub front : List ℕ
   pub last : ℕ
@@ -38,7 +38,7 @@ pub record IsFirstLine (text bytes : List ℕ) : Type 0 where
   pub each : AllByRecursion IsInLine text
   pub size : length bytes ≤ 8192
 
--- a command line that is no UTF-8
+-- a command line that is not UTF-8
 abbrev pub HasBrokenCommand : List ℕ → Type 0
 HasBrokenCommand bytes = (text : List ℕ) × IsFirstLine text bytes × (IsUtf8 text → ⊥)
 
@@ -46,7 +46,7 @@ HasBrokenCommand bytes = (text : List ℕ) × IsFirstLine text bytes × (IsUtf8 
 abbrev pub HasNoCommand : List ℕ → Type 0
 HasNoCommand bytes = (text : List ℕ) × IsFirstLine text bytes × IsUtf8 text × ((verb : Verb) → name_of verb ≢ text)
 
--- behind a command line and headers one more line, which is not empty
+-- after a command line and headers one more line, which is not empty
 pub record IsNextLine (verb : Verb) (headers : List (List ℕ × List ℕ)) (text bytes : List ℕ) : Type 0 where
   pub lines : List ℕ
   pub with_cr : Bool
@@ -62,7 +62,7 @@ abbrev pub HasNamelessLine : List ℕ → Type 0
 HasNamelessLine bytes = (verb : Verb) × (headers : List (List ℕ × List ℕ)) × (text : List ℕ) × IsNextLine verb headers text bytes
     × (AllByRecursion (λ b. b ≢ 58) text ⊎ ((value : List ℕ) × (text ≡ 58 ∷ value)))
 
--- behind a command line and headers one more line with a name and a value
+-- after a command line and headers one more line with a name and a value
 pub record IsNextHeader (verb : Verb) (headers : List (List ℕ × List ℕ)) (line : HeaderLine) (bytes : List ℕ) : Type 0 where
   pub lines : List ℕ
   pub whole : bytes ≡ lines ++ line_of line
@@ -76,7 +76,7 @@ abbrev pub HasBadEscape : List ℕ → Type 0
 HasBadEscape bytes = (verb : Verb) × (headers : List (List ℕ × List ℕ)) × (line : HeaderLine) × IsNextHeader verb headers line bytes
     × ((meaning verb line.name ≡ None) ⊎ (meaning verb line.value ≡ None))
 
--- a name or value that is no UTF-8
+-- a name or value that is not UTF-8
 abbrev pub HasBrokenHeader : List ℕ → Type 0
 HasBrokenHeader bytes = (verb : Verb) × (headers : List (List ℕ × List ℕ)) × (line : HeaderLine) × (header : List ℕ × List ℕ) × IsNextHeader verb headers line bytes
     × (meaning verb line.name ≡ Some header.0) × (meaning verb line.value ≡ Some header.1)
@@ -114,7 +114,7 @@ pub record IsNextByte (verb : Verb) (plan : Option ℕ) (body : List ℕ) (last 
   pub plans : Plans verb headers plan
   pub is_part : IsPartOfBody verb plan body
 
--- another byte than NUL behind a body of the announced length
+-- a byte other than NUL after a body of the announced length
 abbrev pub HasNoEnd : List ℕ → Type 0
 HasNoEnd bytes = (verb : Verb) × (body : List ℕ) × (last : ℕ) × IsNextByte verb (Some (length body)) body last bytes × (last ≢ 0)
 

@@ -9,7 +9,7 @@ use Rattle.frame_core.specs.Heads.{IsInLine, Begins}
 use Rattle.frame_core.specs.Parts.{IsBoundedHead, Plans, IsPartOfBody}
 use Rattle.frame_core.specs.Streams.{Frames}
 
--- behind whole lines stands a part of one more, perhaps with the CR of its end
+-- after whole lines a part of one more, perhaps with the CR of its end
 pub record IsLine (head : List ℕ) (line : ℕ) (with_cr : Bool) (lines : List ℕ) : Type 0 where
   pub part : List ℕ
   pub whole : head ≡ lines ++ (part ++ cond with_cr (13 ∷ []) [])

@@ -36,7 +36,7 @@ pub record IsAnnounced (verb : Verb) (headers : List (List ℕ × List ℕ)) (n 
   pub size : n ≤ 65536
   pub allowed : has_body verb ≡ false → n ≡ 0
 
--- how a body ends: behind so many bytes where they are announced, or else at its first NUL
+-- how a body ends: after so many bytes if they are announced, or else at its first NUL
 abbrev pub Plans : Verb → List (List ℕ × List ℕ) → Option ℕ → Type 0
 Plans verb headers None = announced headers ≡ None
 Plans verb headers (Some n) = IsAnnounced verb headers n
@@ -46,7 +46,7 @@ abbrev pub IsPartOfBody : Verb → Option ℕ → List ℕ → Type 0
 IsPartOfBody verb None part = HasNoNul part × (length part ≤ 65536) × (has_body verb ≡ false → part ≡ [])
 IsPartOfBody verb (Some n) part = length part ≤ n
 
--- a whole head and a part of the body behind it
+-- a whole head and a part of the body after it
 pub record IsHeadAndPart (bytes : List ℕ) : Type 0 where
   pub verb : Verb
   pub headers : List (List ℕ × List ℕ)

@@ -11,7 +11,7 @@ use Rattle.frame_core.specs.Verbs.{name_of, has_body}
 use Rattle.frame_core.specs.Heads.{HeaderLine, IsHeaderLine, meaning, IsHeaderOf}
 use Rattle.frame_core.specs.Spelling.{IsNumber, announced}
 
--- a fact of the fault, where it is one
+-- a fact of the fault, if it is one
 abbrev pub IfFault : Stop → (FrameFault → Type 0) → Type 0
 IfFault Memory P = ⊤
 IfFault (Fault fault) P = P fault
@@ -30,7 +30,7 @@ ended name value with_cr = record { name = name; value = value; with_cr = with_c
 abbrev pub IsHeaderText : Verb → List ℕ → List ℕ × List ℕ → Type 0
 IsHeaderText verb text header = (name : List ℕ) × (value : List ℕ) × (text ≡ name ++ (58 ∷ value)) × IsHeaderOf verb (ended name value false) header
 
--- the text has a name and a value, which have a form that a line may have
+-- the text is a name and a value, in a form that a line may have
 abbrev pub IsNameAndValue : List ℕ → List ℕ → List ℕ → Type 0
 IsNameAndValue text name value = (text ≡ name ++ (58 ∷ value)) × IsHeaderLine (ended name value false)
 
@@ -42,7 +42,7 @@ IsHeaderFault verb text BadHeaderValue = (name : List ℕ) × (value : List ℕ)
     × (meaning verb name ≡ Some header.0) × (meaning verb value ≡ Some header.1) × ((IsUtf8 header.0 → ⊥) ⊎ (IsUtf8 header.1 → ⊥))
 IsHeaderFault verb text _ = ⊥
 
--- why the headers announce no body that may be
+-- why the headers announce no body that is allowed
 abbrev pub IsPlanFault : Verb → List (List ℕ × List ℕ) → FrameFault → Type 0
 IsPlanFault verb headers BadHeaderValue = (text : List ℕ) × (announced headers ≡ Some text) × ((IsNumeral 10 text → ⊥) ⊎ (10 < length text))
 IsPlanFault verb headers TooLarge = (text : List ℕ) × (n : ℕ) × (announced headers ≡ Some text) × IsNumber text n × (length text ≤ 10) × (65536 < n)

@@ -30,9 +30,9 @@ pub record IsRawHeader (h : List ℕ × List ℕ) : Type 0 where
   pub no_colon : AllByRecursion (λ b. b ≢ 58) h.0
   pub value : IsOneLine h.1
 
--- A frame that can be written so that it is read again: each header has a name, no NUL stands in a name or value,
--- frames that aren't escaped have headers of one line with no colon in a name, a body stands only where one may,
--- and its length is announced in decimal, or isn't and no NUL stands in it.
+-- A frame that can be written so that it is read again. Each header has a name, and no NUL stands in a name or value.
+-- Frames that aren't escaped have headers of one line with no colon in a name. A body stands only where one may. Its
+-- length is announced in decimal, or isn't announced and no NUL stands in it.
 pub record Writable (f : Frame) : Type 0 where
   pub headers : AllByRecursion IsHeader f.headers
   pub raw : is_raw f.verb ≡ true → AllByRecursion IsRawHeader f.headers

@@ -21,6 +21,6 @@ written_header verb h = code verb h.0 ++ (58 ∷ (code verb h.1 ++ 10 ∷ []))
 abbrev pub written_head : Verb → List (List ℕ × List ℕ) → List ℕ
 written_head verb headers = name_of verb ++ (10 ∷ (flat_map (written_header verb) headers ++ 10 ∷ []))
 
--- a frame as it is written: its lines end with LF alone, and no EOL stands behind its NUL
+-- a frame as it is written: its lines end with LF alone, and no EOL stands after its NUL
 abbrev pub written : Frame → List ℕ
 written f = written_head f.verb f.headers ++ (f.body ++ 0 ∷ [])

@@ -64,7 +64,7 @@ impl Bytes {
     }
 }
 
-// Written out, so that whoever drops bytes has one step for them, and not one for each form.
+// Written out, so that dropping bytes is one step, and not one for each form.
 impl Drop for Bytes {
     fn drop(self) {
         let Bytes { form } = self;

@@ -8,7 +8,7 @@ use thiserror::Error;
 /// Why a stream of bytes is no stream of frames. The text begins with the number of the fault.
 #[derive(Clone, Copy, Debug, PartialEq, Eq, Error)]
 pub enum FrameFault {
-    /// A stray NUL or CR, a header line with no name, or no NUL behind a body of the announced length.
+    /// A stray NUL or CR, a header line with no name, or no NUL after a body of the announced length.
     #[error("E1 malformed frame")]
     Malformed,
     /// More than 8,192 bytes of command and headers, 64 headers or 65,536 bytes of body.
@@ -20,10 +20,10 @@ pub enum FrameFault {
     /// A command line that names none of the commands of STOMP 1.2.
     #[error("E4 unknown command")]
     UnknownCommand,
-    /// A body on another frame than SEND, MESSAGE and ERROR (STOMP 1.2, "Frames and Headers").
+    /// A body on a frame other than SEND, MESSAGE and ERROR (STOMP 1.2, "Frames and Headers").
     #[error("E19 body not allowed")]
     BodyNotAllowed,
-    /// A command, name or value that is no UTF-8, or a `content-length` that is no number of one to ten digits.
+    /// A command, name or value that is not UTF-8, or a `content-length` that is not a number of one to ten digits.
     #[error("E20 bad header value")]
     BadHeaderValue,
 }

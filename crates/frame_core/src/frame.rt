@@ -37,9 +37,9 @@ pub enum Verb {
     Connected,
     /// MESSAGE: a message of a subscription.
     Message,
-    /// RECEIPT: what asked for it is done.
+    /// RECEIPT: the frame that asked for it is done.
     Receipt,
-    /// ERROR: a refusal, behind which the connection ends.
+    /// ERROR: a refusal, after which the connection ends.
     Error,
 }
 
@@ -113,8 +113,8 @@ impl Verb {
     }
 }
 
-/// One frame of STOMP 1.2 as it is meant: names and values without their escapes, and of a repeated header all of
-/// them, of which the first counts.
+/// One frame of STOMP 1.2 as it is meant: names and values without their escapes, and all entries of a repeated
+/// header, of which the first counts.
 #[derive(Drop)]
 pub struct Frame {
     /// Its command.
@@ -140,7 +140,7 @@ pub(crate) fn value_of<'a>(headers: &'a [(Text, Text)], name: &str) -> Option<&'
 }
 
 /// The value of the first header of that name, which is the one that counts (STOMP 1.2, "Repeated Header Entries"),
-/// or `None` where there is none.
+/// or `None` if there is none.
 pub fn first<'a>(frame: &'a Frame, name: &str) -> Option<&'a str>
     ensures { MatchOption result
         (first_of name.now frame.now.headers ≡ None)

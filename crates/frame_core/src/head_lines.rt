@@ -65,7 +65,7 @@ fn text_of(bytes: Vec<u8>) -> Result<Text, Stop>
     }
 }
 
-/// The bytes before the first colon of a header line and those behind it, where there are some before it.
+/// The bytes before the first colon of a header line and those after it, if any stand before it.
 fn cut_at_colon(line: &[u8]) -> Option<(&[u8], &[u8])>
     ensures { MatchOption result
         (AllByRecursion (λ b. b ≢ 58) line.now ⊎ ((value : List ℕ) × (line.now ≡ 58 ∷ value)))
@@ -142,7 +142,7 @@ fn number_of(text: &str) -> Option<u64>
     }
 }
 
-/// How the body ends under these headers: behind so many bytes where they announce them, or else at its first NUL.
+/// How the body ends under these headers: after so many bytes if they announce them, or else at its first NUL.
 pub(crate) fn body_plan(verb: Verb, headers: &[(Text, Text)]) -> Result<Option<usize>, FrameFault>
     ensures { MatchResult result (Plans verb headers.now) (IsPlanFault verb headers.now) }
 {

@@ -25,7 +25,7 @@ pub fn one_answer()
         → Fails stream b f → ⊥ }
 {}
 
-/// A longer stream keeps the frames of a shorter one, reads on behind them, and keeps its fault.
+/// A longer stream keeps the frames of a shorter one, reads on after them, and keeps its fault.
 pub fn answers_stay()
     ensures reads { (stream more : List ℕ) (a b : List Frame) (q r : List ℕ) → Reads stream a q
         → Reads (stream ++ more) b r → (c : List Frame) × (b ≡ a ++ c) × Reads (q ++ more) c r }

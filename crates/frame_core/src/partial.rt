@@ -74,12 +74,12 @@ pub(crate) struct Partial {
     pub(crate) stage: Stage,
     /// The bytes of the head so far.
     pub(crate) head: Vec<u8>,
-    /// Where in the head the line begins that isn't whole.
+    /// Where in the head the unfinished line begins.
     pub(crate) line: usize,
     /// Whether the last byte is a CR, which only an LF may follow.
     pub(crate) with_cr: bool,
     pub(crate) headers: Vec<(Text, Text)>,
-    /// The bytes behind the head.
+    /// The bytes after the head.
     pub(crate) body: Vec<u8>,
 }
 
@@ -113,7 +113,7 @@ impl Partial {
         self.head.len().saturating_add(self.body.len())
     }
 
-    /// Takes some bytes of the piece, which has some, and says how many.
+    /// Takes some bytes of the piece, which isn't empty, and says how many.
     pub(crate) fn advance(
         &mut self,
         alloc: Global,
@@ -220,7 +220,7 @@ impl Partial {
         requires room { length self.old.head.items < 8192 }
         ensures ok { OnOk result (Frames (bytes_of self.old ++ 10 ∷ []) [] (bytes_of self.new) × IsKept self.new) }
         ensures fault { IfErr result (λ stop. IfFault stop (λ fault. Faulty fault (bytes_of self.old ++ 10 ∷ []))) }
-        // A header behind the 64th is refused before memory is taken for it.
+        // A header after the 64th is refused before memory is taken for it.
         ensures full { length self.old.headers.items ≡ 64 →
             self.old.line ≢ length self.old.head.items - (if self.old.with_cr then 1 else 0) → IfErr result (λ stop. stop ≢ Memory) }
     {
@@ -252,7 +252,7 @@ impl Partial {
         Ok(())
     }
 
-    /// Takes bytes of a body of announced length, or the NUL behind it.
+    /// Takes bytes of a body of announced length, or the NUL after it.
     fn take_counted(
         &mut self,
         alloc: Global,

@@ -24,16 +24,16 @@ pub enum FeedFault {
     Failed,
 }
 
-/// What a piece gave: the frames that it ended, and the fault behind them, if it has the byte that decides one.
+/// What a piece gave: the frames that it ended, and the fault after them, if it has the byte that decides one.
 #[derive(Drop)]
 pub struct Fed {
     /// The frames that end in the piece, in their order.
     pub frames: Vec<Frame>,
-    /// The fault behind them, where the piece has the byte that decides one.
+    /// The fault after them, if the piece has the byte that decides one.
     pub fault: Option<FrameFault>,
 }
 
-/// Reads frames from pieces of a stream, whatever the cut.
+/// Reads frames from pieces of a stream, however it is cut.
 #[derive(Drop)]
 pub struct FrameReader {
     partial: Partial,
@@ -70,10 +70,10 @@ impl FrameReader {
         self.partial.len()
     }
 
-    /// Reads a piece of the stream, behind the bytes that earlier pieces left of an unfinished frame. It gives the
-    /// frames that are whole now, each as its bytes spell it, and the fault behind them where the piece has the byte
-    /// that decides one (STOMP 1.2, "Augmented BNF", within the limits of 8,192 bytes of head, 64 headers and 65,536
-    /// bytes of body). So the frames and the fault of a stream do not depend on how it is cut.
+    /// Reads a piece of the stream, after the bytes that earlier pieces left of an unfinished frame. It gives the
+    /// frames that are whole now, each as its bytes spell it, and the fault after them, if the piece has the byte that
+    /// decides one. The grammar is that of STOMP 1.2 ("Augmented BNF"), within the limits of 8,192 bytes of head, 64
+    /// headers and 65,536 bytes of body. So the frames and the fault of a stream do not depend on how it is cut.
     ///
     /// After a fault, and after memory was refused, every call is `Failed`.
     pub fn feed(&mut self, alloc: Global, piece: &[u8]) -> Result<Fed, FeedFault>
@@ -107,7 +107,7 @@ impl FrameReader {
     }
 }
 
-/// Reads the piece behind the bytes of the unfinished frame.
+/// Reads the piece after the bytes of the unfinished frame.
 fn read_piece(
     alloc: Global,
     partial: &mut Partial,

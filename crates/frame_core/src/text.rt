@@ -79,7 +79,7 @@ impl Text {
     }
 }
 
-// Written out, so that whoever drops a text has one step for it, and not one for each form.
+// Written out, so that dropping a text is one step, and not one for each form.
 impl Drop for Text {
     fn drop(self) {
         let Text { form } = self;

@@ -85,10 +85,10 @@ fn has_end(frame: &Frame) -> bool
     }
 }
 
-/// Whether the frame can be written so that it is read again: each header has a name, no NUL stands in a name or
-/// value, under CONNECT, STOMP and CONNECTED no CR, LF or colon of a name would need an escape, a body stands only on
-/// SEND, MESSAGE and ERROR, and the first `content-length` is the body's length in decimal, or there is none and no NUL
-/// stands in the body. It takes no memory.
+/// Whether the frame can be written so that it is read again. Each header has a name, and no NUL stands in a name or
+/// value. Under CONNECT, STOMP and CONNECTED no name or value has a CR or LF, and no name has a colon. A body stands
+/// only on SEND, MESSAGE and ERROR. The first `content-length` is the body's length in decimal, or there is none and no
+/// NUL stands in the body. It takes no memory.
 pub fn writable(frame: &Frame) -> bool
     ensures { IsTrue result ↔ Writable frame.now }
 {
@@ -163,10 +163,10 @@ fn write_headers(
     Ok(())
 }
 
-/// The bytes of a frame that can be written (STOMP 1.2, "Augmented BNF"): lines end with LF, a CR, LF, colon or
-/// backslash of a name or value is escaped unless the command is CONNECT, STOMP or CONNECTED, and no EOL stands behind
-/// the NUL. Within the reader's limits they are read again as the frame, whatever follows them. Where memory is
-/// refused, that is the error.
+/// The bytes of a frame that can be written (STOMP 1.2, "Augmented BNF"). Lines end with LF, and no EOL stands after
+/// the NUL. A CR, LF, colon or backslash of a name or value is escaped unless the command is CONNECT, STOMP or
+/// CONNECTED. Within the reader's limits they are read again as the frame, whatever follows them. If memory is refused,
+/// that is the error.
 pub fn write_frame(alloc: Global, frame: &Frame) -> Result<Vec<u8>, AllocError>
     requires { Writable frame.now }
     ensures bytes { IfOk result (λ bytes. bytes.items ≡ written frame.now) }

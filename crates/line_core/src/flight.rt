@@ -92,7 +92,7 @@ impl<T: Drop> Flight<T> {
         deliveries
     }
 
-    /// Adds a delivery behind the others, whose numbers are all smaller. Where memory is refused they are as they were, and
+    /// Adds a delivery after the others, whose numbers are all smaller. If memory is refused, they are as they were, and
     /// the item is dropped.
     pub fn add(&mut self, delivery: u64, item: T) -> Result<(), AllocError>
         requires { IsOver delivery self.old }
@@ -111,9 +111,9 @@ impl<T: Drop> Flight<T> {
         self.place_of(delivery).is_some()
     }
 
-    /// Settles a delivery: alone, or with all earlier ones where the mode is `client` (STOMP 1.2, "SUBSCRIBE", header
-    /// `ack`, and "ACK"). Gives those that are settled, in their order, and the others stay. A refusal, and want of memory,
-    /// changes nothing.
+    /// Settles a delivery: alone, or with all earlier ones if the mode is `client` (STOMP 1.2, "SUBSCRIBE", header `ack`,
+    /// and "ACK"). Gives those that are settled, in their order, and the others stay. If it is refused, or memory is,
+    /// nothing changes.
     pub fn settle(&mut self, mode: AckMode, delivery: u64) -> Result<Vec<(u64, T)>, SettleFault>
         ensures ok { OnOk result (has_delivery delivery self.old ≡ true) }
         ensures settled { IfOk result (λ out. out.items ≡ settled mode delivery self.old) }
@@ -155,7 +155,7 @@ pub fn settles(mode: AckMode, delivery: u64, number: u64) -> bool
     }
 }
 
-/// Takes out what the acknowledgement of the delivery at that place settles. If memory is refused it stays.
+/// Takes out what the acknowledgement of the delivery at that place settles. If memory is refused, it stays.
 fn split<T>(
     deliveries: &mut Vec<(u64, T)>,
     mode: AckMode,
@@ -175,7 +175,7 @@ fn split<T>(
     }
 }
 
-/// Takes the deliveries up to that place out. If memory is refused they stay.
+/// Takes out the deliveries up to that place. If memory is refused, they stay.
 fn take_up_to<T>(deliveries: &mut Vec<(u64, T)>, place: usize) -> Result<Vec<(u64, T)>, AllocError>
     requires { place < length deliveries.old.items }
     ensures taken { IfOk result (λ out. out.items ≡ take (place + 1) deliveries.old.items) }
@@ -186,7 +186,7 @@ fn take_up_to<T>(deliveries: &mut Vec<(u64, T)>, place: usize) -> Result<Vec<(u6
     Ok(mem::replace(deliveries, rest))
 }
 
-/// Takes the delivery at that place out. If memory is refused it stays.
+/// Takes out the delivery at that place. If memory is refused, it stays.
 fn take_one<T>(deliveries: &mut Vec<(u64, T)>, place: usize) -> Result<Vec<(u64, T)>, AllocError>
     requires { place < length deliveries.old.items }
     ensures taken { IfOk result (λ out. out.items ≡ take 1 (drop place deliveries.old.items)) }

@@ -5,7 +5,7 @@ ghost use Rattle.std.specs.List.{sum_by};
 ghost use Rattle.record_core.specs.declared.ack_mode.AckMode.{AckMode};
 ghost use Rattle.line_core.specs.Flights.{IsRising, has_delivery, mapped, settled, unsettled};
 
-/// What an acknowledgement settles and what it leaves are the flight together.
+/// What an acknowledgement settles and what it leaves are together the flight.
 pub fn settled_and_unsettled_are_the_flight<T>()
     ensures count { (mode : AckMode) (delivery : ℕ) (flight : List (ℕ × T))
         → length (settled mode delivery flight) + length (unsettled mode delivery flight) ≡ length flight }
@@ -21,7 +21,7 @@ pub fn acknowledgements_keep_order<T>()
         → IsRising flight → IsRising (unsettled mode delivery flight) }
 {}
 
-/// What is settled goes by the numbers alone: with other items the same deliveries are settled.
+/// What is settled goes by the numbers alone: with other items, the same deliveries are settled.
 pub fn other_items_settle_alike<T, U>()
     ensures has { (f : T → U) (delivery : ℕ) (flight : List (ℕ × T))
         → has_delivery delivery (mapped f flight) ≡ has_delivery delivery flight }

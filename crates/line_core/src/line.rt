@@ -10,7 +10,7 @@ use std::alloc::{AllocError, Global};
 use std::collections::VecDeque;
 use std::marker::Model;
 
-/// The messages that wait in one place, by rising number: a message goes behind those of smaller numbers and of its own.
+/// The messages that wait in one place, by rising number: a message goes after those of smaller numbers and of its own.
 /// Contracts see it as the list of them.
 #[derive(Drop)]
 pub struct Line {
@@ -81,7 +81,7 @@ impl Line {
         self.messages.front()
     }
 
-    /// Takes the message that waits longest out, if there is one. No memory is taken.
+    /// Takes out the message that waits longest, if there is one. No memory is taken.
     pub fn take(&mut self) -> Option<Message>
         ensures first { result ≡ first_of self.old }
         ensures rest { self.new ≡ drop 1 self.old }
@@ -104,8 +104,8 @@ impl Line {
         count
     }
 
-    /// Where a message of that number goes: last, where no message of a greater number waits, which is seen at once.
-    /// Else it is looked for from the front, where messages were taken out.
+    /// Where a message of that number goes: last if no message of a greater number waits, which is seen at once. Else it is
+    /// looked for from the front, where messages were taken out.
     fn place_of(&self, number: &MessageNumber) -> usize
         ensures bound { result ≤ length self.now }
         ensures place { (m : Message) → m.number ≡ number.now → insert self.now result m ≡ inserted m self.now }
@@ -117,9 +117,9 @@ impl Line {
         count
     }
 
-    /// Puts a message to its place, behind those of smaller numbers and of its own. A new message, whose number is
-    /// greater than the others', goes last at once; one that comes back is looked for from the front, so its place costs
-    /// as much as messages before it wait. Where memory is refused the line is as it was, and the message is dropped.
+    /// Puts a message in its place, after those of smaller numbers and of its own. A new message, whose number is greater
+    /// than the others', goes last at once. One that comes back is looked for from the front, so its place costs as much as
+    /// messages before it wait. If memory is refused, the line is as it was, and the message is dropped.
     pub fn put(&mut self, message: Message) -> Result<(), AllocError>
         ensures ok { OnOk result (self.new ≡ inserted message self.old) }
         ensures same { OnErr result (self.new ≡ self.old) }
@@ -129,8 +129,8 @@ impl Line {
         Ok(())
     }
 
-    /// Puts a message back to its place. The place is looked for from the front, where messages were taken out. Where memory
-    /// is refused the line is as it was, and the message is dropped.
+    /// Puts a message back in its place. The place is looked for from the front, where messages were taken out. If memory is
+    /// refused, the line is as it was, and the message is dropped.
     pub fn put_back(&mut self, message: Message) -> Result<(), AllocError>
         ensures ok { OnOk result (self.new ≡ inserted message self.old) }
         ensures same { OnErr result (self.new ≡ self.old) }

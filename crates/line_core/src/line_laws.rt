@@ -24,7 +24,7 @@ pub fn inserting_keeps_order()
         → IsOver m.number line → inserted m line ≡ line ++ m ∷ [] }
 {}
 
-/// The first message of a line, put back to the others, of which none has its number, gives the line again.
+/// The first message of a line, put back among the others, of which none has its number, gives the line again.
 pub fn what_was_taken_goes_back()
     ensures { (m : Message) (rest : List Message)
         → IsRising (m ∷ rest) → has_number m.number rest ≡ false → inserted m rest ≡ m ∷ rest }

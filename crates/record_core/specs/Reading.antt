@@ -1,4 +1,4 @@
--- Reading the parts of records from the front of bytes: what is read and the bytes behind it, or nothing where no spelling
+-- Reading the parts of records from the front of bytes: what is read and the bytes after it, or nothing if no spelling
 -- begins them.
 use Rattle.std.specs.Prelude.{◌≡◌, ◌==◌, ◌&&◌, ℕ, zero, suc, Bool, true, List, [], ◌∷◌, Option, Some, None, Result, Ok, Err, length, take, drop, if◌then◌else◌, nat_lt, nat_le}
 use Rattle.std.specs.Borrow.{Bor}
@@ -29,7 +29,7 @@ Gives view (Err e) read = Fails e read
 abbrev pub Reader : Type 0 → Type 0
 Reader A = List ℕ → Option (A × List ℕ)
 
--- What each call answers, whose arguments and answers these are, is what reading gives.
+-- What each call answers to its argument is what reading gives.
 abbrev pub Reads : {A : Type 0} → (Bor (List ℕ) → Result (A × Bor (List ℕ)) DecodeFault → Type 0) → Reader A → Type 0
 Reads {A} post one =
     (bytes : Bor (List ℕ)) (r : Result (A × Bor (List ℕ)) DecodeFault) → post bytes r → Gives (λ x. (x.0, x.1.now)) r (one bytes.now)
@@ -50,7 +50,7 @@ number_at w bytes =
 
 -- texts
 
--- at most so many bytes, behind their count
+-- at most so many bytes, after their count
 unfoldable pub counted_at : ℕ → Reader (List ℕ)
 counted_at limit bytes = do
   n ← number_at w32 bytes
@@ -98,13 +98,13 @@ many_at one (suc n) bytes = do
 
 -- No item is without bytes, so a count of more items than there are bytes left is a lie.
 
--- at most 64, behind their count in two bytes
+-- at most 64, after their count in two bytes
 unfoldable pub few_at : {A : Type 0} → Reader A → Reader (List A)
 few_at one bytes = do
   n ← number_at w16 bytes
   if nat_lt 64 n.0 then None else (if nat_lt (length n.1) n.0 then None else many_at one n.0 n.1)
 
--- any, behind their count in four bytes
+-- any, after their count in four bytes
 unfoldable pub listed_at : {A : Type 0} → Reader A → Reader (List A)
 listed_at one bytes = do
   n ← number_at w32 bytes

@@ -7,7 +7,7 @@ use Rattle.record_core.specs.Sendings.{SendingValue}
 abbrev pub text_size : List ℕ → ℕ
 text_size text = 4 + length text
 
--- a text that may be absent: a byte that tells, and the text
+-- a text that may be absent: a byte that says whether it is there, and the text
 abbrev pub option_size : Option (List ℕ) → ℕ
 option_size None = 1
 option_size (Some text) = 1 + text_size text

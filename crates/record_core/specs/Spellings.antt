@@ -7,7 +7,7 @@ use Rattle.record_core.specs.declared.ack_mode.AckMode.TheVariants.{Auto, Client
 use Rattle.record_core.specs.Sendings.{IsSending, SendingValue}
 use Rattle.record_core.specs.Texts.{IsHeaderText}
 
--- how many bytes, in four, and the bytes themselves
+-- how many bytes, in four bytes, and the bytes themselves
 abbrev pub counted : List ℕ → List ℕ
 counted bytes = to_be_bytes w32 (length bytes) ++ bytes
 

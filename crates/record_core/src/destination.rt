@@ -32,7 +32,7 @@ impl Model for Dest {
 /// Why a text was not read as a destination.
 #[derive(Debug, Drop, Error)]
 pub enum DestFault {
-    /// It is none.
+    /// The text is no destination.
     #[error("bad destination")]
     Bad,
     /// Memory for the destination was refused.
@@ -68,7 +68,7 @@ fn is_destination(text: &str) -> bool
 }
 
 impl Dest {
-    /// The text as a destination. Where it is none, no memory is taken.
+    /// The text as a destination. If it is none, no memory is taken.
     pub fn read(alloc: Global, text: &str) -> Result<Dest, DestFault>
         ensures ok { IfOk result (λ dest. (dest ≡ text.now) × IsDestination text.now) }
         ensures bad { IfErr result (λ fault. (fault ≡ DestFault.Bad) ↔ (¬ IsDestination text.now)) }
@@ -106,7 +106,7 @@ impl Dest {
         self.text
     }
 
-    /// Whether messages to it wait in a line for who takes them, and are not copied to all who listen.
+    /// Whether messages to it wait in a line for a client that takes them, and are not copied to all that listen.
     pub fn is_queue(&self) -> bool
         ensures { result ≡ is_queue self.now }
     {

@@ -7,9 +7,9 @@ ghost use Rattle.record_core.specs.Formats.{Always, FewEach, Format, HasBytes, I
 ghost use Rattle.record_core.specs.Reading.{Reader, byte_at, destination_at, few_at, listed_at, mode_at, name_at, number_at, optional_at, sending_at, text_at};
 ghost use Rattle.record_core.specs.Spellings.{IsSent, IsText, counted, optional, sending};
 
-/// What is read of a part at the front of bytes is spelled there, the rest is what stands behind it, and what was read has
-/// the part's form. A value of that form is read from its spelling, whatever follows. So each part has one spelling, and no
-/// spelling of it begins another.
+/// What is read of a part at the front of bytes is spelled there and has the part's form, and the rest is what stands after
+/// it. A value of that form is read from its spelling, whatever follows. So each part has one spelling, and no spelling of
+/// it begins another.
 pub fn parts_are_read_as_they_are_spelled()
     ensures byte { Format (λ (b : ℕ). b ∷ []) (λ b. b < 256) byte_at }
     ensures numbers { Format (to_be_bytes w32) (λ n. n < 2 ^ 32) (number_at w32) × Format (to_be_bytes w64) (λ n. n < 2 ^ 64) (number_at w64) }
@@ -21,8 +21,8 @@ pub fn parts_are_read_as_they_are_spelled()
     ensures sending { Format sending IsSent sending_at }
 {}
 
-/// The same of lists, where their items are read as they are spelled, each with a byte or more. Which items have the form is
-/// told by a test.
+/// The same of lists, if their items are read as they are spelled, each with a byte or more. A test tells which items have
+/// the form.
 pub fn lists_are_read_as_they_are_spelled<X>()
     ensures few { (spell : X → List ℕ) (is_formed : X → Bool) (one : Reader X)
         → Format spell (λ x. is_formed x ≡ true) one → HasBytes spell

@@ -1,5 +1,5 @@
-//! The parts of records: the texts, names, destinations and messages that commands and snapshots are made of, how each is
-//! spelled, and how each is read from the front of bytes.
+//! The parts of records: the texts, names, destinations and messages that commands and snapshots are made of. Here stands
+//! how each is spelled, and how each is read from the front of bytes.
 
 #![tactic(auto)]
 

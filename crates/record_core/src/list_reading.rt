@@ -1,4 +1,4 @@
-//! Lists, read from the front of bytes, as `reading` says, each item as the caller reads one. No item is without bytes, so a
+//! Lists, read from the front of bytes, as `reading` says, each item as the caller reads one. No item is without bytes. So a
 //! count of more items than there are bytes left is refused before anything is read, and no count that lies takes room.
 
 ghost use Rattle.std.specs.Prelude.{◌≡◌, ◌≤◌, IfOk, length};
@@ -8,7 +8,7 @@ use crate::decode_fault::DecodeFault;
 use crate::reading::{read_u16, read_u32};
 use std::alloc::Global;
 
-// So many items behind one another.
+// So many items, one after another.
 fn read_many<'a, X: Drop, F: Fn(&'a [u8]) -> Result<(X, &'a [u8]), DecodeFault>>(
     alloc: Global,
     count: u32,
@@ -16,7 +16,7 @@ fn read_many<'a, X: Drop, F: Fn(&'a [u8]) -> Result<(X, &'a [u8]), DecodeFault>>
     read: F,
 ) -> Result<(Vec<X>, &'a [u8]), DecodeFault>
     requires callable { F.IsAlwaysCallable read }
-    // Whatever room is taken by the count, it is for no more items than there are bytes left.
+    // The room that the count takes is for no more items than there are bytes left.
     requires bounded { count ≤ length bytes.now }
     ensures read { (one : Reader X) → Reads (F.post read) one
         → Gives (λ x. (x.0.items, x.1.now)) result (many_at one count bytes.now) }
@@ -32,7 +32,7 @@ fn read_many<'a, X: Drop, F: Fn(&'a [u8]) -> Result<(X, &'a [u8]), DecodeFault>>
     Ok((items, rest))
 }
 
-/// At most 64 items behind their count, which has two bytes.
+/// At most 64 items after their count, which has two bytes.
 #[tactic(auto, unfolding(crate::specs::Reading::few_at))]
 pub fn read_few<'a, X: Drop, F: Fn(&'a [u8]) -> Result<(X, &'a [u8]), DecodeFault>>(
     alloc: Global,
@@ -54,7 +54,7 @@ pub fn read_few<'a, X: Drop, F: Fn(&'a [u8]) -> Result<(X, &'a [u8]), DecodeFaul
     read_many(alloc, u32::from(count), rest, read)
 }
 
-/// Items behind their count, which has four bytes.
+/// Items after their count, which has four bytes.
 #[tactic(auto, unfolding(crate::specs::Reading::listed_at))]
 pub fn read_list<'a, X: Drop, F: Fn(&'a [u8]) -> Result<(X, &'a [u8]), DecodeFault>>(
     alloc: Global,

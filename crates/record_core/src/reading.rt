@@ -1,6 +1,6 @@
-//! The parts of records, read from the front of bytes. Each reader answers what it read and the bytes behind it, or
-//! `NoSpelling` just where no spelling of its part begins the bytes, and `Memory` where memory is refused. A text, a list or
-//! a body over its limit is refused before memory is taken for it.
+//! The parts of records, read from the front of bytes. Each reader answers what it read and the bytes after it. It answers
+//! `NoSpelling` just if no spelling of its part begins the bytes, and `Memory` if memory is refused. A text, a list or a
+//! body over its limit is refused before memory is taken for it.
 
 ghost use Rattle.std.specs.Prelude.{◌≡◌, ◌≤◌, IfOk, length};
 ghost use Rattle.std.specs.Int.{w16, w32, w64};
@@ -57,7 +57,7 @@ pub fn read_u64(bytes: &[u8]) -> Result<(u64, &[u8]), DecodeFault>
     }
 }
 
-// At most so many bytes, behind their count.
+// At most so many bytes, after their count.
 #[tactic(auto, unfolding(crate::specs::Reading::counted_at))]
 fn read_counted(bytes: &[u8], limit: usize) -> Result<(&[u8], &[u8]), DecodeFault>
     ensures read { Gives (λ x. (x.0.now, x.1.now)) result (counted_at limit bytes.now) }
@@ -89,7 +89,7 @@ fn read_str(bytes: &[u8]) -> Result<(&str, &[u8]), DecodeFault>
     Ok((text, rest))
 }
 
-/// A text: how many bytes, in four, at most 8,192, and so many bytes of UTF-8 without NUL.
+/// A text: how many bytes, in four bytes, at most 8,192, and so many bytes of UTF-8 without NUL.
 pub fn read_text(alloc: Global, bytes: &[u8]) -> Result<(HeaderText, &[u8]), DecodeFault>
     ensures { Gives (λ x. (x.0, x.1.now)) result (text_at bytes.now) }
 {
@@ -117,7 +117,7 @@ pub fn read_optional(
     }
 }
 
-/// A text that may be absent, and is not empty where it is there: the byte 0, or the byte 1 and the text.
+/// A text that may be absent, and is not empty if it is there: the byte 0, or the byte 1 and the text.
 #[tactic(auto, unfolding(crate::specs::Reading::name_at))]
 pub fn read_name(alloc: Global, bytes: &[u8]) -> Result<(Option<HeaderText>, &[u8]), DecodeFault>
     ensures read { Gives (λ x. (x.0, x.1.now)) result (name_at bytes.now) }
@@ -188,7 +188,7 @@ fn read_headers(alloc: Global, bytes: &[u8]) -> Result<(Headers, &[u8]), DecodeF
     Ok((Headers::new(headers), rest))
 }
 
-// The bytes of a body: at most 65,536, behind their count.
+// The bytes of a body: at most 65,536, after their count.
 fn read_body(bytes: &[u8]) -> Result<(&[u8], &[u8]), DecodeFault>
     ensures read { Gives (λ x. (x.0.now, x.1.now)) result (counted_at 65536 bytes.now) }
     ensures short { IfOk result (λ x. length x.0.now ≤ 65536) }

@@ -1,5 +1,5 @@
-//! The parts of records, written at the end of bytes. Each writer adds the one spelling of its part behind what was there,
-//! which is on disk what `docs/JOURNAL.md` calls it. Want of memory may leave a part of it behind.
+//! The parts of records, written at the end of bytes. Each writer adds the one spelling of its part after what was there.
+//! On disk this is what `docs/JOURNAL.md` calls it. If memory is refused, a part of the spelling may stay there.
 
 ghost use Rattle.std.specs.Prelude.{◌≡◌, ◌<◌, ◌≤◌, ◌^◌, ◌++◌, IfSome, OnOk, length};
 ghost use Rattle.std.specs.List.{AllByRecursion};
@@ -24,7 +24,7 @@ fn put_counted(out: &mut Vec<u8>, bytes: &[u8]) -> Result<(), AllocError>
     out.extend_from_slice(bytes)
 }
 
-/// A text: how many bytes, in four, and the bytes.
+/// A text: how many bytes, in four bytes, and the bytes.
 pub fn put_text(out: &mut Vec<u8>, text: &HeaderText) -> Result<(), AllocError>
     ensures put { OnOk result (out.new.items ≡ out.old.items ++ counted text.now) }
     ensures form { IsText text.now }

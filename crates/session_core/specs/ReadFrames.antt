@@ -44,11 +44,11 @@ some_text _ = None
 abbrev pub durable_of : Frame → Option (List ℕ)
 durable_of frame = some_text (first_of (codes "activemq.subscriptionName") frame.headers)
 
--- the durable name that a SUBSCRIBE to this destination asks for: it is left away on a queue
+-- the durable name that a SUBSCRIBE to this destination asks for: it is left out for a queue
 abbrev pub durable_at : List ℕ → Frame → Option (List ℕ)
 durable_at to frame = cond (is_queue to) None (durable_of frame)
 
--- how messages are acknowledged: `auto`, also where nothing is said, `client` or `client-individual` (STOMP 1.2, "SUBSCRIBE ack Header")
+-- how messages are acknowledged: `auto` (also if nothing is said), `client` or `client-individual` (STOMP 1.2, "SUBSCRIBE ack Header")
 abbrev pub mode_of : Option (List ℕ) → Option AckMode
 mode_of None = Some Auto
 mode_of (Some text) =

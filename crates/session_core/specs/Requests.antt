@@ -87,7 +87,7 @@ commits frame = with_header (transaction_of frame) (λ name. Ok (Commit name))
 abbrev pub aborts : Frame → Result Request Fault
 aborts frame = with_header (transaction_of frame) (λ name. Ok (Abort name))
 
--- What a frame of a session that isn't connected asks for, or why it is refused: it has to be a CONNECT or STOMP, and a
+-- What a frame of a session that isn't connected asks for, or why it is refused. It has to be a CONNECT or STOMP, and a
 -- server's command is no client's, whenever it comes (STOMP 1.2, "Connecting" and "Server Frames").
 abbrev pub first_asked : Verb → Frame → Result Op Fault
 first_asked verbs.Connect frame = connects frame

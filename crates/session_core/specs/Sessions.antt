@@ -24,7 +24,7 @@ use Rattle.session_core.specs.declared.phase.Phase.TheVariants.{New, Open, Ended
 use Rattle.session_core.specs.ReadFrames.{receipt_of}
 use Rattle.session_core.specs.Requests.{asked, asked_first}
 
--- what is to be done for a frame, and where the session stands behind it
+-- what is to be done for a frame, and where the session stands after it
 pub record Heard : Type 0 where
   pub acts : List Act
   pub phase : Phase
@@ -33,13 +33,13 @@ pub record Heard : Type 0 where
 abbrev pub does : Op → Option (List ℕ) → List (List ℕ × List Member) → Heard
 does op receipt transactions = record { acts = Do op receipt ∷ []; phase = Open transactions }
 
--- the receipt that is asked for where there is nothing to be done yet
+-- the receipt that is asked for when there is nothing to be done yet
 abbrev pub note : Option (List ℕ) → List Act
 note None = []
 note (Some id) = Do ops.Note (Some id) ∷ []
 
--- What a fault brings: before the session is open an ERROR at once, later its end by the broker; then the connection ends
--- (STOMP 1.2, "ERROR").
+-- What a fault leads to: before the session is open an ERROR at once, later its end by the broker. Then the connection
+-- ends (STOMP 1.2, "ERROR").
 abbrev pub refused : Phase → Fault → Option (List ℕ) → List Act
 refused New fault receipt = Direct (error_frame fault receipt) ∷ Close ProtocolError ∷ []
 refused (Open transactions) fault receipt = Do (ops.End (Bad fault)) receipt ∷ Close ProtocolError ∷ []
@@ -54,7 +54,7 @@ abbrev pub unless : Option Fault → List (List ℕ × List Member) → Option (
 unless None transactions receipt = record { acts = note receipt; phase = Open transactions }
 unless (Some fault) transactions receipt = ends_by fault receipt
 
--- what a COMMIT brings, of a transaction of these members (STOMP 1.2, "COMMIT")
+-- what a COMMIT of a transaction of these members leads to (STOMP 1.2, "COMMIT")
 abbrev pub committed : List ℕ → Option (List Member) → List (List ℕ × List Member) → Option (List ℕ) → Heard
 committed name None transactions receipt = ends_by TransactionNotBegun receipt
 committed name (Some members) transactions receipt = does (ops.Commit members) receipt (without name transactions)
@@ -94,7 +94,7 @@ abbrev pub acts_of : Phase → List Frame → List Act
 acts_of phase [] = []
 acts_of phase (frame ∷ frames) = told phase frame ++ acts_of (next phase frame) frames
 
--- where the session stands behind them
+-- where the session stands after them
 abbrev pub phase_of : Phase → List Frame → Phase
 phase_of phase [] = phase
 phase_of phase (frame ∷ frames) = phase_of (next phase frame) frames
@@ -126,7 +126,7 @@ pub record HearsFrames (old : Hearing) (bytes : List ℕ) (acts : List Act) (new
   pub same_acts : acts ≡ acts_of old.phase frames
   pub phase : new.phase ≡ phase_of old.phase frames
 
--- the bytes have a fault behind whole frames
+-- the bytes have a fault after whole frames
 pub record HearsFault (old : Hearing) (bytes : List ℕ) (acts : List Act) (new : Hearing) : Type 0 where
   pub frames : List Frame
   pub fault : FrameFault
@@ -134,8 +134,8 @@ pub record HearsFault (old : Hearing) (bytes : List ℕ) (acts : List Act) (new 
   pub same_acts : acts ≡ acts_of old.phase frames ++ refused (phase_of old.phase frames) (fault_of fault) None
   pub phase : new.phase ≡ Ended
 
--- What a session does for bytes that it hears behind those that it keeps: what their frames ask for, and at a fault of
--- the stream what that brings. A session that is over ignores them.
+-- What a session does for bytes that it hears after those that it keeps: what their frames ask for, and what a fault of
+-- the stream leads to. A session that is over ignores them.
 abbrev pub Hears : Hearing → List ℕ → List Act → Hearing → Type 0
 Hears old bytes acts new =
     (IsOver old.phase × (acts ≡ []) × (new ≡ old)) ⊎ (((IsOver old.phase → ⊥) × HearsFrames old bytes acts new) ⊎ ((IsOver old.phase → ⊥) × HearsFault old bytes acts new))
@@ -147,7 +147,7 @@ is_held (Open transactions) = true
 is_held Ended = false
 is_held (Failed held) = held
 
--- what is to be done where the connection is gone (STOMP 1.2, "Connection Lingering")
+-- what is to be done if the connection is gone (STOMP 1.2, "Connection Lingering")
 abbrev pub loss_of : Phase → Option Act
 loss_of phase = cond (is_held phase) (Some (Do (ops.End Lost) None)) None
 

@@ -9,7 +9,7 @@ use record_core::HeaderText;
 pub enum CloseCode {
     /// The client has said DISCONNECT: 1000.
     NormalClosure,
-    /// The client did what it may not: 1002.
+    /// The client did what it may not do: 1002.
     ProtocolError,
 }
 

@@ -43,7 +43,7 @@ pub fn receipt(alloc: Global, frame: &Frame) -> Result<Option<HeaderText>, Alloc
     header(alloc, frame, "receipt")
 }
 
-/// The text of the first header of that name, to be kept; an empty one counts as absent.
+/// The text of the first header of that name, to be kept. An empty one counts as absent.
 fn nonempty_header(
     alloc: Global,
     frame: &Frame,
@@ -58,7 +58,7 @@ fn nonempty_header(
     }
 }
 
-/// The name that a client gives itself for durable subscriptions; an empty one is none.
+/// The name that a client gives itself for durable subscriptions. An empty one is none.
 pub fn client_id(alloc: Global, frame: &Frame) -> Result<Option<HeaderText>, AllocError>
     requires { IsRead frame.now }
     ensures { IfOk result (λ r. r ≡ some_text (first_of (codes "client-id") frame.now.headers)) }
@@ -66,7 +66,7 @@ pub fn client_id(alloc: Global, frame: &Frame) -> Result<Option<HeaderText>, All
     nonempty_header(alloc, frame, "client-id")
 }
 
-/// The name of the durable subscription that a frame speaks of; an empty one is none.
+/// The name of the durable subscription that a frame speaks of. An empty one is none.
 pub fn durable_name(alloc: Global, frame: &Frame) -> Result<Option<HeaderText>, AllocError>
     requires { IsRead frame.now }
     ensures { IfOk result (λ r. r ≡ durable_of frame.now) }
@@ -74,8 +74,8 @@ pub fn durable_name(alloc: Global, frame: &Frame) -> Result<Option<HeaderText>, 
     nonempty_header(alloc, frame, "activemq.subscriptionName")
 }
 
-/// The durable name that a SUBSCRIBE to the destination asks for. It is left away on a queue, whose messages wait for
-/// whoever takes them.
+/// The durable name that a SUBSCRIBE to the destination asks for. It is left out for a queue, whose messages wait for
+/// a client that takes them.
 pub fn durable_name_at(
     alloc: Global,
     destination: &Dest,

@@ -7,9 +7,9 @@ ghost use Rattle.session_core.specs.Pieces.{HearsTo};
 ghost use Rattle.session_core.specs.Sessions.{Hearing, Hears, IsOver};
 ghost use Rattle.session_core.specs.declared.act.Act.{Act};
 
-/// What a session hears in pieces it hears as one, and in one way: the acts of any pieces are those of the bytes joined,
-/// and so is where it stands, also where it ends before the last piece. While it goes on, it keeps the same bytes too; what
-/// it hears once it is over gives nothing.
+/// What a session hears in pieces it hears as one, and in one way. The acts of any pieces are those of the bytes joined,
+/// and so is where it stands, even if it ends before the last piece. While it goes on, it keeps the same bytes too. What it
+/// hears once it is over gives nothing.
 pub fn pieces_are_heard_as_one()
     ensures joined { (s t u : Hearing) (a b : List ℕ) (acts more : List Act)
         → Hears s a acts t → Hears t b more u → HearsTo s (a ++ b) (acts ++ more) u.phase }

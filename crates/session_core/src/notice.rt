@@ -7,7 +7,7 @@ ghost use Rattle.frame_core.specs.Writable.{Writable};
 use frame_core::Frame;
 use std::marker::Model;
 
-/// An ERROR frame that a session tells its client at once, which can be written. Contracts see the frame. Sessions alone make these: an
+/// An ERROR frame that a session tells its client at once. It can be written. Contracts see the frame. Only sessions make these: an
 /// ERROR of the broker is none, and so waits for the mark.
 #[derive(Drop)]
 pub struct Notice {

@@ -44,8 +44,8 @@ pub fn ask_first(alloc: Global, frame: &Frame) -> Result<Result<Op, Fault>, Allo
     }
 }
 
-/// What a frame of an open session asks for, or why it is refused. In this order: a server's frame, a frame that may not
-/// come now, a header that isn't there, a value.
+/// What a frame of an open session asks for, or why it is refused. The checks come in this order: a server's frame, a
+/// frame that may not come now, a header that isn't there, a value.
 pub fn ask(alloc: Global, frame: Frame) -> Result<Result<Request, Fault>, AllocError>
     requires { IsRead frame }
     ensures { IfOk result (λ r. r ≡ asked frame) }

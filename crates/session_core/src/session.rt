@@ -57,7 +57,7 @@ impl Session {
         }
     }
 
-    /// Hears bytes, and says what they ask for. After want of memory the session has failed, and says so from then on.
+    /// Hears bytes, and says what they ask for. If memory is refused, the session has failed, and says so from then on.
     pub fn feed(&mut self, alloc: Global, bytes: &[u8]) -> Result<Vec<Act>, SessionFault>
         ensures acts { IfOk result (λ acts. Hears self.old bytes.now acts.items self.new) }
         ensures forms { IfOk result (λ acts. AllByRecursion HasForm acts.items) }
@@ -97,8 +97,8 @@ impl Session {
         self.phase.held().saturating_add(self.reader.len() as u64)
     }
 
-    /// Hears that the connection is gone, and says what is to be done then: the session's end, where the broker was asked
-    /// to open it and not to end it. It hears no more; one that has failed still says so. No memory is taken.
+    /// Hears that the connection is gone, and says what is to be done then: the session's end, if the broker was asked to open it and
+    /// not to end it. It hears no more. A session that has failed still says so. No memory is taken.
     pub fn lost(&mut self) -> Option<Act>
         ensures act { result ≡ loss_of self.old.phase }
         ensures form { IfSome result HasForm }

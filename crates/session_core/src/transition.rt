@@ -19,7 +19,7 @@ use record_core::HeaderText;
 use std::alloc::{AllocError, Global};
 use tx_core::{OpenTx, TxFault};
 
-/// What is to be done for frames, one after another; answers where the session stands then.
+/// What is to be done for frames, one after another. It answers where the session stands then.
 pub fn answer_all(
     alloc: Global,
     phase: Phase,
@@ -37,7 +37,7 @@ pub fn answer_all(
     Ok(phase)
 }
 
-/// What is to be done for a frame; answers where the session stands then.
+/// What is to be done for a frame. It answers where the session stands then.
 fn answer(
     alloc: Global,
     phase: Phase,
@@ -222,7 +222,7 @@ fn go_on(
     }
 }
 
-/// The receipt that is asked for where there is nothing to be done yet.
+/// The receipt that is asked for when there is nothing to be done yet.
 fn put_note(receipt: Option<HeaderText>, acts: &mut Vec<Act>) -> Result<(), AllocError>
     ensures { OnOk result (acts.new.items ≡ acts.old.items ++ note receipt) }
 {
@@ -232,7 +232,7 @@ fn put_note(receipt: Option<HeaderText>, acts: &mut Vec<Act>) -> Result<(), Allo
     Ok(())
 }
 
-/// What a fault brings in an open session.
+/// What a fault leads to in an open session.
 fn end_by(fault: Fault, receipt: Option<HeaderText>, acts: &mut Vec<Act>) -> Result<(), AllocError>
     ensures { OnOk result (acts.new.items ≡ acts.old.items ++ (ends_by fault receipt).acts) }
 {
@@ -241,7 +241,7 @@ fn end_by(fault: Fault, receipt: Option<HeaderText>, acts: &mut Vec<Act>) -> Res
     Ok(())
 }
 
-/// What a fault brings before a session is open.
+/// What a fault leads to before a session is open.
 fn refuse_first(
     alloc: Global,
     fault: Fault,
@@ -256,7 +256,7 @@ fn refuse_first(
     Ok(())
 }
 
-/// What a fault of the stream brings.
+/// What a fault of the stream leads to.
 pub fn refuse(
     alloc: Global,
     phase: Phase,

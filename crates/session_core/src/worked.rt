@@ -10,9 +10,9 @@ ghost use Rattle.command_core.specs.declared.command.Op.TheVariants as ops;
 ghost use Rattle.command_core.specs.declared.fault.Fault.TheVariants as faults;
 ghost use Rattle.command_core.specs.declared.member.Member.TheVariants as members;
 
-/// What sessions do for a frame: a CONNECT that offers 1.2 opens, one that offers 1.1 alone is refused, a SEND before it
-/// is refused with its receipt told, and a SEND to no destination's name ends an open session. A DISCONNECT ends one
-/// with its receipt.
+/// What sessions do for a frame. A CONNECT that offers 1.2 opens a session, and one that offers only 1.1 is refused. A
+/// SEND before it is refused with its receipt told, and a SEND to what names no destination ends an open session. A
+/// DISCONNECT ends one with its receipt.
 pub fn frames_are_answered()
     ensures opens { told phases.New (connect (codes "1.2,1.1,1.0")) ≡ acts.Do (ops.Open None) None ∷ [] }
     ensures wrong_version { told phases.New (connect (codes "1.1")) ≡ denied faults.UnsupportedVersion None }
@@ -23,8 +23,8 @@ pub fn frames_are_answered()
     ensures ended { next (open_t two) disconnect ≡ phases.Ended }
 {}
 
-/// What sessions do for transactions: a BEGIN opens one and an ACK joins it, each with nothing but its receipt; a COMMIT
-/// asks for both members at once, in their order; an ABORT of one that isn't open ends the session.
+/// What sessions do for transactions. A BEGIN opens one and an ACK joins it, each with nothing but its receipt. A COMMIT
+/// asks for both members at once, in their order. An ABORT of one that isn't open ends the session.
 pub fn transactions_are_answered()
     ensures begins { told opened (with_transaction verbs.Begin) ≡ asks ops.Note }
     ensures begun { next opened (with_transaction verbs.Begin) ≡ open_t [] }

@@ -1,5 +1,5 @@
--- Reading the parts of a snapshot from the front of bytes: what is read and the bytes behind it, or nothing where no
--- spelling begins them.
+-- Reading the parts of a snapshot from the front of bytes: what is read and the bytes after it, or nothing if no spelling
+-- begins them.
 use Rattle.std.specs.Prelude.{◌&&◌, ◌||◌, ℕ, Bool, true, false, List, [], ◌∷◌, Option, Some, None, length, map, is_some, not, nat_lt, if◌then◌else◌}
 use Rattle.std.specs.Int.{w32, w64}
 use Rattle.std.specs.List.{list_all}
@@ -100,7 +100,7 @@ named_by client None = Some None
 named_by None (Some own) = None
 named_by (Some client) (Some own) = Some (Some (client, own))
 
--- the line of a subscription's own, where it has one
+-- the line of a subscription's own, if it has one
 abbrev pub own_line_at : Bool → Reader (List Message)
 own_line_at true bytes = waiting_at bytes
 own_line_at false bytes = Some ([], bytes)
@@ -121,7 +121,7 @@ durable_name_at client bytes = do
   durable ← named_by client own.0
   Some (durable, own.1)
 
--- the line of its own, where it has one, and what is not acknowledged
+-- the line of its own, if it has one, and what is not acknowledged
 unfoldable pub had_at : Bool → Reader (List Message × List (ℕ × Message))
 had_at own bytes = do
   waiting ← own_line_at own bytes

@@ -17,7 +17,7 @@ use record_core::{DecodeFault, Dest, read_destination, read_list, read_name, rea
 use std::alloc::Global;
 use std::collections::BTreeMap;
 
-/// A name that may be absent, and is not empty where it is there.
+/// A name that may be absent, and is not empty if it is there.
 pub fn read_optional_name(
     alloc: Global,
     bytes: &[u8],
@@ -53,7 +53,7 @@ fn read_session(
     Ok(((number, client), rest))
 }
 
-/// The open sessions: behind their count, by rising number.
+/// The open sessions: after their count, by rising number.
 #[tactic(auto, unfolding(crate::specs::Reading::keyed_at))]
 pub fn read_sessions(
     alloc: Global,
@@ -87,7 +87,7 @@ fn read_durable(
     Ok(((name, bound), rest))
 }
 
-/// Durable names with their topics and lines, behind their count.
+/// Durable names with their topics and lines, after their count.
 fn read_listed_durables(
     alloc: Global,
     bytes: &[u8],
@@ -97,7 +97,7 @@ fn read_listed_durables(
     read_list(alloc, bytes, |rest| read_durable(alloc, rest))
 }
 
-/// The durable names with their topics and lines: behind their count, by rising name.
+/// The durable names with their topics and lines: after their count, by rising name.
 #[tactic(auto, unfolding(crate::specs::Reading::keyed_at))]
 pub fn read_durables(
     alloc: Global,
@@ -123,7 +123,7 @@ fn read_line_to(alloc: Global, bytes: &[u8]) -> Result<((Dest, Line), &[u8]), De
     Ok(((destination, line), rest))
 }
 
-/// The queues with their lines: behind their count, by rising destination.
+/// The queues with their lines: after their count, by rising destination.
 #[tactic(auto, unfolding(crate::specs::Reading::keyed_at))]
 pub fn read_queues(
     alloc: Global,

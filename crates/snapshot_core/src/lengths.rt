@@ -1,4 +1,4 @@
-//! How many bytes a snapshot has, which no memory is taken to know. A sum that eight bytes can't hold stays at the greatest
+//! How many bytes a snapshot has. No memory is taken to know it. A sum that eight bytes can't hold stays at the greatest
 //! number that they can.
 
 ghost use Rattle.std.specs.Prelude.{◌≡◌, ◌<◌, ◌^◌, [], false, length, option_map};
@@ -179,7 +179,7 @@ fn subscriptions_len(broker: &Broker) -> u64
     total
 }
 
-/// How many bytes the snapshot has of the state of a broker that is not broken. No memory is taken. Where they are 2^64 or
+/// How many bytes the snapshot has of the state of a broker that is not broken. No memory is taken. If they are 2^64 or
 /// more, which no machine holds, it is 2^64 - 1.
 #[tactic(auto, using(crate::proofs::Capped::state_counted))]
 pub fn state_len(broker: &Broker) -> u64

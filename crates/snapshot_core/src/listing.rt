@@ -1,5 +1,5 @@
-//! The parts of a snapshot, listed: each of these calls adds the parts of what it is given behind what was there, and those spell
-//! it. Want of memory may leave some of them behind.
+//! The parts of a snapshot, listed. Each of these calls adds the parts of what it is given after what was there, and those spell
+//! it. If memory is refused, some of them may stay there.
 
 ghost use Rattle.std.specs.Prelude.{◌≡◌, ◌<◌, ◌++◌, ◌^◌, [], ℕ, false, IfSome, OnOk, length, option_map};
 ghost use Rattle.std.specs.Int.{w32, w64, to_be_bytes};
@@ -151,7 +151,7 @@ fn list_line<'a>(parts: &mut Vec<Part<'a>>, line: &'a Line) -> Result<(), AllocE
     Ok(())
 }
 
-// The line under a durable name; where none stands there, it has no messages.
+// The line under a durable name. If none stands there, it has no messages.
 fn list_line_under<'a>(
     parts: &mut Vec<Part<'a>>,
     name: &'a DurableName,
@@ -323,7 +323,7 @@ fn list_own_name<'a>(
     }
 }
 
-// The line of a subscription's own; one that has none writes nothing.
+// The line of a subscription's own. One that has none writes nothing.
 fn list_own_line<'a>(parts: &mut Vec<Part<'a>>, sub: &'a Subscription) -> Result<(), AllocError>
     requires short { length sub.now.line < 2 ^ 32 }
     requires own { is_own sub.now ≡ false → sub.now.line ≡ [] }

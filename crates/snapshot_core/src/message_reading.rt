@@ -22,7 +22,7 @@ fn read_message(alloc: Global, bytes: &[u8]) -> Result<(Message, &[u8]), DecodeF
     Ok((Message { number, sending }, rest))
 }
 
-/// Messages behind their count.
+/// Messages after their count.
 fn read_messages(alloc: Global, bytes: &[u8]) -> Result<(Vec<Message>, &[u8]), DecodeFault>
     ensures { Gives (λ x. (x.0.items, x.1.now)) result (listed_at message_at bytes.now) }
 {
@@ -39,14 +39,14 @@ fn read_delivery(alloc: Global, bytes: &[u8]) -> Result<((u64, Message), &[u8]),
     Ok(((number, message), rest))
 }
 
-/// Deliveries behind their count.
+/// Deliveries after their count.
 fn read_deliveries(alloc: Global, bytes: &[u8]) -> Result<(Vec<(u64, Message)>, &[u8]), DecodeFault>
     ensures { Gives (λ x. (x.0.items, x.1.now)) result (listed_at delivery_at bytes.now) }
 {
     read_list(alloc, bytes, |rest| read_delivery(alloc, rest))
 }
 
-/// Messages that wait: behind their count, by rising number.
+/// Messages that wait: after their count, by rising number.
 #[tactic(auto, unfolding(crate::specs::Reading::waiting_at))]
 pub fn read_line(alloc: Global, bytes: &[u8]) -> Result<(Line, &[u8]), DecodeFault>
     ensures { Gives (λ x. (x.0, x.1.now)) result (waiting_at bytes.now) }
@@ -58,7 +58,7 @@ pub fn read_line(alloc: Global, bytes: &[u8]) -> Result<(Line, &[u8]), DecodeFau
     Ok((Line::of(messages), rest))
 }
 
-/// Deliveries that are not acknowledged: behind their count, by rising number.
+/// Deliveries that are not acknowledged: after their count, by rising number.
 #[tactic(auto, unfolding(crate::specs::Reading::keyed_at))]
 pub fn read_flight(alloc: Global, bytes: &[u8]) -> Result<(Flight<Message>, &[u8]), DecodeFault>
     ensures { Gives (λ x. (x.0, x.1.now)) result (keyed_at nat_cmp delivery_at bytes.now) }

@@ -18,7 +18,7 @@ pub enum Part<'a> {
     Sending(&'a Sending),
 }
 
-/// Writes a part at the end of bytes. Want of memory may leave some of it behind.
+/// Writes a part at the end of bytes. If memory is refused, some of it may stay there.
 pub(crate) fn put_part(out: &mut Vec<u8>, part: &Part<'_>) -> Result<(), AllocError>
     ensures { OnOk result (out.new.items ≡ out.old.items ++ spelled_by part.now) }
 {

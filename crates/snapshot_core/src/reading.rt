@@ -1,6 +1,6 @@
-//! The parts of a snapshot, read from the front of bytes. Each reader answers what it read and the bytes behind it, or
-//! `NoSpelling` just where no spelling of its part begins the bytes, and `Memory` where memory is refused. No room is
-//! taken by a count that was read: it may lie.
+//! The parts of a snapshot, read from the front of bytes. Each reader answers what it read and the bytes after it. It
+//! answers `NoSpelling` just if no spelling of its part begins the bytes, and `Memory` if memory is refused. No room
+//! is taken by a count that was read: it may lie.
 
 ghost use Rattle.record_core.specs.Reading.{Gives};
 ghost use Rattle.broker_core.specs.PartsOf.{state_of_parts};
@@ -13,7 +13,7 @@ use broker_state::Parts;
 use record_core::{DecodeFault, read_u64};
 use std::alloc::Global;
 
-/// The parts of a state, and the bytes behind them.
+/// The parts of a state, and the bytes after them.
 #[tactic(auto, unfolding(crate::specs::Reading::state_at))]
 pub fn read_parts(alloc: Global, bytes: &[u8]) -> Result<(Parts, &[u8]), DecodeFault>
     ensures { Gives (λ x. (state_of_parts x.0, x.1.now)) result (state_at bytes.now) }

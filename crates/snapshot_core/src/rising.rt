@@ -53,7 +53,7 @@ fn filled<K: Ord + Drop, X: Drop>(
     Ok(map)
 }
 
-/// The map of items that are to stand by rising key. `NoSpelling` where they do not.
+/// The map of items that are to stand by rising key. `NoSpelling` if they do not.
 pub fn map_of<K: Ord + Drop, X: Drop>(
     alloc: Global,
     items: Vec<(K, X)>,

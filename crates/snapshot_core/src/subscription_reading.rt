@@ -18,7 +18,7 @@ use record_core::{
 use std::alloc::Global;
 use std::collections::BTreeMap;
 
-/// The name of a session's client, where the session is open and its client has one.
+/// The name of a session's client, if the session is open and its client has one.
 fn client_in(sessions: &BTreeMap<u64, Option<GivenName>>, session: u64) -> Option<&GivenName>
     ensures { option_map (λ client. client.now) result ≡ client_among sessions.now.entries session }
 {
@@ -44,7 +44,7 @@ fn durable_of(
     Ok(Some(DurableName::new(client.clone()?, own)))
 }
 
-/// The line of a subscription's own. Nothing is read where it has none.
+/// The line of a subscription's own. Nothing is read if it has none.
 fn read_own_line(alloc: Global, is_own: bool, bytes: &[u8]) -> Result<(Line, &[u8]), DecodeFault>
     ensures { Gives (λ x. (x.0, x.1.now)) result (own_line_at is_own bytes.now) }
 {
@@ -70,7 +70,7 @@ fn read_front(
     Ok(((session, id, destination, mode), rest))
 }
 
-/// The durable name of a subscription of that session, where it has one.
+/// The durable name of a subscription of that session, if it has one.
 #[tactic(auto, unfolding(crate::specs::Reading::durable_name_at))]
 fn read_durable_name<'a>(
     alloc: Global,
@@ -85,7 +85,7 @@ fn read_durable_name<'a>(
     Ok((durable, rest))
 }
 
-/// What a subscription has: the line of its own, where it has one, and what it has not acknowledged.
+/// What a subscription has: the line of its own, if it has one, and what it has not acknowledged.
 #[tactic(auto, unfolding(crate::specs::Reading::had_at))]
 fn read_had(
     alloc: Global,
@@ -130,7 +130,7 @@ fn read_subscription<'a>(
     Ok((subscription, rest))
 }
 
-/// The subscriptions of these sessions, in waiting order behind their count.
+/// The subscriptions of these sessions, in waiting order after their count.
 pub fn read_subscriptions<'a>(
     alloc: Global,
     sessions: &BTreeMap<u64, Option<GivenName>>,

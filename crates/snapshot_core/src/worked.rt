@@ -6,7 +6,7 @@ ghost use Rattle.snapshot_core.specs.Snapshots.{Spells, snapshot_of};
 ghost use Rattle.snapshot_core.specs.Worked.{eight, four, with_message};
 
 /// The first state is spelled by 32 zero bytes. After a session was opened and sent `hi` to `/queue/q`, the snapshot counts
-/// two commands and no delivery, and has one session, no durable names, one queue with one message, and no subscriptions.
+/// two commands and no delivery. It has one session, no durable names, one queue with one message, and no subscriptions.
 /// Nothing is run.
 pub fn states_are_spelled()
     ensures first { Spells (replicate 32 0) empty_state }

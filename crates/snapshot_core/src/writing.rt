@@ -13,8 +13,8 @@ use std::mem;
 
 /// Writes the snapshot of a state in pieces, of any sizes. Contracts see the bytes that are still to come.
 ///
-/// It knows the parts of the snapshot from the beginning, which take memory by their number, and writes each as it is
-/// asked for: of the bytes no more are kept than those of one part.
+/// It knows the parts of the snapshot from the beginning, which take memory by their number. It writes each as it is asked
+/// for: of the bytes no more are kept than those of one part.
 #[derive(Drop)]
 pub struct StateWriter<'a> {
     alloc: Global,
@@ -36,7 +36,7 @@ impl<'a> Model for StateWriter<'a> {
 }
 
 impl<'a> StateWriter<'a> {
-    /// A writer of the snapshot of a broker that is not broken, which is its one spelling. It fails only where memory is
+    /// A writer of the snapshot of a broker that is not broken, which is its one spelling. It fails only if memory is
     /// refused.
     pub fn new(alloc: Global, broker: &'a Broker) -> Result<StateWriter<'a>, AllocError>
         requires whole { broker.now.broken ≡ false }
@@ -55,7 +55,7 @@ impl<'a> StateWriter<'a> {
         })
     }
 
-    /// The next so many bytes, or all that are left where these are fewer. Where memory is refused the writer is as it was.
+    /// The next so many bytes, or all that are left if these are fewer. If memory is refused, the writer is as it was.
     pub fn next(&mut self, count: usize) -> Result<Vec<u8>, AllocError>
         ensures piece { IfOk result (λ piece. piece.items ≡ take count self.old) }
         ensures rest { OnOk result (self.new ≡ drop count self.old) }
@@ -105,7 +105,7 @@ fn fill(
     Ok(())
 }
 
-// Writes a part behind what is kept, which stays where memory is refused.
+// Writes a part after what is kept, which stays if memory is refused.
 fn write_part(alloc: Global, part: &Part<'_>, kept: &mut Vec<u8>) -> Result<(), AllocError>
     ensures put { OnOk result (kept.new.items ≡ kept.old.items ++ spelled_by part.now) }
     ensures same { OnErr result (kept.new.items ≡ kept.old.items) }
@@ -115,8 +115,7 @@ fn write_part(alloc: Global, part: &Part<'_>, kept: &mut Vec<u8>) -> Result<(), 
     kept.append(&mut bytes)
 }
 
-/// The snapshot of the state of a broker that is not broken, which is its one spelling. It fails only where memory is
-/// refused.
+/// The snapshot of the state of a broker that is not broken, which is its one spelling. It fails only if memory is refused.
 pub fn encode_state(alloc: Global, broker: &Broker) -> Result<Vec<u8>, AllocError>
     requires whole { broker.now.broken ≡ false }
     // Four bytes count them.

@@ -27,7 +27,7 @@ pub record AreOpen (transactions : List (List ℕ × List Member)) : Type 0 wher
 abbrev pub members_of : List ℕ → List (List ℕ × List Member) → Option (List Member)
 members_of name transactions = lookup (bytes_eq name) transactions
 
--- with one more, that has no members yet (STOMP 1.2, "BEGIN")
+-- with one more, which has no members yet (STOMP 1.2, "BEGIN")
 abbrev pub begun : List ℕ → List (List ℕ × List Member) → List (List ℕ × List Member)
 begun name transactions = transactions ++ (name, []) ∷ []
 

@@ -4,7 +4,7 @@ use Rattle.command_core.specs.declared.fault.Fault.TheVariants.{TransactionBegun
 use Rattle.tx_core.specs.declared.fault.TxFault.{TxFault}
 use Rattle.tx_core.specs.declared.fault.TxFault.TheVariants.{Begun, NotBegun, TooLarge, TooMany, Memory}
 
--- the fault that a client is told; it isn't told of want of memory
+-- the fault that a client is told; it isn't told that memory was refused
 abbrev pub fault_of : TxFault → Option Fault
 fault_of Begun = Some TransactionBegun
 fault_of NotBegun = Some TransactionNotBegun

@@ -7,7 +7,7 @@ use command_core::Fault;
 use std::alloc::AllocError;
 use thiserror::Error;
 
-/// Why a transaction was not begun, changed or ended. It is as it was.
+/// Why a transaction was not begun, changed or ended. It is as it was before.
 #[derive(Debug, Drop, Error)]
 pub enum TxFault {
     /// A transaction of that name is open.
@@ -28,7 +28,7 @@ pub enum TxFault {
 }
 
 impl TxFault {
-    /// The fault that a client is told, unless it was for want of memory.
+    /// The fault that a client is told, unless memory was refused.
     pub fn fault(&self) -> Option<Fault>
         ensures { result ≡ fault_of self.now }
     {

@@ -5,7 +5,7 @@ ghost use Rattle.std.specs.Str.{bytes_eq};
 ghost use Rattle.command_core.specs.declared.member.Member.{Member};
 ghost use Rattle.tx_core.specs.Transactions.{added, begun, members_of};
 
-/// What is put into a transaction behind its BEGIN stands there in the same order, and the transactions of other names
+/// What is put into a transaction after its BEGIN stands there in the same order, and the transactions of other names
 /// are as they were.
 pub fn members_keep_their_order()
     ensures order { (name : List ℕ) (members : List Member) (transactions : List (List ℕ × List Member))

@@ -10,9 +10,9 @@ use record_core::HeaderText;
 use std::alloc::{AllocError, Global};
 use std::marker::Model;
 
-/// The open transactions of a session (STOMP 1.2, "BEGIN"), in the order in which they were begun: at most four, of
-/// different names, each of at most 64 members that take at most 262,144 bytes. Contracts see the list of their names
-/// and members.
+/// The open transactions of a session (STOMP 1.2, "BEGIN"), in the order in which they were begun. There are at most
+/// four, of different names, and each has at most 64 members that take at most 262,144 bytes. Contracts see the list of
+/// their names and members.
 #[derive(Drop)]
 pub struct OpenTx {
     all: Vec<Transaction>,
@@ -61,8 +61,8 @@ impl OpenTx {
         }
     }
 
-    /// Begins a transaction of that name, behind the others. A transaction of that name that is open refuses it, and
-    /// then so do four transactions; a refusal, and want of memory, changes nothing.
+    /// Begins a transaction of that name, after the others. It is refused if a transaction of that name is open, and
+    /// then if four transactions are. If it is refused, or memory is, nothing changes.
     pub fn begin(&mut self, alloc: Global, name: HeaderText) -> Result<(), TxFault>
         ensures ok { OnOk result (self.new ≡ begun name self.old) }
         ensures allowed { OnOk result (refusal_of_begin name self.old ≡ None) }
@@ -79,9 +79,9 @@ impl OpenTx {
         Ok(())
     }
 
-    /// Puts the member at the end of the transaction of that name. It is refused where there is none, and where the
-    /// transaction would have a 65th member or more than 262,144 bytes; a refusal, and want of memory, changes nothing,
-    /// and the member is dropped.
+    /// Puts the member at the end of the transaction of that name. It is refused if there is none, or if the
+    /// transaction would have a 65th member or more than 262,144 bytes. If it is refused, or memory is, nothing
+    /// changes, and the member is dropped.
     pub fn add(&mut self, name: &str, member: Member) -> Result<(), TxFault>
         ensures ok { OnOk result (self.new ≡ added name.now member self.old) }
         ensures allowed { OnOk result (refusal_of_add name.now member self.old ≡ None) }
@@ -94,7 +94,7 @@ impl OpenTx {
         }
     }
 
-    /// Ends the transaction of that name, and answers its members in their order. No memory is taken; the one error is
+    /// Ends the transaction of that name, and answers its members in their order. No memory is taken. The one error is
     /// that there is none of that name, and then nothing changes.
     pub fn commit(&mut self, name: &str) -> Result<Members, TxFault>
         ensures members { IfOk result (λ members. members_of name.now self.old ≡ Some members) }
@@ -110,7 +110,7 @@ impl OpenTx {
         }
     }
 
-    /// Gives the transaction of that name up. No memory is taken; the one error is that there is none of that name, and
+    /// Gives up the transaction of that name. No memory is taken. The one error is that there is none of that name, and
     /// then nothing changes.
     pub fn abort(&mut self, name: &str) -> Result<(), TxFault>
         ensures ok { OnOk result (self.new ≡ without name.now self.old) }
@@ -128,7 +128,7 @@ impl OpenTx {
         }
     }
 
-    /// Gives all of them up.
+    /// Gives up all of them.
     pub fn abort_all(&mut self)
         ensures { self.new ≡ [] }
     {

@@ -59,7 +59,7 @@ impl Transaction {
         self.bytes
     }
 
-    /// Puts the member behind the others.
+    /// Puts the member after the others.
     pub fn add(&mut self, member: Member) -> Result<(), TxFault>
         ensures ok { OnOk result (self.new ≡ (self.old.0, self.old.1 ++ member ∷ [])) }
         ensures allowed { OnOk result (refusal_to_join member (Some self.old.1) ≡ None) }
