@@ -1,3 +1,4 @@
 pub mod Transactions
 pub mod Flights
 pub mod PrecheckSteps
+pub mod Outcomes

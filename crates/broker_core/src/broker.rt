@@ -19,27 +19,24 @@ use record_core::Dest;
 use std::alloc::{AllocError, Global};
 use std::collections::BTreeMap;
 use std::marker::Model;
-use std::mem;
 
 /// The broker: it carries out commands one after another, numbered from 0, and answers each. Contracts see its state
-/// and whether it is broken. It breaks where memory is refused within a command, and stays so for good: it holds nothing
+/// and whether it is broken. It breaks if memory is refused within a command, and stays so for good: it holds nothing
 /// then.
 #[derive(Drop)]
 pub struct Broker {
     tables: Tables,
-    broken: bool,
 }
 
 impl Model for Broker {
-    ghost use Rattle.std.specs.Prelude.{◌≡◌, false};
     ghost use Rattle.broker_state.specs.States.{BrokerValue};
-    ghost use Rattle.broker_state.specs.Sound.{IsSound};
+    ghost use Rattle.broker_core.specs.Outcomes.{IsWholeOrEmpty};
 
     ghost Value = { BrokerValue };
 
-    ghost view = { λ a. record { state = a.tables; broken = a.broken } };
+    ghost view = { λ a. a.tables };
 
-    ghost invariant = { λ a. a.broken ≡ false → IsSound a.tables };
+    ghost invariant = { λ a. IsWholeOrEmpty a.tables };
 }
 
 impl Broker {
@@ -49,12 +46,11 @@ impl Broker {
     {
         Broker {
             tables: Tables::new(alloc, 0),
-            broken: false,
         }
     }
 
-    /// A broker of the state that has these parts, or none where no broker can have it: where they do not go together, or
-    /// something is over its limit. Want of memory leaves nothing.
+    /// A broker of the state that has these parts, or none if no broker can have it: if they do not go together, or
+    /// something is over its limit. If memory is refused, the parts are let go.
     pub fn from_parts(alloc: Global, parts: Parts) -> Result<Option<Broker>, AllocError>
         ensures sound { IfOk result (λ found. IsSome found ↔ IsSound (state_of_parts parts)) }
         ensures state { IfOk result (λ found. IfSome found (λ broker. broker ≡ record { state = state_of_parts parts; broken = false })) }
@@ -64,33 +60,11 @@ impl Broker {
         }
         let held = held_of(&parts);
         let tables = Tables::of(alloc, parts, held)?;
-        Ok(Some(Broker {
-            tables,
-            broken: false,
-        }))
-    }
-
-    /// Takes the tables out. Until they are put back, the broker is broken and holds nothing but its count.
-    fn take(&mut self, alloc: Global) -> Tables
-        ensures taken { result ≡ self.old.state }
-        ensures left { self.new ≡ record { state = record empty_state { count = self.old.state.count }; broken = true } }
-    {
-        self.broken = true;
-        let count = self.tables.count();
-        mem::replace(&mut self.tables, Tables::new(alloc, count))
-    }
-
-    /// Puts tables back that are those of a state which a broker can have: the broker is whole.
-    fn put(&mut self, tables: Tables)
-        requires sound { IsSound tables }
-        ensures whole { self.new ≡ record { state = tables; broken = false } }
-    {
-        drop(mem::replace(&mut self.tables, tables));
-        self.broken = false;
+        Ok(Some(Broker { tables }))
     }
 
     /// Carries out the command of the next number, and answers its outputs. A NACK keeps what it settles: it goes to
-    /// `/queue/dead`, unless it is of a plain subscription of a topic or was refused before. `Memory` where memory is refused:
+    /// `/queue/dead`, unless it is of a plain subscription of a topic or was refused before. `Memory` if memory is refused:
     /// what it held is let go then, its count stays, and from then on the answer is `Broken`, which changes nothing.
     pub fn step(&mut self, alloc: Global, command: Command) -> Result<Vec<Out>, BrokerFault>
         requires { self.old.state.count < 2 ^ 62 }
@@ -124,37 +98,37 @@ impl Broker {
         ensures outs { IfOk result (λ given. given.items ≡ outs_by rule self.old.state command) }
         ensures outcome { IsOutcome self.old self.new result }
     {
-        if self.broken {
+        if self.tables.is_broken() {
             return Err(BrokerFault::Broken);
         }
         have_few_members(command.op());
-        let tables = self.take(alloc);
-        match execute(tables, alloc, rule, command) {
-            Ok((tables, given)) => {
-                self.put(tables);
-                Ok(given)
+        let count = self.tables.count();
+        match execute(&mut self.tables, alloc, rule, command) {
+            Ok(given) => Ok(given),
+            Err(refused) => {
+                self.tables.let_go(alloc, count);
+                Err(BrokerFault::Memory(refused))
             }
-            Err(refused) => Err(BrokerFault::Memory(refused)),
         }
     }
 
     /// Ends every session with its subscriptions, as a stop does, and hands nothing out: what was not acknowledged stands
-    /// in its line again, but for plain subscriptions of topics. `Memory` where memory is refused: what it held is let go
+    /// in its line again, but for plain subscriptions of topics. `Memory` if memory is refused: what it held is let go
     /// then, its count stays, and from then on the answer is `Broken`, which changes nothing.
     pub fn restart(&mut self, alloc: Global) -> Result<(), BrokerFault>
         ensures state { OnOk result (self.new.state ≡ restarted self.old.state) }
         ensures outcome { IsOutcome self.old self.new result }
     {
-        if self.broken {
+        if self.tables.is_broken() {
             return Err(BrokerFault::Broken);
         }
-        let tables = self.take(alloc);
-        match tables.restart(alloc) {
-            Ok(tables) => {
-                self.put(tables);
-                Ok(())
+        let count = self.tables.count();
+        match self.tables.restart(alloc) {
+            Ok(()) => Ok(()),
+            Err(refused) => {
+                self.tables.let_go(alloc, count);
+                Err(BrokerFault::Memory(refused))
             }
-            Err(refused) => Err(BrokerFault::Memory(refused)),
         }
     }
 
@@ -170,8 +144,7 @@ impl Broker {
         ensures value { result ≡ self.now.broken }
         ensures sound { self.now.broken ≡ false → IsSound self.now.state }
     {
-        let Broker { broken, .. } = self;
-        *broken
+        self.tables.is_broken()
     }
 
     /// The number of the next delivery.
@@ -217,11 +190,17 @@ impl Broker {
         self.tables.order().get(at)
     }
 
-    /// How much it holds.
+    /// How much it holds: nothing once it is broken.
     pub fn held(&self) -> Held
         ensures messages { result.messages ≡ held_messages self.now.state }
         ensures bytes { result.bytes ≡ held_bytes self.now.state }
     {
+        if self.tables.is_broken() {
+            return Held {
+                messages: 0,
+                bytes: 0,
+            };
+        }
         self.tables.held()
     }
 }

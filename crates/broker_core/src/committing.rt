@@ -1,6 +1,6 @@
 //! Transactions are carried out, wholly or not at all.
 
-ghost use Rattle.std.specs.Prelude.{◌≡◌, ◌<◌, ◌≤◌, IfOk, IsErr, length};
+ghost use Rattle.std.specs.Prelude.{◌≡◌, ◌<◌, ◌≤◌, IfOk, IsErr, OnOk, false, length};
 ghost use Rattle.broker_state.specs.Executing.{HasFewMembers, applied, committed};
 ghost use Rattle.broker_state.specs.Parts.{leaving};
 
@@ -21,16 +21,18 @@ pub fn have_few_members(op: &Op)
 
 /// A member of a transaction is carried out. Refused as it is, and then the tables are as they were.
 fn apply(
-    tables: Tables,
+    tables: &mut Tables,
     alloc: Global,
     rule: NackRule,
     session: u64,
     place: u32,
     member: Member,
-) -> Result<(Tables, Result<(), Fault>), AllocError>
+) -> Result<Result<(), Fault>, AllocError>
     requires few { place < 64 }
-    ensures applied { IfOk result (λ r. applied rule tables session place member ≡ leaving r.1 r.0) }
-    ensures same { IfOk result (λ r. IsErr r.1 → r.0 ≡ tables) }
+    requires whole { tables.old.broken ≡ false }
+    ensures applied { IfOk result (λ r. applied rule tables.old.state session place member ≡ leaving r tables.new.state) }
+    ensures same { IfOk result (λ r. IsErr r → tables.new ≡ tables.old) }
+    ensures whole { OnOk result (tables.new.broken ≡ false) }
 {
     match member {
         Member::Send(sending) => tables.send(alloc, place, sending),
@@ -40,44 +42,44 @@ fn apply(
 }
 
 /// The members of a transaction are carried out in their order, or refused together, and then the tables are as they were:
-/// so they are checked before the first of them is carried out. Where memory is refused, nothing is left of the tables.
+/// so they are checked before the first of them is carried out. If memory is refused, the tables may be broken.
 pub fn commit(
-    tables: Tables,
+    tables: &mut Tables,
     alloc: Global,
     rule: NackRule,
     session: u64,
     members: Members,
-) -> Result<(Tables, Result<(), Fault>), AllocError>
-    ensures committed { IfOk result (λ r. committed rule tables session 0 members ≡ leaving r.1 r.0) }
-    ensures same { IfOk result (λ r. IsErr r.1 → r.0 ≡ tables) }
+) -> Result<Result<(), Fault>, AllocError>
+    requires whole { tables.old.broken ≡ false }
+    ensures committed { IfOk result (λ r. committed rule tables.old.state session 0 members ≡ leaving r tables.new.state) }
+    ensures same { IfOk result (λ r. IsErr r → tables.new ≡ tables.old) }
+    ensures whole { OnOk result (tables.new.broken ≡ false) }
 {
-    match precheck_members(alloc, rule, &tables, session, members.as_slice()) {
+    match precheck_members(alloc, rule, tables, session, members.as_slice()) {
         Ok(Ok(())) => apply_all(tables, alloc, rule, session, members.into_vec()),
-        Ok(Err(fault)) => Ok((tables, Err(fault))),
-        Err(refused) => Err(refused),
+        refused => refused,
     }
 }
 
 /// Members are carried out in their order, up to the first one that is refused: what those before it did stays.
 fn apply_all(
-    tables: Tables,
+    tables: &mut Tables,
     alloc: Global,
     rule: NackRule,
     session: u64,
     members: Vec<Member>,
-) -> Result<(Tables, Result<(), Fault>), AllocError>
+) -> Result<Result<(), Fault>, AllocError>
     requires few { length members.items ≤ 64 }
-    ensures committed { IfOk result (λ r. committed rule tables session 0 members.items ≡ leaving r.1 r.0) }
+    requires whole { tables.old.broken ≡ false }
+    ensures committed { IfOk result (λ r. committed rule tables.old.state session 0 members.items ≡ leaving r tables.new.state) }
+    ensures whole { OnOk result (tables.new.broken ≡ false) }
 {
-    let mut tables = tables;
     let mut place = 0;
     for member in members {
-        let (left, done) = apply(tables, alloc, rule, session, place, member)?;
-        tables = left;
-        if let Err(fault) = done {
-            return Ok((tables, Err(fault)));
+        if let Err(fault) = apply(tables, alloc, rule, session, place, member)? {
+            return Ok(Err(fault));
         }
         place += 1;
     }
-    Ok((tables, Ok(())))
+    Ok(Ok(()))
 }

@@ -1,6 +1,6 @@
 //! A transaction is tried on what decides over its refusal.
 
-ghost use Rattle.std.specs.Prelude.{◌≡◌, ◌+◌, ◌*◌, ◌≤◌, ◌^◌, ◌<◌, IfOk, IfSome, List, MatchOption, OnOk, Ok, Err, Some, ℕ, if◌then◌else◌, is_some, length, slice_get, true};
+ghost use Rattle.std.specs.Prelude.{◌≡◌, ◌+◌, ◌*◌, ◌≤◌, ◌^◌, ◌<◌, IfOk, IfSome, List, MatchOption, OnOk, Ok, Err, Some, ℕ, false, if◌then◌else◌, is_some, length, slice_get, true};
 ghost use Rattle.std.specs.List.{list_any, sum_by};
 ghost use Rattle.command_core.specs.declared.fault.Fault.TheVariants.{NoRoom};
 ghost use Rattle.line_core.specs.Flights.{mapped, settled};
@@ -275,9 +275,9 @@ fn precheck_member(
     tables: &Tables,
     member: &Member,
 ) -> Result<Result<(), Fault>, AllocError>
-    requires { (session : ℕ) × (s : State) × StandsFor session tables.now.durables tables.now.subscriptions precheck.old s }
-    ensures { IfOk result (λ r. (session place : ℕ) (s : State) → StandsFor session tables.now.durables tables.now.subscriptions precheck.old s
-        → Leads session tables.now.durables tables.now.subscriptions precheck.new r (applied rule s session place member.now)) }
+    requires { (session : ℕ) × (s : State) × StandsFor session tables.now.state.durables tables.now.state.subscriptions precheck.old s }
+    ensures { IfOk result (λ r. (session place : ℕ) (s : State) → StandsFor session tables.now.state.durables tables.now.state.subscriptions precheck.old s
+        → Leads session tables.now.state.durables tables.now.state.subscriptions precheck.new r (applied rule s session place member.now)) }
 {
     match member {
         Member::Send(sending) => {
@@ -291,7 +291,8 @@ fn precheck_member(
 
 /// The precheck before the first member.
 fn begin(alloc: Global, tables: &Tables, session: u64) -> Result<Precheck, AllocError>
-    ensures { IfOk result (λ precheck. StandsFor session tables.now.durables tables.now.subscriptions precheck tables.now) }
+    requires whole { tables.now.broken ≡ false }
+    ensures { IfOk result (λ precheck. StandsFor session tables.now.state.durables tables.now.state.subscriptions precheck tables.now.state) }
 {
     stand_in_order(tables.shared().names());
     stand_in_order(tables.shared().queues());
@@ -311,7 +312,8 @@ pub fn precheck_members(
     members: &[Member],
 ) -> Result<Result<(), Fault>, AllocError>
     requires few { length members.now ≤ 64 }
-    ensures { IfOk result (λ r. r ≡ without_state (committed rule tables.now session 0 members.now)) }
+    requires whole { tables.now.broken ≡ false }
+    ensures { IfOk result (λ r. r ≡ without_state (committed rule tables.now.state session 0 members.now)) }
 {
     let mut precheck = begin(alloc, tables, session)?;
     for member in members {

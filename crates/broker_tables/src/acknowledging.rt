@@ -1,6 +1,6 @@
 //! Deliveries are acknowledged.
 
-ghost use Rattle.std.specs.Prelude.{◌≡◌, IfOk, IsErr, MatchOption};
+ghost use Rattle.std.specs.Prelude.{◌≡◌, IfOk, IsErr, MatchOption, OnOk, false};
 ghost use Rattle.broker_state.specs.Operations.{acknowledged, awaits};
 ghost use Rattle.broker_state.specs.Parts.{IsFirst, NonePass, leaving};
 
@@ -27,23 +27,26 @@ pub(crate) fn find_awaiting(order: &Order, session: u64, delivery: u64) -> Optio
 }
 
 impl Tables {
-    /// A delivery of a session is acknowledged, with those that the mode of its subscription settles besides. Refused where
-    /// the session has no such delivery, and then the tables are as they were. Where memory is refused, nothing is left of
-    /// them.
+    /// A delivery of a session is acknowledged, with those that the mode of its subscription settles besides. Refused if the
+    /// session has no such delivery, and then the tables are as they were. If memory is refused, they are broken.
     pub fn acknowledge(
-        mut self,
+        &mut self,
         session: u64,
         delivery: u64,
-    ) -> Result<(Tables, Result<(), Fault>), AllocError>
-        ensures acknowledged { IfOk result (λ r. acknowledged self session delivery ≡ leaving r.1 r.0) }
-        ensures same { IfOk result (λ r. IsErr r.1 → r.0 ≡ self) }
+    ) -> Result<Result<(), Fault>, AllocError>
+        requires whole { self.old.broken ≡ false }
+        ensures acknowledged { IfOk result (λ r. acknowledged self.old.state session delivery ≡ leaving r self.new.state) }
+        ensures same { IfOk result (λ r. IsErr r → self.new ≡ self.old) }
+        ensures whole { OnOk result (self.new.broken ≡ false) }
     {
         let Some(at) = find_awaiting(&self.order, session, delivery) else {
-            return Ok((self, Err(Fault::UnknownAcknowledgement)));
+            return Ok(Err(Fault::UnknownAcknowledgement));
         };
+        self.broken = true;
         mark(&mut self.due, Key::Session(session))?;
         let settled = self.order.settle(at, delivery)?;
         let_deliveries_go(&mut self.held, settled.as_slice());
-        Ok((self, Ok(())))
+        self.broken = false;
+        Ok(Ok(()))
     }
 }

@@ -52,8 +52,9 @@ fn least_place(cursors: &BTreeSet<Cursor>, next_delivery: u64, end: usize) -> us
 
 /// A cursor for each of these keys.
 fn cursors_for(alloc: Global, tables: &Tables, keys: &[Key]) -> Result<BTreeSet<Cursor>, AllocError>
-    ensures { IfOk result (λ cursors. (at : ℕ) (sub : Subscription) → slice_get tables.now.subscriptions at ≡ Some sub → is_due keys.now sub ≡ true
-        → can_take tables.now sub ≡ true → is_awaited cursors.keys (at + tables.now.next_delivery) sub ≡ true) }
+    requires whole { tables.now.broken ≡ false }
+    ensures { IfOk result (λ cursors. (at : ℕ) (sub : Subscription) → slice_get tables.now.state.subscriptions at ≡ Some sub → is_due keys.now sub ≡ true
+        → can_take tables.now.state sub ≡ true → is_awaited cursors.keys (at + tables.now.state.next_delivery) sub ≡ true) }
 {
     let mut cursors = BTreeSet::new(alloc);
     for key in keys {
@@ -66,7 +67,8 @@ fn cursors_for(alloc: Global, tables: &Tables, keys: &[Key]) -> Result<BTreeSet<
 impl Tables {
     /// A cursor for each key that is due.
     pub(crate) fn first_cursors(&self, alloc: Global) -> Result<BTreeSet<Cursor>, AllocError>
-        ensures { IfOk result (λ cursors. AreAwaited cursors.keys self.now 0) }
+        requires whole { self.now.broken ≡ false }
+        ensures { IfOk result (λ cursors. AreAwaited cursors.keys self.now.state 0) }
     {
         cursors_for(alloc, self, self.due.as_slice())
     }
@@ -78,13 +80,14 @@ impl Tables {
         cursors: &mut BTreeSet<Cursor>,
         from: usize,
     ) -> Result<usize, AllocError>
-        requires place { from ≤ length self.now.subscriptions }
-        requires awaited { AreAwaited cursors.old.keys self.now from }
+        requires place { from ≤ length self.now.state.subscriptions }
+        requires awaited { AreAwaited cursors.old.keys self.now.state from }
+        requires whole { self.now.broken ≡ false }
         ensures after { IfOk result (λ at. from ≤ at) }
-        ensures within { IfOk result (λ at. at ≤ length self.now.subscriptions) }
-        ensures none { IfOk result (λ at. (i : ℕ) (sub : Subscription) → slice_get self.now.subscriptions i ≡ Some sub → from ≤ i → i < at
-            → can_take self.now sub ≡ false) }
-        ensures awaited { OnOk result (AreAwaited cursors.new.keys self.now from) }
+        ensures within { IfOk result (λ at. at ≤ length self.now.state.subscriptions) }
+        ensures none { IfOk result (λ at. (i : ℕ) (sub : Subscription) → slice_get self.now.state.subscriptions i ≡ Some sub → from ≤ i → i < at
+            → can_take self.now.state sub ≡ false) }
+        ensures awaited { OnOk result (AreAwaited cursors.new.keys self.now.state from) }
     {
         let end = self.order().len();
         let standing = self.standing(from);
@@ -102,10 +105,11 @@ impl Tables {
         key: Key,
         from: usize,
     ) -> Result<(), AllocError>
-        requires { from ≤ length self.now.subscriptions }
+        requires place { from ≤ length self.now.state.subscriptions }
+        requires whole { self.now.broken ≡ false }
         ensures kept { OnOk result (KeepsAwaited cursors.old.keys cursors.new.keys) }
-        ensures added { OnOk result (AreAwaitedUnder key cursors.new.keys self.now from) }
-        ensures after { OnOk result (count_before (from + self.now.next_delivery) cursors.new.keys ≤ count_before (from + self.now.next_delivery) cursors.old.keys) }
+        ensures added { OnOk result (AreAwaitedUnder key cursors.new.keys self.now.state from) }
+        ensures after { OnOk result (count_before (from + self.now.state.next_delivery) cursors.new.keys ≤ count_before (from + self.now.state.next_delivery) cursors.old.keys) }
     {
         let place = next_waiting(self.order(), self.shared(), &key, from);
         if place == self.order().len() {
@@ -119,8 +123,9 @@ impl Tables {
 
     /// The standing of the subscription in that place.
     fn standing(&self, place: usize) -> u64
-        requires { place < 2 ^ 63 }
-        ensures { result ≡ place + self.now.next_delivery }
+        requires place { place < 2 ^ 63 }
+        requires whole { self.now.broken ≡ false }
+        ensures { result ≡ place + self.now.state.next_delivery }
     {
         place as u64 + self.next_delivery
     }

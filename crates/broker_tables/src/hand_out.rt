@@ -1,19 +1,17 @@
 //! What waits is handed out.
 
-ghost use Rattle.std.specs.Prelude.{◌≡◌, ◌+◌, ◌-◌, ◌++◌, ◌∷◌, ◌<◌, ◌≤◌, ◌^◌, [], ℕ, List, IfOk, OnOk, Some, drop, false, if◌then◌else◌, length, nat_lt, not, remove, slice_get, true};
+ghost use Rattle.std.specs.Prelude.{◌≡◌, ◌+◌, ◌-◌, ◌++◌, ◌∷◌, ◌<◌, ◌≤◌, ◌^◌, [], ℕ, IfOk, OnOk, Some, drop, false, if◌then◌else◌, length, nat_lt, not, slice_get, true};
 ghost use Rattle.line_core.specs.Flights.{IsOver};
 ghost use Rattle.line_core.specs.Lines.{first_of};
-ghost use Rattle.broker_state.specs.HandOut.{ack_of, can_take, delivered, handed_to, is_auto, message_out, settled, waiting};
+ghost use Rattle.broker_state.specs.HandOut.{ack_of, can_take, delivered, is_auto, message_out, settled, waiting};
 ghost use Rattle.broker_state.specs.Lists.{is_none};
-ghost use Rattle.broker_state.specs.States.{State, bytes, one};
+ghost use Rattle.broker_state.specs.States.{bytes, one};
 ghost use Rattle.broker_state.specs.Waiting.{line_for, weight_of_shared};
 ghost use Rattle.broker_tables.specs.Cursors.{AreAwaited};
-ghost use Rattle.broker_tables.specs.Handing.{IsHanded};
-ghost use Rattle.broker_tables.specs.declared.cursors.Cursor.{Cursor};
+ghost use Rattle.broker_tables.specs.Handing.{GoesOn, IsHanded, IsServedAt, KeepsAwaiting, left_from};
+ghost use Rattle.broker_tables.specs.Places.{HoldsAt};
 ghost use Rattle.line_core.specs.declared.message.Message.{Message};
 ghost use Rattle.std.specs.List.{sum_by};
-ghost use Rattle.broker_state.specs.Settles.{SettlesSo};
-ghost use Rattle.command_core.specs.Outs.{OutValue};
 ghost use Rattle.broker_state.specs.declared.subscription.Subscription.{Subscription};
 
 use crate::cursors::Cursor;
@@ -132,10 +130,12 @@ fn wait_last(
 
 impl Tables {
     /// Hands out what waits, one delivery after another, until nothing can be handed out; adds the MESSAGEs in their
-    /// order. Where memory is refused, nothing is left of the tables.
-    pub fn settle(self, alloc: Global, outs: &mut Vec<Out>) -> Result<Tables, AllocError>
-        ensures state { IfOk result (λ tables. tables ≡ (settled self).state) }
-        ensures outs { OnOk result (outs.new.items ≡ outs.old.items ++ (settled self).outs) }
+    /// order. If memory is refused, the tables may be broken.
+    pub fn settle(&mut self, alloc: Global, outs: &mut Vec<Out>) -> Result<(), AllocError>
+        requires whole { self.old.broken ≡ false }
+        ensures state { OnOk result (self.new.state ≡ (settled self.old.state).state) }
+        ensures outs { OnOk result (outs.new.items ≡ outs.old.items ++ (settled self.old.state).outs) }
+        ensures whole { OnOk result (self.new.broken ≡ false) }
     {
         let mut cursors = self.first_cursors(alloc)?;
         self.settle_by(alloc, &mut cursors, outs)
@@ -144,61 +144,62 @@ impl Tables {
     /// Hands out what waits to those whom cursors await. They are gone through once, in waiting order: anyone who could not
     /// be served before those behind it were can't be served after.
     fn settle_by(
-        self,
+        &mut self,
         alloc: Global,
         cursors: &mut BTreeSet<Cursor>,
         outs: &mut Vec<Out>,
-    ) -> Result<Tables, AllocError>
-        requires awaited { AreAwaited cursors.old.keys self 0 }
-        ensures state { IfOk result (λ tables. tables ≡ (settled self).state) }
-        ensures outs { OnOk result (outs.new.items ≡ outs.old.items ++ (settled self).outs) }
+    ) -> Result<(), AllocError>
+        requires awaited { AreAwaited cursors.old.keys self.old.state 0 }
+        requires whole { self.old.broken ≡ false }
+        ensures state { OnOk result (self.new.state ≡ (settled self.old.state).state) }
+        ensures outs { OnOk result (outs.new.items ≡ outs.old.items ++ (settled self.old.state).outs) }
+        ensures whole { OnOk result (self.new.broken ≡ false) }
     {
-        let mut tables = self;
-        let mut at = tables.next_ready(cursors, 0)?;
-        while at < tables.order().len() {
-            let (left, from) = tables.try_serve(alloc, at, outs)?;
-            tables = left;
-            at = tables.next_ready(cursors, from)?;
+        let mut at = self.next_ready(cursors, 0)?;
+        while at < self.order().len() {
+            let from = self.try_serve(alloc, at, outs)?;
+            at = self.next_ready(cursors, from)?;
         }
-        tables.due.clear();
-        Ok(tables)
+        self.due.clear();
+        Ok(())
     }
 
-    /// Serves the subscription in that place, if it can be served, and adds the MESSAGE; answers from where to go on, which
-    /// is the next place where it was not served, and else the same, where the next one stands then.
+    /// Serves the subscription in that place, if it can be served, and adds the MESSAGE. Answers from where to go on: from
+    /// the next place if it was not served, and else from the same, where the next one stands then.
     fn try_serve(
-        self,
+        &mut self,
         alloc: Global,
         at: usize,
         outs: &mut Vec<Out>,
-    ) -> Result<(Tables, usize), AllocError>
-        requires place { at < length self.subscriptions }
-        ensures settles { IfOk result (λ r. (first : State) (before : List OutValue)
-            → SettlesSo first before self outs.old.items at → SettlesSo first before r.0 outs.new.items r.1) }
-        ensures nearer { IfOk result (λ r. waiting r.0 + (length r.0.subscriptions - r.1)
-            < waiting self + (length self.subscriptions - at)) }
-        ensures within { IfOk result (λ r. r.1 ≤ length r.0.subscriptions) }
-        ensures awaited { IfOk result (λ r. (cursors : List Cursor) → AreAwaited cursors self at → AreAwaited cursors r.0 r.1) }
+    ) -> Result<usize, AllocError>
+        requires place { at < length self.old.state.subscriptions }
+        requires whole { self.old.broken ≡ false }
+        ensures settles { IfOk result (λ from. GoesOn self.old.state outs.old.items at self.new.state outs.new.items from) }
+        ensures nearer { IfOk result (λ from. left_from self.new.state from < left_from self.old.state at) }
+        ensures within { IfOk result (λ from. from ≤ length self.new.state.subscriptions) }
+        ensures awaited { IfOk result (λ from. KeepsAwaiting self.old.state at self.new.state from) }
+        ensures whole { OnOk result (self.new.broken ≡ false) }
     {
+        prove!(at < self.order().len());
         if !self.can_serve(at) {
-            return Ok((self, at + 1));
+            return Ok(at + 1);
         }
-        let (tables, out) = self.serve(alloc, at)?;
+        let out = self.serve(alloc, at)?;
         outs.push(out)?;
-        Ok((tables, at))
+        Ok(at)
     }
 
     /// Whether there is a number for one more delivery.
     fn has_number(&self) -> bool
-        ensures { result ≡ nat_lt self.now.next_delivery (2 ^ 63) }
+        ensures { result ≡ nat_lt self.now.state.next_delivery (2 ^ 63) }
     {
         self.next_delivery < LAST_DELIVERY
     }
 
     /// Whether the subscription in that place can be served.
     fn can_serve(&self, at: usize) -> bool
-        requires { at < length self.now.subscriptions }
-        ensures { (sub : Subscription) → slice_get self.now.subscriptions at ≡ Some sub → result ≡ can_take self.now sub }
+        requires { at < length self.now.state.subscriptions }
+        ensures { (sub : Subscription) → slice_get self.now.state.subscriptions at ≡ Some sub → result ≡ can_take self.now.state sub }
     {
         let sub = self.order.get(at);
         self.has_number() && sub.has_room() && self.shared.has_message(sub)
@@ -206,14 +207,16 @@ impl Tables {
 
     /// The subscription in that place, which can be served, gets the least message of its line, and then waits last; gives
     /// the MESSAGE.
-    fn serve(mut self, alloc: Global, at: usize) -> Result<(Tables, Out), AllocError>
-        requires place { at < length self.subscriptions }
-        requires ready { (sub : Subscription) → slice_get self.subscriptions at ≡ Some sub → can_take self sub ≡ true }
-        ensures handed { IfOk result (λ r. (sub : Subscription) → slice_get self.subscriptions at ≡ Some sub
-            → handed_to self (Some (sub, remove self.subscriptions at)) ≡ Some (record { state = r.0; out = r.1 })) }
-        ensures waiting { IfOk result (λ r. waiting r.0 + 1 ≡ waiting self) }
-        ensures count { IfOk result (λ r. length r.0.subscriptions ≡ length self.subscriptions) }
+    fn serve(&mut self, alloc: Global, at: usize) -> Result<Out, AllocError>
+        requires place { at < length self.old.state.subscriptions }
+        requires ready { HoldsAt self.old.state.subscriptions at (λ sub. can_take self.old.state sub ≡ true) }
+        requires whole { self.old.broken ≡ false }
+        ensures handed { IfOk result (λ out. IsServedAt self.old.state at self.new.state out) }
+        ensures waiting { OnOk result (waiting self.new.state + 1 ≡ waiting self.old.state) }
+        ensures count { OnOk result (length self.new.state.subscriptions ≡ length self.old.state.subscriptions) }
+        ensures whole { OnOk result (self.new.broken ≡ false) }
     {
+        self.broken = true;
         let mut sub = self.order.lift(at);
         let delivery = self.next_delivery;
         let handed = hand_to(
@@ -227,10 +230,9 @@ impl Tables {
         match handed {
             Ok(out) => {
                 self.next_delivery += 1;
-                match wait_last(alloc, &mut self.order, sub, out) {
-                    Ok(out) => Ok((self, out)),
-                    Err(refused) => Err(refused),
-                }
+                let out = wait_last(alloc, &mut self.order, sub, out)?;
+                self.broken = false;
+                Ok(out)
             }
             Err(refused) => {
                 drop(sub);

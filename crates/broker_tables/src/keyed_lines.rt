@@ -29,8 +29,32 @@ pub fn take_line<K: Ord + Drop>(alloc: Global, lines: &mut BTreeMap<K, Line>, ke
     }
 }
 
-/// Puts a line in under that key, unless nothing waits in it. Where memory is refused, the other lines stand.
-fn put_line<K: Ord + Drop>(
+/// Takes the line under that key out, with the key; an empty one under a copy of the key if there is none. If memory is
+/// refused for the copy, no line has changed.
+pub fn take_entry<K: Ord + Clone + Drop>(
+    alloc: Global,
+    lines: &mut BTreeMap<K, Line>,
+    key: &K,
+) -> Result<(K, Line), AllocError>
+    requires same { AreSame K.cmp }
+    requires clone { (old copy : K) → K.is_clone old copy → copy ≡ old }
+    ensures key { IfOk result (λ entry. entry.0 ≡ key.now) }
+    ensures line { IfOk result (λ entry. entry.1 ≡ line_at K.cmp key.now lines.old.entries) }
+    ensures others { lines.new.entries ≡ remove_entry (is_at (K.cmp key.now)) lines.old.entries }
+    ensures absent { lookup (is_at (K.cmp key.now)) lines.new.entries ≡ None }
+    ensures ordered { IsStrictlySortedBy K.cmp (keys_of lines.new.entries) }
+{
+    match lines.remove_entry(key) {
+        Some(entry) => Ok(entry),
+        None => {
+            let key = key.clone()?;
+            Ok((key, Line::new(alloc)))
+        }
+    }
+}
+
+/// Puts a line in under that key, unless nothing waits in it. If memory is refused, the other lines stand.
+pub fn put_line<K: Ord + Drop>(
     lines: &mut BTreeMap<K, Line>,
     key: K,
     line: Line,
@@ -55,7 +79,7 @@ pub enum Side {
 }
 
 /// Puts a message into a line, to its place by number.
-fn put_into(line: &mut Line, message: Message, from: Side) -> Result<(), AllocError>
+pub fn put_into(line: &mut Line, message: Message, from: Side) -> Result<(), AllocError>
     ensures ok { OnOk result (line.new ≡ inserted message line.old) }
     ensures same { OnErr result (line.new ≡ line.old) }
 {
@@ -65,21 +89,23 @@ fn put_into(line: &mut Line, message: Message, from: Side) -> Result<(), AllocEr
     }
 }
 
-/// Puts a message into the line under that key, to its place by number. Where memory is refused, that line is gone, and
-/// the others stand.
-pub fn put<K: Ord + Drop>(
+/// Puts a message into the line under that key, to its place by number. If memory is refused, that line is gone, and the
+/// others stand.
+pub fn put<K: Ord + Clone + Drop>(
     alloc: Global,
     lines: &mut BTreeMap<K, Line>,
-    key: K,
+    key: &K,
     message: Message,
     from: Side,
 ) -> Result<(), AllocError>
-    ensures entries { OnOk result (lines.new.entries ≡ with_message K.cmp key message lines.old.entries) }
-    ensures err { OnErr result (lines.new.entries ≡ remove_entry (is_at (K.cmp key)) lines.old.entries) }
+    requires same { AreSame K.cmp }
+    requires clone { (old copy : K) → K.is_clone old copy → copy ≡ old }
+    ensures entries { OnOk result (lines.new.entries ≡ with_message K.cmp key.now message lines.old.entries) }
+    ensures err { OnErr result (lines.new.entries ≡ remove_entry (is_at (K.cmp key.now)) lines.old.entries) }
     ensures weight { OnOk result ((weight : Message → ℕ) → weight_of_lines weight lines.new.entries
         ≡ weight_of_lines weight lines.old.entries + weight message) }
 {
-    let mut line = take_line(alloc, lines, &key);
+    let (key, mut line) = take_entry(alloc, lines, key)?;
     put_into(&mut line, message, from)?;
     put_line(lines, key, line)
 }
@@ -112,13 +138,14 @@ pub fn put_back<K: Ord + Clone + Drop>(
     key: &K,
     deliveries: Vec<(u64, Message)>,
 ) -> Result<(), AllocError>
-    requires { (old copy : K) → K.is_clone old copy → copy ≡ old }
+    requires same { AreSame K.cmp }
+    requires clone { (old copy : K) → K.is_clone old copy → copy ≡ old }
     ensures entries { OnOk result (lines.new.entries ≡ with_deliveries K.cmp key.now deliveries.items lines.old.entries) }
     ensures weight { OnOk result ((weight : Message → ℕ) → weight_of_lines weight lines.new.entries
         ≡ weight_of_lines weight lines.old.entries + sum_by (λ delivery. weight delivery.1) deliveries.items) }
 {
     for (_, message) in deliveries {
-        put(alloc, lines, key.clone()?, message, Side::Front)?;
+        put(alloc, lines, key, message, Side::Front)?;
     }
     Ok(())
 }

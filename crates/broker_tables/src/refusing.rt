@@ -1,6 +1,6 @@
 //! Deliveries are refused.
 
-ghost use Rattle.std.specs.Prelude.{◌≡◌, ◌+◌, ◌-◌, ◌<◌, ◌≤◌, ◌^◌, IfOk, IsErr, OnOk, Some, if◌then◌else◌, length, nat_le, slice_get, true};
+ghost use Rattle.std.specs.Prelude.{◌≡◌, ◌+◌, ◌-◌, ◌<◌, ◌≤◌, ◌^◌, IfOk, IsErr, OnOk, Some, false, if◌then◌else◌, length, nat_le, slice_get, true};
 ghost use Rattle.std.specs.List.{sum_by};
 ghost use Rattle.line_core.specs.Flights.{has_delivery, settled};
 ghost use Rattle.line_core.specs.Messages.{size_of};
@@ -227,19 +227,21 @@ fn move_refused(
 impl Tables {
     /// A delivery of a session is refused, with those that the mode of its subscription settles besides, by that place among
     /// the members of the command that is being carried out, which is 0 for a plain NACK. By the rule that keeps, those go
-    /// to `/queue/dead` that are not dropped. Refused where the session has no such delivery, or where what is kept finds no
-    /// room, and then the tables are as they were. Where memory is refused, nothing is left of them.
+    /// to `/queue/dead` that are not dropped. Refused if the session has no such delivery, or if what is kept finds no room,
+    /// and then the tables are as they were. If memory is refused, they may be broken.
     pub fn nack(
-        self,
+        &mut self,
         alloc: Global,
         rule: NackRule,
         member: u32,
         session: u64,
         delivery: u64,
-    ) -> Result<(Tables, Result<(), Fault>), AllocError>
-        requires { member < 64 }
-        ensures nacked { IfOk result (λ r. nacked rule self session member delivery ≡ leaving r.1 r.0) }
-        ensures same { IfOk result (λ r. IsErr r.1 → r.0 ≡ self) }
+    ) -> Result<Result<(), Fault>, AllocError>
+        requires few { member < 64 }
+        requires whole { self.old.broken ≡ false }
+        ensures nacked { IfOk result (λ r. nacked rule self.old.state session member delivery ≡ leaving r self.new.state) }
+        ensures same { IfOk result (λ r. IsErr r → self.new ≡ self.old) }
+        ensures whole { OnOk result (self.new.broken ≡ false) }
     {
         match rule {
             NackRule::Drops => self.acknowledge(session, delivery),
@@ -249,37 +251,34 @@ impl Tables {
 
     /// A delivery is refused by the rule that keeps.
     fn refuse(
-        mut self,
+        &mut self,
         alloc: Global,
         member: u32,
         session: u64,
         delivery: u64,
-    ) -> Result<(Tables, Result<(), Fault>), AllocError>
-        requires { member < 64 }
-        ensures nacked { IfOk result (λ r. nacked Keeps self session member delivery ≡ leaving r.1 r.0) }
-        ensures same { IfOk result (λ r. IsErr r.1 → r.0 ≡ self) }
+    ) -> Result<Result<(), Fault>, AllocError>
+        requires few { member < 64 }
+        requires whole { self.old.broken ≡ false }
+        ensures nacked { IfOk result (λ r. nacked Keeps self.old.state session member delivery ≡ leaving r self.new.state) }
+        ensures same { IfOk result (λ r. IsErr r → self.new ≡ self.old) }
+        ensures whole { OnOk result (self.new.broken ≡ false) }
     {
         self.shared.stand_in_order();
         let Some(at) = find_awaiting(&self.order, session, delivery) else {
-            return Ok((self, Err(Fault::UnknownAcknowledgement)));
+            return Ok(Err(Fault::UnknownAcknowledgement));
         };
         if !finds_room(&self.held, self.order.get(at), delivery) {
-            return Ok((self, Err(Fault::NoRoom)));
+            return Ok(Err(Fault::NoRoom));
         }
         let own = self.order.get(at).has_own_line();
         let first = MessageNumber {
             command: self.count,
             place: 64 + 16 * member,
         };
-        let taken = take_refused(alloc, &mut self.due, &mut self.order, at, session, delivery);
-        match taken {
-            Ok(settled) => {
-                match move_refused(alloc, &mut self.shared, &mut self.held, own, first, settled) {
-                    Ok(()) => Ok((self, Ok(()))),
-                    Err(refused) => Err(refused),
-                }
-            }
-            Err(refused) => Err(refused),
-        }
+        self.broken = true;
+        let settled = take_refused(alloc, &mut self.due, &mut self.order, at, session, delivery)?;
+        move_refused(alloc, &mut self.shared, &mut self.held, own, first, settled)?;
+        self.broken = false;
+        Ok(Ok(()))
     }
 }

@@ -47,7 +47,7 @@ fn listeners_of(order: &Order, to: &Dest) -> u64
 /// How many copies of a message to that destination are to be kept: one in a queue's line, or one for each durable name of
 /// a topic and for each of its subscriptions with a line of its own.
 pub fn copies_to(tables: &Tables, to: &Dest) -> u64
-    ensures { result ≡ copies_to to.now tables.now.durables tables.now.subscriptions }
+    ensures { result ≡ copies_to to.now tables.now.state.durables tables.now.state.subscriptions }
 {
     if to.is_queue() {
         return 1;
@@ -58,8 +58,8 @@ pub fn copies_to(tables: &Tables, to: &Dest) -> u64
 /// How many copies of a message to that topic are to be kept.
 fn copies_to_topic(tables: &Tables, to: &Dest) -> u64
     requires topic { is_queue to.now ≡ false }
-    ensures { result ≡ count_by (λ durable. bytes_eq durable.1 to.now) tables.now.durables
-        + count_by (λ sub. is_own sub && bytes_eq sub.destination to.now) tables.now.subscriptions }
+    ensures { result ≡ count_by (λ durable. bytes_eq durable.1 to.now) tables.now.state.durables
+        + count_by (λ sub. is_own sub && bytes_eq sub.destination to.now) tables.now.state.subscriptions }
 {
     names_of(&tables.durables, to) + listeners_of(&tables.order, to)
 }
@@ -98,7 +98,7 @@ fn copy_to_all(
         ≡ record shared.old { names = fold (λ more name. with_message name_cmp name message.now more) shared.old.names names.now }) }
 {
     for name in names.all() {
-        shared.put_under(alloc, name.clone()?, message.clone()?)?;
+        shared.put_under(alloc, name, message.clone()?)?;
     }
     Ok(())
 }
@@ -216,23 +216,25 @@ fn take_in(
 }
 
 impl Tables {
-    /// A message is sent by the command that is being carried out, at that place among its members. Refused where its copies
-    /// find no room, and then the tables are as they were. Where memory is refused, nothing is left of them.
+    /// A message is sent by the command that is being carried out, at that place among its members. Refused if its copies
+    /// find no room, and then the tables are as they were. If memory is refused, the tables may be broken.
     pub fn send(
-        mut self,
+        &mut self,
         alloc: Global,
         place: u32,
         sending: Sending,
-    ) -> Result<(Tables, Result<(), Fault>), AllocError>
-        ensures sent { IfOk result (λ r. sent self place sending ≡ leaving r.1 r.0) }
-        ensures same { IfOk result (λ r. IsErr r.1 → r.0 ≡ self) }
+    ) -> Result<Result<(), Fault>, AllocError>
+        requires whole { self.old.broken ≡ false }
+        ensures sent { IfOk result (λ r. sent self.old.state place sending ≡ leaving r self.new.state) }
+        ensures same { IfOk result (λ r. IsErr r → self.new ≡ self.old) }
+        ensures whole { OnOk result (self.new.broken ≡ false) }
     {
         self.shared.stand_in_order();
-        let copies = copies_to(&self, sending.destination());
+        let copies = copies_to(self, sending.destination());
         let bytes = size(&sending) as u64;
         if !find_room(&self.held, copies, bytes) {
             drop(sending);
-            return Ok((self, Err(Fault::NoRoom)));
+            return Ok(Err(Fault::NoRoom));
         }
         let message = Message {
             number: MessageNumber {
@@ -241,21 +243,18 @@ impl Tables {
             },
             sending,
         };
-        let taken = take_in(
+        self.broken = true;
+        take_in(
             alloc,
             &mut self.due,
             &self.durables,
             &mut self.shared,
             &mut self.order,
             message,
-        );
-        match taken {
-            Ok(()) => {
-                self.held.messages += copies;
-                self.held.bytes += copies * bytes;
-                Ok((self, Ok(())))
-            }
-            Err(refused) => Err(refused),
-        }
+        )?;
+        self.held.messages += copies;
+        self.held.bytes += copies * bytes;
+        self.broken = false;
+        Ok(Ok(()))
     }
 }

@@ -136,8 +136,10 @@ impl SharedLines {
             ≡ record self.old { queues = with_message text_cmp message.sending.destination message self.old.queues }) }
         ensures weight { OnOk result ((weight : Message → ℕ) → weight_of_shared weight self.new ≡ weight_of_shared weight self.old + weight message) }
     {
-        let to = message.sending.destination().clone()?;
-        keyed_lines::put(alloc, &mut self.queues, to, message, Side::Back)
+        let to = message.sending.destination();
+        let (queue, mut line) = keyed_lines::take_entry(alloc, &mut self.queues, to)?;
+        keyed_lines::put_into(&mut line, message, Side::Back)?;
+        keyed_lines::put_line(&mut self.queues, queue, line)
     }
 
     /// Puts a message into the line under that durable name. Where memory is refused, that line is gone, and the others
@@ -145,10 +147,10 @@ impl SharedLines {
     pub(crate) fn put_under(
         &mut self,
         alloc: Global,
-        name: DurableName,
+        name: &DurableName,
         message: Message,
     ) -> Result<(), AllocError>
-        ensures shared { OnOk result (self.new ≡ record self.old { names = with_message name_cmp name message self.old.names }) }
+        ensures shared { OnOk result (self.new ≡ record self.old { names = with_message name_cmp name.now message self.old.names }) }
         ensures weight { OnOk result ((weight : Message → ℕ) → weight_of_shared weight self.new ≡ weight_of_shared weight self.old + weight message) }
     {
         keyed_lines::put(alloc, &mut self.names, name, message, Side::Back)

@@ -27,6 +27,7 @@ use line_core::{Flight, Line, Message, size};
 use record_core::{AckMode, Dest, HeaderText};
 use std::alloc::{AllocError, Global};
 use std::collections::BTreeMap;
+use std::mem;
 
 /// Where the subscription of that session and id waits.
 fn find_named(order: &Order, session: u64, id: &HeaderText) -> Option<usize>
@@ -179,13 +180,9 @@ fn enter(
     ensures marked { OnOk result (AllDue (is_of sub.session) due.new.items) }
     ensures waits { OnOk result (order.new ≡ order.old ++ sub ∷ []) }
 {
-    match mark(due, Key::Session(sub.session)) {
-        Ok(()) => {
-            let sub = with_shared_id(alloc, sub)?;
-            order.add(alloc, sub)
-        }
-        Err(refused) => Err(refused),
-    }
+    mark(due, Key::Session(sub.session))?;
+    let sub = with_shared_id(alloc, sub)?;
+    order.add(alloc, sub)
 }
 
 /// What a subscription that has ended has not acknowledged stands in its line again, and those are due that are served from
@@ -211,9 +208,9 @@ fn let_go(
 }
 
 impl Tables {
-    /// The name of a session's client, where it has one.
+    /// The name of a session's client, if it has one.
     fn client_of(&self, session: u64) -> Result<Option<GivenName>, AllocError>
-        ensures { IfOk result (λ client. client ≡ client_in self.now.sessions session) }
+        ensures { IfOk result (λ client. client ≡ client_in self.now.state.sessions session) }
     {
         match self.sessions.get(&session) {
             Some(Some(client)) => Ok(Some(client.clone()?)),
@@ -229,7 +226,7 @@ impl Tables {
         durable: Option<HeaderText>,
     ) -> Result<Result<Option<DurableName>, Fault>, AllocError>
         requires { IsGiven durable }
-        ensures { IfOk result (λ r. r ≡ name_for (client_in self.now.sessions session) destination.now durable) }
+        ensures { IfOk result (λ r. r ≡ name_for (client_in self.now.state.sessions session) destination.now durable) }
     {
         match durable {
             Some(name) if !destination.is_queue() => match self.client_of(session)? {
@@ -240,8 +237,8 @@ impl Tables {
         }
     }
 
-    /// The durable name of a session's subscription of that id, which is to begin, where one is given. Refused where the
-    /// session has one of that id, or 16, and with a durable name where the session's client has no name.
+    /// The durable name of a session's subscription of that id, which is to begin, if one is given. Refused if the session
+    /// has one of that id, or 16, and with a durable name if the session's client has no name.
     fn find_name(
         &self,
         session: u64,
@@ -250,8 +247,8 @@ impl Tables {
         durable: Option<HeaderText>,
     ) -> Result<Result<Option<DurableName>, Fault>, AllocError>
         requires form { IsGiven durable }
-        ensures { IfOk result (λ r. (mode : AckMode) → subscribed self.now session id.now destination.now mode durable
-            ≡ begun_for self.now session id.now destination.now mode r) }
+        ensures { IfOk result (λ r. (mode : AckMode) → subscribed self.now.state session id.now destination.now mode durable
+            ≡ begun_for self.now.state session id.now destination.now mode r) }
     {
         match find_place(&self.order, session, id) {
             Ok(()) => self.name_for(session, destination, durable),
@@ -259,22 +256,23 @@ impl Tables {
         }
     }
 
-    /// A subscription begins and waits last, under a durable name where one is given. Refused where the session has one of
-    /// that id, or 16; with a durable name, where the session's client has no name, where somebody uses the durable name or
-    /// it is another topic's, and where it were the 257th. The tables are as they were then. Where memory is refused, nothing
-    /// is left of them.
+    /// A subscription begins and waits last, under a durable name if one is given. Refused if the session has one of that
+    /// id, or 16; with a durable name, if the session's client has no name, if somebody uses the durable name or it is
+    /// another topic's, and if it were the 257th. The tables are as they were then. If memory is refused, they may be broken.
     pub fn subscribe(
-        self,
+        &mut self,
         alloc: Global,
         session: u64,
         id: HeaderText,
         destination: Dest,
         mode: AckMode,
         durable: Option<HeaderText>,
-    ) -> Result<(Tables, Result<(), Fault>), AllocError>
+    ) -> Result<Result<(), Fault>, AllocError>
         requires form { IsGiven durable }
-        ensures subscribed { IfOk result (λ r. subscribed self session id destination mode durable ≡ leaving r.1 r.0) }
-        ensures same { IfOk result (λ r. IsErr r.1 → r.0 ≡ self) }
+        requires whole { self.old.broken ≡ false }
+        ensures subscribed { IfOk result (λ r. subscribed self.old.state session id destination mode durable ≡ leaving r self.new.state) }
+        ensures same { IfOk result (λ r. IsErr r → self.new ≡ self.old) }
+        ensures whole { OnOk result (self.new.broken ≡ false) }
     {
         match self.find_name(session, &id, &destination, durable) {
             Ok(Ok(durable)) => self.begin(
@@ -292,45 +290,36 @@ impl Tables {
             Ok(Err(fault)) => {
                 drop(id);
                 drop(destination);
-                Ok((self, Err(fault)))
+                Ok(Err(fault))
             }
             Err(refused) => Err(refused),
         }
     }
 
-    /// A subscription begins and waits last. Refused where it has a durable name that somebody uses or that is another
-    /// topic's, or that were the 257th, and then the tables are as they were.
-    fn begin(
-        mut self,
-        alloc: Global,
-        sub: Subscription,
-    ) -> Result<(Tables, Result<(), Fault>), AllocError>
+    /// A subscription begins and waits last. Refused if it has a durable name that somebody uses or that is another topic's,
+    /// or that were the 257th, and then the tables are as they were.
+    fn begin(&mut self, alloc: Global, sub: Subscription) -> Result<Result<(), Fault>, AllocError>
         requires fresh { (sub.line ≡ []) × (sub.unacknowledged ≡ []) }
-        ensures begun { IfOk result (λ r. begun self sub ≡ leaving r.1 r.0) }
-        ensures same { IfOk result (λ r. IsErr r.1 → r.0 ≡ self) }
+        requires whole { self.old.broken ≡ false }
+        ensures begun { IfOk result (λ r. begun self.old.state sub ≡ leaving r self.new.state) }
+        ensures same { IfOk result (λ r. IsErr r → self.new ≡ self.old) }
+        ensures whole { OnOk result (self.new.broken ≡ false) }
     {
-        match self.bind(alloc, &sub) {
-            Ok(Ok(())) => match enter(alloc, &mut self.due, &mut self.order, sub) {
-                Ok(()) => Ok((self, Ok(()))),
-                Err(refused) => Err(refused),
-            },
-            Ok(Err(fault)) => {
-                drop(sub);
-                Ok((self, Err(fault)))
-            }
-            Err(refused) => {
-                drop(sub);
-                Err(refused)
-            }
+        if let Err(fault) = self.bind(alloc, &sub)? {
+            return Ok(Err(fault));
         }
+        self.broken = true;
+        enter(alloc, &mut self.due, &mut self.order, sub)?;
+        self.broken = false;
+        Ok(Ok(()))
     }
 
     /// The durable name of a subscription that is to begin is bound to its topic, unless it has none or the name is bound so
-    /// already. Refused where somebody uses the name or it is another topic's, or it were the 257th, and then nothing
-    /// changes.
+    /// already. Refused if somebody uses the name or it is another topic's, or it were the 257th, and then nothing changes.
     fn bind(&mut self, alloc: Global, sub: &Subscription) -> Result<Result<(), Fault>, AllocError>
-        ensures begun { IfOk result (λ r. begun self.old sub.now ≡ leaving r (with_subscription self.new sub.now)) }
+        ensures begun { IfOk result (λ r. begun self.old.state sub.now ≡ leaving r (with_subscription self.new.state sub.now)) }
         ensures same { IfOk result (λ r. IsErr r → self.new ≡ self.old) }
+        ensures flag { self.new.broken ≡ self.old.broken }
     {
         let Some(name) = &sub.durable else {
             return Ok(Ok(()));
@@ -352,47 +341,51 @@ impl Tables {
         }
     }
 
-    /// The subscription of that id ends, or a durable name of the session's client is given up, with its line; where both
-    /// are given, a subscription of that id ends first, if there is one. Refused where no name is given and the session has
-    /// no subscription of that id; with a name, where the client has none itself, and where the durable name is unknown or
-    /// somebody uses it. The tables are as they were then. Where memory is refused, nothing is left of them.
+    /// The subscription of that id ends, or a durable name of the session's client is given up, with its line; if both are
+    /// given, a subscription of that id ends first, if there is one. Refused if no name is given and the session has no
+    /// subscription of that id; with a name, if the client has none itself, and if the durable name is unknown or somebody
+    /// uses it. The tables are as they were then. If memory is refused, they may be broken.
     pub fn unsubscribe(
-        self,
+        &mut self,
         alloc: Global,
         session: u64,
         id: Option<HeaderText>,
         durable: Option<HeaderText>,
-    ) -> Result<(Tables, Result<(), Fault>), AllocError>
+    ) -> Result<Result<(), Fault>, AllocError>
         requires form { IsGiven durable }
-        ensures executed { IfOk result (λ r. unsubscribed_by self session id durable ≡ leaving r.1 r.0) }
-        ensures same { IfOk result (λ r. IsErr r.1 → r.0 ≡ self) }
+        requires whole { self.old.broken ≡ false }
+        ensures executed { IfOk result (λ r. unsubscribed_by self.old.state session id durable ≡ leaving r self.new.state) }
+        ensures same { IfOk result (λ r. IsErr r → self.new ≡ self.old) }
+        ensures whole { OnOk result (self.new.broken ≡ false) }
     {
         let at = find_given(&self.order, session, &id);
         if let Some(name) = durable {
             return self.give_up(alloc, session, at, GivenName::new(name));
         }
         match at {
-            None => Ok((self, Err(Fault::UnknownSubscription))),
-            Some(at) => match self.end_one(alloc, at) {
-                Ok(tables) => Ok((tables, Ok(()))),
-                Err(refused) => Err(refused),
-            },
+            None => Ok(Err(Fault::UnknownSubscription)),
+            Some(at) => {
+                self.end_one(alloc, at)?;
+                Ok(Ok(()))
+            }
         }
     }
 
-    /// The subscription in that place ends, where one is given, and then a durable name of the session's client is given
-    /// up, with its line. Refused where the client has no name itself, and where the durable name is unknown or another
-    /// subscription uses it; the tables are as they were then.
+    /// The subscription in that place ends, if one is given, and then a durable name of the session's client is given up,
+    /// with its line. Refused if the client has no name itself, and if the durable name is unknown or another subscription
+    /// uses it; the tables are as they were then.
     fn give_up(
-        self,
+        &mut self,
         alloc: Global,
         session: u64,
         at: Option<usize>,
         name: GivenName,
-    ) -> Result<(Tables, Result<(), Fault>), AllocError>
-        requires place { IfSome at (λ i. i < length self.subscriptions) }
-        ensures given_up { IfOk result (λ r. given_up_for (without_at self at) (client_in self.sessions session) name ≡ leaving r.1 r.0) }
-        ensures same { IfOk result (λ r. IsErr r.1 → r.0 ≡ self) }
+    ) -> Result<Result<(), Fault>, AllocError>
+        requires place { IfSome at (λ i. i < length self.old.state.subscriptions) }
+        requires whole { self.old.broken ≡ false }
+        ensures given_up { IfOk result (λ r. given_up_for (without_at self.old.state at) (client_in self.old.state.sessions session) name ≡ leaving r self.new.state) }
+        ensures same { IfOk result (λ r. IsErr r → self.new ≡ self.old) }
+        ensures whole { OnOk result (self.new.broken ≡ false) }
     {
         match self.client_of(session) {
             Ok(Some(client)) => {
@@ -401,49 +394,54 @@ impl Tables {
             }
             Ok(None) => {
                 drop(name);
-                Ok((self, Err(Fault::NoClientId)))
+                Ok(Err(Fault::NoClientId))
             }
             Err(refused) => Err(refused),
         }
     }
 
-    /// The subscription in that place ends, where one is given, and then a durable name is given up, with its line.
-    /// Refused where the name is unknown or another subscription uses it; the tables are as they were then.
+    /// The subscription in that place ends, if one is given, and then a durable name is given up, with its line. Refused if
+    /// the name is unknown or another subscription uses it; the tables are as they were then.
     fn give_up_name(
-        self,
+        &mut self,
         alloc: Global,
         at: Option<usize>,
         name: &DurableName,
-    ) -> Result<(Tables, Result<(), Fault>), AllocError>
-        requires place { IfSome at (λ i. i < length self.subscriptions) }
-        ensures given_up { IfOk result (λ r. given_up (without_at self at) name.now ≡ leaving r.1 r.0) }
-        ensures same { IfOk result (λ r. IsErr r.1 → r.0 ≡ self) }
+    ) -> Result<Result<(), Fault>, AllocError>
+        requires place { IfSome at (λ i. i < length self.old.state.subscriptions) }
+        requires whole { self.old.broken ≡ false }
+        ensures given_up { IfOk result (λ r. given_up (without_at self.old.state at) name.now ≡ leaving r self.new.state) }
+        ensures same { IfOk result (λ r. IsErr r → self.new ≡ self.old) }
+        ensures whole { OnOk result (self.new.broken ≡ false) }
     {
         if !self.durables.topics().contains_key(name) {
-            return Ok((self, Err(Fault::DurableSubscription)));
+            return Ok(Err(Fault::DurableSubscription));
         }
         if is_used(&self.order, name, at) {
-            return Ok((self, Err(Fault::DurableSubscription)));
+            return Ok(Err(Fault::DurableSubscription));
         }
-        let mut tables = self.end_given(alloc, at)?;
-        tables.forget(alloc, name);
-        Ok((tables, Ok(())))
+        self.end_given(alloc, at)?;
+        self.forget(alloc, name);
+        Ok(Ok(()))
     }
 
-    /// The subscription in that place ends, where a place is given.
-    fn end_given(self, alloc: Global, at: Option<usize>) -> Result<Tables, AllocError>
-        requires place { IfSome at (λ i. i < length self.subscriptions) }
-        ensures ended { IfOk result (λ tables. tables ≡ without_at self at) }
+    /// The subscription in that place ends, if a place is given.
+    fn end_given(&mut self, alloc: Global, at: Option<usize>) -> Result<(), AllocError>
+        requires place { IfSome at (λ i. i < length self.old.state.subscriptions) }
+        requires whole { self.old.broken ≡ false }
+        ensures ended { OnOk result (self.new.state ≡ without_at self.old.state at) }
+        ensures whole { OnOk result (self.new.broken ≡ false) }
     {
         match at {
             Some(at) => self.end_one(alloc, at),
-            None => Ok(self),
+            None => Ok(()),
         }
     }
 
     /// A durable name is known no more, and what waits in its line is held no more.
     fn forget(&mut self, alloc: Global, name: &DurableName)
-        ensures { self.new ≡ forgotten self.old name.now }
+        requires whole { self.old.broken ≡ false }
+        ensures { self.new ≡ record self.old { state = forgotten self.old.state name.now } }
     {
         self.durables.forget(name);
         let line = self.shared.forget(alloc, name);
@@ -452,41 +450,45 @@ impl Tables {
 
     /// The subscription in that place ends: what it has not acknowledged stands in its line again, unless the line was its
     /// own; what vanishes with it is held no more.
-    fn end_one(mut self, alloc: Global, at: usize) -> Result<Tables, AllocError>
-        requires place { at < length self.subscriptions }
-        ensures ended { IfOk result (λ tables. HoldsAt self.subscriptions at (λ sub. tables ≡ without self sub (remove self.subscriptions at))) }
+    fn end_one(&mut self, alloc: Global, at: usize) -> Result<(), AllocError>
+        requires place { at < length self.old.state.subscriptions }
+        requires whole { self.old.broken ≡ false }
+        ensures ended { OnOk result (HoldsAt self.old.state.subscriptions at (λ sub. self.new.state ≡ without self.old.state sub (remove self.old.state.subscriptions at))) }
+        ensures whole { OnOk result (self.new.broken ≡ false) }
     {
+        self.broken = true;
         let sub = self.order.remove(at);
-        match let_go(alloc, &mut self.due, &mut self.shared, &mut self.held, sub) {
-            Ok(()) => Ok(self),
-            Err(refused) => Err(refused),
-        }
+        let_go(alloc, &mut self.due, &mut self.shared, &mut self.held, sub)?;
+        self.broken = false;
+        Ok(())
     }
 
-    /// The session ends, with all its subscriptions. Where memory is refused, nothing is left of the tables.
-    pub fn end(self, alloc: Global, session: u64) -> Result<Tables, AllocError>
-        ensures ended { IfOk result (λ tables. tables ≡ ended self session) }
+    /// The session ends, with all its subscriptions. If memory is refused, the tables may be broken.
+    pub fn end(&mut self, alloc: Global, session: u64) -> Result<(), AllocError>
+        requires whole { self.old.broken ≡ false }
+        ensures ended { OnOk result (self.new.state ≡ ended self.old.state session) }
+        ensures whole { OnOk result (self.new.broken ≡ false) }
     {
-        let mut tables = self;
-        let mut at = tables.order().next_of(session, 0);
-        while at < tables.order().len() {
-            tables = tables.end_one(alloc, at)?;
-            at = tables.order().next_of(session, at);
+        let mut at = self.order().next_of(session, 0);
+        while at < self.order().len() {
+            self.end_one(alloc, at)?;
+            at = self.order().next_of(session, at);
         }
-        tables.sessions.remove(&session);
-        Ok(tables)
+        self.sessions.remove(&session);
+        Ok(())
     }
 
-    /// Every session ends, with all subscriptions. Where memory is refused, nothing is left of the tables.
-    pub fn restart(self, alloc: Global) -> Result<Tables, AllocError>
-        ensures restarted { IfOk result (λ tables. tables ≡ restarted self) }
+    /// Every session ends, with all subscriptions. If memory is refused, the tables may be broken.
+    pub fn restart(&mut self, alloc: Global) -> Result<(), AllocError>
+        requires whole { self.old.broken ≡ false }
+        ensures restarted { OnOk result (self.new.state ≡ restarted self.old.state) }
+        ensures whole { OnOk result (self.new.broken ≡ false) }
     {
-        let mut tables = self;
-        while tables.order().len() > 0 {
-            tables = tables.end_one(alloc, 0)?;
+        while self.order().len() > 0 {
+            self.end_one(alloc, 0)?;
         }
-        tables.sessions = BTreeMap::new(alloc);
-        tables.due.clear();
-        Ok(tables)
+        drop(mem::replace(&mut self.sessions, BTreeMap::new(alloc)));
+        self.due.clear();
+        Ok(())
     }
 }

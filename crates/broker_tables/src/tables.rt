@@ -1,6 +1,6 @@
 //! What the broker keeps: sessions, durable names, lines and subscriptions, and how much is held.
 
-ghost use Rattle.std.specs.Prelude.{◌≡◌, IfOk, OnOk};
+ghost use Rattle.std.specs.Prelude.{◌≡◌, IfOk, OnOk, false, true};
 ghost use Rattle.record_core.specs.Texts.{IsGiven};
 ghost use Rattle.broker_state.specs.Operations.{opened};
 ghost use Rattle.broker_state.specs.States.{empty_state, held_bytes, held_messages};
@@ -17,11 +17,12 @@ use record_core::{Dest, HeaderText};
 use std::alloc::{AllocError, Global};
 use std::collections::BTreeMap;
 use std::marker::Model;
+use std::mem;
 
 /// How many commands were carried out, the open sessions, the durable names, the lines that stay and the subscriptions,
-/// and how much is held, so that nobody needs to count it. Contracts see the state that they show; what is counted as held
-/// is what that state holds. The operations take the tables and give them back: one that is refused memory when part of it
-/// is done has let them go, and so leaves none whose count is wrong.
+/// and how much is held, so that nobody needs to count it. Contracts see the state that they show, and whether they are
+/// broken. They are if memory was refused within an operation, which has done a part of its work then. What is counted as
+/// held is what the state of whole tables holds.
 #[derive(Drop)]
 pub struct Tables {
     pub(crate) count: u64,
@@ -35,23 +36,26 @@ pub struct Tables {
     /// Who can be served is under one of these keys: they grow with what a command touches, and none is left once all is
     /// handed out.
     pub(crate) due: Vec<Key>,
+    // An operation is under way, or was refused memory.
+    pub(crate) broken: bool,
 }
 
 impl Model for Tables {
-    ghost use Rattle.broker_state.specs.States.{State};
+    ghost use Rattle.std.specs.Prelude.{◌≡◌, false};
+    ghost use Rattle.broker_state.specs.States.{BrokerValue};
     ghost use Rattle.broker_tables.specs.Tables.{IsKept, shown};
 
-    ghost Value = { State };
+    ghost Value = { BrokerValue };
 
-    ghost view = { λ a. shown a.count a.next_delivery a.sessions.entries a.durables a.shared a.order };
+    ghost view = { λ a. record { state = shown a.count a.next_delivery a.sessions.entries a.durables a.shared a.order; broken = a.broken } };
 
-    ghost invariant = { λ a. IsKept (shown a.count a.next_delivery a.sessions.entries a.durables a.shared a.order) a.held a.due.items };
+    ghost invariant = { λ a. a.broken ≡ false → IsKept (shown a.count a.next_delivery a.sessions.entries a.durables a.shared a.order) a.held a.due.items };
 }
 
 impl Tables {
     /// Empty tables, once so many commands were carried out. No memory is taken.
     pub fn new(alloc: Global, count: u64) -> Tables
-        ensures { result ≡ record empty_state { count = count } }
+        ensures { result ≡ record { state = record empty_state { count = count }; broken = false } }
     {
         Tables {
             count,
@@ -65,15 +69,16 @@ impl Tables {
                 bytes: 0,
             },
             due: Vec::new(alloc),
+            broken: false,
         }
     }
 
-    /// The tables of a state that a broker can have, which holds so much. Where memory is refused, nothing is left.
+    /// The tables of a state that a broker can have, which holds so much. If memory is refused, the parts are let go.
     pub fn of(alloc: Global, parts: Parts, held: Held) -> Result<Tables, AllocError>
         requires sound { IsSound (state_of_parts parts) }
         requires messages { held.messages ≡ held_messages (state_of_parts parts) }
         requires bytes { held.bytes ≡ held_bytes (state_of_parts parts) }
-        ensures { IfOk result (λ tables. tables ≡ state_of_parts parts) }
+        ensures { IfOk result (λ tables. tables ≡ record { state = state_of_parts parts; broken = false }) }
     {
         let durables = DurableNames::of(alloc, parts.durables)?;
         let order = Order::of(alloc, parts.subscriptions)?;
@@ -86,70 +91,86 @@ impl Tables {
             order,
             held,
             due: Vec::new(alloc),
+            broken: false,
         })
     }
 
     /// How many commands were carried out.
     pub fn count(&self) -> u64
-        ensures { result ≡ self.now.count }
+        ensures { result ≡ self.now.state.count }
     {
         self.count
     }
 
     /// The number of the next delivery.
     pub fn next_delivery(&self) -> u64
-        ensures { result ≡ self.now.next_delivery }
+        ensures { result ≡ self.now.state.next_delivery }
     {
         self.next_delivery
     }
 
     /// The open sessions, each with the name of its client where it has one.
     pub fn sessions(&self) -> &BTreeMap<u64, Option<GivenName>>
-        ensures { result.now.entries ≡ self.now.sessions }
+        ensures { result.now.entries ≡ self.now.state.sessions }
     {
         &self.sessions
     }
 
     /// The topic of each durable name.
     pub fn durables(&self) -> &BTreeMap<DurableName, Dest>
-        ensures { result.now.entries ≡ self.now.durables }
+        ensures { result.now.entries ≡ self.now.state.durables }
     {
         self.durables.topics()
     }
 
     /// The lines that stay when a subscription ends.
     pub fn shared(&self) -> &SharedLines
-        ensures { result.now ≡ self.now.shared }
+        ensures { result.now ≡ self.now.state.shared }
     {
         &self.shared
     }
 
     /// The subscriptions in waiting order.
     pub fn order(&self) -> &Order
-        ensures { result.now ≡ self.now.subscriptions }
+        ensures { result.now ≡ self.now.state.subscriptions }
     {
         &self.order
     }
 
-    /// How much is held.
+    /// How much whole tables hold.
     pub fn held(&self) -> Held
-        ensures tallied { IsTallied self.now result }
+        ensures tallied { self.now.broken ≡ false → IsTallied self.now.state result }
     {
         self.held
     }
 
+    /// Whether memory was refused within an operation.
+    pub fn is_broken(&self) -> bool
+        ensures { result ≡ self.now.broken }
+    {
+        self.broken
+    }
+
+    /// Lets all go: tables after so many commands that are broken, and hold nothing.
+    pub fn let_go(&mut self, alloc: Global, count: u64)
+        ensures { self.new ≡ record { state = record empty_state { count = count }; broken = true } }
+    {
+        drop(mem::replace(self, Tables::new(alloc, count)));
+        self.broken = true;
+    }
+
     /// So many commands were carried out. The operations leave that number as it is.
     pub fn set_count(&mut self, count: u64)
-        ensures { self.new ≡ record self.old { count = count } }
+        ensures { self.new ≡ record self.old { state = record self.old.state { count = count } } }
     {
         self.count = count;
     }
 
-    /// The session opens whose number is that of the command that is being carried out. Where memory is refused, the
-    /// sessions may have changed, and what is held has not.
+    /// The session opens whose number is that of the command that is being carried out. If memory is refused, the sessions
+    /// may have changed, and what is held has not.
     pub fn open(&mut self, client_id: Option<HeaderText>) -> Result<(), AllocError>
         requires { IsGiven client_id }
-        ensures { OnOk result (self.new ≡ opened self.old client_id) }
+        ensures { OnOk result (self.new ≡ record self.old { state = opened self.old.state client_id }) }
     {
         self.sessions
             .insert(self.count, GivenName::optional(client_id))?;

@@ -219,21 +219,12 @@ impl CommandQueue {
         ensures same { (self.new.queue.durable ≡ self.old.queue.durable) × (self.new.queue.state ≡ self.old.queue.state) × (self.new.disk ≡ self.old.disk) }
         ensures memory { IfErr result IsMemory }
     {
-        match op {
-            Op::Open { .. } => {
-                let next = self.journal.count() + self.waiting.len() as u64;
-                self.openers.insert(next, connection)?;
-                Ok((next, 0))
-            }
-            Op::Send(_)
-            | Op::Subscribe { .. }
-            | Op::Unsubscribe { .. }
-            | Op::Ack(_)
-            | Op::Nack(_)
-            | Op::Commit(_)
-            | Op::Note
-            | Op::End(_) => Ok((number, number)),
-        }
+        let Op::Open { .. } = op else {
+            return Ok((number, number));
+        };
+        let next = self.journal.count() + self.waiting.len() as u64;
+        self.openers.insert(next, connection)?;
+        Ok((next, 0))
     }
 
     // Has a command wait.

@@ -1,5 +1,5 @@
 -- What a compaction leaves.
-use Rattle.std.proofs.Common.{◌≡◌, ◌≤◌, ℕ, List, false, ap, ◌∙◌, subst}
+use Rattle.std.proofs.Common.{◌≡◌, ◌≤◌, ℕ, List, false, ap, ◌∙◌, subst, sym}
 use Rattle.disk_core.specs.declared.disk.Disk.{Ghosts}
 use Rattle.disk_core.specs.Moments.{LeavesOnly}
 use Rattle.broker_core.specs.States.{BrokerValue, State}
@@ -11,6 +11,12 @@ use Rattle.flush_core.specs.Flushed.{Flushed, IsFlusher}
 pub stored_state : {D : Type 0} (honest : D → Type 0) (images : D → List ℕ → Type 0) (f : Flushed D) → IsFlusher honest images f → f.broken ≡ false → f.executed ≡ f.stored → f.broker.state ≡ state_at f.opening f.seat f.stored
 stored_state honest images f kept whole executed =
     ap (λ (b : BrokerValue). b.state) (kept.running whole).broker ∙ ap (λ (n : ℕ). state_at f.opening f.seat n) executed
+
+-- the same by what a call asks of the flusher that it is given
+pub given_state : {D : Type 0} (honest : D → Type 0) (images : D → List ℕ → Type 0) (f now : Flushed D) → f ≡ now → IsFlusher honest images f → f.broken ≡ false
+    → (now.broken ≡ false → now.executed ≡ now.stored) → f.broker.state ≡ state_at f.opening f.seat f.stored
+given_state {D} honest images f now is kept whole executed =
+    stored_state honest images f kept whole (subst (λ (f : Flushed D). f.broken ≡ false → f.executed ≡ f.stored) (sym is) executed whole)
 
 module _ {D : Type 0} (disk : Ghosts D) (old new : D) (s t : State) (same : t ≡ s) (leaves : LeavesOnly disk.moment disk.images_since old new (λ c. Stands c t)) where
   pub leaves_state : LeavesOnly disk.moment disk.images_since old new (λ c. Stands c s)

@@ -3,7 +3,9 @@
 ghost use Rattle.std.specs.Prelude.{◌≡◌, ◌≤◌, IfSome, IsTrue};
 
 use crate::compacting_tests::{FILLS, loaded_over, opened_state, state_of, stored_state};
-use crate::setups::{SMALL_AREA, Setup, append, formatted, open_both, set_up, set_up_over};
+use crate::setups::{
+    SMALL_AREA, Setup, append, formatted, fuse, into_disk, open_both, set_up, set_up_over,
+};
 use crate::step_tests::{FIRST_SEND, LAST_SEND, SECOND_SEND};
 use claim_core::Refused;
 use disk_core::{Disk, FailOnce, FuseDisk, MemDisk};
@@ -82,6 +84,17 @@ fn flush_two<D: Disk>(alloc: Global, setup: &mut Setup<D>) -> Option<bool>
     }
 }
 
+// What is seen behind both.
+fn see_two<D: Disk>(alloc: Global, setup: &mut Setup<D>) -> Option<Sight>
+    requires ring { (setup.old.first.ring ≡ setup.old.ring) × (setup.old.second.ring ≡ setup.old.ring) × (setup.old.flusher.seat.ring ≡ setup.old.ring) }
+    requires executed { setup.old.flusher.executed ≡ setup.old.flusher.stored }
+{
+    match flush_two(alloc, setup) {
+        Some(done) => Some(look_at(alloc, setup, done)),
+        None => None,
+    }
+}
+
 // The journal of two open sessions, over a disk of which that call fails.
 fn failing_setup(alloc: Global, call: u64) -> Option<Setup<FailOnce<MemDisk>>>
     ensures ring { IfSome result (λ s. (s.first.ring ≡ s.ring) × (s.second.ring ≡ s.ring) × (s.flusher.seat.ring ≡ s.ring)) }
@@ -103,23 +116,30 @@ fn failing_setup(alloc: Global, call: u64) -> Option<Setup<FailOnce<MemDisk>>>
 
 // How many calls are made of its disk until then.
 fn calls_before(alloc: Global) -> Option<u64> {
-    let Setup { flusher, .. } = failing_setup(alloc, u64::MAX)?;
-    Some(flusher.into_disk().made())
+    match failing_setup(alloc, u64::MAX) {
+        Some(setup) => Some(calls_of(setup)),
+        None => None,
+    }
 }
 
+fn calls_of(setup: Setup<FailOnce<MemDisk>>) -> u64 {
+    let disk = into_disk(setup);
+    let made = disk.made();
+    drop(disk);
+    made
+}
+
+// What is seen of the two batches, and the disk then.
+type Ran = (Option<Sight>, MemDisk);
+
 // The two batches over a disk of which that call fails.
-fn fail_two(alloc: Global, call: u64) -> Option<(Sight, MemDisk)> {
-    let mut setup = failing_setup(alloc, call)?;
-    match flush_two(alloc, &mut setup) {
-        Some(done) => {
-            let sight = look_at(alloc, &mut setup, done);
-            let Setup { flusher, .. } = setup;
-            Some((sight, flusher.into_disk().into_inner()))
+fn fail_two(alloc: Global, call: u64) -> Option<Ran> {
+    match failing_setup(alloc, call) {
+        Some(mut setup) => {
+            let sight = see_two(alloc, &mut setup);
+            Some((sight, into_disk(setup).into_inner()))
         }
-        None => {
-            drop(setup);
-            None
-        }
+        None => None,
     }
 }
 
@@ -128,36 +148,26 @@ fn fused_setup(alloc: Global, passed: u64) -> Option<Setup<FuseDisk<MemDisk>>>
     ensures ring { IfSome result (λ s. (s.first.ring ≡ s.ring) × (s.second.ring ≡ s.ring) × (s.flusher.seat.ring ≡ s.ring)) }
     ensures executed { IfSome result (λ s. s.flusher.executed ≡ s.flusher.stored) }
 {
-    let mut setup = set_up(alloc, SMALL_AREA)?;
-    if !open_both(alloc, &mut setup) {
-        return None;
+    match set_up(alloc, SMALL_AREA) {
+        Some(mut setup) => {
+            if open_both(alloc, &mut setup) {
+                Some(fuse(setup, passed))
+            } else {
+                drop(setup);
+                None
+            }
+        }
+        None => None,
     }
-    let Setup {
-        ring,
-        first,
-        second,
-        flusher,
-    } = setup;
-    Some(Setup {
-        ring,
-        first,
-        second,
-        flusher: flusher.fuse(passed),
-    })
 }
 
-fn stop_two(alloc: Global, passed: u64) -> Option<(Sight, MemDisk)> {
-    let mut setup = fused_setup(alloc, passed)?;
-    match flush_two(alloc, &mut setup) {
-        Some(done) => {
-            let sight = look_at(alloc, &mut setup, done);
-            let Setup { flusher, .. } = setup;
-            Some((sight, flusher.into_disk().into_inner()))
+fn stop_two(alloc: Global, passed: u64) -> Option<Ran> {
+    match fused_setup(alloc, passed) {
+        Some(mut setup) => {
+            let sight = see_two(alloc, &mut setup);
+            Some((sight, into_disk(setup).into_inner()))
         }
-        None => {
-            drop(setup);
-            None
-        }
+        None => None,
     }
 }
 
@@ -214,11 +224,11 @@ fn is_opened_as(alloc: Global, disk: MemDisk, fill: Option<u8>, wanted: &[u8]) -
 }
 
 // Whether what is seen and left is as it should be where that call of the eight fails.
-fn is_as_wanted(alloc: Global, ran: Option<(Sight, MemDisk)>, call: u64, fill: Option<u8>) -> bool {
+fn is_as_wanted(alloc: Global, ran: Option<Ran>, call: u64, fill: Option<u8>) -> bool {
     match ran {
         Some((sight, disk)) => {
             let is_left = is_opened_as(alloc, disk, fill, left_of(call, fill));
-            sight == wanted_of(call) && is_left
+            sight == Some(wanted_of(call)) && is_left
         }
         None => false,
     }
@@ -279,26 +289,38 @@ fn loaded_setup(alloc: Global, call: u64) -> Option<Setup<FailOnce<MemDisk>>>
 }
 
 fn calls_before_compacting(alloc: Global) -> Option<u64> {
-    let Setup { flusher, .. } = loaded_setup(alloc, u64::MAX)?;
-    Some(flusher.into_disk().made())
+    match loaded_setup(alloc, u64::MAX) {
+        Some(setup) => Some(calls_of(setup)),
+        None => None,
+    }
 }
 
 // A compaction of which that call fails: what is seen, the state that is compacted, and the disk.
 fn fail_compaction(alloc: Global, call: u64) -> Option<(Sight, Vec<u8>, MemDisk)> {
-    let mut setup = loaded_setup(alloc, call)?;
-    let Some(sight) = compact(alloc, &mut setup) else {
-        return None;
-    };
-    let Setup { flusher, .. } = setup;
-    let state = state_of(alloc, flusher.broker());
-    let disk = flusher.into_disk().into_inner();
-    match state {
-        Some(state) => Some((sight, state, disk)),
-        None => {
-            drop(disk);
-            None
+    match loaded_setup(alloc, call) {
+        Some(mut setup) => {
+            let seen = see_compaction(alloc, &mut setup);
+            let disk = into_disk(setup).into_inner();
+            match seen {
+                Some((sight, state)) => Some((sight, state, disk)),
+                None => {
+                    drop(disk);
+                    None
+                }
+            }
         }
+        None => None,
     }
+}
+
+// What is seen of it, and the state that is compacted.
+fn see_compaction(alloc: Global, setup: &mut Setup<FailOnce<MemDisk>>) -> Option<(Sight, Vec<u8>)>
+    requires ring { (setup.old.first.ring ≡ setup.old.ring) × (setup.old.flusher.seat.ring ≡ setup.old.ring) }
+    requires executed { setup.old.flusher.executed ≡ setup.old.flusher.stored }
+{
+    let sight = compact(alloc, setup)?;
+    let state = state_of(alloc, setup.flusher.broker())?;
+    Some((sight, state))
 }
 
 // What is seen, and whether a stop with that fill leaves the state as it was.

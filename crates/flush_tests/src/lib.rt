@@ -10,6 +10,8 @@ mod failing_tests;
 #[cfg(test)]
 mod refusal_tests;
 #[cfg(test)]
+mod room_tests;
+#[cfg(test)]
 mod setups;
 #[cfg(test)]
 mod step_tests;

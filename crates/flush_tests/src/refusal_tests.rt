@@ -4,7 +4,7 @@
 ghost use Rattle.std.specs.Prelude.{◌≡◌, ◌≤◌, IfSome};
 
 use crate::compacting_tests::{state_of, stored_state};
-use crate::setups::{MemSetup, OPEN, SMALL_AREA, Setup, append, open_both, set_up};
+use crate::setups::{MemSetup, OPEN, SMALL_AREA, append, into_disk, open_both, set_up};
 use claim_core::Refused;
 use flush_core::FlushFault;
 use std::alloc::Global;
@@ -37,9 +37,8 @@ fn goes_on(alloc: Global, setup: &mut MemSetup) -> Option<bool>
 
 // Whether the disk, whose unsynced bytes are lost, stands for the state that the flusher has.
 fn is_kept(alloc: Global, setup: MemSetup) -> Option<bool> {
-    let Setup { flusher, .. } = setup;
-    let state = state_of(alloc, flusher.broker());
-    let mut disk = flusher.into_disk();
+    let state = state_of(alloc, setup.flusher.broker());
+    let mut disk = into_disk(setup);
     disk.crash(None);
     let stored = stored_state(alloc, &mut disk);
     drop(disk);

@@ -1,13 +1,14 @@
 //! Flushers over journals in memory, before whose rings two sessions have seats.
 
-ghost use Rattle.std.specs.Prelude.{◌≡◌, ◌≤◌, ◌+◌, ◌*◌, ◌^◌, IfSome, IsSome, IsTrue, false};
+ghost use Rattle.std.specs.Prelude.{◌≡◌, ◌≤◌, ◌+◌, ◌*◌, ◌^◌, All, IfSome, IsSome, IsTrue, false, length};
+ghost use Rattle.claim_core.specs.Seats.{new_session};
 ghost use Rattle.recover_core.specs.Standing.{StandFor};
 ghost use Rattle.recover_core.specs.Stores.{disk_of, is_broken, opened_by};
 
 use area_core::format;
 use claim_core::{BrokerRing, BrokerSeat, Refused, Ring};
 use command_core::{Entry, decode};
-use disk_core::{Disk, MemDisk};
+use disk_core::{Disk, FuseDisk, MemDisk};
 use flush_core::{Flusher, Width};
 use outbox_core::{OutSender, Silent};
 use recover_core::{Store, open};
@@ -74,19 +75,35 @@ fn begin<D: Disk + Drop>(alloc: Global, store: Store<D>) -> Option<Setup<D>>
     let mut store = store;
     let broker = store.broker().unwrap();
     match Ring::new(alloc, broker.count()) {
-        Ok((ring, mut seats, seat)) => {
+        Ok((ring, seats, seat)) => {
             let flusher = Flusher::new(alloc, store, broker, seat);
-            match (seats.pop(), seats.pop()) {
-                (Some(first), Some(second)) => Some(Setup {
-                    ring,
-                    first,
-                    second,
-                    flusher,
-                }),
-                _ => None,
-            }
+            Some(seated(ring, seats, flusher))
         }
-        Err(_) => None,
+        Err(_) => {
+            drop(broker);
+            drop(store);
+            None
+        }
+    }
+}
+
+// Two of the seats are kept.
+fn seated<D: Disk + Drop>(ring: TestRing, seats: Vec<TestSeat>, flusher: TestFlusher<D>) -> Setup<D>
+    requires seats { All (λ seat. seat ≡ new_session ring flusher.seat.base seat.number) seats.items }
+    requires two { 2 ≤ length seats.items }
+    requires flusher { flusher.seat.ring ≡ ring }
+    ensures ring { (result.first.ring ≡ result.ring) × (result.second.ring ≡ result.ring) × (result.flusher.seat.ring ≡ result.ring) }
+    ensures flusher { result.flusher ≡ flusher }
+{
+    let mut seats = seats;
+    let first = seats.pop().unwrap();
+    let second = seats.pop().unwrap();
+    drop(seats);
+    Setup {
+        ring,
+        first,
+        second,
+        flusher,
     }
 }
 
@@ -111,6 +128,41 @@ pub(crate) fn set_up(alloc: Global, area_bytes: u64) -> Option<MemSetup>
         Some(disk) => set_up_over(alloc, disk),
         None => None,
     }
+}
+
+/// The same over a disk that passes so many calls.
+pub(crate) fn fuse(setup: MemSetup, passed: u64) -> Setup<FuseDisk<MemDisk>>
+    requires ring { (setup.first.ring ≡ setup.ring) × (setup.second.ring ≡ setup.ring) × (setup.flusher.seat.ring ≡ setup.ring) }
+    requires executed { setup.flusher.executed ≡ setup.flusher.stored }
+    ensures ring { (result.first.ring ≡ result.ring) × (result.second.ring ≡ result.ring) × (result.flusher.seat.ring ≡ result.ring) }
+    ensures executed { result.flusher.executed ≡ result.flusher.stored }
+{
+    let Setup {
+        ring,
+        first,
+        second,
+        flusher,
+    } = setup;
+    Setup {
+        ring,
+        first,
+        second,
+        flusher: flusher.fuse(passed),
+    }
+}
+
+/// The disk of a setup.
+pub(crate) fn into_disk<D: Disk + Drop>(setup: Setup<D>) -> D {
+    let Setup {
+        ring,
+        first,
+        second,
+        flusher,
+    } = setup;
+    drop(first);
+    drop(second);
+    drop(ring);
+    flusher.into_disk()
 }
 
 fn entry(alloc: Global, record: &[u8]) -> Option<Entry<OutSender<Silent>>> {

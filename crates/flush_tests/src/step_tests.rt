@@ -1,12 +1,12 @@
 ghost use Rattle.std.specs.Prelude.{◌≡◌, IfSome, IsTrue, true, false};
 
 use crate::setups::{
-    MemFlusher, MemSetup, SMALL_AREA, Setup, TestFlusher, TestRing, TestSeat, append, open_both,
-    set_up,
+    MemFlusher, MemSetup, SMALL_AREA, Setup, TestFlusher, TestRing, TestSeat, append, fuse,
+    into_disk, open_both, set_up,
 };
 use claim_core::{NotYet, Refused};
 use command_core::{Out, connected_reply};
-use disk_core::{Call, Disk, FuseDisk, MemDisk};
+use disk_core::{Call, Disk, MemDisk};
 use flush_core::FlushFault;
 use log::info;
 use std::alloc::{AllocError, Global};
@@ -129,16 +129,17 @@ fn see(alloc: Global, setup: &mut MemSetup, steps: u32) -> Option<Sight>
 // The same, and the disk then.
 fn stop_after(alloc: Global, steps: u32) -> Option<(Sight, MemDisk)> {
     match opened(alloc) {
-        Some(mut setup) => match see(alloc, &mut setup, steps) {
-            Some(sight) => {
-                let Setup { flusher, .. } = setup;
-                Some((sight, flusher.into_disk()))
+        Some(mut setup) => {
+            let sight = see(alloc, &mut setup, steps);
+            let disk = into_disk(setup);
+            match sight {
+                Some(sight) => Some((sight, disk)),
+                None => {
+                    drop(disk);
+                    None
+                }
             }
-            None => {
-                drop(setup);
-                None
-            }
-        },
+        }
         None => None,
     }
 }
@@ -170,21 +171,46 @@ const STAGES: [(u32, usize, Sight); 7] = [
     (6, 4, Sight([0, 5, 1, 5], LEFT)),
 ];
 
+// How many calls of the disk are made before any step.
+fn calls_before(alloc: Global) -> Option<usize> {
+    match stop_after(alloc, 0) {
+        Some((_, disk)) => {
+            let count = disk.calls().len();
+            drop(disk);
+            Some(count)
+        }
+        None => None,
+    }
+}
+
+// Whether the calls behind those are so many of the block, and no other.
+fn are_of_block(calls: &[Call], before: usize, count: usize) -> bool {
+    match (calls.get(before..), BLOCK.get(..count)) {
+        (Some(made), Some(wanted)) => made == wanted,
+        _ => false,
+    }
+}
+
+// What is seen after so many steps, and whether they made those calls.
+fn seen_after(alloc: Global, steps: u32, before: usize, calls: usize) -> Option<(Sight, bool)> {
+    match stop_after(alloc, steps) {
+        Some((sight, disk)) => {
+            let is_block = are_of_block(disk.calls(), before, calls);
+            drop(disk);
+            Some((sight, is_block))
+        }
+        None => None,
+    }
+}
+
 #[test]
 fn each_step_of_a_turn_does_its_part_alone(rt: HostRuntime) -> Result<(), Fail> {
-    let Some((_, disk)) = stop_after(rt.alloc(), 0) else {
+    let Some(before) = calls_before(rt.alloc()) else {
         panic!(rt; "no flusher was made")
     };
-    let before = disk.calls().len();
-    drop(disk);
     for (steps, calls, wanted) in STAGES {
-        let Some((seen, disk)) = stop_after(rt.alloc(), steps) else {
-            panic!(rt; "{steps} steps were not made")
-        };
-        assert_eq!(rt; seen, wanted);
-        assert!(rt; before <= disk.calls().len() && calls <= 4);
-        assert!(rt; &disk.calls()[before..] == &BLOCK[..calls], "{steps} steps");
-        drop(disk);
+        let seen = seen_after(rt.alloc(), steps, before, calls);
+        assert_eq!(rt; seen, Some((wanted, true)), "{steps} steps");
     }
     Ok(())
 }
@@ -254,28 +280,38 @@ fn is_refused<D: Disk>(alloc: Global, ring: &TestRing, flusher: &mut TestFlusher
     matches!(flusher.turn(alloc, ring), Err(FlushFault::Broken))
 }
 
-// A flusher whose disk passes so many calls of the block fails and is broken, and its ring is stopped; what an append answers
-// then, the mark, and how many commands the broker has executed.
-fn break_off(
-    alloc: Global,
-    passed: u64,
-    in_a_turn: bool,
-) -> Option<(Option<Result<u64, Refused>>, u64, u64)> {
-    let Setup {
-        ring,
-        mut first,
-        mut second,
-        flusher,
-    } = opened(alloc)?;
-    let mut flusher: TestFlusher<FuseDisk<MemDisk>> = flusher.fuse(passed);
-    if !fails(alloc, &ring, &mut flusher, in_a_turn) || !is_refused(alloc, &ring, &mut flusher) {
+// What an append answers, the mark, and how many commands the broker has executed.
+type Answers = (Option<Result<u64, Refused>>, u64, u64);
+
+// The flusher fails and is broken, and its ring is stopped; what is answered then.
+fn breaks<D: Disk>(alloc: Global, setup: &mut Setup<D>, in_a_turn: bool) -> Option<Answers>
+    requires ring { (setup.old.first.ring ≡ setup.old.ring) × (setup.old.second.ring ≡ setup.old.ring) × (setup.old.flusher.seat.ring ≡ setup.old.ring) }
+    requires executed { setup.old.flusher.executed ≡ setup.old.flusher.stored }
+{
+    if !fails(alloc, &setup.ring, &mut setup.flusher, in_a_turn)
+        || !is_refused(alloc, &setup.ring, &mut setup.flusher)
+    {
         return None;
     }
-    if !flusher.is_broken() || flusher.mark() != ring.look(&mut second) {
+    let mark = setup.flusher.mark();
+    if !setup.flusher.is_broken() || mark != setup.ring.look(&mut setup.second) {
         return None;
     }
-    let answer = append(alloc, &ring, &mut first, FIRST_SEND);
-    Some((answer, flusher.mark(), flusher.broker().count()))
+    let answer = append(alloc, &setup.ring, &mut setup.first, FIRST_SEND);
+    Some((answer, setup.flusher.mark(), setup.flusher.broker().count()))
+}
+
+// The same of a flusher whose disk passes so many calls of the block.
+fn break_off(alloc: Global, passed: u64, in_a_turn: bool) -> Option<Answers> {
+    match opened(alloc) {
+        Some(setup) => {
+            let mut setup = fuse(setup, passed);
+            let answers = breaks(alloc, &mut setup, in_a_turn);
+            drop(setup);
+            answers
+        }
+        None => None,
+    }
 }
 
 // Of the four calls of a block each may be the one that fails, in both ways.

@@ -1,8 +1,9 @@
 //! Readers that never end.
 
 ghost use Rattle.std.specs.Prelude.{◌≡◌};
+ghost use Rattle.hub_tests.specs.Parties.{AreTogether};
 
-use crate::hubs::{SMALL_AREA, link_of, new_party};
+use crate::hubs::{HubRing, HubSeat, Party, SMALL_AREA, link_of, new_party};
 use crate::links::Endless;
 use crate::paces::Free;
 use crate::texts::{CONNECT, SEND_X};
@@ -27,29 +28,60 @@ const READERS: [(&[&[u8]], &[u8], u64); 4] = [
     (&[CONNECT], SEND_X, 16),
 ];
 
-// How the worker ends, how many messages it has sent, and how many commands were appended.
+// How the worker ends, and how many messages it has sent.
+fn serve(
+    alloc: Global,
+    ring: &HubRing,
+    seat: &mut HubSeat,
+    texts: &[&[u8]],
+    bytes: &'static [u8],
+) -> Option<(Option<Ended>, usize)>
+    requires { seat.old.ring ≡ ring.now }
+{
+    match link_of(alloc, texts) {
+        Some(link) => {
+            let mut link = Endless { link, bytes };
+            let ended = worker(alloc, ring, seat, &mut link, &Silent, &Free, TURNS);
+            let sent = link.link.sent().len();
+            drop(link);
+            Some((ended, sent))
+        }
+        None => None,
+    }
+}
+
+// The same, and how many commands were appended.
+fn serve_and_flush(
+    alloc: Global,
+    party: &mut Party,
+    texts: &[&[u8]],
+    bytes: &'static [u8],
+) -> Option<(Option<Ended>, usize, u64)>
+    requires together { AreTogether party.old.hub party.old.first party.old.second party.old.flusher }
+    requires executed { party.old.flusher.executed ≡ party.old.flusher.stored }
+{
+    let ring = party.hub.ring();
+    let (ended, sent) = serve(alloc, ring, &mut party.first, texts, bytes)?;
+    match flush_loop(alloc, ring, &mut party.flusher, &Free, FLUSHES) {
+        Ok(appended) => Some((ended, sent, appended)),
+        Err(_) => None,
+    }
+}
+
+// That of a new party.
 fn run(
     alloc: Global,
     texts: &[&[u8]],
     bytes: &'static [u8],
 ) -> Option<(Option<Ended>, usize, u64)> {
-    let link = link_of(alloc, texts)?;
-    let mut link = Endless { link, bytes };
-    let mut party = new_party(alloc, SMALL_AREA)?;
-    let ring = party.hub.ring();
-    let ended = worker(
-        alloc,
-        ring,
-        &mut party.first,
-        &mut link,
-        &Silent,
-        &Free,
-        TURNS,
-    );
-    let sent = link.link.sent().len();
-    let appended = flush_loop(alloc, ring, &mut party.flusher, &Free, FLUSHES);
-    drop(link);
-    Some((ended, sent, appended.ok()?))
+    match new_party(alloc, SMALL_AREA) {
+        Some(mut party) => {
+            let ran = serve_and_flush(alloc, &mut party, texts, bytes);
+            drop(party);
+            ran
+        }
+        None => None,
+    }
 }
 
 #[test]

@@ -84,20 +84,51 @@ fn count_of(alloc: Global, disk: MemDisk) -> Option<u64> {
     }
 }
 
-// What is seen: what came of the loop, whether the flusher is broken, the mark, how another worker ends then, and how many
-// commands are on the disk.
-fn flush_four(alloc: Global) -> Option<(Flushed, bool, u64, Option<Option<Ended>>, Option<u64>)> {
-    let mut party = new_party(alloc, SMALL_AREA)?;
-    if !append_four(alloc, party.hub.ring(), &mut party.first) {
+// What came of the loop, whether the flusher is broken, the mark, and how another worker ends then.
+type Sight = (Flushed, bool, u64, Option<Option<Ended>>);
+
+fn see_four(alloc: Global, party: &mut Party) -> Option<Sight>
+    requires together { AreTogether party.old.hub party.old.first party.old.second party.old.flusher }
+    requires executed { party.old.flusher.executed ≡ party.old.flusher.stored }
+{
+    let ring = party.hub.ring();
+    if !append_four(alloc, ring, &mut party.first) {
         return None;
     }
-    let flushed = flush(alloc, party.hub.ring(), &mut party.flusher);
+    let flushed = flush(alloc, ring, &mut party.flusher);
     let is_broken = party.flusher.is_broken();
     let mark = party.flusher.mark();
-    let ended = open_another(alloc, party.hub.ring(), &mut party.second);
-    let Party { flusher, .. } = party;
-    let count = count_of(alloc, flusher.into_disk());
-    Some((flushed, is_broken, mark, ended, count))
+    let ended = open_another(alloc, ring, &mut party.second);
+    Some((flushed, is_broken, mark, ended))
+}
+
+// The disk of a party.
+fn into_disk(party: Party) -> MemDisk {
+    let Party {
+        hub,
+        first,
+        second,
+        flusher,
+    } = party;
+    drop(first);
+    drop(second);
+    drop(hub);
+    flusher.into_disk()
+}
+
+// What is seen, and how many commands are on the disk.
+fn flush_four(alloc: Global) -> Option<(Sight, Option<u64>)> {
+    match new_party(alloc, SMALL_AREA) {
+        Some(mut party) => {
+            let seen = see_four(alloc, &mut party);
+            let count = count_of(alloc, into_disk(party));
+            match seen {
+                Some(seen) => Some((seen, count)),
+                None => None,
+            }
+        }
+        None => None,
+    }
 }
 
 // What the script beside the gate reads. A worker whose session was refused memory appends fewer, and behind them the session's
@@ -105,14 +136,14 @@ fn flush_four(alloc: Global) -> Option<(Flushed, bool, u64, Option<Option<Ended>
 fn word_of_flush(alloc: Global) -> &'static str {
     match flush_four(alloc) {
         None => "unseen",
-        Some((Flushed::To(4), false, 4, Some(None), Some(4))) => "whole",
-        Some((Flushed::To(mark), false, same, ended, count)) => {
+        Some(((Flushed::To(4), false, 4, Some(None)), Some(4))) => "whole",
+        Some(((Flushed::To(mark), false, same, ended), count)) => {
             let is_right = mark == same
                 && (ended.is_none() || ended == Some(None) || ended == Some(Some(Ended::Lost)))
                 && (count.is_none() || count == Some(mark));
             if is_right { "unseen" } else { "wrong" }
         }
-        Some((Flushed::Refused, true, mark, ended, count)) => {
+        Some(((Flushed::Refused, true, mark, ended), count)) => {
             let holds = match count {
                 Some(count) => mark <= count && count <= 4,
                 None => false,

@@ -142,7 +142,13 @@ fn written_over(rt: &impl Abort, alloc: Global) -> Result<MemDisk, Fail> {
 #[test]
 fn an_empty_journal_has_the_bytes_of_its_format(rt: HostRuntime) -> Result<(), Fail> {
     let mut disk = written_over(&rt, rt.alloc())?;
-    format(rt.alloc(), &mut disk, 4_096)?;
+    let done = expect_empty(&rt, rt.alloc(), &mut disk);
+    drop(disk);
+    done
+}
+
+fn expect_empty(rt: &impl Abort, alloc: Global, disk: &mut MemDisk) -> Result<(), Fail> {
+    format(alloc, disk, 4_096)?;
     let mut header = [0xee; 32];
     let mut front = [0xee; 41];
     assert!(rt; disk.size() == SIZE);
@@ -152,19 +158,32 @@ fn an_empty_journal_has_the_bytes_of_its_format(rt: HostRuntime) -> Result<(), F
     Ok(())
 }
 
+// Whether memory was had for those bytes.
+fn is_same(made: Result<Vec<u8>, AllocError>, wanted: &[u8]) -> bool {
+    match made {
+        Ok(bytes) => {
+            let is_same = bytes.as_slice() == wanted;
+            drop(bytes);
+            is_same
+        }
+        Err(_) => false,
+    }
+}
+
 // The digits in the name, and the byte that an area begins with: 0 in the first version, 2 in the second. A block has no such
 // byte.
 #[test]
 fn each_version_has_its_bytes(rt: HostRuntime) -> Result<(), Fail> {
-    let old = header_of(rt.alloc(), Version::One, 4_096)?;
-    assert!(rt; old.as_slice() == made_header(b"STOMPJ01").as_slice());
-    let new = header_of(rt.alloc(), Version::Two, 4_096)?;
-    assert!(rt; new.as_slice() == made_header(b"STOMPJ02").as_slice());
-    let old = closed_snapshot(rt.alloc(), Version::One, &[0; 32])?;
-    assert!(rt; old.as_slice() == made_front(0).as_slice());
-    let new = closed_snapshot(rt.alloc(), Version::Two, &[0; 32])?;
-    assert!(rt; new.as_slice() == made_front(2).as_slice());
-    assert!(rt; closed(rt.alloc(), &[0; 32])?.as_slice() == made_front(0).as_slice());
+    let old = header_of(rt.alloc(), Version::One, 4_096);
+    assert!(rt; is_same(old, &made_header(b"STOMPJ01")));
+    let new = header_of(rt.alloc(), Version::Two, 4_096);
+    assert!(rt; is_same(new, &made_header(b"STOMPJ02")));
+    let old = closed_snapshot(rt.alloc(), Version::One, &[0; 32]);
+    assert!(rt; is_same(old, &made_front(0)));
+    let new = closed_snapshot(rt.alloc(), Version::Two, &[0; 32]);
+    assert!(rt; is_same(new, &made_front(2)));
+    let block = closed(rt.alloc(), &[0; 32]);
+    assert!(rt; is_same(block, &made_front(0)));
     Ok(())
 }
 
@@ -258,13 +277,31 @@ fn expect_live(
     Ok(())
 }
 
+// Both, of a journal with that selector.
+fn expect_moved(
+    rt: &impl Abort,
+    alloc: Global,
+    selector: u8,
+    snapshot: &[u8],
+    then: (u64, u8),
+) -> Result<(), Fail> {
+    let (at, next) = then;
+    let mut disk = selecting(rt, alloc, selector)?;
+    let done = match expect_move(rt, alloc, &mut disk, snapshot, at) {
+        Ok(()) => expect_live(rt, alloc, &mut disk, snapshot, next),
+        failed => failed,
+    };
+    drop(disk);
+    done
+}
+
 #[test]
 fn a_snapshot_goes_into_the_other_area_which_is_then_live(rt: HostRuntime) -> Result<(), Fail> {
     for (selector, at, next, len) in MOVES {
         let snapshot = vec![in rt.alloc(); 0x5a; len]?;
-        let mut disk = selecting(&rt, rt.alloc(), selector)?;
-        expect_move(&rt, rt.alloc(), &mut disk, snapshot.as_slice(), at)?;
-        expect_live(&rt, rt.alloc(), &mut disk, snapshot.as_slice(), next)?;
+        let done = expect_moved(&rt, rt.alloc(), selector, snapshot.as_slice(), (at, next));
+        drop(snapshot);
+        done?;
     }
     Ok(())
 }

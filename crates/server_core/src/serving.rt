@@ -11,7 +11,7 @@ use crate::descriptors::clients_allowed;
 use crate::ending::Ending;
 use crate::entrance::{Entrance, Reception, bells_of, mailboxes_again};
 use crate::log_thread::LogThread;
-use crate::mailbox::BellRope;
+use crate::mailbox::{BellRope, Mailbox};
 use crate::memory::Memory;
 use crate::shared::{ServerRing, ServerSeat, Shared};
 use crate::wakeups::Wakeups;
@@ -283,6 +283,36 @@ fn add_seat(seats: &mut Vec<ServerSeat>, hub: &mut ServerHub) -> Result<(), Serv
     }
 }
 
+// What the flusher and the workers wait by, what asks the server to end, and what tells the operator.
+fn wakeups_of<R: Wait + Clone + Drop>(
+    alloc: Global,
+    rt: &R,
+    setups: &[WorkerSetup],
+    mark: u64,
+) -> Result<(Wakeups<R>, Arc<Ending>, Arc<LogThread>), ServeFault> {
+    let log = shared_by(alloc, LogThread::new(alloc)?)?;
+    let ending = shared_by(alloc, Ending::new())?;
+    let bells = bells_of(alloc, setups)?;
+    let rt = rt.clone()?;
+    let wakeups = Wakeups::new(rt, mark, ending.clone()?, log.clone()?, bells);
+    Ok((wakeups, ending, log))
+}
+
+// Where clients come in.
+fn acceptor_of<R: Wait + Clone + Drop>(
+    alloc: Global,
+    rt: &R,
+    listener: TcpListener,
+    mailboxes: Vec<Arc<Mailbox>>,
+    most_clients: u64,
+    ending: Arc<Ending>,
+    log: Arc<LogThread>,
+) -> Result<Arc<Acceptor<R>>, ServeFault> {
+    let rt = rt.clone()?;
+    let acceptor = Acceptor::new(rt, listener, mailboxes, most_clients, ending, log);
+    shared_by(alloc, acceptor)
+}
+
 // What the threads share, where clients come in, and what the workers wait by.
 fn share<R: Wait + Clone + Drop>(
     alloc: Global,
@@ -303,27 +333,17 @@ fn share<R: Wait + Clone + Drop>(
         mailboxes,
         setups,
     } = entrance;
-    let log = shared_by(alloc, LogThread::new(alloc)?)?;
-    let ending = shared_by(alloc, Ending::new())?;
-    let bells = bells_of(alloc, &setups)?;
+    let (wakeups, ending, log) = wakeups_of(alloc, rt, setups.as_slice(), mark)?;
     let memory = Memory::new(memory, mailboxes_again(alloc, &mailboxes)?);
-    let acceptor = Acceptor::new(
-        rt.clone()?,
-        listener,
-        mailboxes,
-        most_clients,
-        ending.clone()?,
-        log.clone()?,
-    );
-    let wakeups = Wakeups::new(rt.clone()?, mark, ending, log, bells);
+    let acceptor = acceptor_of(alloc, rt, listener, mailboxes, most_clients, ending, log)?;
+    let rt = rt.clone()?;
     let shared = Shared {
-        rt: rt.clone()?,
+        rt,
         ring,
         origins,
         wakeups,
         memory,
     };
-    let acceptor = shared_by(alloc, acceptor)?;
     let shared = shared_by(alloc, shared)?;
     Ok((shared, acceptor, setups))
 }

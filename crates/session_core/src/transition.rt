@@ -49,7 +49,11 @@ fn answer(
     ensures phase { IfOk result (λ end. end ≡ next phase frame) }
 {
     match phase {
-        Phase::New => answer_first(alloc, frame, acts),
+        Phase::New => {
+            let end = answer_first(alloc, &frame, acts);
+            drop(frame);
+            end
+        }
         Phase::Open(transactions) => answer_next(alloc, transactions, frame, acts),
         Phase::Ended => Ok(Phase::Ended),
         Phase::Failed { is_held } => Ok(Phase::Failed { is_held }),
@@ -57,13 +61,13 @@ fn answer(
 }
 
 /// What is to be done for the first frame of a session.
-fn answer_first(alloc: Global, frame: Frame, acts: &mut Vec<Act>) -> Result<Phase, AllocError>
-    requires { IsRead frame }
-    ensures acts { OnOk result (acts.new.items ≡ acts.old.items ++ told phases.New frame) }
-    ensures phase { IfOk result (λ end. end ≡ next phases.New frame) }
+fn answer_first(alloc: Global, frame: &Frame, acts: &mut Vec<Act>) -> Result<Phase, AllocError>
+    requires { IsRead frame.now }
+    ensures acts { OnOk result (acts.new.items ≡ acts.old.items ++ told phases.New frame.now) }
+    ensures phase { IfOk result (λ end. end ≡ next phases.New frame.now) }
 {
-    let receipt = receipt(alloc, &frame)?;
-    match ask_first(alloc, &frame)? {
+    let receipt = receipt(alloc, frame)?;
+    match ask_first(alloc, frame)? {
         Ok(op) => {
             acts.push(Act::Do(op, receipt))?;
             Ok(Phase::Open(OpenTx::new(alloc)))

@@ -27,6 +27,17 @@ fn zeros(alloc: Global, count: usize) -> Result<Vec<u8>, AllocError>
     Ok(bytes)
 }
 
+// The first area begins so.
+fn put_first(bytes: &mut [u8], size: u64, head: &[u8], front: &[u8])
+    requires room { length bytes.old ≡ 32 + 2 * size }
+    requires head { length head.now ≤ 32 }
+    requires front { length front.now ≤ size }
+    ensures { bytes.new ≡ patched 0 head.now (patched 32 front.now bytes.old) }
+{
+    put_at(bytes, 32, front);
+    put_at(bytes, 0, head);
+}
+
 // Both areas begin alike, and the selector names the second.
 fn put_both(bytes: &mut [u8], size: u64, head: &[u8], front: &[u8])
     requires least { 4096 ≤ size }
@@ -92,8 +103,7 @@ pub(crate) fn old_content(alloc: Global, size: u64, area: &[u8]) -> Result<Vec<u
 {
     let head = header_of(alloc, Version::One, size)?;
     let mut content = zeros(alloc, (32 + 2 * size) as usize)?;
-    put_at(&mut content, 32, area);
-    put_at(&mut content, 0, &head);
+    put_first(&mut content, size, &head, area);
     drop(head);
     Ok(content)
 }

@@ -123,6 +123,25 @@ fn crashed_parts(
     }
 }
 
+// The same with all seats, which have seen the broker's count.
+fn seated(
+    alloc: Global,
+    size: u64,
+    broker: &Broker,
+    content: Vec<u8>,
+    held: Vec<Option<u8>>,
+) -> Result<Parts, AllocError>
+    requires { broker.now.broken ≡ false }
+    ensures { IfOk result (λ parts. value_of parts ≡ record (crashed size broker.now.state content.items) {
+      disk = record { size = size; content = content.items; held = held.items };
+    }) }
+{
+    match seats(alloc, SEATS, broker.count()) {
+        Ok(seats) => Ok(crashed_parts(alloc, size, broker, seats, content, held)),
+        Err(refused) => Err(refused),
+    }
+}
+
 // The world of a journal of the first version, whose first area is this one.
 fn old_parts(alloc: Global, size: u64, area: &[u8]) -> Result<Parts, AllocError>
     requires least { 4096 ≤ size }
@@ -132,15 +151,17 @@ fn old_parts(alloc: Global, size: u64, area: &[u8]) -> Result<Parts, AllocError>
         → value_of parts ≡ first_old size commands) }
 {
     let content = old_content(alloc, size, area)?;
-    // So few commands are never too many.
-    let Some(broker) = broker_in(alloc, &content)? else {
-        return Err(AllocError);
-    };
     let held = none_held(alloc, (32 + 2 * size) as usize)?;
-    let seats = seats(alloc, SEATS, broker.count())?;
-    let parts = crashed_parts(alloc, size, &broker, seats, content, held);
-    drop(broker);
-    Ok(parts)
+    let found = broker_in(alloc, &content)?;
+    match found {
+        Some(broker) => {
+            let made = seated(alloc, size, &broker, content, held);
+            drop(broker);
+            made
+        }
+        // So few commands are never too many.
+        None => Err(AllocError),
+    }
 }
 
 impl Parts {

@@ -6,4 +6,4 @@ use Rattle.broker_core.proofs.precheck.precheck_members.Given as goal
 
 abbrev pub invariant-loop-member : goal.invariant-loop-member
 invariant-loop-member l =
-    (s : State) × StandsFor l.session l.tables.durables l.tables.subscriptions l.precheck s × (committed l.rule s l.session l.member-index (drop l.member-index l.members) ≡ committed l.rule l.tables l.session 0 l.members)
+    (s : State) × StandsFor l.session l.tables.state.durables l.tables.state.subscriptions l.precheck s × (committed l.rule s l.session l.member-index (drop l.member-index l.members) ≡ committed l.rule l.tables.state l.session 0 l.members)

@@ -7,5 +7,5 @@ use Rattle.broker_tables.proofs.cursors.cursors_for.Given as goal
 
 abbrev pub invariant-loop-key : goal.invariant-loop-key
 invariant-loop-key l =
-    (at : ℕ) (sub : Subscription) → slice_get l.tables.subscriptions at ≡ Some sub → is_due (take l.key-index l.keys) sub ≡ true → can_take l.tables sub ≡ true
-    → is_awaited l.cursors.keys (at + l.tables.next_delivery) sub ≡ true
+    (at : ℕ) (sub : Subscription) → slice_get l.tables.state.subscriptions at ≡ Some sub → is_due (take l.key-index l.keys) sub ≡ true → can_take l.tables.state sub ≡ true
+    → is_awaited l.cursors.keys (at + l.tables.state.next_delivery) sub ≡ true

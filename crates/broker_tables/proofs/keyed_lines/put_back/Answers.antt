@@ -2,7 +2,7 @@ use Rattle.std.proofs.Common.{◌≡◌, ◌+◌, ◌∷◌, ◌∙◌, List, �
 use Rattle.std.specs.List.{sum_by}
 use Rattle.std.proofs.lemmas.List.Sums.{sum_by-cons}
 use Rattle.line_core.specs.declared.message.Message.{Message}
-use Rattle.broker_state.specs.Waiting.{weight_of_lines, with_deliveries, with_message}
+use Rattle.broker_state.specs.Waiting.{weight_of_lines, with_deliveries}
 use Rattle.broker_tables.proofs.keyed_lines.put_back.Goals as goal
 
 -- the weight of a delivery moves from those that are left to the lines
@@ -18,8 +18,7 @@ loop-message-preserved g c =
     let lines = c.loop-message.lines.entries in
     let rest = c.next.new.self.rest.items in
     let first = c.in-Some.ensures.steps.0 in
-    let same : c.in_ok-clone.field-0 ≡ key = c.requires key c.in_ok-clone.field-0 c.in_ok-clone.ensures.cases in
-    let put = c.in_ok-put.ensures.entries ∙ ap (λ k. with_message cmp k message lines) same in
+    let put = c.in_ok-put.ensures.entries in
     record {
       entries = ap (with_deliveries cmp key rest) put ∙ ap (λ ds. with_deliveries cmp key ds lines) (sym first) ∙ c.loop-message.invariant.entries;
       weight = λ weight. weigh_more weight _ message c.loop-message.message-iterator.rest.items rest (weight_of_lines weight lines) (weight_of_lines weight c.put.new.lines.entries) _ first (c.in_ok-put.ensures.weight weight) (c.loop-message.invariant.weight weight);

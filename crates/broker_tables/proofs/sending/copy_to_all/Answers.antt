@@ -12,9 +12,8 @@ loop-name-preserved c =
     let names = c.loop-name.shared.names in
     let copies = λ (lines : Lines Name) (ns : List Name). fold (λ more n. with_message name_cmp n m more) lines ns in
     let first : c.loop-name.name-iterator ≡ name ∷ rest = search rules in
-    let same_name : c.in_ok-clone.field-0 ≡ name = search rules in
-    let same : c.in_ok-clone-2.field-0 ≡ m = search rules in
-    let put = ap (λ (s : Shared). s.names) c.in_ok-put_under.ensures.shared ∙ ap (λ (n : Name). with_message name_cmp n c.in_ok-clone-2.field-0 names) same_name ∙ ap (λ (x : Message). with_message name_cmp name x names) same in
+    let same : c.in_ok-clone.field-0 ≡ m = search rules in
+    let put = ap (λ (s : Shared). s.names) c.in_ok-put_under.ensures.shared ∙ ap (λ (x : Message). with_message name_cmp name x names) same in
     record {
       names = ap (λ (l : Lines Name). copies l rest) put ∙ ap (copies names) (sym first) ∙ c.loop-name.invariant.names;
       queues = ap (λ (s : Shared). s.queues) c.in_ok-put_under.ensures.shared ∙ c.loop-name.invariant.queues;

@@ -1,4 +1,4 @@
-use Rattle.std.proofs.Common.{◌≡◌, OnOk, sym, subst}
+use Rattle.std.proofs.Common.{OnOk, subst}
 use Rattle.line_core.specs.declared.message.Message.{Message}
 use Rattle.broker_tables.specs.Sendings.{IsFannedOut}
 use Rattle.broker_tables.proofs.sending.fan_out.Goals as goal

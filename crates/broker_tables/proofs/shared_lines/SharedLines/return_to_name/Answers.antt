@@ -3,8 +3,12 @@ use Rattle.std.specs.List.{sum_by}
 use Rattle.line_core.specs.declared.message.Message.{Message}
 use Rattle.broker_state.specs.Names.{Name, name_cmp}
 use Rattle.broker_state.specs.Waiting.{Lines, Shared, weight_of_shared, with_deliveries}
+use Rattle.broker_state.proofs.Keys.{same_names}
 use Rattle.broker_tables.proofs.shared_lines.SharedLines.return_to_name.Goals as goal
 use Rattle.broker_tables.proofs.shared_lines.SharedLines.return_to_name.Goals.{in-Ok, in-Err}
+
+pub put_back-requires-clause-same : goal.put_back-requires-clause-same
+put_back-requires-clause-same c = same_names
 
 pub returns-clause-shared : goal.returns-clause-shared
 returns-clause-shared c =

@@ -3,8 +3,12 @@ use Rattle.std.specs.List.{sum_by}
 use Rattle.line_core.specs.declared.message.Message.{Message}
 use Rattle.broker_state.specs.Names.{text_cmp}
 use Rattle.broker_state.specs.Waiting.{Lines, Shared, weight_of_shared, with_deliveries}
+use Rattle.broker_state.proofs.Keys.{same_texts}
 use Rattle.broker_tables.proofs.shared_lines.SharedLines.return_to_queue.Goals as goal
 use Rattle.broker_tables.proofs.shared_lines.SharedLines.return_to_queue.Goals.{in-Ok, in-Err}
+
+pub put_back-requires-clause-same : goal.put_back-requires-clause-same
+put_back-requires-clause-same c = same_texts
 
 pub returns-clause-shared : goal.returns-clause-shared
 returns-clause-shared c =

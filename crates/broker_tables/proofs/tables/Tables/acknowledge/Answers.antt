@@ -4,7 +4,7 @@ use Rattle.std.proofs.lemmas.Bool.{and_parts}
 use Rattle.line_core.specs.Flights.{IsOver, has_delivery}
 use Rattle.broker_state.specs.declared.subscription.Subscription.{Subscription}
 use Rattle.broker_state.specs.Operations.{is_of, settled_by}
-use Rattle.broker_state.specs.States.{bytes, one, weight_of_subscription}
+use Rattle.broker_state.specs.States.{BrokerValue, bytes, one, weight_of_subscription}
 use Rattle.broker_tables.proofs.Operating.{acknowledged_first, acknowledged_none, item_at}
 use Rattle.broker_state.proofs.Weights.{all_changed, over_settled_by, sum_by-changed, sum_by-part, weight-settled_by}
 use Rattle.broker_tables.specs.Tables.{shown}
@@ -17,23 +17,29 @@ returns-in_default-clause-acknowledged c =
 
 pub let_deliveries_go-requires-clause-messages : goal.let_deliveries_go-requires-clause-messages
 let_deliveries_go-requires-clause-messages c =
+    let whole = ap (λ (b : BrokerValue). b.broken) c.self.view_is ∙ c.requires.whole in
+    let kept = c.self.invariant whole in
     let subs = c.self.inside.order in
     let found = item_at subs c.in-Some.at c.in-Some.ensures.within in
     let given = c.as_slice.ensures.value ∙ c.in_ok-settled.ensures.settled found.0 found.1 in
-    omega (arith, weight-settled_by one c.args.delivery found.0, sum_by-part (weight_of_subscription one) subs c.in-Some.at found.0 found.1, ap (sum_by (λ delivery. one delivery.1)) given, c.self.invariant.messages)
+    omega (arith, weight-settled_by one c.args.delivery found.0, sum_by-part (weight_of_subscription one) subs c.in-Some.at found.0 found.1, ap (sum_by (λ delivery. one delivery.1)) given, kept.messages)
 
 pub let_deliveries_go-requires-clause-bytes : goal.let_deliveries_go-requires-clause-bytes
 let_deliveries_go-requires-clause-bytes c =
+    let whole = ap (λ (b : BrokerValue). b.broken) c.self.view_is ∙ c.requires.whole in
+    let kept = c.self.invariant whole in
     let subs = c.self.inside.order in
     let found = item_at subs c.in-Some.at c.in-Some.ensures.within in
     let given = c.as_slice.ensures.value ∙ c.in_ok-settled.ensures.settled found.0 found.1 in
-    omega (arith, weight-settled_by bytes c.args.delivery found.0, sum_by-part (weight_of_subscription bytes) subs c.in-Some.at found.0 found.1, ap (sum_by (λ delivery. bytes delivery.1)) given, c.self.invariant.bytes)
+    omega (arith, weight-settled_by bytes c.args.delivery found.0, sum_by-part (weight_of_subscription bytes) subs c.in-Some.at found.0 found.1, ap (sum_by (λ delivery. bytes delivery.1)) given, kept.bytes)
 
-pub invariant_of-self : goal.invariant_of-self
-invariant_of-self c =
+pub invariant_of-self-2 : goal.invariant_of-self-2
+invariant_of-self-2 c _ =
+    let whole = ap (λ (b : BrokerValue). b.broken) c.self.view_is ∙ c.requires.whole in
+    let kept = c.self.invariant whole in
     let a = c.self.inside in
     let subs = a.order in
-    let tallied = c.self.invariant in
+    let tallied = kept in
     let at = c.in-Some.at in
     let found = item_at subs at c.in-Some.ensures.within in
     let sub = found.0 in

@@ -8,7 +8,7 @@ use Rattle.broker_tables.proofs.tables.Tables.next_ready.Goals as goal
 
 pub loop-cursor-preserved : goal.loop-cursor-preserved
 loop-cursor-preserved c =
-    let s = c.args.self.now in
+    let s = c.args.self.now.state in
     moved_on s c.args.from c.in-Some.cursor c.take_under.new.cursors.keys c.add_cursor.new.cursors.keys (subst (λ (l : List Cursor). AreAwaited l s c.args.from) c.in-Some.ensures.taken c.loop-cursor.invariant) c.in_ok-add_cursor.ensures.kept c.in_ok-add_cursor.ensures.added
 
 pub least_place-requires : goal.least_place-requires
@@ -25,4 +25,4 @@ returns-clause-after c =
 
 pub returns-clause-none : goal.returns-clause-none
 returns-clause-none c i sub is after less =
-    not_awaited c.args.self.now c.loop-cursor.cursors.keys c.take_under.new.cursors.keys c.args.from c.next_delivery.result i sub c.loop-cursor.invariant c.in_default.ensures.same c.next_delivery.ensures is after (c.least_place.ensures.least i sub less)
+    not_awaited c.args.self.now.state c.loop-cursor.cursors.keys c.take_under.new.cursors.keys c.args.from c.next_delivery.result i sub c.loop-cursor.invariant c.in_default.ensures.same c.next_delivery.ensures is after (c.least_place.ensures.least i sub less)

@@ -8,7 +8,7 @@ use Rattle.broker_tables.proofs.Dues.{kept_of}
 use Rattle.broker_tables.proofs.tables.Tables.of.Goals as goal
 
 pub invariant_of-result : goal.invariant_of-result
-invariant_of-result c =
+invariant_of-result c _ =
     let p = c.args.parts in
     let t = λ (d : List (Name × List ℕ)) (h : Shared) (l : List Subscription). shown p.count p.next_delivery p.sessions.entries d h l in
     let d = c.in_ok-durables.durables in

@@ -4,7 +4,7 @@ use Rattle.line_core.specs.declared.message.Message.{Message}
 use Rattle.line_core.specs.Flights.{IsOver}
 use Rattle.broker_state.specs.HandOut.{can_take, has_room, is_auto}
 use Rattle.broker_state.specs.Lists.{is_none}
-use Rattle.broker_state.specs.States.{State, bytes, one, weight_of_subscription}
+use Rattle.broker_state.specs.States.{BrokerValue, State, bytes, one, weight_of_subscription}
 use Rattle.broker_state.specs.Waiting.{line_for}
 use Rattle.broker_state.specs.declared.subscription.Subscription.{Subscription}
 use Rattle.broker_state.proofs.Firsts.{same_some}
@@ -29,30 +29,30 @@ hand_to-handed-requires-clause-waits c =
 
 pub hand_to-handed-requires-clause-over : goal.hand_to-handed-requires-clause-over
 hand_to-handed-requires-clause-over c =
-    one_of_all (λ x. IsOver c.self.inside.next_delivery x.unacknowledged) c.self.inside.order c.args.at c.lift-sub.result c.lift-sub.ensures.taken c.self.invariant.next
+    one_of_all (λ x. IsOver c.self.inside.next_delivery x.unacknowledged) c.self.inside.order c.args.at c.lift-sub.result c.lift-sub.ensures.taken (c.self.invariant (ap (λ (b : BrokerValue). b.broken) c.self.view_is ∙ c.requires.whole)).next
 
 pub hand_to-handed-requires-clause-messages : goal.hand_to-handed-requires-clause-messages
 hand_to-handed-requires-clause-messages c =
     let place = rw (← c.self.view_is) at c.requires.place in
-    omega (arith, sum_others c.self.inside.order c.args.at c.lift-sub.result place c.lift-sub.ensures.taken (weight_of_subscription one), c.self.invariant.messages)
+    omega (arith, sum_others c.self.inside.order c.args.at c.lift-sub.result place c.lift-sub.ensures.taken (weight_of_subscription one), (c.self.invariant (ap (λ (b : BrokerValue). b.broken) c.self.view_is ∙ c.requires.whole)).messages)
 
 pub hand_to-handed-requires-clause-bytes : goal.hand_to-handed-requires-clause-bytes
 hand_to-handed-requires-clause-bytes c =
     let place = rw (← c.self.view_is) at c.requires.place in
-    omega (arith, sum_others c.self.inside.order c.args.at c.lift-sub.result place c.lift-sub.ensures.taken (weight_of_subscription bytes), c.self.invariant.bytes)
+    omega (arith, sum_others c.self.inside.order c.args.at c.lift-sub.result place c.lift-sub.ensures.taken (weight_of_subscription bytes), (c.self.invariant (ap (λ (b : BrokerValue). b.broken) c.self.view_is ∙ c.requires.whole)).bytes)
 
-pub invariant_of-self : goal.invariant_of-self
-invariant_of-self c =
+pub invariant_of-self-in-Ok : goal.invariant_of-self-in-Ok
+invariant_of-self-in-Ok c =
     let a = c.self.inside in
-    let t = c.self.invariant in
+    let t = c.self.invariant (ap (λ (b : BrokerValue). b.broken) c.self.view_is ∙ c.requires.whole) in
     let h = c.in-Ok.ensures.handed in
     let line = first_and_rest _ _ h.taken in
     let place = rw (← c.self.view_is) at c.requires.place in
     let flight = ap (λ (x : Subscription). x.unacknowledged) h.line in
     let after = λ (w : Message → ℕ). held_after a.order c.args.at c.lift-sub.result place c.lift-sub.ensures.taken a.shared c.hand_to-handed.new.shared h.left h.message (drop 1 (line_for a.shared c.lift-sub.result)) (λ v. rw line at (h.weight v)) w a.next_delivery flight in
     let ready = number_of_ready (shown a.count a.next_delivery a.sessions.entries a.durables a.shared a.order) c.lift-sub.result ((rw (← c.self.view_is) at c.requires.ready) c.lift-sub.result c.lift-sub.ensures.taken) in
-    let subs = rw (c.lift-sub.ensures.others, h.handed) at c.in-Ok-wait_last.ensures.waits in
-    record {
+    let subs = rw (c.lift-sub.ensures.others, h.handed) at c.in_ok-out-in-Ok.ensures.waits in
+    λ _. record {
       messages = rw subs (counted_after (is_auto h.left.mode) _ _ _ _ _ t.messages h.messages (after one));
       bytes = rw subs (counted_after (is_auto h.left.mode) _ _ _ _ _ t.bytes h.lighter (after bytes));
       few = omega (arith, t.few, no_more_after (is_auto h.left.mode) _ _ _ h.messages);
@@ -64,31 +64,31 @@ invariant_of-self c =
           let after = shown a.count (a.next_delivery + 1) a.sessions.entries a.durables c.hand_to-handed.new.shared c.wait_last.new.order in
           let sub = c.lift-sub.result in
           let can = (rw (← c.self.view_is) at c.requires.ready) sub c.lift-sub.ensures.taken in
-          let last : c.wait_last.new.order ≡ remove a.order c.args.at ++ c.hand_to-handed.new.sub ∷ [] = c.in-Ok-wait_last.ensures.waits ∙ ap (λ (l : List Subscription). l ++ c.hand_to-handed.new.sub ∷ []) c.lift-sub.ensures.others in
+          let last : c.wait_last.new.order ≡ remove a.order c.args.at ++ c.hand_to-handed.new.sub ∷ [] = c.in_ok-out-in-Ok.ensures.waits ∙ ap (λ (l : List Subscription). l ++ c.hand_to-handed.new.sub ∷ []) c.lift-sub.ensures.others in
           let keys = same_keys c.hand_to-handed.new.sub sub (ap (λ (x : Subscription). x.session) h.handed ∙ ap (λ (x : Subscription). x.session) h.line) (ap (λ (x : Subscription). x.destination) h.handed ∙ ap (λ (x : Subscription). x.destination) h.line) (ap (λ (x : Subscription). x.durable) h.handed ∙ ap (λ (x : Subscription). x.durable) h.line) in
           due_served a.due.items s t.ready after c.args.at sub c.hand_to-handed.new.sub h.message (drop 1 (line_for a.shared sub)) c.lift-sub.ensures.taken can line h.rest refl last keys;
     }
 
-pub returns-in-Ok-wait_last-clause-handed : goal.returns-in-Ok-wait_last-clause-handed
-returns-in-Ok-wait_last-clause-handed c =
+pub returns-in_ok-out-in-Ok-clause-handed : goal.returns-in_ok-out-in-Ok-clause-handed
+returns-in_ok-out-in-Ok-clause-handed c =
     let a = c.self.inside in
     let s = shown a.count a.next_delivery a.sessions.entries a.durables a.shared a.order in
     let h = c.in-Ok.ensures.handed in
-    let subs = rw (c.lift-sub.ensures.others, h.handed) at c.in-Ok-wait_last.ensures.waits in
+    let subs = rw (c.lift-sub.ensures.others, h.handed) at c.in_ok-out-in-Ok.ensures.waits in
     rw (← c.self.view_is) (λ (sub : Subscription) there.
     let same = same_some _ _ (sym c.lift-sub.ensures.taken ∙ there) in
-    rw (← same) (handed_made s c.lift-sub.result h.left _ _ h.message _ _ c.in-Ok-wait_last.out h.taken h.rest h.line subs (c.in-Ok-wait_last.ensures.gives ∙ h.out)))
+    rw (← same) (handed_made s c.lift-sub.result h.left _ _ h.message _ _ c.in_ok-out-in-Ok.out h.taken h.rest h.line subs (c.in_ok-out-in-Ok.ensures.gives ∙ h.out)))
 
-pub returns-in-Ok-wait_last-clause-waiting : goal.returns-in-Ok-wait_last-clause-waiting
-returns-in-Ok-wait_last-clause-waiting c =
+pub returns-in_ok-out-in-Ok-clause-waiting : goal.returns-in_ok-out-in-Ok-clause-waiting
+returns-in_ok-out-in-Ok-clause-waiting c =
     let a = c.self.inside in
     let h = c.in-Ok.ensures.handed in
     let line = first_and_rest _ _ h.taken in
     let place = rw (← c.self.view_is) at c.requires.place in
-    rw (← c.self.view_is, c.in-Ok-wait_last.ensures.waits, c.lift-sub.ensures.others, h.handed)
+    rw (← c.self.view_is, c.in_ok-out-in-Ok.ensures.waits, c.lift-sub.ensures.others, h.handed)
     (waits_less a.order c.args.at c.lift-sub.result place c.lift-sub.ensures.taken a.shared c.hand_to-handed.new.shared h.left h.message (drop 1 (line_for a.shared c.lift-sub.result)) (λ w. rw line at (h.weight w)) a.next_delivery)
 
-pub returns-in-Ok-wait_last-clause-count : goal.returns-in-Ok-wait_last-clause-count
-returns-in-Ok-wait_last-clause-count c =
+pub returns-in_ok-out-in-Ok-clause-count : goal.returns-in_ok-out-in-Ok-clause-count
+returns-in_ok-out-in-Ok-clause-count c =
     let place = rw (← c.self.view_is) at c.requires.place in
-    rw (← c.self.view_is, c.in-Ok-wait_last.ensures.waits, c.lift-sub.ensures.others) (count_others c.self.inside.order c.args.at c.lift-sub.result place c.lift-sub.ensures.taken c.hand_to-handed.new.sub)
+    rw (← c.self.view_is, c.in_ok-out-in-Ok.ensures.waits, c.lift-sub.ensures.others) (count_others c.self.inside.order c.args.at c.lift-sub.result place c.lift-sub.ensures.taken c.hand_to-handed.new.sub)

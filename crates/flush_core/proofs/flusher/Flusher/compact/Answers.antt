@@ -20,7 +20,7 @@ use Rattle.area_core.specs.Areas.{commands}
 use Rattle.flush_core.specs.Flushed.{Flushed, flushed}
 use Rattle.flush_core.specs.Room.{HasNoRoomForState, used_afresh}
 use Rattle.flush_core.proofs.Calls.{lasts_same}
-use Rattle.flush_core.proofs.Compactions.{leaves_state, stand_then, stored_state}
+use Rattle.flush_core.proofs.Compactions.{given_state, leaves_state, stand_then}
 use Rattle.flush_core.proofs.Keeping.{compacts, hold_at, store_fails}
 use Rattle.flush_core.proofs.Room.{lacks_room_for_state}
 use Rattle.flush_core.proofs.StoreFaults.{caused_so, fell_so, only_full, same_fault}
@@ -31,9 +31,8 @@ invariant_of-self g c =
     let it = c.self.inside in
     let f = flushed it.journal it.seat it.opening.value.state it.stored it.executed (it.done.items ++ it.batch.items) it.broker it.outlet.boxes it.outlet.ended.items it.outlet.past.items it.outlet.waiting.items it.outlet.left.items it.broken it.won in
     let kept = c.self.invariant.0 in
-    let executed : it.executed ≡ it.stored = subst (λ (f : Flushed g.row.D.Denot). f.executed ≡ f.stored) (sym c.self.view_is) (c.requires.executed (ap (λ (f : Flushed g.row.D.Denot). f.broken) (sym c.self.view_is) ∙ c.if-self.false)) in
     let s = state_at it.opening.value.state it.seat it.stored in
-    let same : it.broker.state ≡ s = stored_state g.D.Disk.honest g.D.Disk.images f kept c.if-self.false executed in
+    let same : it.broker.state ≡ s = given_state g.D.Disk.honest g.D.Disk.images _ c.args.self.now c.self.view_is c.self.invariant.0 c.if-self.false c.requires.executed in
     let stand : g.D.Disk.honest c.compact.new.self.disk → StandFor (g.D.Disk.images c.compact.new.self.disk) s = λ h.
     stand_then g.D.Disk it.journal.disk c.compact.new.self.disk s it.broker.state same (weaker g.D.Disk it.journal.disk c.compact.new.self.disk _ _ (c.compact.ensures.any_moment (c.self.invariant.1 c.if-self.false).whole (c.compact.ensures.lasts.was_honest h)) (λ image is. is.stands))
     (λ t image le among. g.met.D.Disk.counts_now c.compact.new.self.disk t image le among) in (
@@ -48,9 +47,8 @@ invariant_of-self-in-Err g c =
     let it = c.self.inside in
     let f = flushed it.journal it.seat it.opening.value.state it.stored it.executed (it.done.items ++ it.batch.items) it.broker it.outlet.boxes it.outlet.ended.items it.outlet.past.items it.outlet.waiting.items it.outlet.left.items it.broken it.won in
     let kept = c.self.invariant.0 in
-    let executed : it.executed ≡ it.stored = subst (λ (f : Flushed g.row.D.Denot). f.executed ≡ f.stored) (sym c.self.view_is) (c.requires.executed (ap (λ (f : Flushed g.row.D.Denot). f.broken) (sym c.self.view_is) ∙ c.if-self.false)) in
     let s = state_at it.opening.value.state it.seat it.stored in
-    let same : it.broker.state ≡ s = stored_state g.D.Disk.honest g.D.Disk.images f kept c.if-self.false executed in
+    let same : it.broker.state ≡ s = given_state g.D.Disk.honest g.D.Disk.images _ c.args.self.now c.self.view_is c.self.invariant.0 c.if-self.false c.requires.executed in
     let stand : g.D.Disk.honest c.compact.new.self.disk → StandFor (g.D.Disk.images c.compact.new.self.disk) s = λ h.
     stand_then g.D.Disk it.journal.disk c.compact.new.self.disk s it.broker.state same (weaker g.D.Disk it.journal.disk c.compact.new.self.disk _ _ (c.compact.ensures.any_moment (c.self.invariant.1 c.if-self.false).whole (c.compact.ensures.lasts.was_honest h)) (λ image is. is.stands))
     (λ t image le among. g.met.D.Disk.counts_now c.compact.new.self.disk t image le among) in (
@@ -64,22 +62,16 @@ invariant_of-self-in-Err g c =
 pub returns-in-Ok-clause-any_moment : goal.returns-in-Ok-clause-any_moment
 returns-in-Ok-clause-any_moment g c =
     let it = c.self.inside in
-    let f = flushed it.journal it.seat it.opening.value.state it.stored it.executed (it.done.items ++ it.batch.items) it.broker it.outlet.boxes it.outlet.ended.items it.outlet.past.items it.outlet.waiting.items it.outlet.left.items it.broken it.won in
-    let kept = c.self.invariant.0 in
-    let executed : it.executed ≡ it.stored = subst (λ (f : Flushed g.row.D.Denot). f.executed ≡ f.stored) (sym c.self.view_is) (c.requires.executed (ap (λ (f : Flushed g.row.D.Denot). f.broken) (sym c.self.view_is) ∙ c.if-self.false)) in
     let s = state_at it.opening.value.state it.seat it.stored in
-    let same : it.broker.state ≡ s = stored_state g.D.Disk.honest g.D.Disk.images f kept c.if-self.false executed in
+    let same : it.broker.state ≡ s = given_state g.D.Disk.honest g.D.Disk.images _ c.args.self.now c.self.view_is c.self.invariant.0 c.if-self.false c.requires.executed in
     subst (λ (f : Flushed g.row.D.Denot). g.D.Disk.honest f.disk → f.broken ≡ false → LeavesOnly g.D.Disk.moment g.D.Disk.images_since f.disk c.compact.new.self.disk (λ c. Stands c (state_at f.opening f.seat f.stored))) c.self.view_is
     (λ h w. leaves_state g.D.Disk it.journal.disk c.compact.new.self.disk s it.broker.state same (weaker g.D.Disk it.journal.disk c.compact.new.self.disk _ _ (c.compact.ensures.any_moment (c.self.invariant.1 w).whole h) (λ image is. is.stands)))
 
 pub returns-in-Err-clause-any_moment : goal.returns-in-Err-clause-any_moment
 returns-in-Err-clause-any_moment g c =
     let it = c.self.inside in
-    let f = flushed it.journal it.seat it.opening.value.state it.stored it.executed (it.done.items ++ it.batch.items) it.broker it.outlet.boxes it.outlet.ended.items it.outlet.past.items it.outlet.waiting.items it.outlet.left.items it.broken it.won in
-    let kept = c.self.invariant.0 in
-    let executed : it.executed ≡ it.stored = subst (λ (f : Flushed g.row.D.Denot). f.executed ≡ f.stored) (sym c.self.view_is) (c.requires.executed (ap (λ (f : Flushed g.row.D.Denot). f.broken) (sym c.self.view_is) ∙ c.if-self.false)) in
     let s = state_at it.opening.value.state it.seat it.stored in
-    let same : it.broker.state ≡ s = stored_state g.D.Disk.honest g.D.Disk.images f kept c.if-self.false executed in
+    let same : it.broker.state ≡ s = given_state g.D.Disk.honest g.D.Disk.images _ c.args.self.now c.self.view_is c.self.invariant.0 c.if-self.false c.requires.executed in
     subst (λ (f : Flushed g.row.D.Denot). g.D.Disk.honest f.disk → f.broken ≡ false → LeavesOnly g.D.Disk.moment g.D.Disk.images_since f.disk c.compact.new.self.disk (λ c. Stands c (state_at f.opening f.seat f.stored))) c.self.view_is
     (λ h w. leaves_state g.D.Disk it.journal.disk c.compact.new.self.disk s it.broker.state same (weaker g.D.Disk it.journal.disk c.compact.new.self.disk _ _ (c.compact.ensures.any_moment (c.self.invariant.1 w).whole h) (λ image is. is.stands)))
 
@@ -89,27 +81,21 @@ compact-requires-clause-whole g c = ap (λ (b : BrokerValue). b.broken) (c.self.
 pub compact-requires-clause-stands : goal.compact-requires-clause-stands
 compact-requires-clause-stands g c = λ h w.
     let it = c.self.inside in
-    let f = flushed it.journal it.seat it.opening.value.state it.stored it.executed (it.done.items ++ it.batch.items) it.broker it.outlet.boxes it.outlet.ended.items it.outlet.past.items it.outlet.waiting.items it.outlet.left.items it.broken it.won in
     let kept = c.self.invariant.0 in
-    let executed : it.executed ≡ it.stored = subst (λ (f : Flushed g.row.D.Denot). f.executed ≡ f.stored) (sym c.self.view_is) (c.requires.executed (ap (λ (f : Flushed g.row.D.Denot). f.broken) (sym c.self.view_is) ∙ c.if-self.false)) in
-    let same : it.broker.state ≡ state_at it.opening.value.state it.seat it.stored = stored_state g.D.Disk.honest g.D.Disk.images f kept c.if-self.false executed in
+    let same : it.broker.state ≡ state_at it.opening.value.state it.seat it.stored = given_state g.D.Disk.honest g.D.Disk.images _ c.args.self.now c.self.view_is c.self.invariant.0 c.if-self.false c.requires.executed in
     subst (λ (s : State). StandFor (g.D.Disk.images it.journal.disk) s) (sym same) ((kept.running c.if-self.false).stands h)
 
 pub returns-in-Ok-clause-compacts : goal.returns-in-Ok-clause-compacts
 returns-in-Ok-clause-compacts g c = record {
   alone = let it = c.self.inside in
-      let f = flushed it.journal it.seat it.opening.value.state it.stored it.executed (it.done.items ++ it.batch.items) it.broker it.outlet.boxes it.outlet.ended.items it.outlet.past.items it.outlet.waiting.items it.outlet.left.items it.broken it.won in
-      let kept = c.self.invariant.0 in
-      let executed : it.executed ≡ it.stored = subst (λ (f : Flushed g.row.D.Denot). f.executed ≡ f.stored) (sym c.self.view_is) (c.requires.executed (ap (λ (f : Flushed g.row.D.Denot). f.broken) (sym c.self.view_is) ∙ c.if-self.false)) in
       let s = state_at it.opening.value.state it.seat it.stored in
-      let same : it.broker.state ≡ s = stored_state g.D.Disk.honest g.D.Disk.images f kept c.if-self.false executed in
+      let same : it.broker.state ≡ s = given_state g.D.Disk.honest g.D.Disk.images _ c.args.self.now c.self.view_is c.self.invariant.0 c.if-self.false c.requires.executed in
       subst (λ (f : Flushed g.row.D.Denot). g.D.Disk.honest f.disk → Each (g.D.Disk.images c.compact.new.self.disk) (HoldsItAlone (size_of c.compact.new.self) (used_of c.compact.new.self) (state_at f.opening f.seat f.stored))) c.self.view_is
       (λ h. subst (λ (s : State). Each (g.D.Disk.images c.compact.new.self.disk) (HoldsItAlone (size_of c.compact.new.self) (used_of c.compact.new.self) s)) same (c.in-Ok.ensures.compacts.alone h));
   compacted_is = let it = c.self.inside in
       let f = flushed it.journal it.seat it.opening.value.state it.stored it.executed (it.done.items ++ it.batch.items) it.broker it.outlet.boxes it.outlet.ended.items it.outlet.past.items it.outlet.waiting.items it.outlet.left.items it.broken it.won in
-      let executed : it.executed ≡ it.stored = subst (λ (f : Flushed g.row.D.Denot). f.executed ≡ f.stored) (sym c.self.view_is) (c.requires.executed (ap (λ (f : Flushed g.row.D.Denot). f.broken) (sym c.self.view_is) ∙ c.if-self.false)) in
       let s = state_at it.opening.value.state it.seat it.stored in
-      let same : it.broker.state ≡ s = stored_state g.D.Disk.honest g.D.Disk.images f c.self.invariant.0 c.if-self.false executed in
+      let same : it.broker.state ≡ s = given_state g.D.Disk.honest g.D.Disk.images _ c.args.self.now c.self.view_is c.self.invariant.0 c.if-self.false c.requires.executed in
       let afresh : used_of c.compact.new.self ≡ used_afresh s = c.in-Ok.ensures.compacts.used ∙ ap (λ (s : State). used_afresh s) same in
       let won : c.saturating_sub-won.result ≡ used_of it.journal - used_afresh s = omega (arith, c.saturating_sub-won.ensures, c.used-before.ensures, c.used.ensures, afresh) in
       (λ i. record f { disk = disk_of c.compact.new.self; size = c.in-Ok.ensures.keeps.size i; used = afresh i; won = Some (won i) })
@@ -135,21 +121,16 @@ returns-in-Err-clause-compacts g c = tt
 pub returns-in-Err-clause-refuses : goal.returns-in-Err-clause-refuses
 returns-in-Err-clause-refuses g c = record {
   full = λ is. let it = c.self.inside in
-      let f = flushed it.journal it.seat it.opening.value.state it.stored it.executed (it.done.items ++ it.batch.items) it.broker it.outlet.boxes it.outlet.ended.items it.outlet.past.items it.outlet.waiting.items it.outlet.left.items it.broken it.won in
-      let kept = c.self.invariant.0 in
-      let executed : it.executed ≡ it.stored = subst (λ (f : Flushed g.row.D.Denot). f.executed ≡ f.stored) (sym c.self.view_is) (c.requires.executed (ap (λ (f : Flushed g.row.D.Denot). f.broken) (sym c.self.view_is) ∙ c.if-self.false)) in
       let s = state_at it.opening.value.state it.seat it.stored in
-      let same : it.broker.state ≡ s = stored_state g.D.Disk.honest g.D.Disk.images f kept c.if-self.false executed in
+      let same : it.broker.state ≡ s = given_state g.D.Disk.honest g.D.Disk.images _ c.args.self.now c.self.view_is c.self.invariant.0 c.if-self.false c.requires.executed in
       let full = only_full c.in-Err.fault (sym c.from.ensures ∙ same_fault c.from.result Full is) in
       let told = c.compact.ensures.breaks.full (c.in-Err.is ∙ ap (λ (fault : AreaFault). Err fault) full) in
       subst (λ (f : Flushed g.row.D.Denot). HasNoRoomFor f.size (state_at f.opening f.seat f.stored) × (c.compact.new.self.disk ≡ f.disk)) c.self.view_is
       (subst (λ (s : State). HasNoRoomFor (size_of it.journal) s) same told.0, ap (λ store. disk_of store) told.1);
   no_room = λ honest is. let it = c.self.inside in
-      let f = flushed it.journal it.seat it.opening.value.state it.stored it.executed (it.done.items ++ it.batch.items) it.broker it.outlet.boxes it.outlet.ended.items it.outlet.past.items it.outlet.waiting.items it.outlet.left.items it.broken it.won in
       let kept = c.self.invariant.0 in
-      let executed : it.executed ≡ it.stored = subst (λ (f : Flushed g.row.D.Denot). f.executed ≡ f.stored) (sym c.self.view_is) (c.requires.executed (ap (λ (f : Flushed g.row.D.Denot). f.broken) (sym c.self.view_is) ∙ c.if-self.false)) in
       let s = state_at it.opening.value.state it.seat it.stored in
-      let same : it.broker.state ≡ s = stored_state g.D.Disk.honest g.D.Disk.images f kept c.if-self.false executed in
+      let same : it.broker.state ≡ s = given_state g.D.Disk.honest g.D.Disk.images _ c.args.self.now c.self.view_is c.self.invariant.0 c.if-self.false c.requires.executed in
       let full = only_full c.in-Err.fault (sym c.from.ensures ∙ same_fault c.from.result Full is) in
       let told = c.compact.ensures.breaks.full (c.in-Err.is ∙ ap (λ (fault : AreaFault). Err fault) full) in
       let was : g.D.Disk.honest it.journal.disk = subst (λ (f : Flushed g.row.D.Denot). g.D.Disk.honest f.disk) (sym c.self.view_is) honest in
