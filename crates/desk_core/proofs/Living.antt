@@ -1,6 +1,6 @@
 -- How a connection at a seat does what its client's bytes ask for.
-use Rattle.std.proofs.Common.{◌≡◌, ◌++◌, ◌∷◌, [], ℕ, List, Option, Some, None, refl, sym, ap, ◌∙◌, subst, inl, inr, append_assoc, append-nil}
-use Rattle.std.specs.Prelude.{◌&&◌, ◌<◌, ◌⊎◌, cond, is_some, option_to_list}
+use Rattle.std.proofs.Common.{◌≡◌, ◌++◌, ◌∷◌, [], ℕ, List, Option, Some, None, refl, sym, ap, ◌∙◌, subst, inl, inr, append_assoc, append-nil, arith, true, false}
+use Rattle.std.specs.Prelude.{◌&&◌, ◌<◌, ◌⊎◌, ◌≢◌, cond, is_some, nat_eq, not, option_to_list}
 use Rattle.std.proofs.lemmas.List.{map-append}
 use Rattle.std.specs.List.{AllByRecursion}
 use Rattle.command_core.specs.Commands.{CommandValue}
@@ -24,7 +24,10 @@ use Rattle.connection_core.specs.declared.ended.Ended.{Ended}
 use Rattle.connection_core.specs.declared.ended.Ended.TheVariants.{Bye, Lost, Bad, Stopped}
 use Rattle.frame_core.specs.declared.frame.Verb.{Verb}
 use Rattle.frame_core.specs.declared.frame.Verb.TheVariants as verbs
-use Rattle.std.proofs.lemmas.Bool.{cases_eq}
+use Rattle.std.proofs.lemmas.Bool.{and_parts, cases_eq, eqb-true}
+use Rattle.std.proofs.lemmas.Bool.Decides.{nat_tests}
+use Rattle.connection_core.specs.declared.progress.Role.{Role}
+use Rattle.connection_core.specs.declared.progress.Role.TheVariants.{Opens, Talks, Ends}
 use Rattle.connection_core.specs.declared.progress.Progress.{Progress}
 use Rattle.connection_core.specs.declared.progress.Progress.TheVariants.{New, Open, Ended as Finished, Gone}
 use Rattle.connection_core.specs.declared.said.Wanted.{Wanted}
@@ -38,7 +41,7 @@ use Rattle.desk_core.specs.Conversations.{StaysOrEnds}
 use Rattle.desk_core.specs.Effects.{Effect, Does, Said, Tells, commands_of, untold_of}
 use Rattle.desk_core.specs.Histories.{HasTold, IsAsked, IsBad, IsLast, IsLoss, Lives, Restaged, Steady, act_of}
 use Rattle.desk_core.specs.Halting.{HasHalted, IsStopped}
-use Rattle.desk_core.specs.Keeping.{WaitsNext}
+use Rattle.desk_core.specs.Keeping.{WaitsNext, is_next, opens}
 use Rattle.desk_core.specs.declared.pending.Pending.{Pending}
 use Rattle.desk_core.specs.Spending.{IsCut, ops_of}
 use Rattle.desk_core.proofs.Doing.{IsSilent, commands_append, does_say, does_silent, does_tell, none_more}
@@ -982,15 +985,49 @@ closes_over old new told is = closes_so old new (over old.progress) Bad (λ bad.
 
 -- ── an entry that waits ──
 
+opens_so : (r : Role) → opens r ≡ true → r ≡ Opens
+opens_so Opens is = refl
+opens_so Talks is = absurd (let no : ⊥ = cc in no)
+opens_so Ends is = absurd (let no : ⊥ = cc in no)
+
+not_opens : (r : Role) → not (opens r) ≡ true → r ≢ Opens
+not_opens Opens is = λ _. let no : ⊥ = cc in no
+not_opens Talks is = λ same. let no : ⊥ = cc in no
+not_opens Ends is = λ same. let no : ⊥ = cc in no
+
+so_opens : (r : Role) → r ≡ Opens → opens r ≡ true
+so_opens r same = ap opens same
+
+so_not : (r : Role) → r ≢ Opens → not (opens r) ≡ true
+so_not Opens other = absurd (other refl)
+so_not Talks other = refl
+so_not Ends other = refl
+
+-- what may be the next, as a value
+pub next_so : (p : Progress) (c : CommandValue) → is_next p c ≡ true → IsNext p c
+next_so New c is = opens_so (role_of c.op) is
+next_so (Open number) c is =
+    let parts = and_parts (nat_eq c.session number) (not (opens (role_of c.op))) is in (eqb-true c.session number parts.0, not_opens (role_of c.op) parts.1)
+next_so (Finished number) c is = absurd (let no : ⊥ = cc in no)
+next_so Gone c is = absurd (let no : ⊥ = cc in no)
+
+pub so_next : (p : Progress) (c : CommandValue) → IsNext p c → is_next p c ≡ true
+so_next New c is = so_opens (role_of c.op) is
+so_next (Open number) c is =
+    let same : nat_eq c.session number ≡ true = let at = is.0 in grind (arith, nat_tests) in
+    ap (λ b. b && not (opens (role_of c.op))) same ∙ so_not (role_of c.op) is.1
+so_next (Finished number) c is = absurd is
+so_next Gone c is = absurd is
+
 pub waits_still : {B : Type 0} (old new : ConnectionValue) (p q : Option (Pending B)) → Restaged old new → q ≡ p → WaitsNext old p → WaitsNext new q
 waits_still old new p q r same w = λ it some executes.
-    subst (λ x. IsNext x it.entry.command) (sym (r.progress executes)) (w it (sym same ∙ some) (r.executes executes))
+    subst (λ x. is_next x it.entry.command ≡ true) (sym (r.progress executes)) (w it (sym same ∙ some) (r.executes executes))
 
 pub waits_kept : {B : Type 0} (c : ConnectionValue) (p : Option (Pending B)) (pending : Pending B) → p ≡ Some pending → IsNext c.progress pending.entry.command → WaitsNext c p
 waits_kept {B} c p pending is next = λ it some executes.
     let both : Some pending ≡ Some it = sym is ∙ some in
     let same : pending ≡ it = cc in
-    subst (λ (x : Pending B). IsNext c.progress x.entry.command) same next
+    subst (λ (x : Pending B). is_next c.progress x.entry.command ≡ true) same (so_next c.progress pending.entry.command next)
 
 pub none_waits_next : {B : Type 0} (c : ConnectionValue) (p : Option (Pending B)) → p ≡ None → WaitsNext c p
 none_waits_next {B} c p none = λ it some executes. absurd (let both : Some it ≡ None = sym some ∙ none in cc)

@@ -29,8 +29,8 @@ returns-in-Err-clause-lives g c = λ executes.
     (ap (λ (x : CommandValue). Do x.op x.receipt ∷ []) (sym c.in-Err.ensures.back.0))
     (subst (λ (x : ConnectionValue). c.retry.new.self ≡ record x { acts = record x.acts { again = Some (Do c.in-Err.command.op c.in-Err.command.receipt) } }) c.in-Err.ensures.back.1 c.retry.ensures) c.requires.nothing)
 
-pub append-requires-may : goal.append-requires-may
-append-requires-may g c = record {
+pub append-requires-clause-may : goal.append-requires-clause-may
+append-requires-clause-may g c = record {
   nothing = c.requires.nothing;
   next = subst (λ (x : CommandValue). IsNext c.charge.new.connection.progress x) (sym c.in-Ok.ensures.ok.0)
       (subst (λ (p : Progress). IsNext p c.args.command) (sym (ap (λ (x : ConnectionValue). x.progress) c.in-Ok.ensures.ok.1)) c.requires.form.1);

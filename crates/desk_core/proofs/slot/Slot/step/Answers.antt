@@ -5,6 +5,7 @@ use Rattle.connection_core.specs.declared.said.Said.{Said}
 use Rattle.connection_core.specs.declared.said.Wanted.TheVariants.{Append, Tell}
 use Rattle.desk_core.proofs.Answering.{quiet_takes}
 use Rattle.desk_core.proofs.Going.{goes_done, goes_none, goes_pending, goes_rest, goes_telling, goes_wanted, not_some, still_executes}
+use Rattle.desk_core.proofs.Living.{next_so}
 use Rattle.desk_core.proofs.slot.Slot.step.Goals as goal
 
 pub returns-then-not-executes-clause-goes : goal.returns-then-not-executes-clause-goes
@@ -45,8 +46,8 @@ returns-in-Rest-clause-goes g c =
 pub returns-in-Tell-clause-takes : goal.returns-in-Tell-clause-takes
 returns-in-Tell-clause-takes g c = quiet_takes c.tell.result _ c.args.seat.now c.tell.ensures.quiet
 
-pub append-requires-may : goal.append-requires-may
-append-requires-may g c = record {
+pub append-requires-clause-may : goal.append-requires-clause-may
+append-requires-clause-may g c = record {
   nothing = c.take.ensures.after;
-  next = c.args.self.now.next c.in-Some.pending (sym c.take.ensures.value ∙ c.in-Some.is) (subst Executes c.stage.ensures (c.executes.ensures.yes c.if-not-executes.false));
+  next = next_so c.args.self.now.connection.progress c.in-Some.pending.entry.command (c.args.self.now.next c.in-Some.pending (sym c.take.ensures.value ∙ c.in-Some.is) (subst Executes c.stage.ensures (c.executes.ensures.yes c.if-not-executes.false)));
 }
