@@ -1,5 +1,6 @@
 -- What contracts see of a connection, and what its calls do.
 use Rattle.std.specs.Prelude.{◌≡◌, ◌∷◌, ℕ, List, [], Option, Some, None, cond}
+use Rattle.command_core.specs.Commands.{CommandValue}
 use Rattle.command_core.specs.declared.command.End.TheVariants as ends
 use Rattle.command_core.specs.declared.command.Op.{Op}
 use Rattle.command_core.specs.declared.command.Op.TheVariants as ops
@@ -11,7 +12,7 @@ use Rattle.session_core.specs.declared.act.CloseCode.{CloseCode}
 use Rattle.session_core.specs.declared.act.CloseCode.TheVariants.{NormalClosure, ProtocolError}
 use Rattle.session_core.specs.declared.phase.Phase.TheVariants.{Failed}
 use Rattle.session_core.specs.Sessions.{HasForm, Hearing, Hears, fresh, is_held}
-use Rattle.connection_core.specs.Conversations.{IsNext, after, asked, over}
+use Rattle.connection_core.specs.Conversations.{IsNext, after, asked, over, said_of}
 use Rattle.connection_core.specs.Stages.{rested}
 use Rattle.connection_core.specs.Tasks.{Tasks, tasks, all_of}
 use Rattle.connection_core.specs.declared.footprint.Part.{Part}
@@ -91,7 +92,7 @@ closed_by ProtocolError last progress stage = stage
 
 -- What an operation asks for: its command, if that may be the next of the conversation.
 abbrev pub Asks : Progress → Op → Option (List ℕ) → Wanted → Type 0
-Asks progress op receipt (Append command) = (command ≡ asked progress op receipt) × IsNext progress command
+Asks progress op receipt (Append command said) = (command ≡ asked progress op receipt) × IsNext progress command × (said ≡ said_of command)
 Asks progress op receipt Done = IsNext progress (asked progress op receipt) → ⊥
 Asks progress op receipt (Tell notice) = ⊥
 Asks progress op receipt Rest = ⊥
@@ -109,10 +110,14 @@ pub record Wants (old new : ConnectionValue) (wanted : Wanted) : Type 0 where
   pub taken : Takes old (record new { stage = old.stage }) act
   pub asked_for : WantsBy old new act wanted
 
--- the form of a command that is wanted
-abbrev pub HasWantedForm : Wanted → Type 0
-HasWantedForm (Append command) = HasForm (Do command.op command.receipt)
-HasWantedForm _ = Unit {0}
+-- A command that is wanted has its form, is the next of the conversation, and is told as what it is.
+abbrev pub HasWantedForm : Progress → Wanted → Type 0
+HasWantedForm progress (Append command said) = HasForm (Do command.op command.receipt) × IsNext progress command × (said ≡ said_of command)
+HasWantedForm progress _ = Unit {0}
+
+-- that a command is appended
+abbrev pub to_append : CommandValue → Wanted
+to_append command = Append command (said_of command)
 
 -- a command was appended with that ticket
 abbrev pub with_appended : ConnectionValue → Said → ℕ → ConnectionValue

@@ -41,6 +41,13 @@ session_of progress role = 0
 abbrev pub asked : Progress → Op → Option (List ℕ) → CommandValue
 asked progress op receipt = record { session = session_of progress (role_of op); op = op; receipt = receipt }
 
+-- a command of the conversation's session in that role may be the next
+abbrev pub MayBe : Progress → Role → Type 0
+MayBe New role = role ≡ Opens
+MayBe (Open number) role = role ≢ Opens
+MayBe (Ended number) role = ⊥
+MayBe Gone role = ⊥
+
 -- no session is open: none was opened, or nothing more of it is appended
 abbrev pub IsDone : Progress → Type 0
 IsDone New = Unit {0}

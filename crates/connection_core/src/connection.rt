@@ -81,13 +81,6 @@ impl Connection {
         self.stage
     }
 
-    /// How far its conversation with the broker has come.
-    pub fn progress(&self) -> Progress
-        ensures { result ≡ self.now.progress }
-    {
-        self.progress
-    }
-
     /// The number of its session at the broker, once it has one.
     pub fn number(&self) -> Option<u64>
         ensures { result ≡ number_in self.now.progress }
@@ -190,7 +183,7 @@ impl Connection {
     /// What it wants next.
     pub fn next(&mut self) -> Wanted
         ensures wants { Wants self.old self.new result }
-        ensures form { HasWantedForm result }
+        ensures form { HasWantedForm self.new.progress result }
         ensures first { self.new.acts.again ≡ None }
         ensures life { (bytes : List ℕ) (taken : List Act) → HasHeard bytes taken self.old → Went bytes taken self.old self.new }
     {
@@ -200,7 +193,7 @@ impl Connection {
     // The same, without what it means for all that was heard.
     fn want(&mut self) -> Wanted
         ensures wants { Wants self.old self.new result }
-        ensures form { HasWantedForm result }
+        ensures form { HasWantedForm self.new.progress result }
         ensures first { self.new.acts.again ≡ None }
     {
         match self.next_act() {
@@ -233,16 +226,17 @@ impl Connection {
     fn ask(&self, op: Op, receipt: Option<HeaderText>) -> Wanted
         requires { HasForm (acts.Do op receipt) }
         ensures asks { Asks self.now.progress op receipt result }
-        ensures form { HasWantedForm result }
+        ensures form { HasWantedForm self.now.progress result }
     {
-        let session = self.progress.session(Role::of(&op));
-        let command = Command::new(session, op, receipt);
-        if self.progress.admits(&command) {
-            Wanted::Append(command)
-        } else {
-            drop(command);
-            Wanted::Done
+        let role = Role::of(&op);
+        if !self.progress.admits(role) {
+            drop(op);
+            drop(receipt);
+            return Wanted::Done;
         }
+        let command = Command::new(self.progress.session(role), op, receipt);
+        let said = Said::of(&command, role);
+        Wanted::Append(command, said)
     }
 
     // A fault closes the connection once its ERROR is sent. A DISCONNECT closes it at once, or once its RECEIPT is sent. Its End comes

@@ -1,10 +1,9 @@
 //! How far the conversation of one connection with the broker has come.
 
-ghost use Rattle.std.specs.Prelude.{◌≡◌, ◌≢◌, true, false};
-ghost use Rattle.connection_core.specs.Conversations.{IsNext, after, number_in, over, role_of, session_of};
-ghost use Rattle.connection_core.specs.declared.progress.Role.TheVariants.{Opens};
+ghost use Rattle.std.specs.Prelude.{◌≡◌, true, false};
+ghost use Rattle.connection_core.specs.Conversations.{MayBe, after, number_in, over, role_of, session_of};
 
-use command_core::{Command, Op};
+use command_core::Op;
 
 /// What a command is to its session.
 #[derive(Clone, Copy)]
@@ -27,17 +26,6 @@ impl Role {
             Op::End(_) => Role::Ends,
             _ => Role::Talks,
         }
-    }
-}
-
-// Whether a command of that session and role goes on with the session of that number.
-fn goes_on(number: u64, session: u64, role: Role) -> bool
-    ensures yes { result ≡ true → (session ≡ number) × (role ≢ Opens) }
-    ensures no { result ≡ false → (session ≡ number) × (role ≢ Opens) → ⊥ }
-{
-    match role {
-        Role::Opens => false,
-        _ => session == number,
     }
 }
 
@@ -66,15 +54,14 @@ impl Progress {
         }
     }
 
-    /// Whether the command may be the next. A session's acts come in this order; here it is made sure of.
-    pub fn admits(self, command: &Command) -> bool
-        ensures yes { result ≡ true → IsNext self command.now }
-        ensures no { result ≡ false → IsNext self command.now → ⊥ }
+    // Whether a command of its session in that role may be the next. A session's acts come in this order; here it is made sure of.
+    pub(crate) fn admits(self, role: Role) -> bool
+        ensures yes { result ≡ true → MayBe self role }
+        ensures no { result ≡ false → MayBe self role → ⊥ }
     {
-        let role = Role::of(command.op());
         match self {
             Progress::New => role == Role::Opens,
-            Progress::Open(number) => goes_on(number, command.session(), role),
+            Progress::Open(_) => role != Role::Opens,
             Progress::Ended(_) | Progress::Gone => false,
         }
     }

@@ -16,14 +16,15 @@ pub struct Said {
 }
 
 impl Said {
-    ghost use Rattle.connection_core.specs.Conversations.{said_of};
+    ghost use Rattle.connection_core.specs.Conversations.{role_of, said_of};
 
-    /// What a command is to its session.
-    pub fn of(command: &Command) -> Said
+    // Of a command in that role.
+    pub(crate) fn of(command: &Command, role: Role) -> Said
+        requires { role ≡ role_of command.now.op }
         ensures { result ≡ said_of command.now }
     {
         Said {
-            role: Role::of(command.op()),
+            role,
             is_last: is_farewell(command.op()) && command.receipt().is_some(),
         }
     }
@@ -39,8 +40,9 @@ fn is_farewell(op: &Op) -> bool
 /// What a connection wants next.
 #[derive(Drop)]
 pub enum Wanted {
-    /// That the command is appended: `appended` tells it the ticket, or `retry` gives the command back if memory was refused.
-    Append(Command),
+    /// That the command, which is this to its session, is appended: `appended` tells it the ticket, or `retry` gives the command
+    /// back if memory was refused.
+    Append(Command, Said),
     /// That the frame is sent at once, the last one: `told` says that it was, or `retry_telling` gives it back if memory was
     /// refused.
     Tell(Notice),

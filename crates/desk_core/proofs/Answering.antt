@@ -1,6 +1,6 @@
 -- What a turn answers.
 use Rattle.std.proofs.Common.{◌≡◌, ℕ, ◌<◌, ◌≤◌, List, [], ◌∷◌, ◌++◌, Bool, true, false, Option, Some, None, length, refl, sym, ap, ◌∙◌, subst, arith, append-nil}
-use Rattle.std.specs.Prelude.{IfSome, IsSome, option_map}
+use Rattle.std.specs.Prelude.{IsSome, option_map}
 use Rattle.std.proofs.lemmas.List.{length-append}
 use Rattle.claim_core.specs.declared.limits.TheConstants.{WINDOW}
 use Rattle.claim_core.specs.Appends.{Appends, Refuses}
@@ -29,10 +29,8 @@ grows_by window s t ticket c a =
     let more : length t.own ≡ length (s.own ++ (ticket, c) ∷ []) = ap (λ (x : SessionSeatValue). length x.own) a.added in
     omega (arith, more, length-append s.own ((ticket, c) ∷ []))
 
-pub spoken_grows : (command : CommandValue) (was is : ConnectionValue) (s t : SessionSeatValue) (o : Option ℕ) (ticket : ℕ) → o ≡ Some ticket → IfSome o (SaysNext command was s is t) → length s.own < length t.own
-spoken_grows command was is s t o ticket same spoken =
-    let so : SaysNext command was s is t ticket = subst (λ x. IfSome x (SaysNext command was s is t)) same spoken in
-    grows_by WINDOW s t ticket command so.appends
+pub spoken_grows : (command : CommandValue) (was is : ConnectionValue) (s t : SessionSeatValue) (ticket : ℕ) → SaysNext command was s is t ticket → length s.own < length t.own
+spoken_grows command was is s t ticket so = grows_by WINDOW s t ticket command so.appends
 
 none_appended : (s t : SessionSeatValue) → t.own ≡ s.own → (b : Bool) → b ≡ false → Appended b s t
 none_appended s t own true is = absurd (let e : true ≡ false = is in cc)

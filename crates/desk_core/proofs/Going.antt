@@ -1,6 +1,6 @@
 -- How a slot goes on: what its client is sent, what its seat gets, and what of its client's bytes that is.
 use Rattle.std.proofs.Common.{◌≡◌, ◌<◌, ◌≤◌, ◌++◌, ◌∷◌, [], ℕ, List, Option, Some, None, refl, sym, ap, ◌∙◌, subst, inl, inr, append_assoc, append-nil, arith, ◌⊎◌}
-use Rattle.std.specs.Prelude.{IsNone, Result, Ok, Err, OnOk, OnErr, IfSome, option_map}
+use Rattle.std.specs.Prelude.{Result, Ok, Err, OnOk, OnErr, option_map}
 use Rattle.command_core.specs.Commands.{CommandValue}
 use Rattle.command_core.specs.declared.command.Op.{Op}
 use Rattle.frame_core.specs.declared.frame.Frame.{Frame}
@@ -10,7 +10,7 @@ use Rattle.claim_core.specs.Seats.{SessionSeatValue, with_seen}
 use Rattle.claim_core.specs.declared.refusals.Refused.{Refused}
 use Rattle.claim_core.specs.declared.refusals.Refused.TheVariants as refusals
 use Rattle.session_core.specs.declared.act.Act.{Act}
-use Rattle.connection_core.specs.Connections.{ConnectionValue, Fails, HearsBytes, Listens, Wants, WantsBy, with_appended}
+use Rattle.connection_core.specs.Connections.{ConnectionValue, Fails, HearsBytes, Listens, Wants, WantsBy, to_append, with_appended}
 use Rattle.connection_core.specs.Conversations.{IsNext, said_of}
 use Rattle.connection_core.specs.Footprints.{charged, total}
 use Rattle.connection_core.specs.Stages.{Executes, IsEnding, given_up, stopped}
@@ -238,18 +238,18 @@ none_waits bytes effects new p none l s = subst (λ x. Lives bytes effects new (
 none_more_waits : {B : Type 0} (bytes : List ℕ) (before : List Effect) (new : ConnectionValue) (p : Option (Pending B)) → p ≡ None → Lives bytes before new Rest → Spends before new [] → Lives bytes (before ++ []) new (wanted_of p) × Spends (before ++ []) new (waiting_of p)
 none_more_waits bytes before new p none l s = subst (λ d. Lives bytes d new (wanted_of p) × Spends d new (waiting_of p)) (sym (append-nil before)) (none_waits bytes before new p none l s)
 
-pub held_so : {B : Type 0} (old new : ConnectionValue) (p : Option (Pending B)) (pending : Pending B) → new ≡ old → p ≡ Some pending → LivesOn (Append pending.entry.command) (pending.entry.command.op ∷ []) old new p []
+pub held_so : {B : Type 0} (old new : ConnectionValue) (p : Option (Pending B)) (pending : Pending B) → new ≡ old → p ≡ Some pending → LivesOn (to_append pending.entry.command) (pending.entry.command.op ∷ []) old new p []
 held_so old new p pending same kept = λ bytes before l s.
     subst (λ d. Lives bytes d new (wanted_of p) × Spends d new (waiting_of p)) (sym (append-nil before))
     (subst (λ x. Lives bytes before new (wanted_of x) × Spends before new (waiting_of x)) (sym kept)
-    (subst (λ x. Lives bytes before x (Append pending.entry.command) × Spends before x (pending.entry.command.op ∷ [])) (sym same) (l, s)))
+    (subst (λ x. Lives bytes before x (to_append pending.entry.command) × Spends before x (pending.entry.command.op ∷ [])) (sym same) (l, s)))
 
 pub stopped_so : {B : Type 0} (old new : ConnectionValue) (p : Option (Pending B)) (wanted : Wanted) (waiting : List Op) → new ≡ record old { stage = stopped old.stage } → p ≡ None → LivesOn wanted waiting old new p []
 stopped_so old new p wanted waiting same none = λ bytes before l s.
     none_more_waits bytes before new p none (leaves_it bytes before old new wanted (stops old new same) (stopped_over old new same) l)
     (spends_no_more before waiting old new (stopped_over old new same) s)
 
-pub said_so : {B : Type 0} (old new : ConnectionValue) (p : Option (Pending B)) (c : CommandValue) (ticket : ℕ) → Executes old.stage → new ≡ with_appended old (said_of c) ticket → p ≡ None → LivesOn (Append c) (c.op ∷ []) old new p (Said (ticket, c) ∷ [])
+pub said_so : {B : Type 0} (old new : ConnectionValue) (p : Option (Pending B)) (c : CommandValue) (ticket : ℕ) → Executes old.stage → new ≡ with_appended old (said_of c) ticket → p ≡ None → LivesOn (to_append c) (c.op ∷ []) old new p (Said (ticket, c) ∷ [])
 said_so old new p c ticket executes same none = λ bytes before l s.
     none_waits bytes (before ++ Said (ticket, c) ∷ []) new p none (says_it bytes before old new c ticket executes same l)
     (spends_said before old new c ticket executes (ap (λ (x : ConnectionValue). x.footprint) same) s)
@@ -270,25 +270,11 @@ pub nothing_wanted : {B : Type 0} (wanted : Wanted) (old new : ConnectionValue) 
 nothing_wanted wanted old new p waiting s t own halts lives = record { effects = []; added = own ∙ sym (append-nil s.own); none_told = refl; halts = halts; lives = lives }
 
 pub said_it : {B : Type 0} (window : ℕ) (old new : ConnectionValue) (p : Option (Pending B)) (s t : SessionSeatValue) (c : CommandValue) (ticket : ℕ) → Executes old.stage → Appends window s t ticket c → new ≡ with_appended old (said_of c) ticket → p ≡ None
-    → DoesWanted (Append c) (c.op ∷ []) old s new p t
+    → DoesWanted (to_append c) (c.op ∷ []) old s new p t
 said_it window old new p s t c ticket executes a same none = record { effects = Said (ticket, c) ∷ []; added = ap (λ (x : SessionSeatValue). x.own) a.added; none_told = refl; halts = λ h. inl (subst HasHalted (ap (λ (x : ConnectionValue). x.stage) same) h); lives = said_so old new p c ticket executes same none }
 
-pub said_some : {B : Type 0} (old new : ConnectionValue) (p : Option (Pending B)) (s t : SessionSeatValue) (c : CommandValue) (o : Option ℕ) (ticket : ℕ) → o ≡ Some ticket → Executes old.stage
-    → IfSome o (SaysNext c old s new t) → p ≡ None → DoesWanted (Append c) (c.op ∷ []) old s new p t
-said_some old new p s t c o ticket is executes spoken none =
-    let so : SaysNext c old s new t ticket = subst (λ x. IfSome x (SaysNext c old s new t)) is spoken in
-    said_it WINDOW old new p s t c ticket executes so.appends so.connection none
-
--- it may not be the next of the conversation, which is not so of what it wants
-pub never_dropped : {B : Type 0} (old new : ConnectionValue) (p : Option (Pending B)) (c : CommandValue) → Executes old.stage → (IsNext old.progress c → ⊥) → LivesOn (Append c) (c.op ∷ []) old new p []
-never_dropped old new p c executes other = λ bytes before l s.
-    absurd (other (subst (λ x. IsNext x c) (sym (l.stands executes)) (l.next executes).0))
-
-pub dropped_so : {B : Type 0} (old new : ConnectionValue) (p : Option (Pending B)) (s t : SessionSeatValue) (c : CommandValue) (o : Option ℕ) → o ≡ None → Executes old.stage
-    → (IsNone o → (IsNext old.progress c → ⊥) × (t ≡ s) × (new ≡ old)) → DoesWanted (Append c) (c.op ∷ []) old s new p t
-dropped_so old new p s t c o none executes dropped =
-    let so = dropped (subst (λ (x : Option ℕ). IsNone x) (sym none) refl) in
-    nothing_wanted (Append c) old new p (c.op ∷ []) s t (ap (λ (x : SessionSeatValue). x.own) so.1) (λ h. inl (subst HasHalted (ap (λ (x : ConnectionValue). x.stage) so.2) h)) (never_dropped old new p c executes so.0)
+pub said_next : {B : Type 0} (old new : ConnectionValue) (p : Option (Pending B)) (s t : SessionSeatValue) (c : CommandValue) (ticket : ℕ) → Executes old.stage → SaysNext c old s new t ticket → p ≡ None → DoesWanted (to_append c) (c.op ∷ []) old s new p t
+said_next old new p s t c ticket executes so none = said_it WINDOW old new p s t c ticket executes so.appends so.connection none
 
 own_refused : (window : ℕ) (refused : Refused) (s t : SessionSeatValue) → Refuses window s t refused → t.own ≡ s.own
 own_refused window refusals.Stopped s t is = ap (λ (x : SessionSeatValue). x.own) is
@@ -300,33 +286,33 @@ found_so window refusals.Stopped s t is final = inl (ap (λ (x : SessionSeatValu
 found_so window refusals.Exhausted s t is final = inr is.1
 found_so window (refusals.Busy mark) s t is final = absurd final
 
-pub refused_so : {B : Type 0} (window : ℕ) (refused : Refused) (old mid new : ConnectionValue) (p : Option (Pending B)) (s t : SessionSeatValue) (c d : CommandValue) → Refuses window s t refused → mid ≡ old → d ≡ c → (HasHalted new.stage → HasHalted mid.stage ⊎ IsFinal refused) → LivesOn (Append d) (d.op ∷ []) mid new p []
-    → DoesWanted (Append c) (c.op ∷ []) old s new p t
+pub refused_so : {B : Type 0} (window : ℕ) (refused : Refused) (old mid new : ConnectionValue) (p : Option (Pending B)) (s t : SessionSeatValue) (c d : CommandValue) → Refuses window s t refused → mid ≡ old → d ≡ c → (HasHalted new.stage → HasHalted mid.stage ⊎ IsFinal refused) → LivesOn (to_append d) (d.op ∷ []) mid new p []
+    → DoesWanted (to_append c) (c.op ∷ []) old s new p t
 refused_so window refused old mid new p s t c d is same command halts lives =
-    nothing_wanted (Append c) old new p (c.op ∷ []) s t (own_refused window refused s t is)
+    nothing_wanted (to_append c) old new p (c.op ∷ []) s t (own_refused window refused s t is)
     (λ h. elim (halts h) [ inl before ↦ inl (subst (λ (x : ConnectionValue). HasHalted x.stage) same before) | inr final ↦ inr (found_so window refused s t is final) ])
-    (subst (λ (x : CommandValue). LivesOn (Append x) (x.op ∷ []) old new p []) command (subst (λ x. LivesOn (Append d) (d.op ∷ []) x new p []) same lives))
+    (subst (λ (x : CommandValue). LivesOn (to_append x) (x.op ∷ []) old new p []) command (subst (λ x. LivesOn (to_append d) (d.op ∷ []) x new p []) same lives))
 
 -- the command would have the session pass its bytes, and is dropped with all that waits behind it
 pub cut_so : {B : Type 0} (old new : ConnectionValue) (p : Option (Pending B)) (s : SessionSeatValue) (c : CommandValue) → Executes old.stage → SESSION_BYTES < total (charged old.footprint c.op) → new ≡ record old { acts = tasks None []; stage = given_up old.stage } → p ≡ None
-    → DoesWanted (Append c) [] old s new p s
-cut_so old new p s c executes passes same none = nothing_wanted (Append c) old new p [] s s refl (λ h. inl (halted_giving old.stage (subst HasHalted (ap (λ (x : ConnectionValue). x.stage) same) h))) (λ bytes before l spends.
+    → DoesWanted (to_append c) [] old s new p s
+cut_so old new p s c executes passes same none = nothing_wanted (to_append c) old new p [] s s refl (λ h. inl (halted_giving old.stage (subst HasHalted (ap (λ (x : ConnectionValue). x.stage) same) h))) (λ bytes before l spends.
     let by = cut_by_count before old c.op executes spends passes in
     none_more_waits bytes before new p none (cuts_it bytes before old new c executes same by.0 by.1 l)
     (spends_on before [] old new (λ e. executes) (ap (λ (x : ConnectionValue). x.footprint) same) spends))
 
 -- the command is counted first
 pub charged_so : {B : Type 0} (old mid new : ConnectionValue) (p : Option (Pending B)) (s t : SessionSeatValue) (c d : CommandValue) → Executes old.stage → total (charged old.footprint c.op) ≤ SESSION_BYTES → mid ≡ record old { footprint = charged old.footprint c.op } → d ≡ c
-    → (Executes mid.stage → DoesWanted (Append d) (d.op ∷ []) mid s new p t) → DoesWanted (Append c) [] old s new p t
+    → (Executes mid.stage → DoesWanted (to_append d) (d.op ∷ []) mid s new p t) → DoesWanted (to_append c) [] old s new p t
 charged_so {B} old mid new p s t c d executes fits counted command does =
-    let own : DoesWanted (Append c) (c.op ∷ []) mid s new p t =
-    subst (λ (x : CommandValue). DoesWanted {B = B} (Append x) (x.op ∷ []) mid s new p t) command (does (subst Executes (sym (ap (λ (x : ConnectionValue). x.stage) counted)) executes)) in record {
+    let own : DoesWanted (to_append c) (c.op ∷ []) mid s new p t =
+    subst (λ (x : CommandValue). DoesWanted {B = B} (to_append x) (x.op ∷ []) mid s new p t) command (does (subst Executes (sym (ap (λ (x : ConnectionValue). x.stage) counted)) executes)) in record {
       effects = own.effects;
       added = own.added;
       none_told = own.none_told;
       halts = λ h. elim (own.halts h) [ inl before ↦ inl (subst HasHalted (ap (λ (x : ConnectionValue). x.stage) counted) before) | inr found ↦ inr found ];
       lives = λ bytes before l spends.
-          own.lives bytes before (subst (λ x. Lives bytes before x (Append c)) (sym counted) (counts_it bytes before old (charged old.footprint c.op) (Append c) l))
+          own.lives bytes before (subst (λ x. Lives bytes before x (to_append c)) (sym counted) (counts_it bytes before old (charged old.footprint c.op) (to_append c) l))
           (spends_charged before old mid c.op executes fits (ap (λ (x : ConnectionValue). x.footprint) counted) spends);
     }
 
@@ -364,11 +350,11 @@ goes_wanted sent received was mid is s t l wanted executes still_so none w outbo
 
 pub goes_pending : {B L : Type 0} (sent : L → Option (List (List ℕ))) (received : L → Option (List ℕ)) (was mid is : Slot B) (s t : SessionSeatValue) (l : L) (pending : Pending B) → Executes was.connection.stage → was.pending ≡ Some pending
     → mid.connection ≡ was.connection → mid.outbox ≡ was.outbox → mid.kept ≡ was.kept → Continues mid.connection.progress s is.connection.progress t → Stays mid is
-    → DoesWanted (Append pending.entry.command) (pending.entry.command.op ∷ []) mid.connection s is.connection is.pending t → GoesOn sent received was s l is t l
+    → DoesWanted (to_append pending.entry.command) (pending.entry.command.op ∷ []) mid.connection s is.connection is.pending t → GoesOn sent received was s l is t l
 goes_pending sent received was mid is s t l pending executes some connection outbox kept continues same d =
     let progress = ap (λ (c : ConnectionValue). c.progress) connection in
     goes_doing sent received was is s t l d.effects d.added d.none_told (subst (λ p. Continues p s is.connection.progress t) progress continues) (restay was mid is progress outbox kept same)
-    (λ bytes before x. d.lives bytes before (subst (λ c. Lives bytes before c (Append pending.entry.command)) (sym connection) (subst (λ p. Lives bytes before was.connection (wanted_of p)) some x.0))
+    (λ bytes before x. d.lives bytes before (subst (λ c. Lives bytes before c (to_append pending.entry.command)) (sym connection) (subst (λ p. Lives bytes before was.connection (wanted_of p)) some x.0))
     (subst (λ c. Spends before c (pending.entry.command.op ∷ [])) (sym connection) (subst (λ p. Spends before was.connection (waiting_of p)) some x.1)))
     (λ h. only_found mid.connection.stage t (subst (λ (c : ConnectionValue). Executes c.stage) (sym connection) executes) (d.halts h))
 
@@ -447,7 +433,7 @@ not_some (Some x) other = absurd (other x refl)
 
 -- from outside something is wanted
 abbrev pub IsOutside : Wanted → Type 0
-IsOutside (Append c) = Unit {0}
+IsOutside (Append c said) = Unit {0}
 IsOutside (Tell frame) = Unit {0}
 IsOutside Done = ⊥
 IsOutside Rest = ⊥

@@ -1,6 +1,6 @@
 -- How a connection at a seat does what its client's bytes ask for.
-use Rattle.std.proofs.Common.{◌≡◌, ◌++◌, ◌∷◌, [], ℕ, List, Option, Some, None, refl, sym, ap, ◌∙◌, subst, inl, inr, append_assoc, append-nil}
-use Rattle.std.specs.Prelude.{◌&&◌, ◌<◌, ◌⊎◌, cond, is_some, option_to_list}
+use Rattle.std.proofs.Common.{◌≡◌, ◌++◌, ◌∷◌, [], ℕ, List, Option, Some, None, refl, sym, ap, ◌∙◌, subst, inl, inr, append_assoc, append-nil, arith, true, false}
+use Rattle.std.specs.Prelude.{◌&&◌, ◌<◌, ◌⊎◌, ◌≢◌, cond, is_some, nat_eq, not, option_to_list}
 use Rattle.std.proofs.lemmas.List.{map-append}
 use Rattle.std.specs.List.{AllByRecursion}
 use Rattle.command_core.specs.Commands.{CommandValue}
@@ -13,7 +13,7 @@ use Rattle.session_core.specs.declared.act.Act.TheVariants.{Do, Direct, Close}
 use Rattle.session_core.specs.declared.act.CloseCode.{CloseCode}
 use Rattle.session_core.specs.declared.act.CloseCode.TheVariants.{NormalClosure, ProtocolError}
 use Rattle.session_core.specs.Sessions.{Hearing, Hears, IsOver, fresh}
-use Rattle.connection_core.specs.Connections.{ConnectionValue, HearsBytes, IsLost, IsSent, Listens, Takes, Wants, WantsBy, closed_by, loss_of, unheard, with_appended}
+use Rattle.connection_core.specs.Connections.{ConnectionValue, HearsBytes, IsLost, IsSent, Listens, Takes, Wants, WantsBy, closed_by, loss_of, to_append, unheard, with_appended}
 use Rattle.connection_core.specs.Conversations.{IsDone, IsFinished, IsNext, after, asked, is_farewell, over, role_of, said_of}
 use Rattle.connection_core.specs.Footprints.{footprint}
 use Rattle.connection_core.specs.declared.footprint.TheConstants.{SESSION_BYTES}
@@ -24,7 +24,10 @@ use Rattle.connection_core.specs.declared.ended.Ended.{Ended}
 use Rattle.connection_core.specs.declared.ended.Ended.TheVariants.{Bye, Lost, Bad, Stopped}
 use Rattle.frame_core.specs.declared.frame.Verb.{Verb}
 use Rattle.frame_core.specs.declared.frame.Verb.TheVariants as verbs
-use Rattle.std.proofs.lemmas.Bool.{cases_eq}
+use Rattle.std.proofs.lemmas.Bool.{and_parts, cases_eq, eqb-true}
+use Rattle.std.proofs.lemmas.Bool.Decides.{nat_tests}
+use Rattle.connection_core.specs.declared.progress.Role.{Role}
+use Rattle.connection_core.specs.declared.progress.Role.TheVariants.{Opens, Talks, Ends}
 use Rattle.connection_core.specs.declared.progress.Progress.{Progress}
 use Rattle.connection_core.specs.declared.progress.Progress.TheVariants.{New, Open, Ended as Finished, Gone}
 use Rattle.connection_core.specs.declared.said.Wanted.{Wanted}
@@ -38,6 +41,8 @@ use Rattle.desk_core.specs.Conversations.{StaysOrEnds}
 use Rattle.desk_core.specs.Effects.{Effect, Does, Said, Tells, commands_of, untold_of}
 use Rattle.desk_core.specs.Histories.{HasTold, IsAsked, IsBad, IsLast, IsLoss, Lives, Restaged, Steady, act_of}
 use Rattle.desk_core.specs.Halting.{HasHalted, IsStopped}
+use Rattle.desk_core.specs.Keeping.{WaitsNext, is_next, opens}
+use Rattle.desk_core.specs.declared.pending.Pending.{Pending}
 use Rattle.desk_core.specs.Spending.{IsCut, ops_of}
 use Rattle.desk_core.proofs.Doing.{IsSilent, commands_append, does_say, does_silent, does_tell, none_more}
 use Rattle.desk_core.proofs.Lists.{all_append}
@@ -402,10 +407,10 @@ passes_it bytes effects old new act wanted n is asked_for silent same = record {
 
 -- by what an act asks for
 by_act : (bytes : List ℕ) (effects : List Effect) (old new : ConnectionValue) (act : Act) (wanted : Wanted) → Next bytes effects old new act → WantsBy old new (Some act) wanted → old.progress ≡ new.progress → Lives bytes effects new wanted
-by_act bytes effects old new (Do op receipt) (Append c) n by same =
+by_act bytes effects old new (Do op receipt) (Append c said) n by same =
     let asks : c ≡ asked old.progress op receipt = by.0.0 in
-    wants_it bytes effects old new (Do op receipt) (Append c) n (ap (λ (x : CommandValue). Do x.op x.receipt ∷ []) asks)
-    (λ p e. subst (λ q. IsAsked q (Append c)) (sym e) (by.0.1, subst (λ (x : CommandValue). x ≡ asked old.progress x.op x.receipt) (sym asks) refl)) same
+    wants_it bytes effects old new (Do op receipt) (Append c said) n (ap (λ (x : CommandValue). Do x.op x.receipt ∷ []) asks)
+    (λ p e. subst (λ q. IsAsked q (Append c said)) (sym e) (by.0.1, subst (λ (x : CommandValue). x ≡ asked old.progress x.op x.receipt) (sym asks) refl)) same
 by_act bytes effects old new (Do op receipt) (Tell frame) n by same = absurd by.0
 by_act bytes effects old new (Do op receipt) Done n by same = passes_it bytes effects old new (Do op receipt) Done n refl (λ p. tt) (λ p e. subst (λ q. IsNext q (asked q op receipt) → ⊥) (sym e) by.0) same
 by_act bytes effects old new (Do op receipt) Rest n by same = absurd by.0
@@ -586,7 +591,7 @@ wants_next bytes effects old new wanted executes w l = by_list (all_of old.acts)
 
 -- ── what is wanted is done ──
 
-pub says_it : (bytes : List ℕ) (effects : List Effect) (old new : ConnectionValue) (c : CommandValue) (ticket : ℕ) → Executes old.stage → new ≡ with_appended old (said_of c) ticket → Lives bytes effects old (Append c)
+pub says_it : (bytes : List ℕ) (effects : List Effect) (old new : ConnectionValue) (c : CommandValue) (ticket : ℕ) → Executes old.stage → new ≡ with_appended old (said_of c) ticket → Lives bytes effects old (to_append c)
     → Lives bytes (effects ++ Said (ticket, c) ∷ []) new Rest
 says_it bytes effects old new c ticket executes is l =
     let next = l.next executes in
@@ -977,6 +982,55 @@ closes_so old new p ended told stood is_done goes is = record {
 
 pub closes_over : (old new : ConnectionValue) → HasTold old.stage → new ≡ record old { progress = over old.progress; stage = Closing Bad } → Steady old new
 closes_over old new told is = closes_so old new (over old.progress) Bad (λ bad. told) (inr refl) (λ last. done_finished (over old.progress) (finished_over old.progress)) (λ h. h) is
+
+-- ── an entry that waits ──
+
+opens_so : (r : Role) → opens r ≡ true → r ≡ Opens
+opens_so Opens is = refl
+opens_so Talks is = absurd (let no : ⊥ = cc in no)
+opens_so Ends is = absurd (let no : ⊥ = cc in no)
+
+not_opens : (r : Role) → not (opens r) ≡ true → r ≢ Opens
+not_opens Opens is = λ _. let no : ⊥ = cc in no
+not_opens Talks is = λ same. let no : ⊥ = cc in no
+not_opens Ends is = λ same. let no : ⊥ = cc in no
+
+so_opens : (r : Role) → r ≡ Opens → opens r ≡ true
+so_opens r same = ap opens same
+
+so_not : (r : Role) → r ≢ Opens → not (opens r) ≡ true
+so_not Opens other = absurd (other refl)
+so_not Talks other = refl
+so_not Ends other = refl
+
+-- what may be the next, as a value
+pub next_so : (p : Progress) (c : CommandValue) → is_next p c ≡ true → IsNext p c
+next_so New c is = opens_so (role_of c.op) is
+next_so (Open number) c is =
+    let parts = and_parts (nat_eq c.session number) (not (opens (role_of c.op))) is in (eqb-true c.session number parts.0, not_opens (role_of c.op) parts.1)
+next_so (Finished number) c is = absurd (let no : ⊥ = cc in no)
+next_so Gone c is = absurd (let no : ⊥ = cc in no)
+
+pub so_next : (p : Progress) (c : CommandValue) → IsNext p c → is_next p c ≡ true
+so_next New c is = so_opens (role_of c.op) is
+so_next (Open number) c is =
+    let same : nat_eq c.session number ≡ true = let at = is.0 in grind (arith, nat_tests) in
+    ap (λ b. b && not (opens (role_of c.op))) same ∙ so_not (role_of c.op) is.1
+so_next (Finished number) c is = absurd is
+so_next Gone c is = absurd is
+
+pub waits_still : {B : Type 0} (old new : ConnectionValue) (p q : Option (Pending B)) → Restaged old new → q ≡ p → WaitsNext old p → WaitsNext new q
+waits_still old new p q r same w = λ it some executes.
+    subst (λ x. is_next x it.entry.command ≡ true) (sym (r.progress executes)) (w it (sym same ∙ some) (r.executes executes))
+
+pub waits_kept : {B : Type 0} (c : ConnectionValue) (p : Option (Pending B)) (pending : Pending B) → p ≡ Some pending → IsNext c.progress pending.entry.command → WaitsNext c p
+waits_kept {B} c p pending is next = λ it some executes.
+    let both : Some pending ≡ Some it = sym is ∙ some in
+    let same : pending ≡ it = cc in
+    subst (λ (x : Pending B). is_next c.progress x.entry.command ≡ true) same (so_next c.progress pending.entry.command next)
+
+pub none_waits_next : {B : Type 0} (c : ConnectionValue) (p : Option (Pending B)) → p ≡ None → WaitsNext c p
+none_waits_next {B} c p none = λ it some executes. absurd (let both : Some it ≡ None = sym some ∙ none in cc)
 
 pub same_stage : (old new : ConnectionValue) → new ≡ old → Steady old new
 same_stage old new is = record {

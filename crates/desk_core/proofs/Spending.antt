@@ -9,14 +9,14 @@ use Rattle.command_core.specs.declared.command.End.TheVariants as ends
 use Rattle.claim_core.specs.Counts.{Pair}
 use Rattle.session_core.specs.declared.act.Act.{Act}
 use Rattle.session_core.specs.declared.act.Act.TheVariants.{Do}
-use Rattle.connection_core.specs.Connections.{ConnectionValue, Wants}
+use Rattle.connection_core.specs.Connections.{ConnectionValue, Wants, to_append}
 use Rattle.connection_core.specs.Footprints.{IsWithin, charged, footprint, standing, total}
 use Rattle.connection_core.specs.Stages.{Executes, IsEnding, given_up}
 use Rattle.connection_core.specs.Tasks.{all_of, tasks}
 use Rattle.connection_core.specs.declared.footprint.Part.{Part}
 use Rattle.connection_core.specs.declared.footprint.TheConstants.{SESSION_BYTES}
 use Rattle.connection_core.specs.declared.said.Wanted.{Wanted}
-use Rattle.connection_core.specs.declared.said.Wanted.TheVariants.{Append, Rest}
+use Rattle.connection_core.specs.declared.said.Wanted.TheVariants.{Rest}
 use Rattle.connection_core.specs.declared.stage.Stage.{Stage}
 use Rattle.connection_core.specs.declared.stage.Stage.TheVariants.{Running, GivingUp, Closing, Parting, Leaving, Over}
 use Rattle.connection_core.proofs.Footprints.{charges, within_less, within_more, within_none}
@@ -119,7 +119,7 @@ no_loss all op receipt fits passes loss =
     absurd (omega (arith, same, more, fits))
 
 pub cuts_it : (bytes : List ℕ) (effects : List Effect) (old new : ConnectionValue) (c : CommandValue) → Executes old.stage → new ≡ record old { acts = tasks None []; stage = given_up old.stage }
-    → footprint (ops_of (commands_of effects)) ≤ SESSION_BYTES → SESSION_BYTES < footprint (ops_of (commands_of effects) ++ c.op ∷ []) → Lives bytes effects old (Append c) → Lives bytes effects new Rest
+    → footprint (ops_of (commands_of effects)) ≤ SESSION_BYTES → SESSION_BYTES < footprint (ops_of (commands_of effects) ++ c.op ∷ []) → Lives bytes effects old (to_append c) → Lives bytes effects new Rest
 cuts_it bytes effects old new c executes is fits passes l =
     let act : Act = Do c.op c.receipt in
     let split : l.asked_for ++ l.losses ≡ l.done ++ (act ∷ (l.left ++ all_of old.acts)) = l.split in

@@ -8,7 +8,7 @@ use Rattle.claim_core.specs.Seats.{SessionSeatValue}
 use Rattle.session_core.specs.declared.act.Act.{Act}
 use Rattle.session_core.specs.declared.act.Act.TheVariants.{Do, Direct}
 use Rattle.session_core.specs.Sessions.{Hearing, Hears, IsOver, fresh}
-use Rattle.connection_core.specs.Connections.{ConnectionValue}
+use Rattle.connection_core.specs.Connections.{ConnectionValue, to_append}
 use Rattle.connection_core.specs.Conversations.{IsDone, IsFinished, IsNext, asked}
 use Rattle.connection_core.specs.Footprints.{IsWithin}
 use Rattle.connection_core.specs.Stages.{Executes, IsEnding}
@@ -34,14 +34,14 @@ IsLoss act = act ≡ Do (ops.End ends.Lost) None
 
 -- the act of what was wanted and is not done yet
 abbrev pub act_of : Wanted → List Act
-act_of (Append c) = Do c.op c.receipt ∷ []
+act_of (Append c said) = Do c.op c.receipt ∷ []
 act_of (Tell frame) = Direct frame ∷ []
 act_of Done = []
 act_of Rest = []
 
 -- a command that is wanted is what the conversation has next
 abbrev pub IsAsked : Progress → Wanted → Type 0
-IsAsked p (Append c) = IsNext p c × (c ≡ asked p c.op c.receipt)
+IsAsked p (Append c said) = IsNext p c × (c ≡ asked p c.op c.receipt)
 IsAsked p wanted = Unit {0}
 
 -- it ends behind an ERROR
@@ -103,7 +103,7 @@ pub record Lives (bytes : List ℕ) (effects : List Effect) (c : ConnectionValue
 -- what a slot's connection wants, where an entry waits for room
 abbrev pub wanted_of : {B : Type 0} → Option (Pending B) → Wanted
 wanted_of None = Rest
-wanted_of (Some pending) = Append pending.entry.command
+wanted_of (Some pending) = to_append pending.entry.command
 
 -- a slot has come so far, and keeps within its session's bytes
 abbrev pub LivesAt : {B : Type 0} → List ℕ → List Effect → Slot B → Type 0

@@ -1,12 +1,36 @@
--- What a connection keeps that runs.
-use Rattle.std.specs.Prelude.{◌≡◌, Some}
+-- What a connection keeps that goes on.
+use Rattle.std.specs.Prelude.{◌≡◌, ◌&&◌, Bool, true, false, Option, Some, nat_eq, not}
+use Rattle.command_core.specs.Commands.{CommandValue}
 use Rattle.command_core.specs.Outs.{OutValue}
 use Rattle.connection_core.specs.Connections.{ConnectionValue}
-use Rattle.connection_core.specs.Conversations.{number_in}
+use Rattle.connection_core.specs.Conversations.{number_in, role_of}
+use Rattle.connection_core.specs.Stages.{Executes}
 use Rattle.connection_core.specs.declared.stage.Stage.TheVariants.{Running}
+use Rattle.connection_core.specs.declared.progress.Progress.{Progress}
+use Rattle.connection_core.specs.declared.progress.Progress.TheVariants.{New, Open, Ended, Gone}
+use Rattle.connection_core.specs.declared.progress.Role.{Role}
+use Rattle.connection_core.specs.declared.progress.Role.TheVariants.{Opens, Talks, Ends}
 use Rattle.desk_core.specs.declared.kept.Kept.{Kept}
 use Rattle.desk_core.specs.declared.kept.Kept.TheVariants as kept
+use Rattle.desk_core.specs.declared.pending.Pending.{Pending}
 
 -- While it runs, an output that it keeps and that may leave is of its own session: one whose outbox has another's is given up.
 abbrev pub KeepsOwn : ConnectionValue → Kept → Type 0
 KeepsOwn connection it = (out : OutValue) → it ≡ kept.Unsent out → connection.stage ≡ Running → number_in connection.progress ≡ Some out.session
+
+-- whether a command of that role opens its session
+abbrev pub opens : Role → Bool
+opens Opens = true
+opens Talks = false
+opens Ends = false
+
+-- whether the command may be the next of the conversation
+abbrev pub is_next : Progress → CommandValue → Bool
+is_next New c = opens (role_of c.op)
+is_next (Open number) c = nat_eq c.session number && not (opens (role_of c.op))
+is_next (Ended number) c = false
+is_next Gone c = false
+
+-- While more is appended, the command of an entry that waits is the next of its conversation.
+abbrev pub WaitsNext : {B : Type 0} → ConnectionValue → Option (Pending B) → Type 0
+WaitsNext {B} connection pending = (it : Pending B) → pending ≡ Some it → Executes connection.stage → is_next connection.progress it.entry.command ≡ true

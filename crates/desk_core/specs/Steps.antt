@@ -1,5 +1,5 @@
 -- How a slot goes on at its seat.
-use Rattle.std.specs.Prelude.{◌≡◌, ◌++◌, ℕ, List, [], Option}
+use Rattle.std.specs.Prelude.{◌≡◌, ◌++◌, ℕ, List, [], None, Option}
 use Rattle.frame_core.specs.declared.frame.Frame.{Frame}
 use Rattle.claim_core.specs.Appends.{Appends}
 use Rattle.claim_core.specs.Seats.{SessionSeatValue}
@@ -26,6 +26,11 @@ pub record SaysNext (command : CommandValue) (was : ConnectionValue) (old : Sess
   pub appends : Appends WINDOW old new ticket command
   pub next : IsNext was.progress command
   pub connection : is ≡ with_appended was (said_of command) ticket
+
+-- no entry waits, and this one has the next command of the conversation
+pub record MayAppend {B : Type 0} (slot : Slot B) (pending : Pending B) : Type 0 where
+  pub nothing : slot.pending ≡ None
+  pub next : IsNext slot.connection.progress pending.entry.command
 
 -- One act took this step: the seat has a command more only if that is said, and if the window was full, an entry waits.
 pub record TakesStep {B : Type 0} (step : Step) (old new : SessionSeatValue) (pending : Option (Pending B)) : Type 0 where

@@ -1,8 +1,8 @@
 //! How what a connection wants is done.
 
 ghost use Rattle.std.specs.Prelude.{◌≡◌, ◌≢◌, None, true, false};
-ghost use Rattle.session_core.specs.Sessions.{HasForm};
-ghost use Rattle.session_core.specs.declared.act.Act.TheVariants as acts;
+ghost use Rattle.connection_core.specs.Connections.{HasWantedForm, to_append};
+ghost use Rattle.connection_core.specs.Conversations.{IsNext};
 
 use crate::pending::{Pending, charge};
 use crate::ringers::Ringers;
@@ -10,7 +10,7 @@ use crate::slot::Slot;
 use crate::speaking::speak;
 use claim_core::{BrokerRing, BrokerSeat, Refused};
 use command_core::Command;
-use connection_core::{Stage, Wanted};
+use connection_core::{Said, Stage, Wanted};
 use outbox_core::{Bell, OutSender};
 use session_core::Notice;
 use std::alloc::Global;
@@ -75,7 +75,7 @@ impl<B: Bell> Slot<B> {
     ghost use Rattle.desk_core.specs.Conversations.{StaysOrEnds};
     ghost use Rattle.desk_core.specs.Halting.{HasHalted, IsFinal};
     ghost use Rattle.desk_core.specs.Holding.{Holds};
-    ghost use Rattle.desk_core.specs.Steps.{CarriesOut, GoesOn, TakesStep, TellsIt};
+    ghost use Rattle.desk_core.specs.Steps.{CarriesOut, GoesOn, MayAppend, TakesStep, TellsIt};
     ghost use Rattle.desk_core.specs.Histories.{LivesOn};
     ghost use Rattle.desk_core.specs.Slots.{Stays};
 
@@ -129,7 +129,9 @@ impl<B: Bell> Slot<B> {
             return self.append(ring, seat, pending);
         }
         match self.connection.next() {
-            Wanted::Append(command) => self.prepare(alloc, ring, seat, ringers, command),
+            Wanted::Append(command, said) => {
+                self.prepare(alloc, ring, seat, ringers, command, said)
+            }
             Wanted::Tell(notice) => self.tell(alloc, link, notice),
             Wanted::Done => Step::Done,
             Wanted::Rest => Step::Rest,
@@ -145,14 +147,15 @@ impl<B: Bell> Slot<B> {
         seat: &mut BrokerSeat<OutSender<B>>,
         ringers: &M,
         command: Command,
+        said: Said,
     ) -> Step
         requires ring { seat.old.ring ≡ ring.now }
-        requires form { HasForm (acts.Do command.op command.receipt) }
+        requires form { HasWantedForm self.old.connection.progress (Append command said) }
         requires first { self.old.connection.acts.again ≡ None }
         requires nothing { self.old.pending ≡ None }
         ensures continues { Continues self.old.connection.progress seat.old self.new.connection.progress seat.new }
         ensures stays { Stays self.old self.new }
-        ensures lives { CarriesOut (Append command) [] self.old seat.old self.new seat.new }
+        ensures lives { CarriesOut (to_append command) [] self.old seat.old self.new seat.new }
         ensures takes { TakesStep result seat.old seat.new self.new.pending }
     {
         if !self.connection.affords(command.op()) {
@@ -160,7 +163,7 @@ impl<B: Bell> Slot<B> {
             self.connection.cut_off(alloc);
             return Step::Done;
         }
-        match charge(alloc, ringers, &mut self.connection, command) {
+        match charge(alloc, ringers, &mut self.connection, command, said) {
             Ok(pending) => self.append(ring, seat, pending),
             Err(command) => {
                 self.connection.retry(command);
@@ -177,37 +180,34 @@ impl<B: Bell> Slot<B> {
         pending: Pending<B>,
     ) -> Step
         requires ring { seat.old.ring ≡ ring.now }
-        requires nothing { self.old.pending ≡ None }
+        requires may { MayAppend self.old pending }
         ensures continues { Continues self.old.connection.progress seat.old self.new.connection.progress seat.new }
         ensures stays { Stays self.old self.new }
         ensures taker { (taker : TakerValue) → pending.taker ≡ Some taker → result ≡ Step.Appended → self.new.outbox ≡ Some taker }
-        ensures lives { CarriesOut (Append pending.entry.command) (pending.entry.command.op ∷ []) self.old seat.old self.new seat.new }
+        ensures lives { CarriesOut (to_append pending.entry.command) (pending.entry.command.op ∷ []) self.old seat.old self.new seat.new }
         ensures takes { TakesStep result seat.old seat.new self.new.pending }
     {
-        let Pending { entry, taker } = pending;
-        match speak(ring, seat, &mut self.connection, entry) {
-            Ok(None) => {
-                drop(taker);
-                Step::Done
-            }
-            Ok(Some(_)) => {
+        let Pending { entry, said, taker } = pending;
+        match speak(ring, seat, &mut self.connection, entry, said) {
+            Ok(_) => {
                 if let Some(taker) = taker {
                     self.outbox = Some(taker);
                 }
                 Step::Appended
             }
-            Err((entry, refused)) => self.hold(Pending { entry, taker }, refused),
+            Err((entry, refused)) => self.hold(Pending { entry, said, taker }, refused),
         }
     }
 
     // An entry that the ring refused is kept for as long as the window is full. A ring that takes nothing more ends the
     // connection.
     fn hold(&mut self, pending: Pending<B>, refused: Refused) -> Step
+        requires { IsNext self.old.connection.progress pending.entry.command }
         ensures same { self.new.connection.progress ≡ self.old.connection.progress }
         ensures stays { (self.new.outbox ≡ self.old.outbox) × (self.new.kept ≡ self.old.kept) }
         ensures holds { Holds pending refused self.new.pending result }
         ensures halts { HasHalted self.new.connection.stage → HasHalted self.old.connection.stage ⊎ IsFinal refused }
-        ensures lives { self.old.pending ≡ None → LivesOn (Append pending.entry.command) (pending.entry.command.op ∷ []) self.old.connection self.new.connection self.new.pending [] }
+        ensures lives { self.old.pending ≡ None → LivesOn (to_append pending.entry.command) (pending.entry.command.op ∷ []) self.old.connection self.new.connection self.new.pending [] }
     {
         match refused {
             Refused::Busy(mark) => {

@@ -1,7 +1,7 @@
 //! A command on its way into the ring.
 
 ghost use Rattle.std.specs.Prelude.{◌≡◌, ◌≢◌, ◌≤◌, [], Some, None, IfOk, IfErr};
-ghost use Rattle.connection_core.specs.Conversations.{role_of};
+ghost use Rattle.connection_core.specs.Conversations.{role_of, said_of};
 ghost use Rattle.connection_core.specs.Footprints.{charged, total};
 ghost use Rattle.connection_core.specs.declared.footprint.TheConstants.{SESSION_BYTES};
 ghost use Rattle.connection_core.specs.declared.progress.Role.TheVariants.{Opens};
@@ -10,7 +10,7 @@ ghost use Rattle.desk_core.specs.Boxes.{IsBoxFor, box_of};
 
 use crate::ringers::Ringers;
 use command_core::{Command, Entry};
-use connection_core::{Connection, Role};
+use connection_core::{Connection, Role, Said};
 use outbox_core::{Bell, BoxSize, OutSender, OutTaker, outbox};
 use std::alloc::{AllocError, Global};
 
@@ -19,29 +19,33 @@ use std::alloc::{AllocError, Global};
 #[derive(Drop)]
 pub struct Pending<B: Bell> {
     pub(crate) entry: Entry<OutSender<B>>,
+    // What its command is to its session.
+    pub(crate) said: Said,
     pub(crate) taker: Option<OutTaker>,
+    ghost said_is: { said ≡ said_of entry.command },
     ghost opens: { (t : TakerValue) → taker ≡ Some t → (role_of entry.command.op ≡ Opens) × (t.taken ≡ []) },
     ghost one_box: { (t : TakerValue) → taker ≡ Some t → box_of entry.outbox ≡ Some t.box },
     ghost has_box: { role_of entry.command.op ≡ Opens → taker ≢ None },
 }
 
 impl<B: Bell> Pending<B> {
-    /// The entry of a command. Where memory is refused, for the entry or for the outbox, the command comes back.
+    /// The entry of a command, which is this to its session. Where memory is refused, for the entry or for the outbox, the command comes back.
     pub(crate) fn new<M: Ringers<B>>(
         alloc: Global,
         ringers: &M,
         command: Command,
+        said: Said,
     ) -> Result<Pending<B>, Command>
+        requires { said ≡ said_of command }
         ensures ok { IfOk result (λ pending. pending.entry.command ≡ command) }
         ensures back { IfErr result (λ back. back ≡ command) }
     {
-        let role = Role::of(command.op());
-        let (sender, taker) = match box_for(alloc, ringers, role) {
+        let (sender, taker) = match box_for(alloc, ringers, said.role) {
             Ok(ends) => ends,
             Err(_) => return Err(command),
         };
         match Entry::new(alloc, command, sender) {
-            Ok(entry) => Ok(Pending { entry, taker }),
+            Ok(entry) => Ok(Pending { entry, said, taker }),
             Err((command, sender)) => {
                 drop(sender);
                 drop(taker);
@@ -54,7 +58,11 @@ impl<B: Bell> Pending<B> {
     fn into_command(self) -> Command
         ensures { result ≡ self.entry.command }
     {
-        let Pending { entry, taker } = self;
+        let Pending {
+            entry,
+            said: _,
+            taker,
+        } = self;
         let (command, sender) = entry.into_parts();
         drop(sender);
         drop(taker);
@@ -68,13 +76,15 @@ pub fn charge<B: Bell, M: Ringers<B>>(
     ringers: &M,
     connection: &mut Connection,
     command: Command,
+    said: Said,
 ) -> Result<Pending<B>, Command>
-    requires { total (charged connection.old.footprint command.op) ≤ SESSION_BYTES }
+    requires fits { total (charged connection.old.footprint command.op) ≤ SESSION_BYTES }
+    requires said { said ≡ said_of command }
     ensures ok { IfOk result (λ pending. (pending.entry.command ≡ command)
         × (connection.new ≡ record connection.old { footprint = charged connection.old.footprint command.op })) }
     ensures back { IfErr result (λ back. (back ≡ command) × (connection.new ≡ connection.old)) }
 {
-    let pending = Pending::new(alloc, ringers, command)?;
+    let pending = Pending::new(alloc, ringers, command, said)?;
     match connection.charge(alloc, pending.entry.command().op()) {
         Ok(()) => Ok(pending),
         Err(_) => Err(pending.into_command()),

@@ -2,7 +2,7 @@
 
 ghost use Rattle.std.specs.Prelude.{◌≡◌, None};
 ghost use Rattle.connection_core.specs.Conversations.{number_in};
-ghost use Rattle.desk_core.specs.Keeping.{KeepsOwn};
+ghost use Rattle.desk_core.specs.Keeping.{KeepsOwn, WaitsNext};
 
 use crate::kept::Kept;
 use crate::pending::Pending;
@@ -21,6 +21,7 @@ pub struct Slot<B: Bell> {
     pub(crate) kept: Kept,
     ghost opened: { number_in connection.progress ≡ None → outbox ≡ None },
     ghost own: { KeepsOwn connection kept },
+    ghost next: { WaitsNext connection pending },
 }
 
 impl<B: Bell> Slot<B> {

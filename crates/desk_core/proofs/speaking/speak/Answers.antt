@@ -1,7 +1,6 @@
 use Rattle.std.proofs.Common.{◌≡◌, ◌∙◌, ap, sym, subst}
-use Rattle.command_core.specs.Commands.{CommandValue}
 use Rattle.connection_core.specs.Connections.{ConnectionValue}
-use Rattle.connection_core.specs.Conversations.{IsNext, after, role_of}
+use Rattle.connection_core.specs.Conversations.{after, role_of}
 use Rattle.connection_core.specs.declared.progress.Progress.{Progress}
 use Rattle.connection_core.specs.declared.said.Said.{Said}
 use Rattle.desk_core.specs.Continues.{Continues}
@@ -12,10 +11,9 @@ pub returns-in-Ok-clause-continues : goal.returns-in-Ok-clause-continues
 returns-in-Ok-clause-continues g c =
     let was = c.args.connection.now.progress in
     let command = c.args.entry.command in
-    let role : c.of-said.result.role ≡ role_of command.op = ap (λ (s : Said). s.role) c.of-said.ensures ∙ ap (λ (x : CommandValue). role_of x.op) c.command.ensures in
+    let role : c.args.said.role ≡ role_of command.op = ap (λ (s : Said). s.role) c.requires.said in
     let is : c.appended.new.self.progress ≡ after was (role_of command.op) c.in-Ok.ticket = ap (λ (x : ConnectionValue). x.progress) c.appended.ensures ∙ ap (λ r. after was r c.in-Ok.ticket) role in
-    let next : IsNext was command = subst (λ (x : CommandValue). IsNext was x) c.command-2.ensures (subst (λ (p : Progress). IsNext p c.command-2.result.now) c.progress.ensures (c.admits.ensures.yes c.if-not-admits.false)) in
-    subst (λ (p : Progress). Continues was c.args.seat.now p c.append.new.seat) (sym is) (said was c.in-Ok.ticket _ command c.args.seat.now c.append.new.seat next c.in-Ok.ensures.ok)
+    subst (λ (p : Progress). Continues was c.args.seat.now p c.append.new.seat) (sym is) (said was c.in-Ok.ticket _ command c.args.seat.now c.append.new.seat c.requires.next c.in-Ok.ensures.ok)
 
 pub returns-in-Err-clause-continues : goal.returns-in-Err-clause-continues
 returns-in-Err-clause-continues g c = unsaid c.args.connection.now.progress _ c.in-Err.back.1 c.args.seat.now c.append.new.seat c.in-Err.ensures.refused.1

@@ -1,39 +1,32 @@
 use Rattle.std.proofs.Common.{ap}
 use Rattle.command_core.specs.Entries.{EntryValue}
 use Rattle.desk_core.proofs.Answering.{held_takes, spoken_grows}
-use Rattle.desk_core.proofs.Going.{dropped_so, refused_so, said_some}
+use Rattle.desk_core.proofs.Going.{refused_so, said_next}
 use Rattle.desk_core.proofs.slot.Slot.append.Goals as goal
 
 pub returns-in-Some-clause-lives : goal.returns-in-Some-clause-lives
 returns-in-Some-clause-lives g c = λ executes.
-    said_some c.args.self.now.connection c.speak.new.connection c.args.self.now.pending c.args.seat.now c.speak.new.seat c.args.pending.entry.command c.in-Ok-Some.field-0 c.in-Ok-Some.field-0-0
-    c.in-Ok-Some.field-0-is executes c.in-Ok-Some.ensures.spoken c.requires.nothing
+    said_next c.args.self.now.connection c.speak.new.connection c.args.self.now.pending c.args.seat.now c.speak.new.seat c.args.pending.entry.command c.in-Ok.field-0 executes c.in-Ok.ensures.spoken c.requires.may.nothing
 
 pub returns-in_default-clause-lives : goal.returns-in_default-clause-lives
 returns-in_default-clause-lives g c = λ executes.
-    said_some c.args.self.now.connection c.speak.new.connection c.args.self.now.pending c.args.seat.now c.speak.new.seat c.args.pending.entry.command c.in-Ok-Some.field-0 c.in-Ok-Some.field-0-0
-    c.in-Ok-Some.field-0-is executes c.in-Ok-Some.ensures.spoken c.requires.nothing
-
-pub returns-in-Ok-None-clause-lives : goal.returns-in-Ok-None-clause-lives
-returns-in-Ok-None-clause-lives g c = λ executes.
-    dropped_so c.args.self.now.connection c.speak.new.connection c.args.self.now.pending c.args.seat.now c.speak.new.seat c.args.pending.entry.command c.in-Ok-None.field-0
-    c.in-Ok-None.field-0-is executes c.in-Ok-None.ensures.dropped
+    said_next c.args.self.now.connection c.speak.new.connection c.args.self.now.pending c.args.seat.now c.speak.new.seat c.args.pending.entry.command c.in-Ok.field-0 executes c.in-Ok.ensures.spoken c.requires.may.nothing
 
 pub returns-in-Err-clause-lives : goal.returns-in-Err-clause-lives
 returns-in-Err-clause-lives g c = λ executes.
     let back = c.in-Err.ensures.back in
     refused_so _ c.in-Err.refused c.args.self.now.connection c.speak.new.connection c.hold.new.self.connection c.hold.new.self.pending c.args.seat.now c.speak.new.seat c.args.pending.entry.command c.in-Err.entry.command
-    back.1 back.2 (ap (λ (e : EntryValue _). e.command) back.0) c.hold.ensures.halts (c.hold.ensures.lives c.requires.nothing)
+    back.1 back.2 (ap (λ (e : EntryValue _). e.command) back.0) c.hold.ensures.halts (c.hold.ensures.lives c.requires.may.nothing)
 
 pub returns-in-Some-clause-takes : goal.returns-in-Some-clause-takes
 returns-in-Some-clause-takes g c = record {
-  grows = spoken_grows c.args.pending.entry.command c.args.self.now.connection c.speak.new.connection c.args.seat.now c.speak.new.seat c.in-Ok-Some.field-0 c.in-Ok-Some.field-0-0 c.in-Ok-Some.field-0-is c.in-Ok-Some.ensures.spoken;
+  grows = spoken_grows c.args.pending.entry.command c.args.self.now.connection c.speak.new.connection c.args.seat.now c.speak.new.seat c.in-Ok.field-0 c.in-Ok.ensures.spoken;
   leaves = tt;
 }
 
 pub returns-in_default-clause-takes : goal.returns-in_default-clause-takes
 returns-in_default-clause-takes g c = record {
-  grows = spoken_grows c.args.pending.entry.command c.args.self.now.connection c.speak.new.connection c.args.seat.now c.speak.new.seat c.in-Ok-Some.field-0 c.in-Ok-Some.field-0-0 c.in-Ok-Some.field-0-is c.in-Ok-Some.ensures.spoken;
+  grows = spoken_grows c.args.pending.entry.command c.args.self.now.connection c.speak.new.connection c.args.seat.now c.speak.new.seat c.in-Ok.field-0 c.in-Ok.ensures.spoken;
   leaves = tt;
 }
 

@@ -1,7 +1,7 @@
 use Rattle.std.proofs.Common.{refl}
 use Rattle.desk_core.proofs.Answering.{no_more}
 use Rattle.desk_core.proofs.Going.{heeds_silence, heeds_unheard}
-use Rattle.desk_core.proofs.Living.{loses, same_stage}
+use Rattle.desk_core.proofs.Living.{loses, same_stage, waits_still}
 use Rattle.desk_core.proofs.slot.Slot.await_close.Goals as goal
 
 pub returns-in-Closed-clause-lives : goal.returns-in-Closed-clause-lives
@@ -24,3 +24,6 @@ returns-in-Closed-clause-heard g c = λ other. no_more _ _ c.in-Closed.ensures.r
 
 pub returns-in-Nothing-clause-heard : goal.returns-in-Nothing-clause-heard
 returns-in-Nothing-clause-heard g c = λ other. no_more _ _ c.in-Nothing.ensures.read
+
+pub invariant_of-self-clause-next : goal.invariant_of-self-clause-next
+invariant_of-self-clause-next g c = waits_still _ _ _ _ (loses _ _ c.lose.ensures).restaged refl c.args.self.now.next

@@ -2,7 +2,7 @@ use Rattle.std.proofs.Common.{◌≡◌, ◌∙◌, None, Some, refl, sym, ap}
 use Rattle.connection_core.specs.Connections.{ConnectionValue}
 use Rattle.connection_core.specs.Conversations.{number_in}
 use Rattle.desk_core.proofs.Going.{heeds_quietly}
-use Rattle.desk_core.proofs.Living.{loses, same_stage}
+use Rattle.desk_core.proofs.Living.{loses, same_stage, waits_still}
 use Rattle.desk_core.proofs.Messages.{keeps_own, quiet, refused_on, relayed_on, same_number, slot_relayed, still}
 use Rattle.desk_core.proofs.slot.Slot.pass_one.Goals as goal
 
@@ -58,4 +58,5 @@ invariant_of-self-in-Ok g c =
     same_number c.args.self.now.connection.progress c.note.new.connection.progress c.note.ensures.ends ∙ sym c.number.ensures ∙ c.in-Some.is in record {
       opened = λ none. absurd (let both : None ≡ Some c.in-Some.session = sym none ∙ number in cc);
       own = keeps_own c.in-Some.session c.note.new.connection _ _ c.relay.new.seat.seen c.in-Ok.relayed c.in-Ok.ensures.relays c.note.ensures.gives_up;
+      next = waits_still _ _ _ _ c.note.ensures.rest.restaged refl c.args.self.now.next;
     }

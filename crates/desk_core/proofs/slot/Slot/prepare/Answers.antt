@@ -2,10 +2,11 @@ use Rattle.std.proofs.Common.{◌≡◌, ◌<◌, ◌≤◌, ◌∷◌, ◌∙�
 use Rattle.command_core.specs.Commands.{CommandValue}
 use Rattle.command_core.specs.declared.command.Op.{Op}
 use Rattle.session_core.specs.declared.act.Act.TheVariants.{Do}
-use Rattle.connection_core.specs.Connections.{ConnectionValue}
+use Rattle.connection_core.specs.Connections.{ConnectionValue, to_append}
+use Rattle.connection_core.specs.Conversations.{IsNext}
+use Rattle.connection_core.specs.declared.progress.Progress.{Progress}
 use Rattle.connection_core.specs.Footprints.{charged, total}
 use Rattle.connection_core.specs.declared.footprint.TheConstants.{SESSION_BYTES}
-use Rattle.connection_core.specs.declared.said.Wanted.TheVariants.{Append}
 use Rattle.desk_core.specs.Halting.{HasHalted}
 use Rattle.desk_core.proofs.Going.{again_so, charged_so, cut_so, nothing_wanted}
 use Rattle.desk_core.proofs.slot.Slot.prepare.Goals as goal
@@ -22,8 +23,15 @@ returns-in-Ok-clause-lives g c = λ executes.
 
 pub returns-in-Err-clause-lives : goal.returns-in-Err-clause-lives
 returns-in-Err-clause-lives g c = λ executes.
-    nothing_wanted (Append c.args.command) c.args.self.now.connection c.retry.new.self c.args.self.now.pending [] c.args.seat.now c.args.seat.now refl
+    nothing_wanted (to_append c.args.command) c.args.self.now.connection c.retry.new.self c.args.self.now.pending [] c.args.seat.now c.args.seat.now refl
     (λ h. inl (subst HasHalted (ap (λ (x : ConnectionValue). x.stage) c.retry.ensures ∙ ap (λ (x : ConnectionValue). x.stage) c.in-Err.ensures.back.1) h))
-    (again_so c.args.self.now.connection c.retry.new.self c.args.self.now.pending (Append c.args.command) (Do c.in-Err.command.op c.in-Err.command.receipt) executes c.requires.first
+    (again_so c.args.self.now.connection c.retry.new.self c.args.self.now.pending (to_append c.args.command) (Do c.in-Err.command.op c.in-Err.command.receipt) executes c.requires.first
     (ap (λ (x : CommandValue). Do x.op x.receipt ∷ []) (sym c.in-Err.ensures.back.0))
     (subst (λ (x : ConnectionValue). c.retry.new.self ≡ record x { acts = record x.acts { again = Some (Do c.in-Err.command.op c.in-Err.command.receipt) } }) c.in-Err.ensures.back.1 c.retry.ensures) c.requires.nothing)
+
+pub append-requires-clause-may : goal.append-requires-clause-may
+append-requires-clause-may g c = record {
+  nothing = c.requires.nothing;
+  next = subst (λ (x : CommandValue). IsNext c.charge.new.connection.progress x) (sym c.in-Ok.ensures.ok.0)
+      (subst (λ (p : Progress). IsNext p c.args.command) (sym (ap (λ (x : ConnectionValue). x.progress) c.in-Ok.ensures.ok.1)) c.requires.form.1);
+}

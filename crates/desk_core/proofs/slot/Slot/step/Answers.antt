@@ -1,8 +1,11 @@
 use Rattle.std.proofs.Common.{◌∙◌, refl, subst, sym}
+use Rattle.connection_core.specs.Connections.{Wants, to_append}
 use Rattle.connection_core.specs.Stages.{Executes}
+use Rattle.connection_core.specs.declared.said.Said.{Said}
 use Rattle.connection_core.specs.declared.said.Wanted.TheVariants.{Append, Tell}
 use Rattle.desk_core.proofs.Answering.{quiet_takes}
 use Rattle.desk_core.proofs.Going.{goes_done, goes_none, goes_pending, goes_rest, goes_telling, goes_wanted, not_some, still_executes}
+use Rattle.desk_core.proofs.Living.{next_so}
 use Rattle.desk_core.proofs.slot.Slot.step.Goals as goal
 
 pub returns-then-not-executes-clause-goes : goal.returns-then-not-executes-clause-goes
@@ -16,10 +19,12 @@ returns-in-Some-clause-goes g c =
 pub returns-in-Append-clause-goes : goal.returns-in-Append-clause-goes
 returns-in-Append-clause-goes g c =
     let executes = subst Executes c.stage.ensures (c.executes.ensures.yes c.if-not-executes.false) in
-    goes_wanted g.L.Outgoing.sent g.L.Outgoing.received c.args.self.now _ c.prepare.new.self c.args.seat.now c.prepare.new.seat c.args.link.now (Append c.in-Append.command)
-    executes (still_executes c.args.self.now.connection c.next.new.self (Append c.in-Append.command) executes c.in-Append.ensures.wants tt)
-    (sym c.take.ensures.value ∙ not_some c.take.result c.in_default.not-Some) c.in-Append.ensures.wants refl refl c.prepare.ensures.continues c.prepare.ensures.stays
-    (c.prepare.ensures.lives (still_executes c.args.self.now.connection c.next.new.self (Append c.in-Append.command) executes c.in-Append.ensures.wants tt))
+    let command = c.in-Append.command in
+    let wants : Wants c.args.self.now.connection c.next.new.self (to_append command) =
+        subst (λ (s : Said). Wants c.args.self.now.connection c.next.new.self (Append command s)) c.in-Append.ensures.form.2 c.in-Append.ensures.wants in
+    let still = still_executes c.args.self.now.connection c.next.new.self (to_append command) executes wants tt in
+    goes_wanted g.L.Outgoing.sent g.L.Outgoing.received c.args.self.now _ c.prepare.new.self c.args.seat.now c.prepare.new.seat c.args.link.now (to_append command)
+    executes still (sym c.take.ensures.value ∙ not_some c.take.result c.in_default.not-Some) wants refl refl c.prepare.ensures.continues c.prepare.ensures.stays (c.prepare.ensures.lives still)
 
 pub returns-in-Tell-clause-goes : goal.returns-in-Tell-clause-goes
 returns-in-Tell-clause-goes g c =
@@ -40,3 +45,9 @@ returns-in-Rest-clause-goes g c =
 
 pub returns-in-Tell-clause-takes : goal.returns-in-Tell-clause-takes
 returns-in-Tell-clause-takes g c = quiet_takes c.tell.result _ c.args.seat.now c.tell.ensures.quiet
+
+pub append-requires-clause-may : goal.append-requires-clause-may
+append-requires-clause-may g c = record {
+  nothing = c.take.ensures.after;
+  next = next_so c.args.self.now.connection.progress c.in-Some.pending.entry.command (c.args.self.now.next c.in-Some.pending (sym c.take.ensures.value ∙ c.in-Some.is) (subst Executes c.stage.ensures (c.executes.ensures.yes c.if-not-executes.false)));
+}
