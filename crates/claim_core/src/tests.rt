@@ -26,7 +26,7 @@ fn delivery_of(entry: &Entry<()>) -> Option<u64> {
     }
 }
 
-// Which delivery the entry acknowledges that is taken.
+// The delivery that the taken entry acknowledges.
 fn take(ring: &SmallRing, flush: &mut FlushSeat<()>) -> Option<u64>
     requires { flush.old.ring ≡ ring.now }
     ensures { flush.new.ring ≡ ring.now }
@@ -94,7 +94,7 @@ fn finish(ring: &SmallRing, mut table_seat: TableSeat<()>, ticket: u64, entry: E
     );
 }
 
-// The ticket of another seat's entry, and what is taken: while the first entry is not ready, and twice once it is.
+// The ticket of another seat's entry, and what is taken: once while the first entry is not ready, and twice after.
 fn play(
     alloc: Global,
     ring: &SmallRing,
@@ -181,7 +181,7 @@ fn go_on<const SEATS: usize, const WINDOW: usize, const PLACES: usize>(
     appended
 }
 
-// One round: an entry at each of the places.
+// One round: an entry in each of the places.
 fn go_round<const SEATS: usize, const WINDOW: usize, const PLACES: usize>(
     alloc: Global,
     ring: &Ring<(), SEATS, WINDOW, PLACES>,
