@@ -1,4 +1,4 @@
--- What the user is told of the faults.
+-- What the user reads of the faults.
 use Rattle.std.specs.Prelude.{List, ◌++◌, ℕ, codes}
 use Rattle.std.specs.Fmt.{decimal}
 use Rattle.area_core.specs.declared.faults.AreaFault.{AreaFault}
