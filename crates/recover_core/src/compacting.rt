@@ -32,7 +32,7 @@ fn has_room_for(broker: &Broker, size: u64) -> bool
         && state_len(broker) <= size - 9
 }
 
-// Writes a snapshot of the broker's state into the area that is not live, and makes that area live.
+// Writes a snapshot of the broker's state into the area that is not live, and makes that one live.
 fn write_state<D: Disk>(
     alloc: Global,
     disk: &mut D,
