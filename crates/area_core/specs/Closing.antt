@@ -4,8 +4,7 @@ use Rattle.std.specs.Int.{w64, to_be_bytes}
 use Rattle.area_core.specs.declared.version.Version.TheVariants.{Two}
 use Rattle.area_core.specs.Areas.{word_of}
 
--- before the snapshot's first byte, eight bytes that give the second version and the snapshot's
--- length
+-- before the snapshot's first byte, eight bytes that give the second version and the snapshot's length
 abbrev pub heading : ℕ → ℕ → List ℕ
 heading at total = cond (at == 0) (to_be_bytes w64 (word_of Two total)) []
 

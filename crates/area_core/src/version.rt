@@ -7,8 +7,7 @@ ghost use Rattle.area_core.specs.declared.version.Version.{Version};
 /// The version of an area, which the area's first byte gives.
 #[derive(Clone, Copy)]
 pub enum Version {
-    /// The area's blocks are of a build whose NACK drops the message. This version is read, and
-    /// never written.
+    /// The area's blocks are of a build whose NACK drops the message. This version is read, and never written.
     One,
     /// A NACK keeps the message.
     Two,

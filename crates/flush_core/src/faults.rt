@@ -7,8 +7,7 @@ use broker_core::BrokerFault;
 use std::alloc::AllocError;
 use std::{error, fmt};
 
-/// Why a step of the flusher failed. After each of these the flusher is broken and its ring is
-/// stopped.
+/// Why a step of the flusher failed. After each of these the flusher is broken and its ring is stopped.
 #[derive(Debug, Drop)]
 pub enum FlushFault {
     /// The disk failed.

@@ -31,8 +31,8 @@ impl<'a> Snapshot<'a> {
         })
     }
 
-    // The snapshot of a broker with fewer than 2^32 sessions and subscriptions each, and a snapshot
-    // of less than 2^64 bytes.
+    // The snapshot of a broker with fewer than 2^32 sessions and subscriptions each, and a snapshot of less than 2^64
+    // bytes.
     pub(crate) fn of(alloc: Global, broker: &'a Broker) -> Result<Snapshot<'a>, AllocError>
         requires whole { broker.now.broken ≡ false }
         requires few_sessions { length broker.now.state.sessions < 2 ^ 32 }
