@@ -63,8 +63,8 @@ pub record IsBlock (cs : List CommandValue) : Type 0 where
   pub some : cs ≢ []
   pub each : AllByRecursion HasRecord cs
 
--- These bytes begin with an area of at most `size` bytes: its version, this snapshot, whose length fits into seven bytes, these blocks
--- behind open gates, and the first closed gate. What lies behind that gate is not read.
+-- These bytes begin with an area of at most `size` bytes: its version, this snapshot, these blocks behind open gates, and the first closed
+-- gate. The snapshot's length fits into seven bytes. What lies behind that gate is not read.
 pub record IsArea (version : Version) (size : ℕ) (snapshot : List ℕ) (blocks : List (List CommandValue)) (bytes : List ℕ) : Type 0 where
   pub gate : ℕ
   pub rest : List ℕ

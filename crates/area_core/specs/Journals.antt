@@ -19,8 +19,8 @@ AreDigits bytes = (version : Version) × (bytes ≡ digits version)
 abbrev pub header : Version → ℕ → List ℕ
 header version size = codes "STOMPJ" ++ (digits version ++ to_be_bytes w64 size)
 
--- the 32 bytes before the areas of a new journal: the name with the second version's digits, the length of an area, the selector 0, and
--- fifteen zeros, which are never read
+-- The 32 bytes before the areas of a new journal: the name with the second version's digits, the length of an area, the selector 0, and
+-- fifteen zeros. The zeros are never read.
 abbrev pub new_header : ℕ → List ℕ
 new_header size = header Two size ++ replicate 16 0
 

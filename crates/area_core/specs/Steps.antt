@@ -17,8 +17,8 @@ IsBeforeOrAfter images area batch c =
     (snapshot : List ℕ) (blocks : List (List CommandValue)) → Each images (IsAt area snapshot blocks)
     → IsAt area snapshot blocks c ⊎ Reads area.version area.size area.selector snapshot (blocks ++ batch ∷ []) c
 
--- An area of `size` bytes has no room for a snapshot of `count`: the snapshot doesn't fit with its length before it and a gate after it, or
--- its length doesn't fit into seven bytes.
+-- An area of `size` bytes has no room for a snapshot of `count`. Either the snapshot doesn't fit with its length before it and a gate after
+-- it, or its length doesn't fit into seven bytes.
 abbrev pub HasNoRoom : ℕ → ℕ → Type 0
 HasNoRoom size count = (size < count + 9) ⊎ (2 ^ 56 ≤ count)
 

@@ -62,8 +62,8 @@ module _ {B : Type 0} (n : ℕ) (words : List ℕ) (homes : List (maybe.Option (
   abbrev pub home : ℕ → maybe.Option (maybe.Option (Option (EntryValue B)))
   home t = get_elem? homes (t % n)
 
-  -- It is free for t; or claimed, and out with the seat that t waits for; or ready, with the entry that the history has at t. p counts the
-  -- seats that t is pending at.
+  -- It is free for t; or claimed, and out with the seat that t waits for; or ready, with the entry that the history has at t. Here p counts
+  -- the seats that t is pending at.
   abbrev pub Stands : ℕ → List CommandValue → ℕ → ℕ → Type 0
   Stands base log p t =
       ((base + length log ≤ t) × (face t ≡ 3 * t) × (home t ≡ some (some None)))

@@ -44,7 +44,7 @@ next_ticket f = f.base + length f.taken
 abbrev pub waiting : SessionSeatValue → ℕ
 waiting s = above s.seen s.own
 
--- a seat that nobody has used
+-- a seat that was not used yet
 abbrev pub new_session : TableId → ℕ → ℕ → SessionSeatValue
 new_session ring base number = session ring number [] base false
 

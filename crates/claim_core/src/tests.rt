@@ -237,7 +237,7 @@ fn ticket_256_lands_on_the_first_place(rt: HostRuntime) -> Result<(), Fail> {
     Ok(())
 }
 
-// A place is free for its first ticket t as 3 t, and ready as 3 t + 1: with four places ticket 4 takes its word from 12 to 13.
+// A place is free for its first ticket t as 3 t, and ready as 3 t + 1. So with four places ticket 4 takes its word from 12 to 13.
 #[test]
 fn ticket_4_of_four_places_lands_on_the_first(rt: HostRuntime) -> Result<(), Fail> {
     let (ring, seats, flush) = SmallRing::new(rt.alloc(), 0)?;

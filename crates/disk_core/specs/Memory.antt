@@ -34,7 +34,7 @@ byte_after fill (Some h) b = unwrap_or fill h
 abbrev pub crashed : Option ℕ → List (Option ℕ) → List ℕ → List ℕ
 crashed fill held content = pairwise (byte_after fill) held content
 
--- what is held once these bytes, of which some are held already, are to be written over
+-- what is held once these bytes, some of them held already, are to be written over
 abbrev pub noted : List (Option ℕ) → List ℕ → List (Option ℕ)
 noted held content = pairwise (λ h b. Some (unwrap_or h b)) held content
 
@@ -42,7 +42,7 @@ noted held content = pairwise (λ h b. Some (unwrap_or h b)) held content
 abbrev pub held_over : ℕ → ℕ → List (Option ℕ) → List ℕ → List (Option ℕ)
 held_over at n held content = patched at (noted (between at (at + n) held) (between at (at + n) content)) held
 
--- the synced bytes from before these syncs, the first of which comes first, if they are now these
+-- the synced bytes from before these syncs, the earliest of which comes first, if the synced bytes are now these
 abbrev pub synced_before : List (List (Option ℕ)) → List ℕ → List ℕ
 synced_before [] synced = synced
 synced_before (held ∷ later) synced = crashed None held (synced_before later synced)

@@ -39,8 +39,8 @@ pub record StoresAfresh (size before : ℕ) (s : State) (cs : List CommandValue)
   pub used_is : used ≡ used_afresh s + 9 + length (records (take count cs))
   pub won_is : won ≡ Some (before - used_afresh s)
 
--- The image stands for this state, and its live area is too short for a block of these commands: a gate, eight bytes of length, the
--- records, and the closed gate after them.
+-- The image stands for this state, and its live area is too short for a block of these commands. The block is a gate, eight bytes of
+-- length, the records, and the closed gate after them.
 pub record LacksRoom (image : List ℕ) (s : State) (cs : List CommandValue) : Type 0 where
   pub version : Version
   pub size : ℕ

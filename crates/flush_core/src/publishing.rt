@@ -17,7 +17,7 @@ use outbox_core::{Bell, OutSender};
 use std::mem::replace;
 
 impl<D: Disk, B: Bell, W: Width> Flusher<D, B, W> {
-    /// Raises the mark to all that is stored, which each image of the disk holds, and then gives each outbox the outputs of its session, in
+    /// Raises the mark to all that is stored, which each image of the disk holds. Then it gives each outbox the outputs of its session, in
     /// order, until the box is cut. What goes to a session without a box stays for `take_left`. It takes no memory.
     ///
     /// The box of a session that has ended stays until the next call, which lets it go before anything is given.

@@ -22,8 +22,8 @@ impl<D: Disk, B: Bell, W: Width> Flusher<D, B, W> {
     /// If nothing is gathered, it calls no disk and changes nothing.
     ///
     /// At each moment of the call an image of the disk stands for the state after what was stored before, or after what is stored at the
-    /// end, and for none between. After the call it stands for the latter alone. `Full` comes if no snapshot of the state fits into an
-    /// area, and then the disk is as it was. `Full` also comes if the block of the first command alone doesn't fit after a snapshot, and
+    /// end. It stands for none between. After the call it stands for the latter alone. `Full` comes if no snapshot of the state fits into
+    /// an area, and then the disk is as it was. `Full` also comes if the block of the first command alone doesn't fit after a snapshot, and
     /// then the disk has that snapshot. `Memory` leaves the disk as it was if the block fits. Otherwise a snapshot may be written, in part
     /// or in full, and the disk stands for the same state as before.
     pub fn store(

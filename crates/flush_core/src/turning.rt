@@ -18,9 +18,9 @@ impl<D: Disk, B: Bell, W: Width> Flusher<D, B, W> {
     /// are stored, from the first on, as have a block that fits. The others wait for the next turn.
     ///
     /// At each moment of the call an image of the disk stands for the state after what was stored before, or after what is stored at the
-    /// end, and for none between. After the call it stands for the latter alone. `Full` comes if no snapshot of the state after what was
-    /// stored before fits into an area, or if the block of the next command alone doesn't fit after one. If nothing waits to be stored, the
-    /// disk stays as it was.
+    /// end. It stands for none between. After the call it stands for the latter alone. `Full` comes if no snapshot of the state after what
+    /// was stored before fits into an area, or if the block of the next command alone doesn't fit after one. If nothing waits to be stored,
+    /// the disk stays as it was.
     pub fn turn(
         &mut self,
         alloc: Global,

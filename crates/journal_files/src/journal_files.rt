@@ -57,7 +57,7 @@ pub fn area_in(bytes: u64) -> Option<u64>
     Some(area)
 }
 
-/// Writes what the journal of a disk shows of itself, in five lines: its version, its live area, and how much of that is used; then the
+/// Writes what the journal of a disk shows of itself, in five lines. They are its version, its live area, how much of that is used, and the
 /// count and the held messages of the state that it stands for. The disk is only read. If it cannot be read as a journal, nothing is
 /// written.
 pub fn show<D: Disk, W: Write>(alloc: Global, disk: &mut D, writer: &mut W) -> Result<(), ShowFault>

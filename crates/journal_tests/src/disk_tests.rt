@@ -227,8 +227,8 @@ fn a_stop_leaves_an_image_and_nothing_else(rt: HostRuntime) -> Result<(), Fail> 
 
 const F: u8 = 0x37;
 
-// What is left of a write, a sync, a write, a sync and a read, of which the first k pass: if a crash fills with 0x37, and if it puts back
-// what was there.
+// What is left of a write, a sync, a write, a sync and a read, the first k of which pass. First if a crash fills with 0x37, then if it puts
+// back what was there.
 const LEFT: [([u8; 6], [u8; 6]); 6] = [
     ([F, F, F, 0, 0, 0], [0, 0, 0, 0, 0, 0]),
     ([F, F, F, 0, 0, 0], [0, 0, 0, 0, 0, 0]),

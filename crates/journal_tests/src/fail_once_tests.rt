@@ -12,8 +12,8 @@ const F: u8 = 0x37;
 // How many calls are made.
 const CALLS: usize = 5;
 
-// What is left of a write, a sync, a write, a sync and a read, of which one fails, or none: if a crash fills with 0x37, and if it puts back
-// what was there. The second sync makes both writes stable, the first only the first write.
+// What is left of a write, a sync, a write, a sync and a read, one of which fails, or none. First if a crash fills with 0x37, then if it
+// puts back what was there. The second sync makes both writes stable, the first only the first write.
 const LEFT: [([u8; 6], [u8; 6]); 6] = [
     ([1, 2, 2, 0, 0, 0], [1, 2, 2, 0, 0, 0]),
     ([1, 2, 2, 0, 0, 0], [1, 2, 2, 0, 0, 0]),

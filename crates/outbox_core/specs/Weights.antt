@@ -1,4 +1,4 @@
--- What outputs count for where they wait, and how much of that a box has room for.
+-- What outputs count for while they wait, and how much of that a box has room for.
 use Rattle.std.specs.Prelude.{◌+◌, ◌<◌, ◌≤◌, ◌⊎◌, List, ℕ, length}
 use Rattle.std.specs.List.{sum_by}
 use Rattle.command_core.specs.Outs.{OutValue}

@@ -180,8 +180,8 @@ fn told_in_front(at: u64, byte: u8) -> Told {
     }
 }
 
-// A byte of a block's length. In its last place it gives no byte; one byte, which is no record; or more than the block has, so that the
-// gate after it is read as a record. A length greater than the area is reported at the length.
+// A byte of a block's length. In its last place it gives no byte, or one byte, which is no record. Or it gives more than the block has, so
+// that the gate after it is read as a record. A length greater than the area is reported at the length.
 fn told_in_length(at: u64, byte: u8, length: u64, gate: u64) -> Told {
     match (length.saturating_add(7).saturating_sub(at), byte) {
         (0, 0) => Told::Damaged(length),

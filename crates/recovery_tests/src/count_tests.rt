@@ -169,7 +169,7 @@ fn first_wrong(rt: &impl Abort, alloc: Global) -> Result<Option<usize>, Fail> {
     Ok(None)
 }
 
-// The most address space, in kB, that a process has had, as its status tells it.
+// The most address space, in kB, that a process has had, as its status says.
 fn peak_in(status: &str) -> Option<u64> {
     for line in status.lines() {
         if let Some(rest) = line.strip_prefix("VmPeak:") {

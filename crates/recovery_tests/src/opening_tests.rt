@@ -88,8 +88,8 @@ fn expect_opening(
     }
 }
 
-// An empty journal has a snapshot of 32 bytes. Four commands that leave three messages in a queue have one of 141: 32, 16 for
-// the queue's name and how many messages it has, and 31 for each of them.
+// An empty journal has a snapshot of 32 bytes. Four commands that leave three messages in a queue have one of 141: 32, then 16 for the
+// queue's name and how many messages it has, and 31 for each message.
 #[test]
 fn opening_syncs_reads_writes_and_switches(rt: HostRuntime) -> Result<(), Fail> {
     let empty = formatted(rt.alloc())?;

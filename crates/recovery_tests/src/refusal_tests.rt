@@ -53,8 +53,8 @@ fn is_restarted(alloc: Global, broker: &Broker) -> Option<bool> {
     Some(snapshot.as_slice() == RESTARTED)
 }
 
-// What comes of opening the disk: whether it has that state, if there was memory for its snapshot. Or else the disk, and whether it was
-// refused because memory was, the disk's own included.
+// What comes of opening the disk: whether it has that state, or `None` if there was no memory for its snapshot. If it was not opened, the
+// disk, and whether the reason was that memory was refused, the disk's own included.
 fn opened(alloc: Global, disk: MemDisk) -> Result<Option<bool>, (MemDisk, bool)> {
     match open(alloc, disk) {
         Ok(mut store) => match store.broker() {

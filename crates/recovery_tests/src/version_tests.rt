@@ -33,8 +33,8 @@ fn journal(rt: &impl Abort, alloc: Global, digits: &[u8], first: u8) -> Result<M
     Ok(disk)
 }
 
-// The digits in a journal's name, the byte that its live area begins with, and what opening it reports: how many commands were carried out,
-// and how many messages are held.
+// The digits in a journal's name, the byte that its live area begins with, and what opening it reports. That is how many commands were
+// carried out, and how many messages are held.
 const JOURNALS: [(&[u8], u8, &str); 7] = [
     // By the rule of the first version a NACK drops the message; by that of the second it keeps the message. The area decides, not the
     // name.

@@ -5,7 +5,7 @@ use Rattle.world_core.specs.Events.{Possible, after}
 use Rattle.world_core.specs.Readings.{Reading, IsRead}
 use Rattle.world_core.specs.Worlds.{WorldValue}
 
--- true, and the change, just where the event is possible; false, and no change, just where it isn't
+-- true, and the change, just if the event is possible; false, and no change, just if it isn't
 abbrev pub Tells : WorldValue → Reading → Event → Bool → WorldValue → Type 0
 Tells old r event answer new = MatchBool answer (Possible old r event × (new ≡ after old r event)) ((Possible old r event → ⊥) × (new ≡ old))
 

@@ -115,7 +115,7 @@ fn open_writes(whole: u64, place: Place) -> Option<Place>
     }
 }
 
-// Whether it may be the write of a snapshot; then one needs the snapshot's length to know where it leads.
+// Whether it may be the write of a snapshot; where that leads depends on the snapshot's length.
 fn writes_snapshot(list: CallList, kind: CallKind) -> bool
     ensures { result ≡ writes_snapshot list kind }
 {
