@@ -8,6 +8,6 @@ use Rattle.area_core.specs.Areas.{word_of}
 abbrev pub heading : ℕ → ℕ → List ℕ
 heading at total = cond (at == 0) (to_be_bytes w64 (word_of Two total)) []
 
--- what is still to be written, if `at` bytes are written and these are still to come
+-- what is still to be written, once `at` bytes are written and these are still to come
 abbrev pub closing : ℕ → ℕ → List ℕ → List ℕ
 closing at total coming = heading at total ++ (coming ++ 0 ∷ [])

@@ -80,7 +80,7 @@ impl Area {
         self.version.number()
     }
 
-    /// That version.
+    /// Its version, which its first byte gives.
     pub fn told_version(&self) -> Version
         ensures { result ≡ self.now.version }
     {

@@ -11,7 +11,7 @@ use std::alloc::{AllocError, Global};
 // How many bytes are written in one call.
 const PIECE: usize = 65_536;
 
-// The second version, and how many bytes follow, if none is written yet.
+// The second version, and how many bytes follow, while none is written yet.
 fn heading(alloc: Global, at: u64, total: u64) -> Result<Vec<u8>, AllocError>
     requires { total < 2 ^ 56 }
     ensures { IfOk result (λ v. v.items ≡ heading at total) }
@@ -32,7 +32,7 @@ fn close(out: &mut Vec<u8>, is_last: bool) -> Result<(), AllocError>
     Ok(())
 }
 
-// The next piece, if `at` bytes are written.
+// The next piece, once `at` bytes are written.
 pub(crate) fn next_closed<P: Pieces>(
     alloc: Global,
     pieces: &mut P,

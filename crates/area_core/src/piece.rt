@@ -40,7 +40,7 @@ impl Area {
         Ok(())
     }
 
-    // Writes the next piece of a snapshot, if `at` bytes are written, and answers how many bytes the piece has.
+    // Writes the next piece of a snapshot, once `at` bytes are written, and answers how many bytes the piece has.
     fn write_next<D: Disk, P: Pieces>(
         &mut self,
         alloc: Global,
@@ -70,7 +70,7 @@ impl Area {
         }
     }
 
-    // Writes the snapshot between an area's first word and a closed gate, from the first byte on of the area that is not live.
+    // Writes the snapshot into the area that is not live, from its first byte on, between the area's first word and a closed gate.
     pub(crate) fn write_closed<D: Disk, P: Pieces>(
         &mut self,
         alloc: Global,

@@ -10,7 +10,7 @@ pub trait Pieces {
     /// The bytes still to come.
     ghost coming: { Self → List ℕ };
 
-    /// How many bytes are still to come, and 2^64 - 1 if there are more.
+    /// How many bytes are still to come, or 2^64 - 1 if there are more.
     fn len(&self) -> u64
         ensures { result ≡ min (length (coming self.now)) (2 ^ 64 - 1) };
 

@@ -14,9 +14,9 @@ use std::alloc::Global;
 
 impl Area {
     /// Writes a snapshot into the area that is not live, which is then of the second version, whatever it was before. It writes pieces of
-    /// 65,536 bytes, each by one call of the disk, and then syncs. A stop at any moment leaves every byte outside that area as it was, so
-    /// the live area too. `Full` comes before the first call, if the snapshot doesn't fit or has 2^56 bytes or more. If memory is refused,
-    /// some pieces may have been written.
+    /// 65,536 bytes, each by one call of the disk, and then syncs. A stop at any moment leaves every byte outside that area as it was, and
+    /// so the live area too. `Full` comes before the first call, if the snapshot doesn't fit or has 2^56 bytes or more. If memory is
+    /// refused, some pieces may have been written.
     pub fn write_snapshot<D: Disk, P: Pieces>(
         &mut self,
         alloc: Global,

@@ -12,7 +12,7 @@ use Rattle.claim_core.specs.Rule.{far}
 use Rattle.claim_core.specs.Steps.{claimer, owning, next_of, Sat}
 
 -- A session's seat: its ring, its number there, and its own commands in the order of its calls, each with its ticket.
--- Then the mark that it read last, and whether its last append found the ring stopped.
+-- It also has the mark that it read last, and whether its last append found the ring stopped.
 pub record SessionSeatValue : Type 0 where
   pub ring : TableId
   pub number : ℕ
@@ -20,8 +20,8 @@ pub record SessionSeatValue : Type 0 where
   pub seen : ℕ
   pub stopped : Bool
 
--- The flusher's seat: its ring, the ring's first ticket, and the commands that it has taken, from that ticket on. Then
--- the mark, whether it has stopped the ring, and how many sessions' seats there are.
+-- The flusher's seat: its ring, the ring's first ticket, and the commands that it has taken, from that ticket on. It
+-- also has the mark, whether it has stopped the ring, and how many sessions' seats there are.
 pub record FlushSeatValue : Type 0 where
   pub ring : TableId
   pub base : ℕ

@@ -79,7 +79,7 @@ fn begin(ring: &SmallRing, seat: SmallSeat, entry: &Entry<()>) -> (u64, TableSea
     (ticket, table_seat)
 }
 
-// Makes it ready.
+// Makes the pending entry ready.
 fn finish(ring: &SmallRing, mut table_seat: TableSeat<()>, ticket: u64, entry: Entry<()>)
     requires ring { table_seat.table_id ≡ ring.now }
     requires pending { table_seat.me ≡ (Claims (claimer ((ticket, entry.command) ∷ []) (Some ticket) 0 false), (ticket % 4, None) ∷ []) }

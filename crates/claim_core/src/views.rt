@@ -17,8 +17,8 @@ pub struct Limits {
 }
 
 /// What a session's seat knows: its own commands with their tickets, and the ticket that it has claimed and not made
-/// ready. Then the mark that it read last, and whether it found the ring stopped when it last looked. No value of this
-/// type is ever made; contracts read the array as a list of any length.
+/// ready. It also knows the mark that it read last, and whether it found the ring stopped when it last looked. No value
+/// of this type is ever made; contracts read the array as a list of any length.
 pub struct Claimer {
     pub own: [(u64, Command); 0],
     pub pending: Option<u64>,
@@ -27,7 +27,8 @@ pub struct Claimer {
 }
 
 /// What the flusher's seat knows: the first ticket, the commands that it has taken, whether it holds a place now, and
-/// the mark. Then whether it has stopped the ring, how many seats it has dealt, and those that it has taken back.
+/// the mark. It also knows whether it has stopped the ring, how many seats it has dealt, and those that it has taken
+/// back.
 pub struct Owner {
     pub base: u64,
     pub taken: [Command; 0],

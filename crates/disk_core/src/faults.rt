@@ -9,7 +9,7 @@ use thiserror::Error;
 #[error("device failed")]
 pub struct DeviceFault;
 
-// A failure, which is counted. At the end of its type the count stays.
+// A failure, which is counted. The count stays at the end of its type.
 pub(crate) fn fail(failures: &mut u64) -> Result<(), DeviceFault>
     ensures fails { IsErr result }
     ensures counted { IsOneMore failures.old failures.new }

@@ -14,7 +14,7 @@ use std::{error, fmt, io};
 pub enum OpenError {
     /// What was to be made already exists, as a file or as something else.
     Exists,
-    /// Another opener has the file's lock, or the exclusive lock was asked for and another shares it.
+    /// The file's lock is taken, or it is shared and the exclusive one was asked for.
     Locked,
     /// The system refuses to open, make, lock, size or sync the file.
     System(io::Error),
@@ -93,9 +93,9 @@ impl FileDisk {
         FileDisk::over(opened(rt, path)?)
     }
 
-    /// The same, with the file's exclusive lock, taken before the file's size is read. The error is `Locked` if another
-    /// opener has the lock. The lock belongs to the open file that the disk reads and writes, so it lasts as long as
-    /// the disk. Nothing of the file is read or written. If the file is not opened, no lock is kept.
+    /// The same, with the file's exclusive lock, taken before the file's size is read. The error is `Locked` if the
+    /// lock is taken. The lock belongs to the open file that the disk reads and writes, so it lasts as long as the
+    /// disk. Nothing of the file is read or written. If the file is not opened, no lock is kept.
     pub fn open_locked<R: Files<File = File>>(rt: &R, path: &str) -> Result<FileDisk, OpenError>
         ensures { IfOk result (λ disk. file_failures disk ≡ 0) }
     {

@@ -58,7 +58,7 @@ impl Model for MemDisk {
 }
 
 impl MemDisk {
-    /// A disk of `size` zeros, all of them stable. The error is that memory is refused.
+    /// A disk of `size` zeros, all of them stable. It fails only if memory is refused.
     pub fn new(alloc: Global, size: u64) -> Result<MemDisk, AllocError>
         ensures fresh { IfOk result (λ disk. disk ≡ fresh size) }
         ensures only { IfOk result (λ disk. Only disk.content (IsImage disk.content disk.held)) }

@@ -8,7 +8,7 @@ use Rattle.broker_core.specs.declared.fault.BrokerFault.TheVariants as broker
 use Rattle.flush_core.specs.declared.faults.FlushFault.{FlushFault}
 use Rattle.flush_core.specs.declared.faults.FlushFault.TheVariants.{Device, Full, Broken, Memory}
 
--- what the user reads of commands that were not stored
+-- the text for the user, of commands that were not stored
 abbrev pub flush_text : FlushFault → List ℕ
 flush_text Device = codes "J3 device failed"
 flush_text Full = codes "J4 journal full"

@@ -29,7 +29,7 @@ abbrev pub IsShowTold : ShowFault → List ℕ → Type 0
 IsShowTold (Read fault) content = IsStateRefused fault content
 IsShowTold Output content = (seen : Seen) × IsSeen seen content
 
--- what the user reads if nothing of a journal is shown, or not all
+-- the text for the user, of a journal of which nothing is shown, or not all
 abbrev pub show_text : ShowFault → List ℕ
 show_text (Read fault) = open_text fault
 show_text Output = codes "input or output failed"

@@ -1,7 +1,7 @@
 //! How a taker that waits elsewhere learns that it should look.
 
-/// A box rings it when something was put in, and when the sending end is gone: cut, finished or dropped. So a taker that waits elsewhere
-/// learns that it should look. What ringing does is up to the bell's maker, and no clause speaks of it.
+/// A box rings its bell when something was put in, and when the sending end is gone: cut, finished or dropped. So a taker that waits
+/// elsewhere learns that it should look. What ringing does is up to the bell's maker, and no clause speaks of it.
 pub trait Bell: Drop {
     /// Tells the taker to look. The thread that gives makes this call, and goes on once it returns.
     fn ring(&self);

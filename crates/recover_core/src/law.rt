@@ -12,8 +12,8 @@ pub fn an_image_stands_for_one_state()
     ensures { (image : List ℕ) (s t : State) → Stands image s → Stands image t → s ≡ t }
 {}
 
-/// An image that reads as a new journal stands for the empty state. Its first area is live, and has the first snapshot and no block. So
-/// each image of a disk that was just formatted stands for the empty state. The function does nothing.
+/// An image that reads as a new journal stands for the empty state. A new journal's first area is live, and has the first snapshot and no
+/// block. So each image of a disk that was just formatted stands for the empty state. The function does nothing.
 pub fn a_formatted_journal_stands_for_the_empty_state()
     ensures { (size : ℕ) (image : List ℕ) → Reads Two size 0 first_snapshot [] image → Stands image empty_state }
 {}

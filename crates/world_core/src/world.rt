@@ -158,7 +158,7 @@ fn old_parts(alloc: Global, size: u64, area: &[u8]) -> Result<Parts, AllocError>
             drop(broker);
             made
         }
-        // This few commands are never too many.
+        // So few commands are never too many.
         None => Err(AllocError),
     }
 }
@@ -186,7 +186,7 @@ impl Parts {
 }
 
 impl World {
-    /// The first world: an empty journal with two areas of `area_bytes` bytes each, formatted and opened. The error is that memory is
+    /// The first world: an empty journal with two areas of `area_bytes` bytes each, formatted and opened. It fails only if memory is
     /// refused.
     pub fn new(alloc: Global, area_bytes: u64) -> Result<World, AllocError>
         requires least { 4096 ≤ area_bytes }
@@ -203,7 +203,7 @@ impl World {
     }
 
     /// The world of a journal of the first version with two areas of `area_bytes` bytes each, as after a crash. It has the empty state and
-    /// these commands in one block, or no block if there are none. `None` if they do not fit. The error is that memory is refused.
+    /// these commands in one block, or no block if there are none. `None` if they do not fit. It fails only if memory is refused.
     pub fn new_v1(
         alloc: Global,
         area_bytes: u64,
@@ -227,8 +227,8 @@ impl World {
         }))
     }
 
-    /// Lets an event happen if it is possible, and answers whether it was. An event that is not possible changes nothing. The error is that
-    /// memory is refused, which changes nothing either.
+    /// Lets an event happen if it is possible, and answers whether it was. An event that is not possible changes nothing. The call fails
+    /// only if memory is refused, and that changes nothing either.
     pub fn apply(&mut self, event: Event) -> Result<bool, AllocError>
         ensures ok { IfOk result (λ answer. Answers self.old event answer self.new) }
         ensures err { OnErr result (self.new ≡ self.old) }
