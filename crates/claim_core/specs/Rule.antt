@@ -34,8 +34,8 @@ IsRising lo (p ∷ ps) = (lo ≤ p.0) × IsRising (p.0 + 1) ps
 abbrev pub IsOwnOf : ℕ → List CommandValue → List Pair → Type 0
 IsOwnOf base log own = (k : ℕ) (p : Pair) → get_elem? own k ≡ some p → (i : ℕ) × (p.0 ≡ base + i) × (get_elem? log i ≡ some p.1)
 
--- what a session's seat knows is so. `mark` and `stopped` are the owner's, `next` is the ticket after those taken, and
--- `log` is the history, the commands of all tickets from the base on
+-- What a session's seat knows is true. `mark` and `stopped` are the owner's, `next` is the ticket after those taken, and `log` is the
+-- history, the commands of all tickets from the base on
 pub record ClaimerOk (base window mark : ℕ) (stopped : Bool) (next : ℕ) (log : List CommandValue) (c : Claimer) : Type 0 where
   pub pairs : IsOwnOf base log c.own
   pub rising : IsRising base c.own

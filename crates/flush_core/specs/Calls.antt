@@ -121,7 +121,7 @@ pub record StoresNext {D : Type 0} (disk : Ghosts D) (old new taken : Flushed D)
       → StoresAfresh old.size old.used (state_stored old) (to_store old taken) (new.stored - old.stored) new.used new.won
 
 -- If the answer is `Full`, the block of what waits doesn't fit. Nor does a snapshot, and the disk stays; or the next command doesn't fit
--- after one. The disk shows which.
+-- after one. The disk shows it.
 pub record RefusesNext {D X : Type 0} (disk : Ghosts D) (old new taken : Flushed D) (result : Result X FlushFault) : Type 0 where
   pub full : IsErrOf result Full → IsTooLong old.size old.used (to_store old taken)
       × ((HasNoRoomFor old.size (state_stored old) × (new.disk ≡ old.disk)) ⊎ IsTooLong old.size (used_afresh (state_stored old)) (take 1 (to_store old taken)))
