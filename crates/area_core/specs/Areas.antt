@@ -16,7 +16,7 @@ HasRecord c = Spells (record_of c) c
 abbrev pub commands : {B : Type 0} → List (EntryValue B) → List CommandValue
 commands batch = map (λ entry. entry.command) batch
 
--- the records of commands, one behind the other
+-- the records of commands, one after another
 abbrev pub records : List CommandValue → List ℕ
 records cs = flat_map record_of cs
 
@@ -28,7 +28,7 @@ counted bytes = to_be_bytes w64 (length bytes) ++ bytes
 abbrev pub closed : List ℕ → List ℕ
 closed bytes = counted bytes ++ 0 ∷ []
 
--- the number by which a version is told
+-- the number that stands for a version
 abbrev pub number : Version → ℕ
 number One = 1
 number Two = 2
@@ -50,7 +50,7 @@ headed version snapshot = to_be_bytes w64 (word_of version (length snapshot)) ++
 abbrev pub closed_snapshot : Version → List ℕ → List ℕ
 closed_snapshot version snapshot = headed version snapshot ++ 0 ∷ []
 
--- a gate, which is open, and the block behind it
+-- an open gate, and the block behind it
 abbrev pub block : List CommandValue → List ℕ
 block cs = 1 ∷ counted (records cs)
 
@@ -63,8 +63,8 @@ pub record IsBlock (cs : List CommandValue) : Type 0 where
   pub some : cs ≢ []
   pub each : AllByRecursion HasRecord cs
 
--- These bytes begin with an area of at most so many: its version, this snapshot, which seven bytes count, these blocks behind
--- open gates, and the first gate that is closed. What lies behind that gate is not read.
+-- These bytes begin with an area of at most `size` bytes: its version, this snapshot, these blocks behind open gates, and the first closed
+-- gate. The snapshot's length fits into seven bytes. What lies behind that gate is not read.
 pub record IsArea (version : Version) (size : ℕ) (snapshot : List ℕ) (blocks : List (List CommandValue)) (bytes : List ℕ) : Type 0 where
   pub gate : ℕ
   pub rest : List ℕ

@@ -4,10 +4,10 @@ use Rattle.std.specs.Int.{w64, to_be_bytes}
 use Rattle.area_core.specs.declared.version.Version.TheVariants.{Two}
 use Rattle.area_core.specs.Areas.{word_of}
 
--- before the first of its bytes, eight that tell the second version, and how many they are
+-- before the snapshot's first byte, eight bytes that give the second version and the snapshot's length
 abbrev pub heading : ℕ → ℕ → List ℕ
 heading at total = cond (at == 0) (to_be_bytes w64 (word_of Two total)) []
 
--- what is still to be written, where so many bytes are and these are still to come
+-- what is still to be written, once `at` bytes are written and these are still to come
 abbrev pub closing : ℕ → ℕ → List ℕ → List ℕ
 closing at total coming = heading at total ++ (coming ++ 0 ∷ [])

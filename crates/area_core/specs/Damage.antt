@@ -1,4 +1,4 @@
--- What is no journal, and which byte of a damaged one is told.
+-- What is no journal, and which byte of a damaged one a fault names.
 use Rattle.std.specs.Prelude.{◌≡◌, ◌≢◌, ◌⊎◌, ◌<◌, ◌≤◌, ◌+◌, ◌*◌, ◌^◌, ℕ, List, [], ◌∷◌, ◌++◌, length, take, drop, codes, Result, Ok, Err}
 use Rattle.std.specs.Int.{w64, to_be_bytes}
 use Rattle.std.specs.List.{AllByRecursion}
@@ -24,8 +24,8 @@ pub record IsOtherVersion (content : List ℕ) : Type 0 where
   pub named : take 6 content ≡ codes "STOMPJ"
   pub version : AreDigits (take 2 (drop 6 content)) → ⊥
 
--- It has name and version, but its areas are too short, or the disk is shorter than both. Eight bytes spell many numbers, of
--- which the one that fits eight bytes is meant; so here and below.
+-- It has name and version, but its areas are too short, or the disk is shorter than both. Eight bytes spell many numbers; here and below,
+-- the one that fits eight bytes is meant.
 pub record IsTooSmall (content : List ℕ) : Type 0 where
   pub long : 32 ≤ length content
   pub named : take 6 content ≡ codes "STOMPJ"
@@ -35,8 +35,8 @@ pub record IsTooSmall (content : List ℕ) : Type 0 where
   pub word : size < 2 ^ 64
   pub small : (size < 4096) ⊎ (length content < 32 + 2 * size)
 
--- The word at that place, which an area of so many bytes begins with, tells no version in its highest byte, or in the seven
--- others a snapshot that doesn't fit into the area with the gate behind it.
+-- The word at that place is the first of an area of `size` bytes. Its highest byte gives no version, or its seven others give a snapshot
+-- that doesn't fit into the area with the gate after it.
 pub record IsBadWord (size : ℕ) (content : List ℕ) (place : ℕ) : Type 0 where
   pub high : ℕ
   pub count : ℕ
@@ -45,7 +45,7 @@ pub record IsBadWord (size : ℕ) (content : List ℕ) (place : ℕ) : Type 0 wh
   pub seven : count < 2 ^ 56
   pub bad : ((version : Version) → high ≢ highest version) ⊎ (size < count + 9)
 
--- so is the word that the live area begins with
+-- the word that the live area begins with is bad in that way
 pub record HasBadWord (content : List ℕ) (place : ℕ) : Type 0 where
   pub size : ℕ
   pub selector : ℕ
@@ -57,19 +57,19 @@ pub record HasBadWord (content : List ℕ) (place : ℕ) : Type 0 where
 abbrev pub HasByte : ℕ → ℕ → List ℕ → Type 0
 HasByte place byte content = take 1 (drop place content) ≡ byte ∷ []
 
--- the block's length there is 0, or it doesn't fit into the area with the gate behind it
+-- the block's length there is 0, or the block doesn't fit into the area with the gate after it
 pub record HasBadCount (area : Area) (content : List ℕ) (place : ℕ) : Type 0 where
   pub count : ℕ
   pub told : take 8 (drop place content) ≡ to_be_bytes w64 count
   pub word : count < 2 ^ 64
   pub bad : (count ≡ 0) ⊎ (area.size < area.gate + 10 + count)
 
--- behind the area's gate there is no room for a block, or not for the one that is told
+-- behind the area's gate there is no room for any block, or none for a block of the length that stands there
 pub record IsBadLength (area : Area) (content : List ℕ) (place : ℕ) : Type 0 where
   pub at : place ≡ start area.size (is_odd area.selector) + area.gate + 1
   pub bad : (area.size < area.gate + 10) ⊎ HasBadCount area content place
 
--- a record of so many bytes begins these, and its command joins those before it
+-- these bytes begin with a record of `size` bytes, and its command joins those before it
 pub record IsRecordRead (bytes : List ℕ) (size : ℕ) (before now : List CommandValue) : Type 0 where
   pub command : CommandValue
   pub within : size ≤ length bytes
@@ -86,7 +86,7 @@ pub record IsNoRecordAt (bytes : List ℕ) (offset : ℕ) : Type 0 where
   pub some : rest ≢ []
   pub none : (c : CommandValue) (n : ℕ) → Spells (take n rest) c → ⊥
 
--- behind the area's gate stands a block, and in it, at that place, what is no record
+-- behind the area's gate stands a block, and at that place in it, something that is no record
 pub record IsBadRecord (area : Area) (content : List ℕ) (place : ℕ) : Type 0 where
   pub count : ℕ
   pub told : take 8 (drop (start area.size (is_odd area.selector) + area.gate + 1) content) ≡ to_be_bytes w64 count
@@ -95,26 +95,26 @@ pub record IsBadRecord (area : Area) (content : List ℕ) (place : ℕ) : Type 0
   pub bad : IsNoRecordAt (take count (drop (start area.size (is_odd area.selector) + area.gate + 9) content)) offset
   pub at : place ≡ start area.size (is_odd area.selector) + area.gate + 9 + offset
 
--- The area's gate is open, and what is damaged behind it stands at that place.
+-- The area's gate is open, and the damage behind it is at that place.
 pub record IsDamagedAt (area : Area) (content : List ℕ) (place : ℕ) : Type 0 where
   pub open_gate : HasByte (start area.size (is_odd area.selector) + area.gate) 1 content
   pub bad : IsBadLength area content place ⊎ IsBadRecord area content place
 
--- Which fault a refusal tells.
+-- Which fault a refusal reports.
 
--- the disk failed just where that is the answer
+-- the disk failed just if that is the answer
 abbrev pub IsReadCaused : {T : Type 0} → ℕ → ℕ → Result T ReadFault → Type 0
 IsReadCaused before now (Ok _) = now ≡ before
 IsReadCaused before now (Err Device) = IsOneMore before now
 IsReadCaused before now (Err _) = now ≡ before
 
--- nothing is told of the content: the disk failed, or memory was refused
+-- the fault says nothing of the content: the disk failed, or memory was refused
 abbrev pub IsOfDevice : ReadFault → Type 0
 IsOfDevice Device = Unit {0}
 IsOfDevice (Memory _) = Unit {0}
 IsOfDevice _ = ⊥
 
--- what is told of the header is so; no memory is taken for it
+-- what the fault says of the header is true; no memory is taken for it
 abbrev pub IsHeaderTold : ReadFault → List ℕ → Type 0
 IsHeaderTold NotAJournal content = IsNoJournal content
 IsHeaderTold UnknownVersion content = IsOtherVersion content
@@ -123,35 +123,35 @@ IsHeaderTold (Damaged place) content = ⊥
 IsHeaderTold Device content = Unit {0}
 IsHeaderTold (Memory _) content = ⊥
 
--- what is told of the header, and of the version and the length of the snapshot, is so
+-- what the fault says of the header, and of the version and the length of the snapshot, is true
 abbrev pub IsFrontTold : ReadFault → List ℕ → Type 0
 IsFrontTold (Damaged place) content = HasBadWord content place
 IsFrontTold (Memory _) content = Unit {0}
 IsFrontTold fault content = IsHeaderTold fault content
 
--- what is told where no record was read that begins at that place
+-- the fault if no record that begins at that place was read
 abbrev pub told_of : DecodeFault → ℕ → ReadFault
 told_of decoding.NoSpelling at = Damaged at
 told_of (decoding.Memory refused) at = Memory refused
 
--- what is told of these bytes, of which the first stands at that place, is so
+-- what the fault says of these bytes, the first of which is at that place, is true
 abbrev pub IsRecordTold : ReadFault → ℕ → List ℕ → Type 0
 IsRecordTold (Damaged at) place bytes = (offset : ℕ) × (at ≡ place + offset) × IsNoRecordAt bytes offset
 IsRecordTold Device place bytes = ⊥
 IsRecordTold fault place bytes = IsOfDevice fault
 
--- what is told of the word at that place is so
+-- what the fault says of the word at that place is true
 abbrev pub IsWordTold : ReadFault → ℕ → ℕ → List ℕ → Type 0
 IsWordTold (Damaged told) place size content = (told ≡ place) × IsBadWord size content place
 IsWordTold Device place size content = Unit {0}
 IsWordTold fault place size content = ⊥
 
--- what is told of the length behind the area's gate is so
+-- what the fault says of the length behind the area's gate is true
 abbrev pub IsLengthTold : ReadFault → Area → List ℕ → Type 0
 IsLengthTold (Damaged place) area content = IsBadLength area content place
 IsLengthTold fault area content = IsOfDevice fault
 
--- what is told of the block behind the area's gate is so
+-- what the fault says of the block behind the area's gate is true
 abbrev pub IsBlockTold : ReadFault → Area → List ℕ → Type 0
 IsBlockTold (Damaged place) area content = IsDamagedAt area content place
 IsBlockTold fault area content = IsOfDevice fault

@@ -5,7 +5,7 @@ use Rattle.area_core.specs.declared.area.Area.{Area}
 use Rattle.area_core.specs.Areas.{front}
 use Rattle.area_core.specs.Journals.{Reads, is_odd, start}
 
--- The live area is the one that is held, whose gate is the first closed one.
+-- The live area is the one that is held, and its gate is the first closed one.
 pub record IsAt (area : Area) (snapshot : List ℕ) (blocks : List (List CommandValue)) (image : List ℕ) : Type 0 where
   pub reads : Reads area.version area.size area.selector snapshot blocks image
   pub gate : area.gate ≡ length (front area.version snapshot blocks)

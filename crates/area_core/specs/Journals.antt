@@ -19,8 +19,8 @@ AreDigits bytes = (version : Version) × (bytes ≡ digits version)
 abbrev pub header : Version → ℕ → List ℕ
 header version size = codes "STOMPJ" ++ (digits version ++ to_be_bytes w64 size)
 
--- the 32 bytes before the areas of a new journal: the name with the second version's digits, the length of an area, the selector 0, and
--- fifteen zeros that are not read
+-- The 32 bytes before the areas of a new journal: the name with the second version's digits, the length of an area, the selector 0, and
+-- fifteen zeros. The zeros are never read.
 abbrev pub new_header : ℕ → List ℕ
 new_header size = header Two size ++ replicate 16 0
 
@@ -38,8 +38,8 @@ abbrev pub start : ℕ → Bool → ℕ
 start size false = 32
 start size true = 32 + size
 
--- The image is a journal with areas of this length and this selector. The version in its name is that of the build that
--- formatted it; how an area is read, the area tells itself.
+-- The image is a journal with areas of this length and this selector. The version in its name is that of the build that formatted it. How
+-- an area is read follows from the area's own first byte.
 pub record IsJournal (size selector : ℕ) (image : List ℕ) : Type 0 where
   pub named : Version
   pub begins : take 16 image ≡ header named size

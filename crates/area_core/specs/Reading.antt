@@ -10,7 +10,7 @@ use Rattle.area_core.specs.Areas.{IsBlock, front}
 use Rattle.area_core.specs.Held.{IsAt}
 use Rattle.area_core.specs.Journals.{IsJournal, is_odd, start}
 
--- the live area begins with this snapshot and these blocks, and the next gate is where the area that is held says
+-- the live area begins with this snapshot and these blocks, and the next gate is where the held area has it
 pub record IsPast (area : Area) (snapshot : List ℕ) (blocks : List (List CommandValue)) (image : List ℕ) : Type 0 where
   pub journal : IsJournal area.size area.selector image
   pub rest : List ℕ
@@ -40,7 +40,7 @@ pub record GoesOn (old new : Area) : Type 0 where
   pub version : new.version ≡ old.version
   pub gate : old.gate ≤ new.gate
 
--- behind a block that was read, the gate lies further on
+-- after a block was read, the gate lies further on
 abbrev pub MovesGate : {A : Type 0} → Area → Area → Option A → Type 0
 MovesGate old new next = IfSome next (λ block. old.gate < new.gate)
 
@@ -48,7 +48,7 @@ MovesGate old new next = IfSome next (λ block. old.gate < new.gate)
 abbrev pub ReadsAll : Area → Area → List ℕ → Type 0
 ReadsAll old new image = (snapshot : List ℕ) (blocks : List (List CommandValue)) → IsPast old snapshot blocks image → IsAt new snapshot blocks image
 
--- behind what was read up to a gate, the block of these commands was read
+-- after what was read up to a gate, the block of these commands was read
 abbrev pub ReadsBlock : Area → Area → List ℕ → List CommandValue → Type 0
 ReadsBlock old new image commands = (snapshot : List ℕ) (blocks : List (List CommandValue)) → IsPast old snapshot blocks image → IsPast new snapshot (blocks ++ commands ∷ []) image
 

@@ -11,18 +11,18 @@ use Rattle.area_core.specs.Held.{IsAt}
 use Rattle.area_core.specs.Journals.{Reads}
 use Rattle.area_core.specs.Puts.{Each}
 
--- Where each image held the same at the start, an image of now reads as that, or as that and then all of the batch.
+-- If each image held the same at the start, an image of now reads as that, or as that and then all of the batch.
 abbrev pub IsBeforeOrAfter : (List ℕ → Type 0) → Area → List CommandValue → List ℕ → Type 0
 IsBeforeOrAfter images area batch c =
     (snapshot : List ℕ) (blocks : List (List CommandValue)) → Each images (IsAt area snapshot blocks)
     → IsAt area snapshot blocks c ⊎ Reads area.version area.size area.selector snapshot (blocks ++ batch ∷ []) c
 
--- An area of so many bytes has no room for a snapshot of so many: it doesn't fit with its length before it and a gate behind
--- it, or seven bytes don't count it.
+-- An area of `size` bytes has no room for a snapshot of `count`. Either the snapshot doesn't fit with its length before it and a gate after
+-- it, or its length doesn't fit into seven bytes.
 abbrev pub HasNoRoom : ℕ → ℕ → Type 0
 HasNoRoom size count = (size < count + 9) ⊎ (2 ^ 56 ≤ count)
 
--- the disk failed just where that is the answer
+-- the disk failed just if that is the answer
 abbrev pub IsCaused : {T : Type 0} → ℕ → ℕ → Result T AreaFault → Type 0
 IsCaused before now (Ok _) = now ≡ before
 IsCaused before now (Err Device) = IsOneMore before now
@@ -30,19 +30,19 @@ IsCaused before now (Err Full) = now ≡ before
 IsCaused before now (Err Broken) = now ≡ before
 IsCaused before now (Err (Memory _)) = now ≡ before
 
--- the same of formatting
+-- the same for formatting
 abbrev pub IsFormatCaused : ℕ → ℕ → Result (Unit {0}) FormatFault → Type 0
 IsFormatCaused before now (Ok _) = now ≡ before
 IsFormatCaused before now (Err faults.Device) = IsOneMore before now
 IsFormatCaused before now (Err _) = now ≡ before
 
--- where it was refused before anything was written, this holds
+-- if formatting was refused before anything was written, this holds
 abbrev pub IsBeforeWriting : Result (Unit {0}) FormatFault → Type 0 → Type 0
 IsBeforeWriting (Err faults.TooSmall) P = P
 IsBeforeWriting (Err (faults.Memory _)) P = P
 IsBeforeWriting _ P = Unit {0}
 
--- where memory was refused, this holds
+-- if memory was refused, this holds
 abbrev pub IfMemory : {T : Type 0} → Result T AreaFault → Type 0 → Type 0
 IfMemory (Err (Memory _)) P = P
 IfMemory _ P = Unit {0}

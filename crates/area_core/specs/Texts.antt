@@ -1,4 +1,4 @@
--- What the user is told of the faults.
+-- The texts of the faults, for the user.
 use Rattle.std.specs.Prelude.{List, ◌++◌, ℕ, codes}
 use Rattle.std.specs.Fmt.{decimal}
 use Rattle.area_core.specs.declared.faults.AreaFault.{AreaFault}

@@ -1,4 +1,4 @@
-//! A block is added behind the last one.
+//! A block is added after the last one.
 
 ghost use Rattle.std.specs.Prelude.{◌≢◌, ◌+◌, ◌*◌, ◌≤◌, [], length, OnOk};
 ghost use Rattle.disk_core.specs.Calls.{Lasts, Throughout};
@@ -16,8 +16,8 @@ use std::alloc::Global;
 impl Area {
     /// Adds the commands of a batch, as one block.
     ///
-    /// A stop at any moment leaves the old commands, or the old and then all of the new. After a refusal
-    /// each further call answers `Broken`.
+    /// A stop at any moment leaves the old commands, or the old ones and then all of the new. After a refusal every
+    /// later call answers `Broken`.
     pub fn append<B, D: Disk>(
         &mut self,
         alloc: Global,

@@ -8,16 +8,16 @@ use crate::Version;
 use crate::batch::records_len;
 use command_core::Entry;
 
-/// The live area of a journal, at its first closed gate. It holds no disk.
+/// The live area of a journal, with the place of its first closed gate. It does not hold the disk.
 #[derive(Drop)]
 pub struct Area {
-    // What it tells of itself.
+    // The version that its first byte gives.
     pub(crate) version: Version,
     pub(crate) size: u64,
     pub(crate) selector: u8,
-    // Where the first closed gate is, from the area's first byte on.
+    // Where the first closed gate is, counted from the area's first byte.
     pub(crate) gate: u64,
-    // How long the snapshot is that was last written into the other area.
+    // How long the snapshot last written into the other area is.
     pub(crate) written: u64,
     pub(crate) broken: bool,
     ghost within: { gate + 1 ≤ size },
@@ -55,7 +55,7 @@ impl Area {
         self.begins() + 8
     }
 
-    /// Whether a block of so many bytes of records fits.
+    /// Whether a block of `records` bytes of records fits.
     pub fn fits(&self, records: u64) -> bool
         ensures { IsTrue result ↔ (self.now.gate + 10 + records ≤ self.now.size) }
     {
@@ -63,7 +63,7 @@ impl Area {
         left >= 10 && records <= left - 10
     }
 
-    /// Whether the block of these commands fits, with the gate behind it.
+    /// Whether the block of these commands fits, with the gate after it.
     pub fn takes<B>(&self, batch: &[Entry<B>]) -> bool
         ensures { IsTrue result ↔ (self.now.gate + 10 + length (records (commands batch.now)) ≤ self.now.size) }
     {
@@ -73,14 +73,14 @@ impl Area {
         }
     }
 
-    /// The number of the version that it tells of itself: 1 or 2.
+    /// The number of its version, which its first byte gives: 1 or 2.
     pub fn version(&self) -> u8
         ensures { result ≡ number self.now.version }
     {
         self.version.number()
     }
 
-    /// That version.
+    /// Its version, which its first byte gives.
     pub fn told_version(&self) -> Version
         ensures { result ≡ self.now.version }
     {
@@ -101,7 +101,7 @@ impl Area {
         self.size
     }
 
-    /// Whether a step failed, after which each further one is refused.
+    /// Whether a step has failed; every later one is then refused.
     pub fn is_broken(&self) -> bool
         ensures { result ≡ self.now.broken }
     {

@@ -7,7 +7,7 @@ ghost use Rattle.area_core.specs.Areas.{HasRecord, closed, commands, records};
 use command_core::Entry;
 use std::alloc::{AllocError, Global};
 
-// How many bytes the records have, or none where eight bytes do not count them.
+// How many bytes the records have, or `None` if that number does not fit into eight bytes.
 pub(crate) fn records_len<B>(batch: &[Entry<B>]) -> Option<u64>
     ensures some { IfSome result (λ total. total ≡ length (records (commands batch.now))) }
     ensures form { IfSome result (λ _. AllByRecursion HasRecord (commands batch.now)) }
@@ -29,7 +29,7 @@ fn put_records<B>(out: &mut Vec<u8>, batch: &[Entry<B>]) -> Result<(), AllocErro
     Ok(())
 }
 
-// How many bytes the records have, these, and a closed gate. The room is made once.
+// The number of bytes of the records, the records, and a closed gate. The room is made once.
 pub(crate) fn block_of<B>(
     alloc: Global,
     batch: &[Entry<B>],

@@ -8,10 +8,10 @@ use crate::pieces::Pieces;
 use crate::put::word_of;
 use std::alloc::{AllocError, Global};
 
-// How many bytes are written at once.
+// How many bytes are written in one call.
 const PIECE: usize = 65_536;
 
-// The second version, and how many bytes follow, where none is written yet.
+// The second version, and how many bytes follow, while none is written yet.
 fn heading(alloc: Global, at: u64, total: u64) -> Result<Vec<u8>, AllocError>
     requires { total < 2 ^ 56 }
     ensures { IfOk result (λ v. v.items ≡ heading at total) }
@@ -22,7 +22,7 @@ fn heading(alloc: Global, at: u64, total: u64) -> Result<Vec<u8>, AllocError>
     Ok(Vec::new(alloc))
 }
 
-// Adds a closed gate behind the last of the bytes.
+// Adds a closed gate after the last of the bytes.
 fn close(out: &mut Vec<u8>, is_last: bool) -> Result<(), AllocError>
     ensures { OnOk result (out.new.items ≡ out.old.items ++ cond is_last (0 ∷ []) []) }
 {
@@ -32,7 +32,7 @@ fn close(out: &mut Vec<u8>, is_last: bool) -> Result<(), AllocError>
     Ok(())
 }
 
-// The next piece, where so many bytes are written.
+// The next piece, once `at` bytes are written.
 pub(crate) fn next_closed<P: Pieces>(
     alloc: Global,
     pieces: &mut P,

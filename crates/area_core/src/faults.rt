@@ -11,7 +11,7 @@ use std::{error, fmt};
 pub enum AreaFault {
     /// The disk failed.
     Device,
-    /// The block or snapshot doesn't fit into the area, with the gate behind it.
+    /// The block or snapshot doesn't fit into the area with the gate after it.
     Full,
     /// A step failed before.
     Broken,
@@ -63,15 +63,15 @@ impl From<DeviceFault> for AreaFault {
 /// Why a disk was not read as a journal.
 #[derive(Debug, Drop)]
 pub enum ReadFault {
-    /// It has fewer than 32 bytes, or another name.
+    /// The disk has fewer than 32 bytes, or another name.
     NotAJournal,
-    /// What stands at that place of the disk is no length that fits, or no record.
+    /// What stands at that place of the disk is not a length that fits, or not a record.
     Damaged(u64),
     /// The disk failed.
     Device,
-    /// Another version of the format.
+    /// The disk has the name, but with another version of the format.
     UnknownVersion,
-    /// The header tells areas of fewer than 4,096 bytes, or more than the disk has.
+    /// The header gives areas of fewer than 4,096 bytes, or of more than the disk has.
     TooSmall,
     /// Memory was refused.
     Memory(AllocError),
@@ -123,7 +123,7 @@ impl From<DeviceFault> for ReadFault {
 /// Why a disk was not formatted.
 #[derive(Debug, Drop)]
 pub enum FormatFault {
-    /// The areas would have fewer than 4,096 bytes, or more than the disk has.
+    /// The areas would have fewer than 4,096 bytes each, or more than the disk has.
     TooSmall,
     /// The disk failed.
     Device,

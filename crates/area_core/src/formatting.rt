@@ -21,8 +21,8 @@ fn digits_of(version: Version) -> &'static [u8]
     }
 }
 
-/// The 32 bytes of the header of a journal with areas of so many bytes, by which the first area is live. Its name has that
-/// version.
+/// The 32 bytes of the header of a journal with areas of `area_bytes` bytes. Its name has that version, and its selector makes the first
+/// area live.
 pub fn header_of(alloc: Global, version: Version, area_bytes: u64) -> Result<Vec<u8>, AllocError>
     ensures { IfOk result (λ bytes. bytes.items ≡ header version area_bytes ++ replicate 16 0) }
 {
@@ -34,10 +34,10 @@ pub fn header_of(alloc: Global, version: Version, area_bytes: u64) -> Result<Vec
     Ok(out)
 }
 
-/// Makes the disk an empty journal of the second version with two areas of so many bytes each, which are at least 4,096. What it
-/// held is given up.
+/// Makes the disk an empty journal of the second version with two areas of `area_bytes` bytes each, at least 4,096. What the disk held is
+/// lost.
 ///
-/// `TooSmall` and `Memory` come before the disk is written to. After `Device` it may hold anything.
+/// `TooSmall` and `Memory` come before anything is written. After `Device` the disk may hold anything.
 pub fn format<D: Disk>(alloc: Global, disk: &mut D, area_bytes: u64) -> Result<(), FormatFault>
     ensures formats { OnOk result (Formats D.Disk disk.old disk.new area_bytes) }
     ensures small { IsErrOf result FormatFault.TooSmall →

@@ -42,7 +42,7 @@ pub(crate) fn fetch_number<D: Disk>(disk: &mut D, at: u64) -> Result<u64, Device
     Ok(number_of(&bytes))
 }
 
-// Whether bytes are those wanted.
+// Whether the bytes are those wanted.
 fn are(bytes: &[u8], wanted: &[u8]) -> bool
     ensures { IsTrue result ↔ bytes.now ≡ wanted.now }
 {
@@ -56,7 +56,7 @@ fn are_digits(bytes: &[u8; 2]) -> bool
     are(bytes, b"01") || are(bytes, b"02")
 }
 
-// So many bytes.
+// The `count` bytes from a place on.
 pub(crate) fn fetch_bytes<D: Disk>(
     alloc: Global,
     disk: &mut D,

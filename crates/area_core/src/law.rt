@@ -5,7 +5,7 @@ ghost use Rattle.command_core.specs.Commands.{CommandValue};
 ghost use Rattle.area_core.specs.Journals.{Reads};
 ghost use Rattle.area_core.specs.declared.version.Version.{Version};
 
-/// An image has one reading at most: one version, one length of areas, one live area, one snapshot, the same blocks. It does
+/// An image has at most one reading: one version, one length of areas, one live area, one snapshot, the same blocks. The function does
 /// nothing.
 pub fn an_image_has_one_reading()
     ensures { (v w : Version) (a b i j : ℕ) (s t : List ℕ) (xs ys : List (List CommandValue)) (image : List ℕ) →

@@ -1,4 +1,4 @@
-//! The areas of a journal: two on a disk, of which one is live, with a snapshot and blocks of commands behind gates.
+//! The areas of a journal: a disk has two, one of them live, each with a snapshot and blocks of commands behind gates.
 
 #![tactic(auto)]
 

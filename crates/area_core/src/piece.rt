@@ -13,8 +13,8 @@ use disk_core::Disk;
 use std::alloc::Global;
 
 impl Area {
-    /// Writes a piece into the area that is not live, so many bytes behind its first: one call of the disk, without a sync. A stop
-    /// at any moment leaves every byte of the rest as it was. No memory is taken.
+    /// Writes a piece into the area that is not live, from its offset `at` on: one call of the disk, without a sync. A stop at any moment
+    /// leaves every other byte as it was. It takes no memory.
     pub fn write_piece<D: Disk>(
         &mut self,
         disk: &mut D,
@@ -40,7 +40,7 @@ impl Area {
         Ok(())
     }
 
-    // Writes the next piece of a snapshot, where so many bytes are written; answers how many these are.
+    // Writes the next piece of a snapshot, once `at` bytes are written, and answers how many bytes the piece has.
     fn write_next<D: Disk, P: Pieces>(
         &mut self,
         alloc: Global,
@@ -70,7 +70,7 @@ impl Area {
         }
     }
 
-    // Writes the snapshot between an area's first word and a closed gate, from the first byte of the area that is not live on.
+    // Writes the snapshot into the area that is not live, from its first byte on, between the area's first word and a closed gate.
     pub(crate) fn write_closed<D: Disk, P: Pieces>(
         &mut self,
         alloc: Global,

@@ -10,11 +10,11 @@ pub trait Pieces {
     /// The bytes still to come.
     ghost coming: { Self → List ℕ };
 
-    /// How many are still to come; where they are 2^64 or more, 2^64 - 1.
+    /// How many bytes are still to come, or 2^64 - 1 if there are more.
     fn len(&self) -> u64
         ensures { result ≡ min (length (coming self.now)) (2 ^ 64 - 1) };
 
-    /// The next bytes: so many of them, or all where they are fewer. Where memory is refused, none is gone.
+    /// The next bytes: `count` of them, or all if there are fewer. If memory is refused, none is gone.
     fn next(&mut self, count: usize) -> Result<Vec<u8>, AllocError>
         ensures piece { IfOk result (λ piece. piece.items ≡ take count (coming self.old)) }
         ensures rest { OnOk result (coming self.new ≡ drop count (coming self.old)) }
@@ -37,7 +37,7 @@ impl<'a> Model for LentBytes<'a> {
 }
 
 impl<'a> LentBytes<'a> {
-    /// These bytes, whose pieces take memory from there.
+    /// These bytes, whose pieces take their memory from `alloc`.
     pub fn new(alloc: Global, bytes: &'a [u8]) -> LentBytes<'a>
         ensures { result ≡ bytes.now }
     {

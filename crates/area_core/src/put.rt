@@ -12,10 +12,11 @@ use crate::Version;
 use disk_core::{DeviceFault, Disk};
 use std::alloc::{AllocError, Global};
 
-// Seven bytes count fewer than these.
+// A length of fewer than these fits into seven bytes.
 pub(crate) const COUNTED: u64 = 1 << 56;
 
-// Writes bytes and syncs. Whenever the disk stops, only their range differs from what it might have left before.
+// Writes bytes and syncs. Whenever the disk stops, only their range differs from what it might have left before the
+// call.
 pub(crate) fn put<D: Disk>(disk: &mut D, at: u64, bytes: &[u8]) -> Result<(), DeviceFault>
     requires { at + length bytes.now ≤ length (D.content disk.old) }
     ensures any_moment { Throughout D.Disk disk.old disk.new
@@ -31,7 +32,7 @@ pub(crate) fn put<D: Disk>(disk: &mut D, at: u64, bytes: &[u8]) -> Result<(), De
     disk.sync()
 }
 
-// Writes bytes behind a gate, and then opens the gate, each made stable.
+// Writes bytes behind a gate, and then opens the gate; each is made stable.
 pub(crate) fn put_behind_gate<D: Disk>(
     disk: &mut D,
     gate: u64,
@@ -50,7 +51,7 @@ pub(crate) fn put_behind_gate<D: Disk>(
     put(disk, gate, &[1])
 }
 
-// The word that an area of that version begins with, where its snapshot has so many bytes.
+// The word that an area of that version begins with, if its snapshot has `count` bytes.
 pub(crate) fn word_of(version: Version, count: u64) -> u64
     requires { count < 2 ^ 63 }
     ensures { result ≡ word_of version count }
@@ -80,7 +81,7 @@ pub fn closed_snapshot(
     closed_behind(alloc, word_of(version, snapshot.len() as u64), snapshot)
 }
 
-/// How many bytes these are, in eight, the bytes, and a closed gate.
+/// The number of the bytes, in eight bytes, then the bytes, and a closed gate.
 pub fn closed(alloc: Global, bytes: &[u8]) -> Result<Vec<u8>, AllocError>
     ensures { IfOk result (λ v. v.items ≡ closed bytes.now) }
 {

@@ -15,8 +15,8 @@ use command_core::Command;
 use disk_core::Disk;
 use std::alloc::Global;
 
-// The version of the area of so many bytes that begins at that place, and how many bytes its snapshot has. A version that is
-// not known is told before it is seen whether the snapshot fits.
+// The version of the area of `size` bytes that begins at that place, and how many bytes its snapshot has. It reports an unknown version
+// before it looks whether the snapshot fits.
 fn first_word<D: Disk>(disk: &mut D, at: u64, size: u64) -> Result<(Version, u64), ReadFault>
     requires room { at + 8 ≤ length (D.content disk.old) }
     requires least { 9 ≤ size }
@@ -40,7 +40,7 @@ fn first_word<D: Disk>(disk: &mut D, at: u64, size: u64) -> Result<(Version, u64
 }
 
 impl Area {
-    /// The live area, before its first block, and the bytes of its snapshot. Nothing is written.
+    /// The live area at its first gate, before any block is read, and the bytes of its snapshot. Nothing is written.
     pub fn front<D: Disk>(alloc: Global, disk: &mut D) -> Result<(Area, Vec<u8>), ReadFault>
         ensures front { D.honest disk.old →
             IfOk result (λ r. IsPast r.0 r.1.items [] (D.content disk.old)) }
@@ -68,7 +68,7 @@ impl Area {
         Ok((area, snapshot))
     }
 
-    // How many bytes the records have behind the gate at that place of the disk, which is open.
+    // How many bytes the records behind the gate at that place of the disk have. The gate is open.
     fn block_len<D: Disk>(&self, disk: &mut D, at: u64) -> Result<u64, ReadFault>
         requires room { LiesOn self.now (D.content disk.old) }
         requires place { at ≡ gate_at self.now }
@@ -91,8 +91,7 @@ impl Area {
         Ok(count)
     }
 
-    /// The commands of the next block, or `None` at the first closed gate. Nothing is written. After a refusal the area
-    /// stands where it stood.
+    /// The commands of the next block, or `None` at the first closed gate. Nothing is written. After a refusal the area is where it was.
     pub fn next_block<D: Disk>(
         &mut self,
         alloc: Global,

@@ -27,7 +27,7 @@ fn read_record(
     Ok(size)
 }
 
-// What is told where no record was read that begins at that place.
+// The fault if no record that begins at that place was read.
 fn told(fault: DecodeFault, at: u64) -> ReadFault
     ensures { result ≡ told_of fault at }
 {
@@ -37,8 +37,8 @@ fn told(fault: DecodeFault, at: u64) -> ReadFault
     }
 }
 
-// The commands whose records these bytes are, one behind the other. Told as damaged is the first byte, counted from that
-// place on, of what is no record.
+// The commands whose records these bytes are, one after another. If some of the bytes are no record, `Damaged` names the first of them,
+// counted from that place on.
 pub(crate) fn commands_of(
     alloc: Global,
     bytes: &[u8],

@@ -13,10 +13,10 @@ use disk_core::Disk;
 use std::alloc::Global;
 
 impl Area {
-    /// Writes a snapshot into the area that is not live, which is of the second version then, whatever it was: in pieces of 65,536
-    /// bytes, each by one call of the disk, and a sync. A stop at any moment leaves every other byte as it was, the live area too.
-    /// `Full` comes before the first call, where the snapshot doesn't fit, or has 2^56 bytes or more; where memory is refused,
-    /// pieces may have been written.
+    /// Writes a snapshot into the area that is not live, which is then of the second version, whatever it was before. It writes pieces of
+    /// 65,536 bytes, each by one call of the disk, and then syncs. A stop at any moment leaves every byte outside that area as it was, and
+    /// so the live area too. `Full` comes before the first call, if the snapshot doesn't fit or has 2^56 bytes or more. If memory is
+    /// refused, some pieces may have been written.
     pub fn write_snapshot<D: Disk, P: Pieces>(
         &mut self,
         alloc: Global,
@@ -49,10 +49,10 @@ impl Area {
         Ok(())
     }
 
-    /// Makes the other area, which has the snapshot last written, the live one: the selector goes on by one, and 255 to 0.
+    /// Makes the other area, which has the snapshot last written, the live one. The selector goes up by one, and from 255 to 0.
     ///
-    /// A stop at any moment leaves every byte but the selector as it was, so both areas as they are, and one of them live. No
-    /// memory is taken.
+    /// A stop at any moment leaves every byte but the selector as it was. So both areas stay as they are, and one of them is live. It takes
+    /// no memory.
     pub fn switch<D: Disk>(&mut self, disk: &mut D) -> Result<(), AreaFault>
         requires room { 32 + 2 * self.old.size ≤ length (D.content disk.old) }
         ensures any_moment { Throughout D.Disk disk.old disk.new

@@ -4,10 +4,10 @@ ghost use Rattle.std.specs.Prelude.{◌≡◌, ◌≢◌, IfSome, None};
 ghost use Rattle.area_core.specs.Areas.{highest, number};
 ghost use Rattle.area_core.specs.declared.version.Version.{Version};
 
-/// The version of an area, which it tells itself in its first byte.
+/// The version of an area, which the area's first byte gives.
 #[derive(Clone, Copy)]
 pub enum Version {
-    /// Its blocks are of a build whose NACK drops the message. It is read, and never written.
+    /// The area's blocks are of a build whose NACK drops the message. This version is read, and never written.
     One,
     /// A NACK keeps the message.
     Two,
@@ -24,7 +24,7 @@ impl Version {
         }
     }
 
-    // What its areas begin with.
+    // The byte that its areas begin with.
     pub(crate) fn highest(self) -> u8
         ensures { result ≡ highest self }
     {

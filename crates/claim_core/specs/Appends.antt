@@ -8,9 +8,9 @@ use Rattle.claim_core.specs.Rule.{far}
 use Rattle.claim_core.specs.Steps.{IsLast}
 use Rattle.claim_core.specs.Seats.{SessionSeatValue, session, with_stop}
 
--- The seat gets the ticket and the command behind its own, and nothing else but the mark that it read. The ring was not
--- stopped, the mark is not far, fewer of its own commands than the window were not under it, and the ticket is no
--- earlier than the mark and later than each of its own.
+-- The seat gets the ticket and the command after its own, and nothing else but the mark that it read. The ring was not
+-- stopped, and the mark is not far. Fewer of the seat's own commands than the window were not under the mark. The
+-- ticket is no earlier than the mark, and later than each of the seat's own.
 pub record Appends (window : ℕ) (old new : SessionSeatValue) (ticket : ℕ) (command : CommandValue) : Type 0 where
   pub added : new ≡ session old.ring old.number (old.own ++ (ticket, command) ∷ []) new.seen false
   pub no_less : old.seen ≤ new.seen
@@ -19,8 +19,8 @@ pub record Appends (window : ℕ) (old new : SessionSeatValue) (ticket : ℕ) (c
   pub unseen : new.seen ≤ ticket
   pub last : IsLast ticket old.own
 
--- Nothing was claimed. Each refusal comes only where the ones before it do not: the flusher has stopped the ring; the
--- mark just read is far; or as many own commands as the window are not under that mark, which is told.
+-- Nothing was claimed. Each refusal comes only if those before it do not. The flusher has stopped the ring; the mark
+-- just read is far; or as many own commands as the window are not under that mark, which the refusal names.
 abbrev pub Refuses : ℕ → SessionSeatValue → SessionSeatValue → Refused → Type 0
 Refuses window old new Stopped = new ≡ with_stop old true
 Refuses window old new Exhausted = (old.seen ≤ new.seen) × (far ≤ new.seen) × (new ≡ session old.ring old.number old.own new.seen false)

@@ -14,11 +14,11 @@ abbrev pub sum_of : {A : Type 0} → (A → ℕ) → List A → ℕ
 sum_of f [] = 0
 sum_of f (x ∷ xs) = f x + sum_of f xs
 
--- 1 where they are equal
+-- 1 if they are equal
 abbrev pub same : ℕ → ℕ → ℕ
 same a b = if a == b then 1 else 0
 
--- 1 where b is a or more
+-- 1 if b is a or more
 abbrev pub from : ℕ → ℕ → ℕ
 from a b = if nat_lt b a then 0 else 1
 
@@ -35,7 +35,7 @@ abbrev pub open_of : ℕ → List Pair → List ℕ
 open_of m [] = []
 open_of m (p ∷ ps) = if nat_lt p.0 m then open_of m ps else p.0 ∷ open_of m ps
 
--- 1 where t is the pending ticket
+-- 1 if t is the pending ticket
 abbrev pub pends : ℕ → Option ℕ → ℕ
 pends t None = 0
 pends t (Some p) = same t p

@@ -9,7 +9,7 @@ use Rattle.claim_core.specs.Rule.{IsRising, IsOwnOf}
 use Rattle.claim_core.specs.Seats.{SessionSeatValue, FlushSeatValue, next_ticket}
 
 -- A seat's own commands stand in the history at its tickets, which rise. It read no mark over the flusher's, and found
--- the ring stopped only where the flusher had stopped it.
+-- the ring stopped only if the flusher had stopped it.
 pub record Matches (flush : FlushSeatValue) (log : List CommandValue) (seat : SessionSeatValue) : Type 0 where
   pub rising : IsRising flush.base seat.own
   pub own : IsOwnOf flush.base log seat.own

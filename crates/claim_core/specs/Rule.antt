@@ -34,8 +34,8 @@ IsRising lo (p ∷ ps) = (lo ≤ p.0) × IsRising (p.0 + 1) ps
 abbrev pub IsOwnOf : ℕ → List CommandValue → List Pair → Type 0
 IsOwnOf base log own = (k : ℕ) (p : Pair) → get_elem? own k ≡ some p → (i : ℕ) × (p.0 ≡ base + i) × (get_elem? log i ≡ some p.1)
 
--- what a session's seat knows is so. `mark` and `stopped` are the owner's, `next` is the ticket after those taken, and
--- `log` is the history, the commands of all tickets from the base on
+-- What a session's seat knows is true. `mark` and `stopped` are the owner's, `next` is the ticket after those taken, and `log` is the
+-- history, the commands of all tickets from the base on
 pub record ClaimerOk (base window mark : ℕ) (stopped : Bool) (next : ℕ) (log : List CommandValue) (c : Claimer) : Type 0 where
   pub pairs : IsOwnOf base log c.own
   pub rising : IsRising base c.own
@@ -54,7 +54,7 @@ Fits base window mark stopped next log j (Owns o) = (j ≡ 0) × ((k : ℕ) (c :
 Fits base window mark stopped next log j (Claims c) = ClaimerOk base window mark stopped next log c
 Fits base window mark stopped next log j Spent = Unit {0}
 
--- the place of the ticket t, where there are n places
+-- the place of the ticket t, if there are n places
 module _ {B : Type 0} (n : ℕ) (words : List ℕ) (homes : List (maybe.Option (Option (EntryValue B)))) where
   abbrev pub face : ℕ → ℕ
   face t = slice_index_or words (t % n + 3) 0
@@ -62,8 +62,8 @@ module _ {B : Type 0} (n : ℕ) (words : List ℕ) (homes : List (maybe.Option (
   abbrev pub home : ℕ → maybe.Option (maybe.Option (Option (EntryValue B)))
   home t = get_elem? homes (t % n)
 
-  -- it is free for t; or claimed, and out with the seat that t waits for; or ready, with the entry that the history has
-  -- at t. p counts the seats that t is pending at
+  -- It is free for t; or claimed, and out with the seat that t waits for; or ready, with the entry that the history has at t. Here p counts
+  -- the seats that t is pending at.
   abbrev pub Stands : ℕ → List CommandValue → ℕ → ℕ → Type 0
   Stands base log p t =
       ((base + length log ≤ t) × (face t ≡ 3 * t) × (home t ≡ some (some None)))
@@ -99,7 +99,7 @@ pub record RingRule {B : Type 0} (key : Limits) (s : State (Option (EntryValue B
   pub few : owner.count ≤ key.seats
   pub once : (i : ℕ) → i < length log → sum_of (times_of (key.base + i)) s.views ≡ 1
   pub each_view : (j : ℕ) (v : View) → get_elem? s.views j ≡ some v → Fits key.base key.window owner.published owner.stopped (key.base + length owner.taken) log j v
-  -- the places of the tickets from the first that was not taken on, one round; where the flusher holds a place, the last of these isn't free yet
+  -- the places of one round of tickets, from the first that was not taken; if the flusher holds a place, the last of these isn't free yet
   pub places : (t : ℕ) → key.base + length owner.taken ≤ t → t < key.base + length owner.taken + length s.homes
       → (owner.held ≡ true → t + 1 ≢ key.base + length owner.taken + length s.homes) → Stands (length s.homes) s.words s.homes key.base log (sum_of (pends_of t) s.views) t
   pub held : owner.held ≡ true → (t : ℕ) × (t + 1 ≡ key.base + length owner.taken) × (owner.published ≤ t) × IsHeld (length s.homes) s.words s.homes t

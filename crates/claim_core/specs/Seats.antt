@@ -11,8 +11,8 @@ use Rattle.claim_core.specs.Counts.{Pair, above, open_of}
 use Rattle.claim_core.specs.Rule.{far}
 use Rattle.claim_core.specs.Steps.{claimer, owning, next_of, Sat}
 
--- A session's seat: its ring, its number there, its own commands in the order of its calls, each with its ticket, the
--- mark that it read last, and whether its last append found the ring stopped.
+-- A session's seat: its ring, its number there, and its own commands in the order of its calls, each with its ticket.
+-- It also has the mark that it read last, and whether its last append found the ring stopped.
 pub record SessionSeatValue : Type 0 where
   pub ring : TableId
   pub number : ℕ
@@ -20,8 +20,8 @@ pub record SessionSeatValue : Type 0 where
   pub seen : ℕ
   pub stopped : Bool
 
--- The flusher's seat: its ring, the ring's first ticket, the commands that it has taken, from that ticket on, the mark,
--- whether it has stopped the ring, and how many sessions' seats there are.
+-- The flusher's seat: its ring, the ring's first ticket, and the commands that it has taken, from that ticket on. It
+-- also has the mark, whether it has stopped the ring, and how many sessions' seats there are.
 pub record FlushSeatValue : Type 0 where
   pub ring : TableId
   pub base : ℕ
@@ -44,14 +44,14 @@ next_ticket f = f.base + length f.taken
 abbrev pub waiting : SessionSeatValue → ℕ
 waiting s = above s.seen s.own
 
--- a seat that nobody has used
+-- a seat that was not used yet
 abbrev pub new_session : TableId → ℕ → ℕ → SessionSeatValue
 new_session ring base number = session ring number [] base false
 
 abbrev pub new_flushing : TableId → ℕ → ℕ → FlushSeatValue
 new_flushing ring base seats = flushing ring base [] base false seats
 
--- what one call changes
+-- what a call changes
 abbrev pub with_seen : SessionSeatValue → ℕ → SessionSeatValue
 with_seen s mark = session s.ring s.number s.own mark s.stopped
 
@@ -73,7 +73,7 @@ when_stopped f = flushing f.ring f.base f.taken f.published true f.seats
 abbrev pub with_seat : FlushSeatValue → FlushSeatValue
 with_seat f = flushing f.ring f.base f.taken f.published f.stopped (f.seats + 1)
 
--- what a seat at the table knows, with a blank in the cases that it never has
+-- what a seat at the table knows, with a blank for the cases that never come
 abbrev pub claimer_of : View → Claimer
 claimer_of (Owns o) = claimer [] None 0 false
 claimer_of (Claims c) = c
@@ -90,15 +90,15 @@ session_value ring number v = session ring number (claimer_of v).own (claimer_of
 abbrev pub flush_value : TableId → View → FlushSeatValue
 flush_value ring v = flushing ring (owner_of v).base (owner_of v).taken (owner_of v).published (owner_of v).stopped (owner_of v).count
 
--- what the table knows of a session's seat between calls, and of the flusher's once these seats are back
+-- what the table knows of a session's seat between calls, and of the flusher's seat once the sessions' seats are back
 abbrev pub claimer_from : SessionSeatValue → Claimer
 claimer_from s = claimer s.own None s.seen s.stopped
 
 abbrev pub owner_with : FlushSeatValue → List SessionSeatValue → Owner
 owner_with f back = owning f.base f.taken false f.published f.stopped f.seats (map claimer_from back)
 
--- between calls a session's seat has no place out and no ticket pending; its open tickets are kept, and there is room
--- for a whole window of them
+-- Between calls a session's seat has no place out and no ticket pending. Its open tickets are kept, with room for a
+-- whole window of them.
 pub record IsSession {B : Type 0} (window : ℕ) (me : Sat B) (waits : List ℕ) (capacity : ℕ) : Type 0 where
   pub claims : me.0 ≡ Claims (claimer_of me.0)
   pub nothing_out : me.1 ≡ []
@@ -106,7 +106,7 @@ pub record IsSession {B : Type 0} (window : ℕ) (me : Sat B) (waits : List ℕ)
   pub waits_is : waits ≡ open_of (claimer_of me.0).seen (claimer_of me.0).own
   pub room : window ≤ capacity
 
--- between calls the flusher's seat has no place out, and the numbers that it keeps are so
+-- Between calls the flusher's seat has no place out, and the numbers that it keeps are these.
 pub record IsFlush {B : Type 0} (me : Sat B) (base next mark : ℕ) : Type 0 where
   pub owns : me.0 ≡ Owns (owner_of me.0)
   pub nothing_out : me.1 ≡ []

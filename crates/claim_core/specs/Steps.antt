@@ -1,4 +1,4 @@
--- What each step tells the seat that makes it.
+-- What each step lets the seat that makes it know.
 use Rattle.std.specs.Prelude.{◌≡◌, ℕ, ◌+◌, ◌*◌, ◌%◌, ◌<◌, ◌≤◌, List, [], ◌∷◌, ◌++◌, ◌≢◌, length, Bool, Option, Some, None, true, false}
 use mathlib.Core.Option.{some}
 use Rattle.atomic_table.specs.Seated.{TableId}
@@ -45,7 +45,7 @@ joined_to (Owns o) w = joined_with o w
 joined_to (Claims c) w = Claims c
 joined_to Spent w = Spent
 
--- of the seats that the owner has taken back, it hands the first out again as it came
+-- the owner hands out again, as it came, the first of the seats that it has taken back
 abbrev pub without_first : List Claimer → List Claimer
 without_first [] = []
 without_first (c ∷ cs) = cs
@@ -72,11 +72,11 @@ nobody v = Spent
 abbrev pub IsAt : TableId → TableId → Type 0
 IsAt seat board = (seat ≡ board) × (board.words ≡ board.slots + 3)
 
--- the place of a ticket, where there are n
+-- the place of a ticket, if there are n
 abbrev pub IsPlaceOf : ℕ → ℕ → ℕ → Type 0
 IsPlaceOf ticket place n = (place ≡ ticket % n) × (place < n)
 
--- a ticket may be claimed: none is pending, few commands wait for the mark, and that isn't far
+-- a ticket may be claimed: none is pending, few commands wait for the mark, and the mark isn't far
 abbrev pub MayClaim : ℕ → View → Type 0
 MayClaim window v = (c : Claimer) × (v ≡ Claims c) × (c.pending ≡ None) × (above c.seen c.own < window) × (c.seen < far)
 
@@ -88,7 +88,8 @@ IsLast n own = (k : ℕ) (p : Pair) → get_elem? own k ≡ some p → p.0 < n
 abbrev pub Sat : Type 0 → Type 0
 Sat B = Me (Option (EntryValue B)) View
 
--- what the owner learns at its last load: there is one history, of which what was taken is the beginning, and where each seat has come back, each of its tickets stands once in one seat's own pairs, which rise and are the history's commands
+-- What the owner learns at its last load: there is one history, and what was taken is its beginning. If every seat has come back, each
+-- ticket of the history stands once in one seat's own pairs. A seat's pairs rise, and are the history's commands.
 abbrev pub Ended : Owner → ℕ → Type 0
 Ended o tail =
     (log : List CommandValue)
@@ -112,7 +113,8 @@ MayFree {B} ticket place me = (o : Owner) × (more : List (ℕ × Option (EntryV
 abbrev pub MayRaise : ℕ → View → Type 0
 MayRaise m v = (o : Owner) × (v ≡ Owns o) × (o.held ≡ false) × (o.published ≤ m) × (m ≤ next_of o)
 
--- Each of these says of a step, of the seat before it, of the number that it found (at a store, that it stored) and of the seat after it what becomes of the view.
+-- Each of these says what becomes of the view. It speaks of a step, the seat before it, the number that it found (or at a store, stored),
+-- and the seat after it.
 module _ {B : Type 0} where
   -- the mark is loaded
   abbrev pub saw_mark : Step (Option (EntryValue B)) → Sat B → ℕ → Sat B → Type 0
@@ -127,7 +129,7 @@ module _ {B : Type 0} where
   claimed x st m n m' = (m'.1 ≡ (n % st.slots, None) ∷ m.1) × (n < 4 * far)
       × ((c : Claimer) → m.0 ≡ Claims c → (m'.0 ≡ Claims (claimer (c.own ++ (n, x) ∷ []) (Some n) c.seen c.stopped)) × (c.seen ≤ n) × IsLast n c.own)
 
-  -- the same, for the command that the call was told
+  -- the same, for the command that the call was given
   abbrev pub claimed_for : Option CommandValue → Step (Option (EntryValue B)) → Sat B → ℕ → Sat B → Type 0
   claimed_for said st m n m' = (x : CommandValue) → said ≡ Some x → claimed x st m n m'
 

@@ -15,11 +15,11 @@ impl<B: Drop, const SEATS: usize, const WINDOW: usize, const PLACES: usize> Ring
     WINDOW,
     PLACES,
 > {
-    /// Ends the ring, with its flusher's seat and all of its sessions' seats. What was not taken is dropped. It takes no
-    /// memory, so the answer is always `Ok`.
+    /// Ends the ring, with its flusher's seat and all of its sessions' seats. Entries that were not taken are dropped. It takes no memory,
+    /// so the answer is always `Ok`.
     ///
-    /// Contracts then know the one history of the ring: the commands of all tickets, of which each seat's own are a part
-    /// and those that the flusher took the beginning.
+    /// Contracts then know the one history of the ring, which is the commands of all tickets. Each seat's own commands are a part of it,
+    /// and those that the flusher took are its beginning.
     pub fn close(
         self,
         seats: Vec<SessionSeat<B, WINDOW>>,

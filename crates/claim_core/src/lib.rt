@@ -1,4 +1,5 @@
-//! The claim buffer: sessions claim places in one order of all commands without waiting, and one flusher takes them.
+//! The claim buffer: sessions claim places in one order of all commands without waiting, and one flusher takes the
+//! commands.
 
 #![tactic(auto)]
 

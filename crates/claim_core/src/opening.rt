@@ -10,7 +10,7 @@ use crate::views::Limits;
 use atomic_table::Table;
 use std::alloc::{AllocError, Global};
 
-// The words of a ring of so many places, of which the ticket `base` is the first.
+// The words of a ring of `places` places, whose first ticket is `base`.
 fn lay(alloc: Global, base: u64, places: usize) -> Result<Vec<u64>, AllocError>
     requires { (0 < places) × (places ≤ 4096) × (base ≤ 2 ^ 61) }
     ensures { IfOk result (λ words. IsLaid words.items places base places) }
@@ -32,7 +32,7 @@ impl<B, const SEATS: usize, const WINDOW: usize, const PLACES: usize> Ring<
     WINDOW,
     PLACES,
 > {
-    // The ring with the flusher's seat, before sessions' seats are dealt.
+    // The ring with the flusher's seat, before the sessions' seats are dealt.
     fn bare(
         alloc: Global,
         base: u64,
@@ -78,8 +78,8 @@ impl<B: Drop, const SEATS: usize, const WINDOW: usize, const PLACES: usize> Ring
     PLACES,
 > {
     /// Makes a ring, whose first ticket is `base`, with all its seats; those of sessions are in the order of their
-    /// numbers. There are one or more of seats, places and commands a seat, places for all commands that seats may have
-    /// waiting, and 4,096 places at most. Where memory is refused nothing is left.
+    /// numbers. `SEATS`, `WINDOW` and `PLACES` are each at least 1. There is a place for every command that seats may
+    /// have waiting, and there are 4,096 places at most. If memory is refused, nothing is left.
     pub fn new(
         alloc: Global,
         base: u64,

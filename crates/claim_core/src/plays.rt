@@ -1,4 +1,4 @@
-//! What each step tells the seat that makes it. These types are for the proofs alone.
+//! What each step lets the seat that makes it know. These types are for the proofs alone.
 
 ghost use Rattle.claim_core.specs.declared.views.View.TheVariants.{Spent};
 ghost use Rattle.claim_core.specs.Steps.{saw_mark, saw_stop, claimed_for, readied, took, freed, raised, stopped, ended, dealt, fresh, joined_to, handed_back, came_back, nobody};
@@ -85,7 +85,7 @@ impl Split<View> for StandIn {
     ghost right = { nobody };
 }
 
-// The owner hands the first seat that it has taken back out again.
+// The owner hands out again the first seat that it has taken back.
 pub struct HandBack;
 
 impl Split<View> for HandBack {

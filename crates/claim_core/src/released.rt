@@ -8,8 +8,8 @@ use command_core::Out;
 use frame_core::Frame;
 use std::marker::Model;
 
-/// An output that may leave, since its number is under a mark that was read. Only `Ring::release` makes one. Contracts
-/// see it as the output.
+/// An output that may leave, because its number is under a mark that was read. Only `Ring::release` makes one.
+/// Contracts see it as the output.
 #[derive(Drop)]
 pub struct Released {
     out: Out,
@@ -24,7 +24,7 @@ impl Model for Released {
 }
 
 impl Released {
-    // The output, where its number is under the mark.
+    // The output, if its number is under the mark.
     pub(crate) fn under(mark: u64, out: Out) -> Result<Released, (Out, NotYet)>
         ensures ok { IfOk result (λ released. (released ≡ out) × (out.number < mark)) }
         ensures not_yet { IfErr result (λ back. (back.0 ≡ out) × (back.1.0 ≡ mark) × (mark ≤ out.number)) }
@@ -36,7 +36,7 @@ impl Released {
         }
     }
 
-    /// The frame that may leave. It can be written.
+    /// The frame that may leave, which can be written.
     pub fn frame(&self) -> &Frame
         ensures value { result.now ≡ self.now.frame }
         ensures form { Writable self.now.frame }
@@ -44,14 +44,14 @@ impl Released {
         self.out.frame()
     }
 
-    /// The number of the command that gave it.
+    /// The number of the command that the output comes from.
     pub fn number(&self) -> u64
         ensures { result ≡ self.now.number }
     {
         self.out.number()
     }
 
-    /// The session that it goes to.
+    /// The session that the output goes to.
     pub fn session(&self) -> u64
         ensures { result ≡ self.now.session }
     {

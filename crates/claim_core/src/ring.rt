@@ -14,14 +14,13 @@ use command_core::{Entry, Out};
 use std::alloc::Global;
 use std::marker::Model;
 
-// From this mark on nothing more is claimed, so that no number of the ring passes its word.
+// From this mark on nothing more is claimed, so that no number of the ring overflows its word.
 const FAR: u64 = 1 << 60;
 
 /// A claim buffer of `PLACES` places, for `SEATS` sessions' seats and one flusher. Each session may have `WINDOW`
 /// commands that are not under the mark. No call waits for another, and none but `new` takes memory.
 ///
-/// A command has its ticket, which is its number in the order of all commands, from the moment of its claim. Contracts
-/// see which ring it is.
+/// From the moment of its claim a command has its ticket, which is its number in the order of all commands. Contracts see which ring it is.
 #[derive(Drop)]
 pub struct Ring<B, const SEATS: usize, const WINDOW: usize, const PLACES: usize> {
     pub(crate) table: Table<Option<Entry<B>>, View, Limits, Claiming, Global>,
@@ -47,8 +46,8 @@ impl<B, const SEATS: usize, const WINDOW: usize, const PLACES: usize> Ring<
     WINDOW,
     PLACES,
 > {
-    /// Claims the next ticket for the entry and makes it ready, which answers the ticket. Where it is refused the entry
-    /// comes back and nothing was claimed. `Stopped` comes before `Exhausted`, and that before `Busy`.
+    /// Claims the next ticket for the entry, makes the entry ready, and answers the ticket. If it refuses, the entry comes back and nothing
+    /// was claimed. `Stopped` comes before `Exhausted`, and `Exhausted` before `Busy`.
     pub fn append(
         &self,
         seat: &mut SessionSeat<B, WINDOW>,
@@ -81,7 +80,7 @@ impl<B, const SEATS: usize, const WINDOW: usize, const PLACES: usize> Ring<
         seat.read_mark(&self.table.shared)
     }
 
-    /// Lets an output leave whose number is under the mark, which is read. Else the output comes back with that mark.
+    /// Reads the mark, and lets the output leave if its number is under it. Otherwise the output comes back with that mark.
     pub fn release(
         &self,
         seat: &mut SessionSeat<B, WINDOW>,
@@ -98,7 +97,7 @@ impl<B, const SEATS: usize, const WINDOW: usize, const PLACES: usize> Ring<
         Released::under(mark, out)
     }
 
-    /// Takes the entry of the next ticket. `None` where that isn't ready at this moment.
+    /// Takes the entry of the next ticket; `None` if it isn't ready at this moment.
     pub fn take(&self, seat: &mut FlushSeat<B>) -> Option<Entry<B>>
         requires { seat.old.ring ≡ self.now }
         ensures { MatchOption result (seat.new ≡ seat.old) (λ entry. seat.new ≡ with_taken seat.old entry.command) }
@@ -106,7 +105,7 @@ impl<B, const SEATS: usize, const WINDOW: usize, const PLACES: usize> Ring<
         seat.pick(&self.table.shared, PLACES as u64)
     }
 
-    /// Raises the mark, which publishes every number under it. It may not fall, nor pass what was taken.
+    /// Raises the mark, which publishes every number under it. The mark may neither fall nor pass what was taken.
     pub fn raise(&self, seat: &mut FlushSeat<B>, mark: u64)
         requires ring { seat.old.ring ≡ self.now }
         requires mark { (seat.old.published ≤ mark) × (mark ≤ next_ticket seat.old) }
@@ -115,9 +114,8 @@ impl<B, const SEATS: usize, const WINDOW: usize, const PLACES: usize> Ring<
         seat.raise_to(&self.table.shared, mark);
     }
 
-    /// Brings a session's seat beside the flusher's, for one who has both: they stay as they are, and contracts know then
-    /// that both speak of one history. Where the flusher has taken a ticket of the seat's own, it took the command that
-    /// the seat has there.
+    /// Brings a session's seat beside the flusher's, for a caller that has both. Both stay as they are, and contracts then know that they
+    /// speak of one history. If the flusher has taken a ticket of the seat's own, it took the command that the seat has there.
     pub fn beside(&self, seat: &mut SessionSeat<B, WINDOW>, flush: &mut FlushSeat<B>)
         requires flush { flush.old.ring ≡ self.now }
         requires seat { seat.old.ring ≡ self.now }
@@ -128,7 +126,7 @@ impl<B, const SEATS: usize, const WINDOW: usize, const PLACES: usize> Ring<
         flush.compare(&self.table.shared, seat);
     }
 
-    /// From now on `append` refuses, for good.
+    /// Stops the ring: from now on `append` refuses, for good.
     pub fn stop(&self, seat: &mut FlushSeat<B>)
         requires { seat.old.ring ≡ self.now }
         ensures { seat.new ≡ when_stopped seat.old }

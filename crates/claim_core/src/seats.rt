@@ -1,4 +1,4 @@
-//! The seats of a ring: who makes steps at it.
+//! The seats of a ring, which make the steps at it.
 
 ghost use Rattle.std.specs.Prelude.{◌≡◌, ◌+◌, ◌<◌, ◌≤◌, ◌^◌, false, List, [], length, nat_lt, All, IfOk, OnOk, MatchOption};
 ghost use Rattle.command_core.specs.Commands.{CommandValue};
@@ -19,12 +19,13 @@ use std::alloc::{AllocError, Global};
 use std::marker::Model;
 use std::mem;
 
-/// The seat of one session at a ring. It takes no memory after it was made. Contracts see its ring, its number, its own
-/// commands with their tickets, the mark that it read last, and whether its last append found the ring stopped.
+/// The seat of one session at a ring. Once made, it takes no more memory. Contracts see its ring, its number, its own
+/// commands with their tickets, and the mark that it read last. They also see whether its last append found the ring
+/// stopped.
 #[derive(Drop)]
 pub struct SessionSeat<B, const WINDOW: usize> {
     pub(crate) table_seat: TableSeat<B>,
-    // Its own tickets that are not under the mark it read last.
+    // Its own tickets that are not under the mark that it read last.
     waits: Vec<u64>,
     number: u32,
 }
@@ -99,8 +100,9 @@ impl<B, const WINDOW: usize> SessionSeat<B, WINDOW> {
     }
 }
 
-/// The seat of the one who takes the entries and raises the mark. Contracts see its ring, the ring's first ticket, the
-/// commands that it has taken, the mark, whether it has stopped the ring, and how many sessions' seats there are.
+/// The seat of the flusher, which takes the entries and raises the mark. Contracts see its ring, the ring's first
+/// ticket, the commands that it has taken, and the mark. They also see whether it has stopped the ring, and how many
+/// sessions' seats there are.
 #[derive(Drop)]
 pub struct FlushSeat<B> {
     table_seat: TableSeat<B>,
@@ -134,7 +136,7 @@ impl<B> FlushSeat<B> {
         }
     }
 
-    // A session's seat more, with that number.
+    // One more session's seat, with that number.
     pub(crate) fn deal<const WINDOW: usize>(
         &mut self,
         alloc: Global,
@@ -172,7 +174,7 @@ impl<B> FlushSeat<B> {
         self.mark
     }
 
-    // Takes the next entry where it is ready.
+    // Takes the next entry if it is ready.
     pub(crate) fn pick(&mut self, board: &Board<B>, places: u64) -> Option<Entry<B>>
         requires fits { IsAt self.old.ring board.now.table_id }
         requires places { (board.now.table_id.slots ≡ places) × (0 < places) × (places ≤ 4096) }

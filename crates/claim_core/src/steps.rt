@@ -44,7 +44,7 @@ pub fn load_stop<B>(board: &Board<B>, seat: &mut TableSeat<B>) -> u64
     board.load::<SeeStop>(seat, STOP)
 }
 
-// The addition tells no value, so the command that the ticket is claimed for comes by a type.
+// The addition carries no value, so the command that the ticket is claimed for comes by a type.
 fn claim_as<B, C: Told>(board: &Board<B>, seat: &mut TableSeat<B>, entry: &Entry<B>) -> u64
     requires fits { IsAt seat.old.table_id board.now.table_id }
     requires told { C.command ≡ Some entry.now.command }
@@ -87,7 +87,7 @@ pub fn ready<B>(
     board.store::<Ready>(seat, FIRST_PLACE + place, 3 * ticket + 1);
 }
 
-// The flusher's seat takes the place of the next ticket, where that is ready: then the answer is 3 * ticket + 1.
+// The flusher's seat takes the place of the next ticket, if that is ready: then the answer is 3 * ticket + 1.
 pub fn hold<B>(board: &Board<B>, seat: &mut TableSeat<B>, ticket: u64, place: usize) -> u64
     requires fits { IsAt seat.old.table_id board.now.table_id }
     requires place { IsPlaceOf ticket place board.now.table_id.slots × (3 * ticket + 2 < 2 ^ 64) }
@@ -160,7 +160,7 @@ pub fn stand_in<B>(board: &Board<B>, seat: &mut TableSeat<B>) -> TableSeat<B>
     board.split_seat::<StandIn>(seat)
 }
 
-// The owner hands the first seat that it has taken back out again, as it came.
+// The owner hands out again, as it came, the first seat that it has taken back.
 pub fn hand_back<B>(board: &Board<B>, seat: &mut TableSeat<B>) -> TableSeat<B>
     requires fits { IsAt seat.old.table_id board.now.table_id }
     requires owner { (o : Owner) × (c : Claimer) × (cs : List Claimer) × (seat.old.me.0 ≡ Owns o) × (o.joined ≡ c ∷ cs) }

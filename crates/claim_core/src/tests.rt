@@ -26,7 +26,7 @@ fn delivery_of(entry: &Entry<()>) -> Option<u64> {
     }
 }
 
-// Which delivery the entry acknowledges that is taken.
+// The delivery that the taken entry acknowledges.
 fn take(ring: &SmallRing, flush: &mut FlushSeat<()>) -> Option<u64>
     requires { flush.old.ring ≡ ring.now }
     ensures { flush.new.ring ≡ ring.now }
@@ -79,7 +79,7 @@ fn begin(ring: &SmallRing, seat: SmallSeat, entry: &Entry<()>) -> (u64, TableSea
     (ticket, table_seat)
 }
 
-// Makes it ready.
+// Makes the pending entry ready.
 fn finish(ring: &SmallRing, mut table_seat: TableSeat<()>, ticket: u64, entry: Entry<()>)
     requires ring { table_seat.table_id ≡ ring.now }
     requires pending { table_seat.me ≡ (Claims (claimer ((ticket, entry.command) ∷ []) (Some ticket) 0 false), (ticket % 4, None) ∷ []) }
@@ -94,7 +94,7 @@ fn finish(ring: &SmallRing, mut table_seat: TableSeat<()>, ticket: u64, entry: E
     );
 }
 
-// The ticket of another seat's entry, and what is taken: while the first entry is not ready, and twice once it is.
+// The ticket of another seat's entry, and what is taken: once while the first entry is not ready, and twice after.
 fn play(
     alloc: Global,
     ring: &SmallRing,
@@ -181,7 +181,7 @@ fn go_on<const SEATS: usize, const WINDOW: usize, const PLACES: usize>(
     appended
 }
 
-// One round: an entry at each of the places.
+// One round: an entry in each of the places.
 fn go_round<const SEATS: usize, const WINDOW: usize, const PLACES: usize>(
     alloc: Global,
     ring: &Ring<(), SEATS, WINDOW, PLACES>,
@@ -237,7 +237,7 @@ fn ticket_256_lands_on_the_first_place(rt: HostRuntime) -> Result<(), Fail> {
     Ok(())
 }
 
-// A place is free for its first ticket t as 3 t, and ready as 3 t + 1: with four places ticket 4 takes its word from 12 to 13.
+// A place is free for its first ticket t as 3 t, and ready as 3 t + 1. So with four places ticket 4 takes its word from 12 to 13.
 #[test]
 fn ticket_4_of_four_places_lands_on_the_first(rt: HostRuntime) -> Result<(), Fail> {
     let (ring, seats, flush) = SmallRing::new(rt.alloc(), 0)?;

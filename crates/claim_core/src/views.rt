@@ -8,7 +8,7 @@ use command_core::{Command, Entry};
 use std::marker::Brand;
 
 /// What a ring was made with: its first ticket, how many seats sessions may have, and how many commands of each may
-/// wait for the mark. It is the key of the table.
+/// wait for the mark. This is the key of the table.
 #[derive(Drop)]
 pub struct Limits {
     pub base: u64,
@@ -16,9 +16,9 @@ pub struct Limits {
     pub window: u64,
 }
 
-/// What a session's seat knows: its own commands with their tickets, the ticket that it has claimed and not made ready,
-/// the mark that it read last, and whether it found the ring stopped when it last looked. No value of it is ever made;
-/// contracts read the array as a list of any length.
+/// What a session's seat knows: its own commands with their tickets, and the ticket that it has claimed and not made
+/// ready. It also knows the mark that it read last, and whether it found the ring stopped when it last looked. No value
+/// of this type is ever made; contracts read the array as a list of any length.
 pub struct Claimer {
     pub own: [(u64, Command); 0],
     pub pending: Option<u64>,
@@ -26,8 +26,9 @@ pub struct Claimer {
     pub stopped: bool,
 }
 
-/// What the flusher's seat knows: the first ticket, the commands that it has taken, whether it holds a place now, the
-/// mark, whether it has stopped the ring, how many seats it has dealt, and those that it has taken back.
+/// What the flusher's seat knows: the first ticket, the commands that it has taken, whether it holds a place now, and
+/// the mark. It also knows whether it has stopped the ring, how many seats it has dealt, and those that it has taken
+/// back.
 pub struct Owner {
     pub base: u64,
     pub taken: [Command; 0],
@@ -62,7 +63,7 @@ pub type Board<B> = Shared<Option<Entry<B>>, View, Limits, Claiming>;
 /// A seat at the table.
 pub type TableSeat<B> = Seat<Option<Entry<B>>, View>;
 
-/// The command that one call of a claim is for. It stands in that call's proof alone.
+/// The command that one call of a claim is for. It is in that call's proof alone.
 pub trait Told {
     ghost command: { Option CommandValue };
 }

@@ -24,14 +24,14 @@ fn delivery(entry: &Entry<()>) -> Option<u64> {
     }
 }
 
-// A CONNECTED that the command of that number gives.
+// A CONNECTED that comes from the command of that number.
 pub fn output(alloc: Global, number: u64) -> Result<Out, Fail> {
     let frame = connected_reply(alloc, 3)?;
     let out = Out::new(alloc, number, 3, frame)?;
     Ok(out)
 }
 
-// What an append answered, with the delivery of the entry where that came back.
+// What an append answered, with the delivery of the entry if that came back.
 #[derive(Clone, Copy, Debug, PartialEq, Eq)]
 pub enum Answer {
     NoMemory,
@@ -58,7 +58,7 @@ pub fn append<const SEATS: usize, const WINDOW: usize, const PLACES: usize>(
     }
 }
 
-// Takes an entry and says which delivery it acknowledges.
+// Takes an entry, and answers which delivery it acknowledges.
 pub fn take<const SEATS: usize, const WINDOW: usize, const PLACES: usize>(
     ring: &Ring<(), SEATS, WINDOW, PLACES>,
     flush: &mut FlushSeat<()>,

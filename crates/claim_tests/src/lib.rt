@@ -1,4 +1,4 @@
-//! Tests of the claim buffer by its public face. They are a crate of their own, since a crate that has tests is proved
+//! Tests of the claim buffer by its public face. They are in a crate of their own, since a crate with tests is proved
 //! twice.
 
 #![tactic(auto)]

@@ -19,7 +19,7 @@ fn appends_eight(alloc: Global, ring: &EightsRing, seat: &mut EightsSeat, first:
     true
 }
 
-// Takes eight entries and answers whether they are those of the tickets from `first` on, and nothing is behind them.
+// Takes eight entries, and answers whether they are those of the tickets from `first` on, with nothing after them.
 fn takes_eight(ring: &EightsRing, flush: &mut FlushSeat<()>, first: u64) -> bool
     requires { flush.old.ring ≡ ring.now }
     ensures { flush.new.ring ≡ ring.now }

@@ -9,7 +9,7 @@ use std::sync::Wait;
 use std::test::Fail;
 use std::thread::{self, Threads};
 
-// How often each ticket came, where every seat was then busy at mark 0.
+// How often each ticket came, or `None` unless every seat was then busy at mark 0.
 fn fill_apart<const SEATS: usize, const WINDOW: usize, const PLACES: usize>(
     alloc: Global,
     ring: &Ring<(), SEATS, WINDOW, PLACES>,
@@ -25,7 +25,7 @@ fn fill_apart<const SEATS: usize, const WINDOW: usize, const PLACES: usize>(
     }
 }
 
-// Some of the seats do so in one thread, and others in another.
+// Some of the seats are filled in one thread, and others in another.
 fn fill_in_two_threads<
     R: Threads + Wait + Sync,
     const SEATS: usize,
@@ -52,7 +52,7 @@ fn fill_in_two_threads<
     )
 }
 
-// So many of the seats.
+// Takes `count` of the seats.
 fn some_of<const SEATS: usize, const WINDOW: usize, const PLACES: usize>(
     alloc: Global,
     ring: &Ring<(), SEATS, WINDOW, PLACES>,
@@ -73,7 +73,7 @@ fn some_of<const SEATS: usize, const WINDOW: usize, const PLACES: usize>(
     Ok(taken)
 }
 
-// A quarter of the seats does so in each of four threads.
+// A quarter of the seats is filled in each of four threads.
 fn fill_in_four_threads<
     R: Threads + Wait + Sync,
     const SEATS: usize,

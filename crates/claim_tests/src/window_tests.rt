@@ -30,7 +30,7 @@ fn fill<const SEATS: usize, const WINDOW: usize, const PLACES: usize>(
     append(alloc, ring, seat, 99) == Answer::Back(Refused::Busy(0), Some(99))
 }
 
-/// The same with each of the seats.
+/// The same for each of the seats.
 pub fn fill_all<const SEATS: usize, const WINDOW: usize, const PLACES: usize>(
     alloc: Global,
     ring: &Ring<(), SEATS, WINDOW, PLACES>,

@@ -5,7 +5,7 @@ use Rattle.disk_core.specs.Images.{patched, Frees, Only, Same, Torn, Within}
 use Rattle.disk_core.specs.Lasting.{Remains}
 use Rattle.disk_core.specs.Moments.{LeavesOnly, Passes}
 
--- An honest disk that stops at any moment of the call has bytes with P.
+-- An honest disk that stops at any moment of the call is left with bytes that have P.
 abbrev pub Throughout : {D : Type 0} → Ghosts D → D → D → (List ℕ → Type 0) → Type 0
 Throughout disk old new P = disk.honest old → LeavesOnly disk.moment disk.images_since old new P
 

@@ -8,7 +8,7 @@ use Rattle.disk_core.specs.Images.{patched}
 abbrev pub held_at : List (Option ℕ) → Span → List (Option ℕ)
 held_at held span = between span.at (span.at + span.len) held
 
--- the ranges' parts, one behind the other, each in its place
+-- the ranges' parts, one after another, each put in its place
 abbrev pub placed : List Span → List (Option ℕ) → List (Option ℕ) → List (Option ℕ)
 placed [] parts base = base
 placed (span ∷ spans) parts base = patched span.at (take span.len parts) (placed spans (drop span.len parts) base)

@@ -19,7 +19,8 @@ calls_made f = f.made
 abbrev pub all_failures : {D : Type 0} → (D → ℕ) → FailOnce D → ℕ
 all_failures failures f = failures f.disk + f.failed
 
--- The call fails if it is due, and none is due then. Any other is passed on. Each is counted.
+-- If the call is due, it fails, and none is due any more. Any other call is passed on. Each is
+-- counted.
 pub record FailsDue {D T E : Type 0} (failures : D → ℕ) (old new : FailOnce D) (result : Result T E) : Type 0 where
   pub fails : due old ≡ Some (calls_made old) → IsErr result × (due new ≡ None)
   pub passed : due old ≢ Some (calls_made old) → HasCause (failures (below old)) (failures (below new)) result × (due new ≡ due old)

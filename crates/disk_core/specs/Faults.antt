@@ -1,7 +1,7 @@
 -- How failures are counted.
 use Rattle.std.specs.Prelude.{◌≡◌, ℕ, ◌+◌, ◌^◌, ◌≤◌, ◌⊎◌, Result, OnOk, OnErr}
 
--- one more, or the same where the count is at the end of a `u64`
+-- one more, or the same if the count is at the end of a `u64`
 abbrev pub IsOneMore : ℕ → ℕ → Type 0
 IsOneMore before now = (now ≡ before + 1) ⊎ ((now ≡ before) × (2 ^ 64 ≤ now + 1))
 

@@ -11,6 +11,6 @@ file_size f = f.size
 abbrev pub file_failures : FileDisk → ℕ
 file_failures f = f.failures
 
--- what is told of a file that was not opened
+-- the text for a file that was not opened
 abbrev pub open_error_text : OpenError → List ℕ
 open_error_text error = codes "cannot open"

@@ -15,8 +15,8 @@ pub record Torn (at n : ℕ) (old new : List ℕ) : Type 0 where
 abbrev pub IsStable : List (Option ℕ) → ℕ → Type 0
 IsStable held i = slice_index_or held i None ≡ None
 
--- The bytes that a stop may leave: the size stays, an unsynced byte is any, every other is as it reads. For each
--- byte that is unsynced, `held` has what it held at the last sync.
+-- The bytes that a stop may leave: the size stays, an unsynced byte may be any, and every other is as it reads. For
+-- each byte that is unsynced, `held` has what it held at the last sync.
 pub record IsImage (content : List ℕ) (held : List (Option ℕ)) (image : List ℕ) : Type 0 where
   pub size : length image ≡ length content
   pub stable : (i : ℕ) → IsStable held i → slice_index image i ≡ slice_index content i
@@ -29,7 +29,7 @@ Follows step old new = (c : List ℕ) → new c → (d : List ℕ) × old d × s
 abbrev pub Within : (List ℕ → Type 0) → (List ℕ → Type 0) → Type 0
 Within these those = (c : List ℕ) → these c → those c
 
--- the new images are the old ones with any bytes in a range, all of those and no others
+-- the new images are the old ones with any bytes in a range: all of these, and no others
 pub record Frees (at n : ℕ) (old new : List ℕ → Type 0) : Type 0 where
   pub only : Follows (Torn at n) old new
   pub every : (d c : List ℕ) → old d → Torn at n d c → new c

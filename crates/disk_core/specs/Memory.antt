@@ -25,7 +25,7 @@ none_held n = replicate n None
 abbrev pub fresh : ℕ → Memory
 fresh n = record { content = replicate n 0; held = none_held n; past = []; calls = []; failures = 0 }
 
--- a byte after a crash: where it was unsynced the fill, or else what it held at the last sync
+-- a byte after a crash: if it was unsynced, the fill, or without one what it held at the last sync
 abbrev pub byte_after : Option ℕ → Option ℕ → ℕ → ℕ
 byte_after fill None b = b
 byte_after fill (Some h) b = unwrap_or fill h
@@ -34,7 +34,7 @@ byte_after fill (Some h) b = unwrap_or fill h
 abbrev pub crashed : Option ℕ → List (Option ℕ) → List ℕ → List ℕ
 crashed fill held content = pairwise (byte_after fill) held content
 
--- what is held once these bytes, of which some are held already, are to be written over
+-- what is held once these bytes, some of them held already, are to be written over
 abbrev pub noted : List (Option ℕ) → List ℕ → List (Option ℕ)
 noted held content = pairwise (λ h b. Some (unwrap_or h b)) held content
 
@@ -42,7 +42,7 @@ noted held content = pairwise (λ h b. Some (unwrap_or h b)) held content
 abbrev pub held_over : ℕ → ℕ → List (Option ℕ) → List ℕ → List (Option ℕ)
 held_over at n held content = patched at (noted (between at (at + n) held) (between at (at + n) content)) held
 
--- the synced bytes from before these syncs, of which the first comes first, where they are now these
+-- the synced bytes from before these syncs, the earliest of which comes first, if the synced bytes are now these
 abbrev pub synced_before : List (List (Option ℕ)) → List ℕ → List ℕ
 synced_before [] synced = synced
 synced_before (held ∷ later) synced = crashed None held (synced_before later synced)
@@ -72,11 +72,11 @@ restarted_with image d = record d { content = image; held = none_held (length d.
 abbrev pub after_crash : Option ℕ → Memory → Memory
 after_crash fill d = restarted_with (crashed fill d.held d.content) d
 
--- once it was asked for a call
+-- once it has been asked for a call
 abbrev pub called : Call → Memory → Memory
 called call d = record d { calls = d.calls ++ call ∷ [] }
 
--- once these bytes are written, which are unsynced then
+-- once these bytes are written, and so unsynced
 abbrev pub written : ℕ → List ℕ → Memory → Memory
 written at bytes d = record d { content = patched at bytes d.content; held = held_over at (length bytes) d.held d.content }
 
@@ -84,7 +84,7 @@ written at bytes d = record d { content = patched at bytes d.content; held = hel
 abbrev pub synced : Memory → Memory
 synced d = record d { held = none_held (length d.content); past = d.past ++ d.held ∷ [] }
 
--- A call failed that did this much: it is counted as a failure, and may stand among the calls.
+-- A call did this much and failed: it is counted as a failure, and may be among the calls.
 pub record Fails (call : Call) (done now : Memory) : Type 0 where
   pub is : now ≡ record done { calls = now.calls; failures = now.failures }
   pub recorded : (now.calls ≡ done.calls) ⊎ (now.calls ≡ done.calls ++ call ∷ [])

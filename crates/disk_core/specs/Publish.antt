@@ -1,7 +1,7 @@
--- A payload behind a flag.
+-- A payload that follows a flag.
 use Rattle.std.specs.Prelude.{◌≡◌, ◌⊎◌, ◌==◌, ℕ, List, [], ◌∷◌, length, take, Option, Some, None, if◌then◌else◌}
 
--- what these bytes publish: n bytes behind a flag, where the flag is 1
+-- what these bytes publish: the n bytes that follow a flag, if the flag is 1
 abbrev pub published : ℕ → List ℕ → Option (List ℕ)
 published n [] = None
 published n (flag ∷ rest) = if flag == 1 then Some (take n rest) else None

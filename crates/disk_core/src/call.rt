@@ -5,9 +5,9 @@ ghost use Rattle.std.specs.Prelude.{◌≡◌, ◌++◌, ◌∷◌, [], false, I
 /// A call of a disk, with its range of bytes.
 #[derive(Clone, Copy, PartialEq, Eq)]
 pub enum Call {
-    /// So many bytes from a place on were read.
+    /// `len` bytes were read, from the offset `at` on.
     Read { at: u64, len: u64 },
-    /// So many bytes from a place on were written.
+    /// `len` bytes were written, from the offset `at` on.
     Write { at: u64, len: u64 },
     /// All that was written was made stable.
     Sync,

@@ -11,12 +11,12 @@ use crate::DeviceFault;
 ///
 /// A stop (a crash, a loss of power) leaves one of the disk's images. Between two syncs a written
 /// range may hold any bytes after a stop: writes may be torn, lost, or land in any order. Bytes
-/// outside stay. After a sync that succeeds, a stop leaves what a read gives. A stop within a write
-/// is a stop after it, with its range unsynced.
+/// outside it stay. After a sync that succeeds, a stop leaves what a read gives. A stop within a
+/// write is a stop after it, with its range unsynced.
 ///
-/// Each clause on content and images is promised by an honest disk alone; sizes and failures are by
-/// each. Every call that fails adds one to the failures, and nothing else does; the count is a
-/// `u64` and stays at its end.
+/// Only an honest disk promises the clauses on content and images; every disk promises those on
+/// sizes and failures. Every call that fails adds one to the failures, and nothing else does. The
+/// count is a `u64`, and stays at its end.
 pub trait Disk {
     /// The bytes that a read gives.
     ghost content: { Self → List ℕ };
@@ -24,10 +24,10 @@ pub trait Disk {
     /// The bytes that a stop at this moment may leave.
     ghost images: { Self → List ℕ → Type 0 };
 
-    /// The disk's clock, which goes on with its calls and does not go back.
+    /// The disk's clock, which goes on with its calls and never goes back.
     ghost moment: { Self → ℕ };
 
-    /// What a stop at some moment from that one on might have left, during a call or between two.
+    /// What a stop might have left at some moment from that one on, during a call or between two.
     ghost images_since: { Self → ℕ → List ℕ → Type 0 };
 
     /// How many calls have failed, up to the end of a `u64`.
@@ -52,8 +52,8 @@ pub trait Disk {
         ensures cause { HasCause (failures self.old) (failures self.new) result }
         ensures lasts { Remains content honest self.old self.new };
 
-    /// Writes a range, which lies within the disk. Until a sync succeeds it is unsynced, also where
-    /// the write fails: then the range may read as anything, and the rest stays.
+    /// Writes a range, which lies within the disk. Until a sync succeeds the range is unsynced,
+    /// even if the write fails. After a failure it may read as anything, and the rest stays.
     fn write_at(&mut self, at: u64, bytes: &[u8]) -> Result<(), DeviceFault>
         requires { at + length bytes.now ≤ length (content self.old) }
         ensures written { honest self.old →
@@ -66,7 +66,7 @@ pub trait Disk {
         ensures cause { HasCause (failures self.old) (failures self.new) result }
         ensures lasts { Remains content honest self.old self.new };
 
-    /// Makes all that was written stable. A sync that fails makes nothing stable, and changes
+    /// Makes all that was written stable. A sync that fails makes nothing stable and changes
     /// nothing.
     fn sync(&mut self) -> Result<(), DeviceFault>
         ensures stable { honest self.old → OnOk result (Only (content self.old) (images self.new)) }
@@ -86,6 +86,6 @@ pub trait Disk {
     /// A moment's images are among those since an earlier moment.
     ghost counts_now: { (disk : Self) (t : ℕ) (c : List ℕ) → t ≤ moment disk → images disk c → images_since disk t c };
 
-    /// Since now there are none but now's.
+    /// Since now, there are no images but now's.
     ghost only_now: { (disk : Self) (c : List ℕ) → images_since disk (moment disk) c → images disk c };
 }

@@ -11,7 +11,7 @@ use std::marker::Model;
 pub struct Epoch {
     size: usize,
     spans: Vec<Span>,
-    // What is held in each range, one behind the other.
+    // What is held in each range, one after another.
     parts: Vec<Option<u8>>,
 }
 

@@ -9,8 +9,8 @@ use crate::{DeviceFault, Disk};
 
 /// Writes a payload behind a closed flag, and then opens the flag.
 ///
-/// The flag is the disk's first byte, and is open where it is 1. Whenever the disk stops, it has
-/// all of the payload or nothing; after `Ok` it has the payload.
+/// The flag is the disk's first byte, and is open if it is 1. Whenever the disk stops, it has all
+/// of the payload or nothing; after `Ok` it has the payload.
 pub fn publish<D: Disk>(disk: &mut D, payload: &[u8]) -> Result<(), DeviceFault>
     requires room { 1 + length payload.now ≤ length (D.content disk.old) }
     requires synced { D.honest disk.old → Only (D.content disk.old) (D.images disk.old) }

@@ -9,9 +9,9 @@ use crate::{DeviceFault, Disk};
 
 /// A disk of which a single call fails, once; every other is passed on.
 ///
-/// Each read, write and sync is a call, and they are counted from 0. A write that fails so may have
-/// begun: it is passed on, and its range is written and unsynced. A read and a sync that fail so do
-/// nothing. A call that is passed on may fail too, as its disk has it.
+/// Each read, write and sync is a call, and they are counted from 0. A write that fails in this way
+/// may have begun: it is passed on, and its range is written and unsynced. A read or a sync that
+/// fails in this way does nothing. A call that is passed on may also fail in the disk below.
 #[derive(Drop)]
 pub struct FailOnce<D> {
     disk: D,
@@ -26,7 +26,7 @@ pub struct FailOnce<D> {
 impl<D: Disk> FailOnce<D> {
     ghost use Rattle.disk_core.specs.FailOnce.{below, due, calls_made, all_failures};
 
-    /// A disk of which that call fails, where the first has the number 0.
+    /// A disk whose call number `call` fails; the first has the number 0.
     pub fn new(disk: D, call: u64) -> FailOnce<D>
         ensures disk { below result ≡ disk }
         ensures due { due result ≡ Some call }
@@ -49,7 +49,7 @@ impl<D: Disk> FailOnce<D> {
         self.made
     }
 
-    /// Whether the call has failed, so that every further one is passed on.
+    /// Whether the call has failed, so that every later one is passed on.
     pub fn has_failed(&self) -> bool
         ensures { IsTrue result ↔ due self.now ≡ None }
     {
@@ -70,7 +70,7 @@ impl<D: Disk> FailOnce<D> {
     }
 }
 
-// Counts a call, and answers whether it is the one that fails, which no later one is then.
+// Counts a call, and answers whether it is the one that fails. If so, no later one is.
 fn is_due(due: &mut Option<u64>, made: &mut u64) -> bool
     ensures is { IsTrue result ↔ due.old ≡ Some made.old }
     ensures once { MatchBool result (due.new ≡ None) (due.new ≡ due.old) }

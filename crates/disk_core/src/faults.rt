@@ -4,7 +4,7 @@ ghost use Rattle.disk_core.specs.Faults.{IsOneMore, HasCause};
 
 use thiserror::Error;
 
-/// A call of a device failed. What it leaves is said at the call.
+/// A call of a device failed. The call says what that leaves.
 #[derive(Clone, Copy, Debug, PartialEq, Eq, Error)]
 #[error("device failed")]
 pub struct DeviceFault;
@@ -18,7 +18,7 @@ pub(crate) fn fail(failures: &mut u64) -> Result<(), DeviceFault>
     Err(DeviceFault)
 }
 
-// What became of a call, as a device answers it.
+// What became of a call, from its outcome, as a device answers it.
 pub(crate) fn count<E: Drop>(outcome: Result<(), E>, failures: &mut u64) -> Result<(), DeviceFault>
     ensures variant { is_ok result ≡ is_ok outcome }
     ensures cause { HasCause failures.old failures.new result }
@@ -29,7 +29,7 @@ pub(crate) fn count<E: Drop>(outcome: Result<(), E>, failures: &mut u64) -> Resu
     }
 }
 
-// What became of a call that was done or not.
+// What became of a call, from whether it was done.
 pub(crate) fn tell(done: bool, failures: &mut u64) -> Result<(), DeviceFault>
     ensures variant { is_ok result ≡ done }
     ensures cause { HasCause failures.old failures.new result }

@@ -12,15 +12,15 @@ use std::{error, fmt, io};
 /// Why a file is not opened as a disk.
 #[derive(Debug, Drop)]
 pub enum OpenError {
-    /// What was to be made is there already, as a file or as something else.
+    /// What was to be made already exists, as a file or as something else.
     Exists,
-    /// Somebody else has the file's lock, or the exclusive one was asked for and somebody shares it.
+    /// The file's lock is taken, or it is shared and the exclusive one was asked for.
     Locked,
-    /// The system refuses to open, make, lock, size or sync it.
+    /// The system refuses to open, make, lock, size or sync the file.
     System(io::Error),
 }
 
-/// The text for the user, whom the cause does not help: it is one for all.
+/// The text for the user, the same for every cause, because the cause would not help.
 impl fmt::Display for OpenError {
     ghost use Rattle.std.specs.Prelude.{Some};
     ghost use Rattle.disk_core.specs.File.{open_error_text};
@@ -46,10 +46,9 @@ impl From<io::Error> for OpenError {
 
 /// A disk in a file of the operating system.
 ///
-/// Of its content and images nothing is claimed, since no contract knows what a file holds: it is
-/// never honest. A sync asks the system to have the bytes and the size on the device (`fsync`).
-/// Nothing keeps another process from writing the file: a lock is between those that ask for it. A
-/// range that the file no longer has fails to be read.
+/// It claims nothing of its content and images, since no contract knows what a file holds: it is never honest. A sync
+/// asks the system to have the bytes and the size on the device (`fsync`). Nothing keeps another process from writing
+/// the file: a lock binds only those that ask for it. A read fails if the file no longer has the range.
 #[derive(Drop)]
 pub struct FileDisk {
     file: File,
@@ -60,9 +59,8 @@ pub struct FileDisk {
 impl FileDisk {
     ghost use Rattle.disk_core.specs.File.{file_size, file_failures};
 
-    /// Makes a file of so many zeros, which only its owner may read and write, and has it and its
-    /// name on the device. A file that is there is left as it is; one that cannot be sized or synced
-    /// is removed again.
+    /// Makes a file of `size` zeros, which only its owner may read and write, and syncs it and its name to the device.
+    /// A file that already exists is left as it is. If the new file cannot be sized or synced, it is removed again.
     pub fn create<R: Files<File = File>>(
         rt: &R,
         path: &str,
@@ -88,17 +86,16 @@ impl FileDisk {
         })
     }
 
-    /// Opens a file that is there for reading and writing, as a disk of the size that it has now.
+    /// Opens an existing file for reading and writing, as a disk of the size that it has now.
     pub fn open<R: Files<File = File>>(rt: &R, path: &str) -> Result<FileDisk, OpenError>
         ensures { IfOk result (λ disk. file_failures disk ≡ 0) }
     {
         FileDisk::over(opened(rt, path)?)
     }
 
-    /// The same, with the exclusive lock of the file, which is taken before the file's size is
-    /// looked at: `Locked` where somebody else has it. The lock is that of the open file that the
-    /// disk reads and writes, so it is there for as long as the disk is. Nothing of the file is
-    /// read or written, and where it is not opened no lock is kept.
+    /// The same, with the file's exclusive lock, taken before the file's size is read. The error is `Locked` if the
+    /// lock is taken. The lock belongs to the open file that the disk reads and writes, so it lasts as long as the
+    /// disk. Nothing of the file is read or written. If the file is not opened, no lock is kept.
     pub fn open_locked<R: Files<File = File>>(rt: &R, path: &str) -> Result<FileDisk, OpenError>
         ensures { IfOk result (λ disk. file_failures disk ≡ 0) }
     {
@@ -123,7 +120,7 @@ impl FileDisk {
     }
 }
 
-// The file that is there, for reading and writing.
+// The existing file, opened for reading and writing.
 fn opened<R: Files<File = File>>(rt: &R, path: &str) -> io::Result<File> {
     OpenOptions::new().read(true).write(true).open(rt, path)
 }
@@ -140,7 +137,7 @@ fn settle<R: Files<File = File>>(rt: &R, file: &File, path: &str, size: u64) -> 
 }
 
 impl Disk for FileDisk {
-    // Its length alone is meant.
+    // Only its length has a meaning.
     ghost content = { λ f. replicate f.size 0 };
 
     ghost images = { λ _ _. ⊤ };

@@ -6,10 +6,10 @@ ghost use Rattle.disk_core.specs.Faults.{HasCause};
 use crate::faults::fail;
 use crate::{DeviceFault, Disk};
 
-/// A disk that passes so many calls on, and fails every later one.
+/// A disk that passes a number of calls on, and fails every later one.
 ///
-/// Each read, write and sync is a call. A write that fails so may have begun: it is passed on, and
-/// its range is written and unsynced. A read and a sync that fail so do nothing.
+/// Each read, write and sync is a call. A write that fails in this way may have begun: it is passed
+/// on, and its range is written and unsynced. A read or a sync that fails in this way does nothing.
 #[derive(Drop)]
 pub struct FuseDisk<D> {
     disk: D,
@@ -21,7 +21,7 @@ pub struct FuseDisk<D> {
 impl<D: Disk> FuseDisk<D> {
     ghost use Rattle.disk_core.specs.Fuse.{fused, calls_left, all_failures};
 
-    /// A fuse over a disk, which passes so many calls.
+    /// A fuse over a disk, which passes the first `calls` on.
     pub fn new(disk: D, calls: u64) -> FuseDisk<D>
         ensures disk { fused result ≡ disk }
         ensures calls { calls_left result ≡ calls }
@@ -47,7 +47,7 @@ impl<D: Disk> FuseDisk<D> {
     }
 }
 
-// Whether one more call passes, which is then spent.
+// Whether one more call passes; if so, it is spent.
 fn spend(left: &mut u64) -> bool
     ensures passes { IsTrue result ↔ (0 < left.old) }
     ensures spent { left.new ≡ left.old - 1 }

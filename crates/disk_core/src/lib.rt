@@ -1,5 +1,6 @@
-//! A disk, and what a stop at any moment may leave of it: the contract, a disk in memory that can
-//! be crashed, one that fails from a chosen call on, one of which a single call fails, and a file.
+//! A disk, and what a stop at any moment may leave of it. Here are the contract, a disk in memory
+//! that can be crashed, one that fails from a chosen call on, one of which a single call fails, and
+//! a file.
 #![tactic(auto)]
 
 mod call;

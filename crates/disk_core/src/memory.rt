@@ -15,35 +15,32 @@ use std::marker::Model;
 
 /// A disk in memory, which is honest and can be crashed.
 ///
-/// A clause sees it as a `Memory`: its content, what each unsynced byte held at the last sync, the
-/// same for each sync before, the calls that it was asked for, and its failures.
+/// A clause sees it as a `Memory`: its content, what each unsynced byte held at the last sync, and the same for each
+/// sync before. It also has the calls that were asked for, and the failures.
 ///
-/// It takes three bytes for each byte of its size, made by `new`. Beside them it keeps its history,
-/// so that its images since each moment are real data: for each sync a record, the ranges that were
-/// written before it, and what they held at the sync before, 16 bytes a range and two for each of
-/// its bytes. So the history is bounded by the calls, and the bytes that they wrote, since `new` or
-/// the last crash.
+/// It takes three bytes for each byte of its size, made by `new`. It also keeps its history, so that its images since
+/// each moment are real data. Each sync adds a record: the ranges that were written before it, and what they held at
+/// the sync before. That takes 16 bytes a range, and two for each byte of a range. So the history is bounded by the
+/// calls since `new` or the last crash, and the bytes that they wrote.
 ///
-/// A read or a write costs time in its own bytes, and a sync or a crash in the bytes written since
-/// the last sync; that lists grow, and that a crash lets the history go, is shared out among the
-/// calls that made them. (Once memory for the list of ranges was refused, the next sync or crash
-/// goes over the whole disk.)
+/// A read or a write costs time in its own bytes, and a sync or a crash in the bytes written since the last sync. The
+/// cost of growing the lists, and of freeing the history at a crash, is shared out among the calls that made them. (If
+/// memory for the list of ranges was refused, the next sync or crash goes over the whole disk.)
 ///
-/// It records each call, so that a test can see what was asked for and in which order, and can stop
-/// the disk at each of them.
+/// It records each call, so that a test can see what was asked for, in which order, and can stop the disk at each call.
 ///
-/// Want of memory, for the record too, is a `DeviceFault`. A crash takes none.
+/// If memory is refused, for the record too, the call answers a `DeviceFault`. A crash takes no memory.
 #[derive(Drop)]
 pub struct MemDisk {
     alloc: Global,
     bytes: Vec<u8>,
     // Of each byte that was written since the last sync, what it held then.
     held: Vec<Option<u8>>,
-    // The ranges that those lie in. There is room for one at least.
+    // The ranges that these lie in. There is room for at least one.
     written: Vec<Span>,
     // What was held at each sync since the start.
     past: Vec<Epoch>,
-    // What it was asked for since the start.
+    // The calls that it was asked for since the start.
     calls: Vec<Call>,
     failures: u64,
 }
@@ -61,7 +58,7 @@ impl Model for MemDisk {
 }
 
 impl MemDisk {
-    /// A disk of so many zeros, all of them stable. The error is want of memory.
+    /// A disk of `size` zeros, all of them stable. It fails only if memory is refused.
     pub fn new(alloc: Global, size: u64) -> Result<MemDisk, AllocError>
         ensures fresh { IfOk result (λ disk. disk ≡ fresh size) }
         ensures only { IfOk result (λ disk. Only disk.content (IsImage disk.content disk.held)) }
@@ -82,9 +79,8 @@ impl MemDisk {
         })
     }
 
-    /// Stops the disk and starts it again: each unsynced byte is the fill, or without one what it
-    /// held at the last sync. It takes no memory. What was there before it is forgotten, and the
-    /// clock starts anew.
+    /// Stops the disk and starts it again: each unsynced byte becomes the fill, or without one what it held at the last
+    /// sync. It takes no memory. The history from before it is forgotten, and the clock starts anew.
     pub fn crash(&mut self, fill: Option<u8>)
         ensures crashed { self.new ≡ after_crash fill self.old }
         ensures image { IsImage self.old.content self.old.held self.new.content }
@@ -114,8 +110,8 @@ impl MemDisk {
         true
     }
 
-    /// The calls that it was asked for since it was made or crashed, in their order. One that failed stands among them
-    /// only where memory for that was had.
+    /// The calls that it was asked for since it was made or crashed, in their order. A call that failed is among them
+    /// only if there was memory to record it.
     pub fn calls(&self) -> &[Call]
         ensures { result.now ≡ self.now.calls }
     {

@@ -13,7 +13,7 @@ pub struct Span {
     pub len: usize,
 }
 
-// Holds what these bytes are, where nothing is held of them yet.
+// Holds what each of these bytes is, if nothing is held of it yet.
 pub(crate) fn note(held: &mut [Option<u8>], bytes: &[u8])
     requires { length held.old ≡ length bytes.now }
     ensures { held.new ≡ noted held.old bytes.now }
@@ -33,7 +33,7 @@ fn after_crash(old: Option<u8>, byte: u8, fill: Option<u8>) -> u8
     }
 }
 
-// Puts each byte that is held back, or fills it.
+// Puts back each byte that is held, or fills it.
 pub(crate) fn put_back(bytes: &mut [u8], held: &[Option<u8>], fill: Option<u8>)
     requires { length held.now ≡ length bytes.old }
     ensures { bytes.new ≡ crashed fill held.now bytes.old }
@@ -43,7 +43,7 @@ pub(crate) fn put_back(bytes: &mut [u8], held: &[Option<u8>], fill: Option<u8>)
     }
 }
 
-/// Writes over a range of a disk's bytes, and holds what they were, where nothing is held of them yet.
+/// Writes over a range of a disk's bytes, and holds what each was, if nothing is held of it yet.
 pub fn overwrite(bytes: &mut [u8], held: &mut [Option<u8>], at: usize, new: &[u8])
     requires sizes { length held.old ≡ length bytes.old }
     requires within { at + length new.now ≤ length bytes.old }
@@ -62,7 +62,7 @@ pub fn release(held: &mut [Option<u8>])
     held.fill(None);
 }
 
-// Lets all that is held go.
+// Lets go of all that is held.
 pub(crate) fn release_all(spans: &[Span], held: &mut [Option<u8>])
     requires { IsCover spans.now held.old }
     ensures { held.new ≡ none_held (length held.old) }
@@ -72,7 +72,7 @@ pub(crate) fn release_all(spans: &[Span], held: &mut [Option<u8>])
     }
 }
 
-// Puts all that is held back, or fills it, and lets it go.
+// Puts back all that is held, or fills it, and lets it go.
 pub(crate) fn put_all_back(
     spans: &[Span],
     bytes: &mut [u8],
@@ -91,7 +91,7 @@ pub(crate) fn put_all_back(
     }
 }
 
-/// Whether a stop may leave these bytes of a disk: as many, and the same wherever nothing is held.
+/// Whether a stop may leave these bytes of a disk: as many as the disk has, and the same wherever nothing is held.
 pub fn is_image(bytes: &[u8], held: &[Option<u8>], image: &[u8]) -> bool
     requires { length held.now ≡ length bytes.now }
     ensures { IsTrue result ↔ IsImage bytes.now held.now image.now }
@@ -107,7 +107,7 @@ pub fn is_image(bytes: &[u8], held: &[Option<u8>], image: &[u8]) -> bool
     true
 }
 
-// Adds a range, or takes the whole disk where memory is refused.
+// Adds a range, or takes the whole disk if memory is refused.
 pub(crate) fn add(spans: &mut Vec<Span>, span: Span, size: usize) -> Result<(), AllocError>
     requires { 1 ≤ vec_capacity spans.old }
     ensures room { 1 ≤ vec_capacity spans.new }

@@ -10,11 +10,11 @@ use Rattle.broker_core.specs.Steps.{state_after}
 abbrev pub with_more : FlushSeatValue → List CommandValue → FlushSeatValue
 with_more seat more = flushing seat.ring seat.base (seat.taken ++ more) seat.published seat.stopped seat.seats
 
--- of the commands taken those whose numbers are low or over it
+-- of the commands taken, those whose numbers are low or over it
 abbrev pub from_on : FlushSeatValue → ℕ → List CommandValue
 from_on seat low = drop (low - seat.base) seat.taken
 
--- and of these those whose numbers are under high
+-- and of these, those whose numbers are under high
 abbrev pub between : FlushSeatValue → ℕ → ℕ → List CommandValue
 between seat low high = take (high - low) (from_on seat low)
 
@@ -26,12 +26,12 @@ state_at opening seat n = state_after opening (take (n - seat.base) seat.taken)
 abbrev pub state_taken : State → FlushSeatValue → State
 state_taken opening seat = state_after opening seat.taken
 
--- A batch: at most so many commands, and where it has a last one, the records of those before it have fewer bytes than that.
+-- A batch: at most `most` commands, and if it has a last one, the records of those before it have fewer than `most_bytes` bytes.
 pub record IsBatch (most most_bytes : ℕ) (cs : List CommandValue) : Type 0 where
   pub few : length cs ≤ most
   pub small : cs ≢ [] → length (records (take (length cs - 1) cs)) < most_bytes
 
--- A batch whose records have as many bytes takes no further command, where an area has so many: a quarter of those, but 262,144
--- at least, and of all this no more than a batch may have.
+-- A batch whose records have this many bytes takes no further command, if an area has `size` bytes. That is a quarter of these, but at
+-- least 262,144, and in any case no more than a batch may have.
 abbrev pub block_bytes : (size most_bytes : ℕ) → ℕ
 block_bytes size most_bytes = min (max (size / 4) 262144) most_bytes

@@ -30,43 +30,43 @@ use Rattle.flush_core.specs.Outcomes.{IsCompacted, IsLeft, IsNext, IsOutcome, Is
 use Rattle.flush_core.specs.Room.{Fits, HasNoRoom, HasNoRoomForState, HasNoRoomLeft, IsTooLong, StoresAfresh, used_afresh}
 use Rattle.flush_core.specs.Sessions.{boxes_after, ended_of}
 
--- Unless the flusher is broken, an honest disk that stops at any moment of the call has bytes with P.
+-- Unless the flusher is broken, an honest disk that stops at any moment of the call is left with bytes that have P.
 abbrev pub UnbrokenThroughout : {D : Type 0} → Ghosts D → Flushed D → Flushed D → (List ℕ → Type 0) → Type 0
 UnbrokenThroughout disk old new P = disk.honest old.disk → old.broken ≡ false → LeavesOnly disk.moment disk.images_since old.disk new.disk P
 
--- And it stands for the state after what is stored, or after so many commands more.
+-- And it stands for the state after what is stored, or after `count` more commands.
 abbrev pub EitherThroughout : {D : Type 0} → Ghosts D → Flushed D → Flushed D → ℕ → Type 0
 EitherThroughout disk old new count = UnbrokenThroughout disk old new (StandsForEither (state_stored old) (state_at old.opening old.seat (old.stored + count)))
 
--- A call that fails breaks the flusher and stops its ring. A broken one answers `Broken` and stays as it is. The disk failed just
--- if that is the answer.
+-- A call that fails breaks the flusher and stops its ring. A broken flusher answers `Broken` and stays as it is. The disk failed just if
+-- that is the answer.
 pub record FlushBreaks {D X : Type 0} (disk : Ghosts D) (old new : Flushed D) (result : Result X FlushFault) : Type 0 where
   pub outcome : IsOutcome old new result
   pub stops : OnErr result ((new.broken ≡ true) × (new.seat.stopped ≡ true))
   pub cause : IsFlushCaused (disk.failures old.disk) (disk.failures new.disk) result
 
--- The same of a turn, which may have taken and stored commands by then.
+-- The same for a turn, which may have taken and stored commands by then.
 pub record TurnBreaks {D X : Type 0} (disk : Ghosts D) (old new : Flushed D) (result : Result X FlushFault) : Type 0 where
   pub outcome : IsTurn old new result
   pub stops : OnErr result ((new.broken ≡ true) × (new.seat.stopped ≡ true))
   pub cause : IsFlushCaused (disk.failures old.disk) (disk.failures new.disk) result
 
--- Each image holds a snapshot of the state after all that is stored, alone, and nothing else has changed.
+-- Each image holds only a snapshot of the state after all that is stored, and nothing else has changed.
 pub record FlushCompacts {D : Type 0} (disk : Ghosts D) (old new : Flushed D) : Type 0 where
   pub alone : disk.honest old.disk → Each (disk.images new.disk) (HoldsItAlone new.size new.used (state_stored old))
   pub compacted_is : new ≡ compacted old new.disk (used_afresh (state_stored old))
 
--- No snapshot of that state fits into an area if that is the answer. The disk stays then.
+-- If the answer is `Full`, no snapshot of that state fits into an area, and the disk stays.
 pub record RefusesState {D X : Type 0} (disk : Ghosts D) (old new : Flushed D) (result : Result X FlushFault) : Type 0 where
   pub full : IsErrOf result Full → HasNoRoomFor old.size (state_stored old) × (new.disk ≡ old.disk)
   pub no_room : disk.honest old.disk → IsErrOf result Full → HasNoRoomForState (disk.content new.disk) (state_stored old)
 
--- There is room for what is gathered, or the journal was compacted for it. That fails only if it was needed.
+-- There is room for what is gathered, or the journal was compacted for it. The call fails only if compaction was needed.
 pub record WinsRoom {D X : Type 0} (disk : Ghosts D) (old new : Flushed D) (result : Result X FlushFault) : Type 0 where
   pub made : OnOk result (IsLeft old new ⊎ IsCompacted disk old new)
   pub needed : OnErr result ((old.broken ≡ false) × (gathered old ≢ []) × IsTooLong old.size old.used (gathered old))
 
--- The first so many entries are in a block behind what was used, and the rest is taken out.
+-- The first `count` entries are in a block after what was used, and the rest is taken out.
 pub record AddsFirst {B D : Type 0} (disk : Ghosts D) (old new : Store D disk) (batch first rest : List (EntryValue B)) (count : ℕ) : Type 0 where
   pub first_is : first ≡ take count batch
   pub rest_is : rest ≡ drop count batch
@@ -74,21 +74,21 @@ pub record AddsFirst {B D : Type 0} (disk : Ghosts D) (old new : Store D disk) (
   pub fits : Fits (size_of old) (used_of old) (commands (take count batch))
   pub whole : is_broken new ≡ false
 
--- Their block doesn't fit if that is the answer. The store was broken if that is, and the disk failed just if that is.
+-- If the answer is `Full`, their block doesn't fit. If it is `Broken`, the store was broken. The disk failed just if that is the answer.
 pub record RefusesFirst {B D T : Type 0} (disk : Ghosts D) (old new : Store D disk) (first : List (EntryValue B)) (result : Result T AreaFault) : Type 0 where
   pub block : StoreRefuses disk old new (commands first) result
   pub sound : IsErrOf result areas.Broken → is_broken old ≡ true
   pub cause : IsCaused (disk.failures (disk_of old)) (disk.failures (disk_of new)) result
 
--- The first so many of the gathered commands are stored, in one block behind what was used.
+-- The first `count` of the gathered commands are stored, in one block after what was used.
 pub record StoresFirst {D : Type 0} (disk : Ghosts D) (old new : Flushed D) (count : ℕ) : Type 0 where
   pub stands : disk.honest old.disk → StandFor (disk.images new.disk) (state_at old.opening old.seat (old.stored + count))
   pub stored : new ≡ storing old (old.stored + count) new.disk new.size new.used old.won
   pub used : 0 < count → new.used ≡ old.used + 9 + length (records (take count (gathered old)))
   pub fits : 0 < count → Fits old.size old.used (take count (gathered old))
 
--- Their block doesn't fit if that is the answer. The disk stays then, and if memory was refused. No commands are never refused,
--- and nothing changes.
+-- If the answer is `Full`, their block doesn't fit. The disk stays then, and also if memory was refused. If there are no commands, the call
+-- is never refused, and nothing changes.
 pub record RefusesToStoreFirst {D X : Type 0} (disk : Ghosts D) (old new : Flushed D) (count : ℕ) (result : Result X FlushFault) : Type 0 where
   pub full : IsErrOf result Full → IsTooLong old.size old.used (take count (gathered old)) × (new.disk ≡ old.disk)
   pub no_room : disk.honest old.disk → IsErrOf result Full → HasNoRoom (disk.content old.disk) (state_stored old) (take count (gathered old))
@@ -99,20 +99,20 @@ pub record RefusesToStoreFirst {D X : Type 0} (disk : Ghosts D) (old new : Flush
 abbrev pub to_store : {D : Type 0} → Flushed D → Flushed D → List CommandValue
 to_store old taken = from_on taken.seat old.stored
 
--- At any moment of the call an image stands for the state after what was stored before, or after what is stored at the end, of
--- all that the third flusher has taken.
+-- At any moment of the call an image stands for the state after what was stored before, or after what is stored at the end. What is stored
+-- at the end is of all that the third flusher has taken.
 pub record IsStoring {D X : Type 0} (disk : Ghosts D) (old new taken : Flushed D) (result : Result X FlushFault) : Type 0 where
   pub number : ℕ
   pub next : IsNext old taken.seat number
   pub end : OnOk result (number ≡ new.stored)
   pub leaves : LeavesOnly disk.moment disk.images_since old.disk new.disk (StandsForEither (state_stored old) (state_at taken.opening taken.seat number))
 
--- Unless the flusher is broken, it is so of an honest disk.
+-- Unless the flusher is broken, this holds of an honest disk.
 abbrev pub StoresThroughout : {D X : Type 0} → Ghosts D → Flushed D → Flushed D → Flushed D → Result X FlushFault → Type 0
 StoresThroughout disk old new taken result = disk.honest old.disk → old.broken ≡ false → IsStoring disk old new taken result
 
--- The disk stands for the state after what is stored. What waits is stored behind what was used if its block fits there; else as
--- much of it as fits behind a snapshot.
+-- The disk stands for the state after what is stored. If its block fits, what waits is stored after what was used. Otherwise as much of it
+-- as fits is stored after a snapshot.
 pub record StoresNext {D : Type 0} (disk : Ghosts D) (old new taken : Flushed D) : Type 0 where
   pub stands : disk.honest old.disk → StandFor (disk.images new.disk) (state_at taken.opening taken.seat new.stored)
   pub behind : Fits old.size old.used (to_store old taken) → to_store old taken ≢ []
@@ -120,28 +120,28 @@ pub record StoresNext {D : Type 0} (disk : Ghosts D) (old new taken : Flushed D)
   pub afresh : IsTooLong old.size old.used (to_store old taken) → to_store old taken ≢ []
       → StoresAfresh old.size old.used (state_stored old) (to_store old taken) (new.stored - old.stored) new.used new.won
 
--- The block of what waits doesn't fit if that is the answer. Nor does a snapshot, and the disk stays; or the next command doesn't
--- fit behind one. The disk shows it.
+-- If the answer is `Full`, the block of what waits doesn't fit. Nor does a snapshot, and the disk stays; or the next command doesn't fit
+-- after one. The disk shows it.
 pub record RefusesNext {D X : Type 0} (disk : Ghosts D) (old new taken : Flushed D) (result : Result X FlushFault) : Type 0 where
   pub full : IsErrOf result Full → IsTooLong old.size old.used (to_store old taken)
       × ((HasNoRoomFor old.size (state_stored old) × (new.disk ≡ old.disk)) ⊎ IsTooLong old.size (used_afresh (state_stored old)) (take 1 (to_store old taken)))
   pub no_room : disk.honest old.disk → IsErrOf result Full → HasNoRoomLeft (disk.content new.disk) (state_stored old) (take 1 (to_store old taken))
 
--- Of what is gathered so much is stored, and nothing else has changed.
+-- A part of what is gathered is stored, and nothing else has changed.
 pub record StoresGathered {D : Type 0} (disk : Ghosts D) (old new : Flushed D) : Type 0 where
   pub stored : new ≡ storing old new.stored new.disk new.size new.used new.won
   pub within : (old.stored ≤ new.stored) × (new.stored ≤ next_ticket old.seat)
   pub next : StoresNext disk old new old
 
--- There is no room for what is gathered if that is the answer. If its block fits, the disk stays if memory was refused. If nothing
--- is gathered, that is never refused, and nothing changes.
+-- If the answer is `Full`, there is no room for what is gathered. If its block fits and memory was refused, the disk stays. If nothing is
+-- gathered, the call is never refused, and nothing changes.
 pub record RefusesToStore {D X : Type 0} (disk : Ghosts D) (old new : Flushed D) (result : Result X FlushFault) : Type 0 where
   pub room : RefusesNext disk old new old result
   pub memory : Fits old.size old.used (gathered old) → IfMemory result (new.disk ≡ old.disk)
   pub nothing : old.broken ≡ false → gathered old ≡ [] → IsOk result × (new ≡ old)
 
--- So many commands are taken, and as much of what waits is stored as has room, executed and published. What waits is a batch;
--- if it is none, no compaction was made.
+-- `count` commands are taken. As much of what waits as has room is stored, executed and published. What waits is a batch; if it is empty,
+-- no compaction was made.
 pub record HasTurned {D : Type 0} (disk : Ghosts D) (most most_bytes : ℕ) (old new : Flushed D) (count : ℕ) : Type 0 where
   pub more : List (EntryValue SenderValue)
   pub many : length more ≡ count
@@ -150,25 +150,25 @@ pub record HasTurned {D : Type 0} (disk : Ghosts D) (most most_bytes : ℕ) (old
   pub stores : StoresNext disk old new new
   pub idle : to_store old new ≡ [] → new.won ≡ old.won
 
--- There is no room for what waits if that is the answer: a batch, and not none.
+-- If the answer is `Full`, there is no room for what waits, which is a batch that is not empty.
 pub record RefusesTurn {D X : Type 0} (disk : Ghosts D) (most most_bytes : ℕ) (old new : Flushed D) (result : Result X FlushFault) : Type 0 where
   pub room : RefusesNext disk old new new result
   pub batch : IsErrOf result Full → IsBatch most (block_bytes old.size most_bytes) (to_store old new) × (to_store old new ≢ [])
 
--- More entries are taken, so many, and come behind the batch.
+-- `count` more entries are taken, and come after the batch.
 abbrev pub TakesMore : FlushSeatValue → FlushSeatValue → List (EntryValue SenderValue) → List (EntryValue SenderValue) → ℕ → Type 0
 TakesMore old new batch longer count = (more : List (EntryValue SenderValue)) × (length more ≡ count) × (new ≡ with_more old (commands more)) × (longer ≡ batch ++ more)
 
--- The entries are executed, in turn: the broker has the state after them, their outputs come behind those that wait, the boxes that
--- came with Opens are kept, and the sessions that ended are noted.
+-- The entries are executed, in turn. The broker has the state after them, and their outputs come after those that wait. The boxes that came
+-- with Opens are kept, and the sessions that ended are noted.
 pub record Executes (entries : List (EntryValue SenderValue)) (old new : BrokerValue) (kept boxes : Kept) (waited waiting : Vec OutValue Global) (noted ended : Vec ℕ Global) : Type 0 where
   pub broker : new ≡ record { state = state_after old.state (commands entries); broken = false }
   pub boxes_are : boxes ≡ boxes_after old.state.count kept entries
   pub outs : waiting.items ≡ waited.items ++ outs_of old.state (commands entries)
   pub ended_are : ended.items ≡ noted.items ++ ended_of old.state (commands entries)
 
--- There is room for the outputs that wait: behind those that are left, if any are, and for those that go to no box, of which
--- none is there.
+-- There is room for the outputs that wait: after those that are left, if any are, and in `spare`, for those that go to no box. `spare` is
+-- empty.
 pub record HasRoom (waiting left spare : Vec OutValue Global) : Type 0 where
   pub behind : 0 < length left.items → length left.items + length waiting.items ≤ vec_capacity left
   pub none : length spare.items ≡ 0

@@ -16,12 +16,12 @@ use Rattle.recover_core.specs.Standing.{Stands, StandFor}
 use Rattle.recover_core.specs.Stores.{disk_of, size_of, used_of}
 use Rattle.flush_core.specs.Batches.{between, from_on, state_at}
 
--- A flusher: its disk, the bytes of an area of the journal and those used; its seat at the ring, with the commands taken
--- and the mark; the state that the journal stood for when the flusher was made; the first number that is not stored, and
--- the first that the broker has not executed; the entries that are taken and not executed; the broker; the outboxes of
--- sessions; the sessions that ended and whose last outputs wait for the mark, and those whose last outputs are given; the
--- outputs that wait for the mark, and those under it that went to no box; whether a step failed; and how many bytes of its
--- area the last compaction won, where that was not asked for since.
+-- A flusher. It has its disk, the bytes of an area of the journal and those used; and its seat at the ring, with the commands taken and the
+-- mark. Then the state that the journal stood for when the flusher was made; the first number that is not stored, and the first that the
+-- broker has not executed. Then the entries that are taken and not executed; the broker; and the outboxes of sessions. Then the sessions
+-- that ended and whose last outputs wait for the mark, and those whose last outputs are given. Then the outputs that wait for the mark, and
+-- those under it that went to no box; and whether a step failed. Last, how many bytes of its area the last compaction won, if that was not
+-- asked for since.
 pub record Flushed (D : Type 0) : Type 0 where
   pub disk : D
   pub size : ℕ
@@ -67,12 +67,12 @@ pub record AfterSome (opening : State) (seat : FlushSeatValue) (image : List ℕ
   pub taken : number ≤ next_ticket seat
   pub stands : Stands image (state_at opening seat number)
 
--- each image does
+-- each image stands for such a state
 abbrev pub HoldBetween : (List ℕ → Type 0) → State → FlushSeatValue → Type 0
 HoldBetween images opening seat = (c : List ℕ) → images c → ∥ AfterSome opening seat c ∥₁
 
--- While no step has failed: each image stands for the state after all that is stored, the broker has that after all that
--- is executed, what was brought are the entries of the commands from the executed number on, and no output waits that is not
+-- While no step has failed: each image stands for the state after all that is stored, and the broker has the state after all that is
+-- executed. The entries brought are those of the commands from the executed number on. Every output that waits is of a command that is
 -- executed.
 pub record IsRunning {D : Type 0} (honest : D → Type 0) (images : D → List ℕ → Type 0) (f : Flushed D) : Type 0 where
   pub stands : honest f.disk → StandFor (images f.disk) (state_at f.opening f.seat f.stored)
@@ -80,8 +80,8 @@ pub record IsRunning {D : Type 0} (honest : D → Type 0) (images : D → List �
   pub brought : commands f.brought ≡ from_on f.seat f.executed
   pub waiting : AreUnder f.executed f.waiting
 
--- What a flusher keeps, after a fault too: the mark is at most what is stored, and that at most what was taken; each image
--- stands for the state after the commands taken up to some number from the mark on; no output is handed out over the mark.
+-- What a flusher keeps, after a fault too. The mark is at most what is stored, and that is at most what was taken. Each image stands for
+-- the state after the commands taken up to some number from the mark on. No output is handed out over the mark.
 pub record IsFlusher {D : Type 0} (honest : D → Type 0) (images : D → List ℕ → Type 0) (f : Flushed D) : Type 0 where
   pub begun : f.seat.base ≤ f.seat.published
   pub marked : f.seat.published ≤ f.executed
@@ -112,8 +112,8 @@ pub record IsSame {C D : Type 0} (one : Flushed C) (other : Flushed D) : Type 0 
   pub broken : other.broken ≡ one.broken
   pub won : other.won ≡ one.won
 
--- How the fields show it while no step has failed: the journal is whole, entries stand for the commands that wait to be
--- stored and for those that wait to be executed, and there is room for the outputs that wait.
+-- How the fields show it while no step has failed. The journal is whole, and there is room for the outputs that wait. Entries stand for the
+-- commands that wait to be stored, and for those that wait to be executed.
 pub record IsHeld {B : Type 0} (seat : FlushSeatValue) (stored executed : ℕ) (journal : Bool) (batch done : List (EntryValue B)) (bytes left waiting room : ℕ) : Type 0 where
   pub whole : journal ≡ false
   pub batch_is : commands batch ≡ from_on seat stored
@@ -122,7 +122,7 @@ pub record IsHeld {B : Type 0} (seat : FlushSeatValue) (stored executed : ℕ) (
   pub few : stored ≤ 2 ^ 62
   pub room_is : 0 < left → left + waiting ≤ room
 
--- And there is room for those outputs that go to no box.
+-- And there is room for the outputs that go to no box.
 pub record IsSpare (spare waiting room : ℕ) : Type 0 where
   pub none : spare ≡ 0
   pub room_is : waiting ≤ room

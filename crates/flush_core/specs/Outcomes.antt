@@ -18,8 +18,7 @@ use Rattle.flush_core.specs.Flushed.{Flushed, gathered, unexecuted}
 use Rattle.flush_core.specs.Room.{Fits, IsLongest, IsTooLong, used_afresh}
 use Rattle.flush_core.specs.Sessions.{boxes_after, ended_of}
 
--- A step has failed: the flusher is broken, its ring is stopped, and what was taken, stored, published and may be handed
--- out stays.
+-- A step has failed: the flusher is broken and its ring is stopped. What was taken, stored or published, and what may be handed out, stays.
 pub record Falls {D : Type 0} (old new : Flushed D) : Type 0 where
   pub was : old.broken ≡ false
   pub now : new.broken ≡ true
@@ -28,7 +27,7 @@ pub record Falls {D : Type 0} (old new : Flushed D) : Type 0 where
   pub opening : new.opening ≡ old.opening
   pub left : new.left ≡ old.left
 
--- Whether a flusher is broken before a step, and after it. One that is broken stays as it is.
+-- Whether a flusher is broken before a step, and after it. A broken flusher stays as it is.
 abbrev pub IsOutcome : {D X : Type 0} → Flushed D → Flushed D → Result X FlushFault → Type 0
 IsOutcome old new (Ok _) = (old.broken ≡ false) × (new.broken ≡ false)
 IsOutcome old new (Err Broken) = (old.broken ≡ true) × (new ≡ old)
@@ -44,8 +43,8 @@ taking f more = record f { seat = with_more f.seat (commands more); brought = f.
 abbrev pub storing : {D : Type 0} → Flushed D → ℕ → D → ℕ → ℕ → Option ℕ → Flushed D
 storing f n disk size used won = record f { disk = disk; size = size; used = used; stored = n; won = won }
 
--- Of what is taken at the end, by that seat, what waits to be stored is stored up to that number, if any of it is: all where its
--- block fits behind what is used, and else as much as has room behind a snapshot of the state.
+-- What waits to be stored, of all that this seat has taken at the end, is stored up to that number, if any of it is. All of it is stored if
+-- its block fits after what is used. Otherwise as much is stored as has room after a snapshot of the state.
 pub record IsNext {D : Type 0} (f : Flushed D) (seat : FlushSeatValue) (n : ℕ) : Type 0 where
   pub from : f.stored ≤ n
   pub to : n ≤ next_ticket seat
@@ -53,11 +52,11 @@ pub record IsNext {D : Type 0} (f : Flushed D) (seat : FlushSeatValue) (n : ℕ)
   pub afresh : f.stored < n → IsTooLong f.size f.used (from_on seat f.stored)
       → IsLongest f.size (used_afresh (state_at f.opening f.seat f.stored)) (from_on seat f.stored) (n - f.stored)
 
--- so much of an area is used, on this disk, and a compaction has won so much
+-- on this disk, `used` bytes of an area are used, and a compaction has won `won`
 abbrev pub using : {D : Type 0} → Flushed D → D → ℕ → Option ℕ → Flushed D
 using f disk used won = record f { disk = disk; used = used; won = won }
 
--- the journal is compacted, on this disk, and so much of an area is used; nothing is won where more is used than before
+-- the journal is compacted, on this disk, and `used` bytes of an area are used; nothing is won if more is used than before
 abbrev pub compacted : {D : Type 0} → Flushed D → D → ℕ → Flushed D
 compacted f disk used = using f disk used (Some (f.used - used))
 
@@ -78,8 +77,8 @@ pub record IsCompacted {D : Type 0} (disk : Ghosts D) (old new : Flushed D) : Ty
 abbrev pub stored_entries : {D : Type 0} → Flushed D → List (EntryValue SenderValue)
 stored_entries f = take (f.stored - f.executed) f.brought
 
--- All that is stored is executed: the outputs of that wait behind the others, the boxes that came with Opens are kept, and
--- the sessions that ended are noted.
+-- All that is stored is executed: its outputs wait after the others, the boxes that came with Opens are kept, and the sessions that ended
+-- are noted.
 abbrev pub executing : {D : Type 0} → Flushed D → Flushed D
 executing f = record f {
   executed = f.stored;
@@ -90,12 +89,12 @@ executing f = record f {
   waiting = f.waiting ++ outs_of f.broker.state (unexecuted f);
 }
 
--- the boxes to which outputs are given: those of sessions that ended and got their last outputs are let go first
+-- the boxes to which outputs are given: those of sessions that ended and got their last outputs are let go before
 abbrev pub standing : {D : Type 0} → Flushed D → Kept
 standing f = without f.boxes f.past
 
--- All that is stored is published. What waited goes to the boxes of its sessions, which then are these; of it, what goes to
--- sessions without a box may be handed out, behind what might be already.
+-- All that is stored is published. What waited goes to the boxes of its sessions, which are then `boxes`. What goes to sessions without a
+-- box may be handed out, after what could be handed out already.
 abbrev pub publishing : {D : Type 0} → Flushed D → Kept → Flushed D
 publishing f boxes = record f {
   seat = with_mark f.seat f.stored;
@@ -114,9 +113,9 @@ turned_outs old new = old.waiting ++ outs_of old.broker.state (between new.seat 
 abbrev pub turned_boxes : {D : Type 0} → Flushed D → Flushed D → List (EntryValue SenderValue) → Kept
 turned_boxes old new more = without (boxes_after old.executed old.boxes (take (new.stored - old.stored) (old.brought ++ more))) old.past
 
--- A turn has taken these entries, and what is stored is executed and published: the outputs of all that was not published
--- were given to the boxes of their sessions, or may be handed out, behind those that might be already. What is not stored
--- waits, with the boxes that came with it.
+-- A turn has taken these entries, and what is stored is executed and published. The outputs of all that was not published before were given
+-- to the boxes of their sessions, or may be handed out. These come after those that could be handed out already. What is not stored waits,
+-- with the boxes that came with it.
 pub record IsTurned {D : Type 0} (old new : Flushed D) (more : List (EntryValue SenderValue)) : Type 0 where
   pub seat : new.seat ≡ with_mark (with_more old.seat (commands more)) new.stored
   pub within : (old.stored ≤ new.stored) × (new.stored ≤ next_ticket new.seat)
@@ -144,7 +143,7 @@ pub record TurnFalls {D : Type 0} (old new : Flushed D) : Type 0 where
   pub opening : new.opening ≡ old.opening
   pub left : new.left ≡ old.left
 
--- Whether a flusher is broken before a turn, and after it. One that is broken stays as it is.
+-- Whether a flusher is broken before a turn, and after it. A broken flusher stays as it is.
 abbrev pub IsTurn : {D X : Type 0} → Flushed D → Flushed D → Result X FlushFault → Type 0
 IsTurn old new (Ok _) = (old.broken ≡ false) × (new.broken ≡ false)
 IsTurn old new (Err Broken) = (old.broken ≡ true) × (new ≡ old)

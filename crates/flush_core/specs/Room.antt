@@ -1,4 +1,4 @@
--- Where a block does not fit into the journal.
+-- When a block does not fit into the journal.
 use Rattle.std.specs.Prelude.{◌≡◌, ◌⊎◌, ◌<◌, ◌≤◌, ◌+◌, ◌-◌, ℕ, List, Option, Some, length, take}
 use Rattle.command_core.specs.Commands.{CommandValue}
 use Rattle.area_core.specs.declared.version.Version.{Version}
@@ -10,37 +10,37 @@ use Rattle.recover_core.specs.Compactions.{HasNoRoomFor}
 use Rattle.recover_core.specs.Opens.{HoldsOnlySnapshot}
 use Rattle.recover_core.specs.Standing.{Leads}
 
--- how many bytes of an area are used where it holds a snapshot of this state alone: eight of length, the snapshot, and a gate
+-- how many bytes of an area are used if it holds only a snapshot of this state: eight of length, the snapshot, and a gate
 abbrev pub used_afresh : State → ℕ
 used_afresh s = length (snapshot_of s) + 9
 
--- Behind so many bytes that are used an area of that size has room for a block of these commands: eight bytes of length, the
--- records, and the closed gate behind them.
+-- After `used` bytes an area of that size has room for a block of these commands: eight bytes of length, the records, and the closed gate
+-- after them.
 abbrev pub Fits : (size used : ℕ) → List CommandValue → Type 0
 Fits size used cs = used + 9 + length (records cs) ≤ size
 
--- and here it has none
+-- and here it has no room
 abbrev pub IsTooLong : (size used : ℕ) → List CommandValue → Type 0
 IsTooLong size used cs = size < used + 9 + length (records cs)
 
--- So many of these commands, from the first on, are as many as an area has room for behind so many bytes that are used, but
--- one at least: all of them where their block fits, and else one more would be too many.
+-- The first `count` of these commands are as many as an area has room for after `used` bytes, but at least one. They are all of them if
+-- their block fits; otherwise one more would be too many.
 pub record IsLongest (size used : ℕ) (cs : List CommandValue) (count : ℕ) : Type 0 where
   pub some : 0 < count
   pub within : count ≤ length cs
   pub all : Fits size used cs → count ≡ length cs
   pub more : count < length cs → IsTooLong size used (take (count + 1) cs)
 
--- What is stored of these commands behind a snapshot of this state: the first so many, of which the area has so many bytes used
--- then; and the snapshot won as many bytes as were used before it and are not by it alone.
+-- What is stored of these commands after a snapshot of this state: the first `count`, and `used` bytes of the area are then used. The
+-- snapshot won the bytes that were used before, less those that it uses itself.
 pub record StoresAfresh (size before : ℕ) (s : State) (cs : List CommandValue) (count used : ℕ) (won : Option ℕ) : Type 0 where
   pub longest : IsLongest size (used_afresh s) cs count
   pub fits : Fits size (used_afresh s) (take count cs)
   pub used_is : used ≡ used_afresh s + 9 + length (records (take count cs))
   pub won_is : won ≡ Some (before - used_afresh s)
 
--- The image stands for this state, and its live area is too short for a block of these commands: a gate, eight bytes of
--- length, the records, and the closed gate behind it.
+-- The image stands for this state, and its live area is too short for a block of these commands. The block is a gate, eight bytes of
+-- length, the records, and the closed gate after them.
 pub record LacksRoom (image : List ℕ) (s : State) (cs : List CommandValue) : Type 0 where
   pub version : Version
   pub size : ℕ
@@ -54,7 +54,7 @@ pub record LacksRoom (image : List ℕ) (s : State) (cs : List CommandValue) : T
 abbrev pub HasNoRoom : List ℕ → State → List CommandValue → Type 0
 HasNoRoom image s cs = ∥ LacksRoom image s cs ∥₁
 
--- the image stands for this state, of which no snapshot fits into an area of its journal
+-- the image stands for this state, and no snapshot of it fits into an area of its journal
 pub record LacksRoomForState (image : List ℕ) (s : State) : Type 0 where
   pub version : Version
   pub size : ℕ
@@ -68,13 +68,13 @@ pub record LacksRoomForState (image : List ℕ) (s : State) : Type 0 where
 abbrev pub HasNoRoomForState : List ℕ → State → Type 0
 HasNoRoomForState image s = ∥ LacksRoomForState image s ∥₁
 
--- the image holds a snapshot of this state alone, and a block of these commands does not fit behind it
+-- the image holds only a snapshot of this state, and a block of these commands does not fit after it
 pub record LacksRoomAfresh (image : List ℕ) (s : State) (cs : List CommandValue) : Type 0 where
   pub size : ℕ
   pub used : ℕ
   pub holds : HoldsOnlySnapshot size used s image
   pub short : IsTooLong size used cs
 
--- the journal is compacted, as far as that goes, and has no room for a block of these commands
+-- the journal is compacted, if a snapshot fits, and has no room for a block of these commands
 abbrev pub HasNoRoomLeft : List ℕ → State → List CommandValue → Type 0
 HasNoRoomLeft image s cs = ∥ LacksRoomForState image s ⊎ LacksRoomAfresh image s cs ∥₁

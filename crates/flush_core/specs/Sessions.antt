@@ -7,13 +7,13 @@ use Rattle.broker_state.specs.Steps.{is_opening, step}
 use Rattle.outbox_core.specs.Boxes.{SenderValue}
 use Rattle.outbox_core.specs.Giving.{Kept, with_box}
 
--- a box is kept where one is brought
+-- a box is kept if one is brought
 abbrev pub with_brought : Kept → ℕ → Option SenderValue → Kept
 with_brought boxes session None = boxes
 with_brought boxes session (Some box) = with_box boxes session box
 
--- The command of that number opens the session of that number, and the box that comes with it is kept for that session; a box
--- that comes with any other command is let go.
+-- If the command of that number opens the session of that number, the box that comes with it is kept for that session. A box that comes
+-- with any other command is let go.
 abbrev pub opened : Kept → ℕ → EntryValue SenderValue → Kept
 opened boxes number entry = if is_opening entry.command.op then with_brought boxes number entry.outbox else boxes
 

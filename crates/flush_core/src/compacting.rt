@@ -16,12 +16,12 @@ use outbox_core::{Bell, OutSender};
 use std::alloc::Global;
 
 impl<D: Disk, B: Bell, W: Width> Flusher<D, B, W> {
-    /// Writes a snapshot of the state after all that is stored, its sessions included, into the area of the journal that is not
-    /// live, and makes that one live. What is gathered waits meanwhile, and sessions go on claiming.
+    /// Writes a snapshot of the state after all that is stored, its sessions included, into the area of the journal that is not live, and
+    /// makes that area live. What is gathered waits meanwhile, and sessions go on claiming.
     ///
-    /// At each moment of the call an image of the disk stands for that state; after it, it holds the snapshot alone. `Full` comes if
-    /// no snapshot of the state fits into an area, and leaves the disk as it was. If memory is refused, pieces of the snapshot
-    /// may be written beside the live area.
+    /// At each moment of the call an image of the disk stands for that state; after it, an image holds only the snapshot. `Full` means that
+    /// no snapshot of the state fits into an area; the disk stays as it was. If memory is refused, pieces of the snapshot may be written
+    /// outside the live area.
     pub fn compact(
         &mut self,
         alloc: Global,
@@ -60,8 +60,8 @@ impl<D: Disk, B: Bell, W: Width> Flusher<D, B, W> {
         self.journal.used()
     }
 
-    /// How many bytes of the live area the last compaction won, in a turn too: those used before it without those used behind it.
-    /// `None` where there was none since this was last asked for.
+    /// How many bytes of the live area the last compaction won, in a turn too: those used before it less those used after it. `None` if
+    /// there was no compaction since the last call of this.
     pub fn take_won(&mut self) -> Option<u64>
         ensures won { result ≡ self.old.won }
         ensures told { self.new ≡ record self.old { won = None } }
@@ -69,7 +69,7 @@ impl<D: Disk, B: Bell, W: Width> Flusher<D, B, W> {
         self.won.take()
     }
 
-    // Whether nothing is gathered, or its block fits into the live area, with the gate behind it.
+    // Whether nothing is gathered, or its block fits into the live area with the gate after it.
     fn has_room(&self) -> bool
         requires whole { self.now.broken ≡ false }
         ensures fits { result ≡ true → gathered self.now ≢ [] → Fits self.now.size self.now.used (gathered self.now) }
@@ -78,7 +78,7 @@ impl<D: Disk, B: Bell, W: Width> Flusher<D, B, W> {
         self.batch.is_empty() || self.journal.fits(&self.batch)
     }
 
-    // Compacts the journal if the block of what is gathered doesn't fit, and does nothing else.
+    // Compacts the journal if the block of what is gathered doesn't fit, and otherwise does nothing.
     pub(crate) fn win_room(
         &mut self,
         alloc: Global,

@@ -20,7 +20,7 @@ use outbox_core::{Bell, Boxes, OutSender};
 use std::alloc::{AllocError, Global};
 use std::mem::replace;
 
-// Keeps the box that comes with a command of that number, where the command opens the session of that number.
+// Keeps the box that comes with a command of that number, if the command opens the session of that number.
 fn keep_box<B: Bell>(
     boxes: &mut Boxes<B>,
     number: u64,
@@ -38,7 +38,7 @@ fn keep_box<B: Bell>(
     }
 }
 
-// Notes a session that was open and is no more.
+// Notes a session that was open and no longer is.
 fn note_end(
     broker: &Broker,
     was_open: bool,
@@ -53,7 +53,7 @@ fn note_end(
     Ok(())
 }
 
-// Has the broker take a step, whose outputs wait behind those that wait.
+// Has the broker take a step; its outputs wait after those that wait already.
 fn take_step(
     alloc: Global,
     broker: &mut Broker,
@@ -73,8 +73,8 @@ fn take_step(
     Ok(())
 }
 
-// Executes one command: its outputs wait behind those that wait, the box that comes with an Open is kept, and the session
-// that it ends is noted.
+// Executes one command: its outputs wait after those that wait already, the box that comes with an Open is kept, and the session that it
+// ends is noted.
 fn execute_one<B: Bell>(
     alloc: Global,
     broker: &mut Broker,
@@ -107,7 +107,7 @@ fn execute_one<B: Bell>(
     Ok(())
 }
 
-// The same of commands in turn.
+// The same for commands in turn.
 fn execute_each<B: Bell>(
     alloc: Global,
     broker: &mut Broker,
@@ -127,7 +127,7 @@ fn execute_each<B: Bell>(
     Ok(())
 }
 
-// The same of all that is stored; then makes the room that publishing needs.
+// The same for all that is stored; then makes the room that publishing needs.
 fn execute_all<B: Bell>(
     alloc: Global,
     broker: &mut Broker,
@@ -156,8 +156,8 @@ fn execute_all<B: Bell>(
 }
 
 impl<D: Disk, B: Bell, W: Width> Flusher<D, B, W> {
-    /// Executes what is stored: the broker's state is then the one after all that is stored, and the outputs wait behind
-    /// those that wait already, in the order of their commands. The room is made that `publish` needs.
+    /// Executes what is stored. The broker's state is then the one after all that is stored. The outputs wait after those that wait
+    /// already, in the order of their commands. The call also makes the room that `publish` needs.
     pub fn execute(
         &mut self,
         alloc: Global,

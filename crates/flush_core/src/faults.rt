@@ -7,12 +7,12 @@ use broker_core::BrokerFault;
 use std::alloc::AllocError;
 use std::{error, fmt};
 
-/// Why a step of the flusher failed. After each of these it is broken and its ring is stopped.
+/// Why a step of the flusher failed. After each of these the flusher is broken and its ring is stopped.
 #[derive(Debug, Drop)]
 pub enum FlushFault {
     /// The disk failed.
     Device,
-    /// The block of the batch doesn't fit into the journal, with the gate behind it.
+    /// The block of the batch doesn't fit into the journal with the gate after it.
     Full,
     /// A step failed before.
     Broken,

@@ -14,7 +14,7 @@ use disk_core::Disk;
 use recover_core::Store;
 use std::alloc::Global;
 
-// How many of the entries, from the first on, have records of no more than so many bytes together.
+// How many of the entries, from the first on, have records of at most `room` bytes together.
 fn count_within<B>(room: u64, batch: &[Entry<B>]) -> usize
     ensures within { result ≤ length batch.now }
     ensures fits { length (records (take result (commands batch.now))) ≤ room }
@@ -32,8 +32,8 @@ fn count_within<B>(room: u64, batch: &[Entry<B>]) -> usize
     count
 }
 
-/// How many of the entries, from the first on, have a block that fits behind so many used bytes of an area of that size; one
-/// where not even the first has.
+/// How many of the entries, from the first on, have a block that fits after `used` bytes of an area of that size; 1 if not even the first
+/// has.
 pub(crate) fn count_fitting<B>(size: u64, used: u64, batch: &[Entry<B>]) -> usize
     ensures within { result ≤ length batch.now }
     ensures some { 0 < length batch.now → 0 < result }
@@ -44,7 +44,7 @@ pub(crate) fn count_fitting<B>(size: u64, used: u64, batch: &[Entry<B>]) -> usiz
     count_within(room, batch).max(1).min(batch.len())
 }
 
-/// So many bytes without those of the records of these entries.
+/// `bytes` less the bytes of the records of these entries.
 pub(crate) fn bytes_without<B>(bytes: u64, batch: &[Entry<B>]) -> u64
     ensures { result ≡ bytes - length (records (commands batch.now)) }
 {
@@ -55,8 +55,8 @@ pub(crate) fn bytes_without<B>(bytes: u64, batch: &[Entry<B>]) -> u64
     left
 }
 
-/// Makes the first so many entries durable, in one block, and takes those behind them out, which it answers. `Full` and
-/// `Memory` leave the disk as it was.
+/// Makes the first `count` entries durable, in one block, and takes out and answers those after them. `Full` and `Memory` leave the disk as
+/// it was.
 pub(crate) fn append_first<D: Disk, B: Drop>(
     alloc: Global,
     journal: &mut Store<D>,

@@ -20,12 +20,12 @@ use std::alloc::Global;
 use std::marker::{Model, PhantomData};
 use std::snapshot::Snapshot;
 
-/// The one that takes commands from a ring, makes them durable, executes them and publishes them. A block of the journal has
-/// at most `W::COMMANDS` of them, and those in front of its last have records of fewer than `W::BYTES` bytes, and of fewer than a
-/// quarter of an area, or than 262,144 bytes if that is more.
+/// The flusher takes commands from a ring, makes them durable, executes them and publishes them. A block of the journal has at most
+/// `W::COMMANDS` of them. Those before its last have records of fewer than `W::BYTES` bytes, and fewer than a quarter of an area, or than
+/// 262,144 bytes if that is more.
 ///
-/// Each image of its disk stands for the state after the commands taken up to some number from the mark on, also once a
-/// step has failed. No output is handed out but under the mark.
+/// Each image of its disk stands for the state after the commands taken up to some number from the mark on, even once a step has failed.
+/// Only outputs under the mark are handed out.
 #[derive(Drop)]
 pub struct Flusher<D: Disk, B: Bell, W: Width> {
     pub(crate) journal: Store<D>,
@@ -36,7 +36,7 @@ pub struct Flusher<D: Disk, B: Bell, W: Width> {
     // What waits to be stored, and how many bytes its records have.
     pub(crate) batch: Vec<Entry<OutSender<B>>>,
     pub(crate) bytes: u64,
-    // What is stored and waits to be executed.
+    // What is stored, and waits to be executed.
     pub(crate) done: Vec<Entry<OutSender<B>>>,
     // The first numbers that are not stored, and not executed.
     pub(crate) stored: u64,
@@ -44,7 +44,7 @@ pub struct Flusher<D: Disk, B: Bell, W: Width> {
     // The outboxes of sessions, and the outputs on their way there.
     pub(crate) outlet: Outlet<B>,
     pub(crate) broken: bool,
-    // How many bytes the last compaction won, where that was not asked for since.
+    // How many bytes the last compaction won, if that was not asked for since.
     pub(crate) won: Option<u64>,
     pub(crate) width: PhantomData<W>,
 }
@@ -68,8 +68,8 @@ impl<D: Disk, B: Bell, W: Width> Model for Flusher<D, B, W> {
 }
 
 impl<D: Disk, B: Bell, W: Width> Flusher<D, B, W> {
-    /// A flusher of a journal, the broker of the state that the journal stands for, and the flusher's seat at a ring whose
-    /// first ticket is the broker's count. No memory is taken.
+    /// A flusher, made of a journal, the broker of the state that the journal stands for, and the flusher's seat at a ring whose first
+    /// ticket is the broker's count. It takes no memory.
     pub fn new(
         alloc: Global,
         journal: Store<D>,
@@ -101,7 +101,7 @@ impl<D: Disk, B: Bell, W: Width> Flusher<D, B, W> {
         }
     }
 
-    /// Whether a step failed. What a flusher keeps is known with that.
+    /// Whether a step has failed. Contracts then also know what the flusher keeps.
     pub fn is_broken(&self) -> bool
         ensures value { result ≡ self.now.broken }
         ensures kept { IsFlusher D.honest D.images self.now }
@@ -132,7 +132,7 @@ impl<D: Disk, B: Bell, W: Width> Flusher<D, B, W> {
         self.seat.next()
     }
 
-    /// Brings a session's seat beside the flusher's, as `Ring::beside` does: nothing changes, and both are known to speak of
+    /// Brings a session's seat beside the flusher's, as `Ring::beside` does. Nothing changes, and contracts then know that both speak of
     /// one history.
     pub fn beside(&mut self, ring: &BrokerRing<OutSender<B>>, seat: &mut BrokerSeat<OutSender<B>>)
         requires flush { self.old.seat.ring ≡ ring.now }
@@ -153,7 +153,7 @@ impl<D: Disk, B: Bell, W: Width> Flusher<D, B, W> {
         (journal.into_disk(), seat)
     }
 
-    /// The disk, as it is. The seat, the boxes and the outputs that wait are let go.
+    /// The disk, as it is. The seat, the boxes, and the outputs that wait are let go.
     pub fn into_disk(self) -> D
         ensures disk { result ≡ self.disk }
         ensures held { D.honest result → HoldBetween (D.images result) self.opening self.seat }
@@ -162,7 +162,7 @@ impl<D: Disk, B: Bell, W: Width> Flusher<D, B, W> {
         disk
     }
 
-    /// The same flusher over a disk that passes so many more calls and then fails.
+    /// The same flusher over a disk that passes `calls` more calls on and then fails.
     pub fn fuse(self, calls: u64) -> Flusher<FuseDisk<D>, B, W>
         ensures disk { fused result.disk ≡ self.disk }
         ensures calls { calls_left result.disk ≡ calls }

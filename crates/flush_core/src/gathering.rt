@@ -23,8 +23,8 @@ use std::alloc::AllocError;
 const LEAST_BYTES: u64 = 262_144;
 
 impl<D: Disk, B: Bell, W: Width> Flusher<D, B, W> {
-    // A batch whose records have as many bytes takes no further command: a quarter of an area, so that one block doesn't fill a
-    // journal that holds little, but not more than a batch may have, and in small areas `LEAST_BYTES`.
+    // A batch whose records have this many bytes takes no further command. It is a quarter of an area, so that one block doesn't fill a
+    // journal that holds little; in small areas it is `LEAST_BYTES`. It is never more than a batch may have.
     fn bytes_wanted(&self) -> u64
         ensures wanted { result ≡ block_bytes self.now.size W.BYTES }
         ensures most { result ≤ 2 ^ 62 }
@@ -33,7 +33,7 @@ impl<D: Disk, B: Bell, W: Width> Flusher<D, B, W> {
         quarter.max(LEAST_BYTES).min(W::BYTES)
     }
 
-    // Takes the entries that are ready, one after another, until the batch is full or has so many bytes, and answers how many.
+    // Takes the entries that are ready, one after another, until the batch is full or has `wanted` bytes, and answers how many it took.
     fn take_ready(
         wanted: u64,
         ring: &BrokerRing<OutSender<B>>,
@@ -83,9 +83,9 @@ impl<D: Disk, B: Bell, W: Width> Flusher<D, B, W> {
         Ok(Self::take_ready(wanted, ring, seat, batch, bytes))
     }
 
-    /// Takes the next commands in order from the ring, for as long as they are ready, fewer than `W::COMMANDS` wait to be stored, and
-    /// the records of these have fewer bytes than a quarter of an area, or than 262,144 if that is more, and fewer than
-    /// `W::BYTES`. Answers how many it took.
+    /// Takes the next commands in order from the ring, for as long as they are ready and the batch has room, and answers how many it took.
+    /// The batch has room while fewer than `W::COMMANDS` wait to be stored and their records have fewer than `W::BYTES` bytes. They must
+    /// also have fewer bytes than a quarter of an area, or than 262,144 if that is more.
     ///
     /// `Memory` comes before anything is taken.
     pub fn gather(&mut self, ring: &BrokerRing<OutSender<B>>) -> Result<u64, FlushFault>

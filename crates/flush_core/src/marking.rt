@@ -9,7 +9,7 @@ use disk_core::Disk;
 use outbox_core::Bell;
 
 impl<D: Disk, B: Bell, W: Width> Flusher<D, B, W> {
-    /// The mark: every number under it is published. It is known with what a flusher keeps.
+    /// The mark: every number under it is published. Contracts then also know what the flusher keeps.
     pub fn mark(&self) -> u64
         ensures mark { result ≡ self.now.seat.published }
         ensures kept { IsFlusher D.honest D.images self.now }

@@ -29,7 +29,7 @@ pub(crate) struct Outlet<B: Bell> {
 }
 
 impl<B: Bell> Outlet<B> {
-    // No memory is taken.
+    // It takes no memory.
     pub(crate) fn new(alloc: Global) -> Outlet<B>
         ensures boxes { result.boxes ≡ [] }
         ensures ended { (result.ended.items ≡ []) × (result.past.items ≡ []) }
@@ -62,11 +62,11 @@ impl<B: Bell> Outlet<B> {
         Ok(())
     }
 
-    // Lets the boxes go of sessions whose last outputs are given, and gives what waits to the boxes of its sessions. What goes
-    // to no box may be handed out, behind what might be already.
+    // Lets go of the boxes of sessions whose last outputs are given, and gives what waits to the boxes of its sessions. What goes to no box
+    // may be handed out, after what could be handed out already.
     //
-    // All that waits is under the mark that the seat has published: a box rings as it is given something, and whoever looks
-    // then finds that its outputs may leave.
+    // All that waits is under the mark that the seat has published. A box rings when it is given something, and a taker that then looks
+    // finds that its outputs may leave.
     pub(crate) fn give(&mut self, seat: &FlushSeat<OutSender<B>>)
         requires under { AreUnder seat.now.published self.old.waiting.items }
         requires room { HasRoom self.old.waiting self.old.left self.old.spare }
@@ -82,7 +82,7 @@ impl<B: Bell> Outlet<B> {
     }
 }
 
-// Lets the boxes go of sessions whose last outputs are given, and notes those whose last outputs are given next.
+// Lets go of the boxes of sessions whose last outputs are given, and notes the sessions whose last outputs are given next.
 fn let_past_go<B: Bell>(boxes: &mut Boxes<B>, past: &mut Vec<u64>, ended: &mut Vec<u64>)
     ensures boxes { boxes.new ≡ without boxes.old past.old.items }
     ensures past { past.new.items ≡ ended.old.items }
@@ -93,7 +93,7 @@ fn let_past_go<B: Bell>(boxes: &mut Boxes<B>, past: &mut Vec<u64>, ended: &mut V
     swap(past, ended);
 }
 
-// Gives what waits to the boxes of its sessions. What goes to no box comes into the room that was made for it.
+// Gives what waits to the boxes of its sessions. What goes to no box goes into the room that was made for it.
 fn give_waiting<B: Bell>(boxes: &mut Boxes<B>, waiting: &mut Vec<Out>, spare: &mut Vec<Out>)
     requires none { length spare.old.items ≡ 0 }
     requires room { length waiting.old.items ≤ vec_capacity spare.old }
@@ -106,7 +106,7 @@ fn give_waiting<B: Bell>(boxes: &mut Boxes<B>, waiting: &mut Vec<Out>, spare: &m
     boxes.give_all(outs, spare);
 }
 
-// What went to no box may be handed out, behind what might be already.
+// What went to no box may be handed out, after what could be handed out already.
 fn leave<T>(left: &mut Vec<T>, spare: &mut Vec<T>)
     requires room { 0 < length left.old.items → length left.old.items + length spare.old.items ≤ vec_capacity left.old }
     ensures left { left.new.items ≡ left.old.items ++ spare.old.items }

@@ -17,9 +17,8 @@ use outbox_core::{Bell, OutSender};
 use std::mem::replace;
 
 impl<D: Disk, B: Bell, W: Width> Flusher<D, B, W> {
-    /// Raises the mark to all that is stored, which each image of the disk holds, and then gives each outbox the outputs of its
-    /// session, in order, until the box is cut. What goes to a session without a box stays for `take_left`. No memory is
-    /// taken.
+    /// Raises the mark to all that is stored, which each image of the disk holds. Then it gives each outbox the outputs of its session, in
+    /// order, until the box is cut. What goes to a session without a box stays for `take_left`. It takes no memory.
     ///
     /// The box of a session that has ended stays until the next call, which lets it go before anything is given.
     pub fn publish(&mut self, ring: &BrokerRing<OutSender<B>>)
@@ -35,13 +34,13 @@ impl<D: Disk, B: Bell, W: Width> Flusher<D, B, W> {
         self.outlet.give(&self.seat);
     }
 
-    /// How many outputs were published so far.
+    /// How many outputs have been published so far.
     pub fn tally(&self) -> Tally {
         self.outlet.tally
     }
 
-    /// Hands out the outputs that are published and went to no box, in the order of their commands: the number of each is under
-    /// the mark. No memory is taken.
+    /// Hands out the outputs that are published and went to no box, in the order of their commands. The number of each is under the mark.
+    /// It takes no memory.
     pub fn take_left(&mut self) -> Vec<Out>
         ensures outs { result.items ≡ self.old.left }
         ensures under { AreUnder self.old.seat.published result.items }

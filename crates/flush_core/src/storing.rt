@@ -17,15 +17,15 @@ use std::alloc::Global;
 use std::mem::replace;
 
 impl<D: Disk, B: Bell, W: Width> Flusher<D, B, W> {
-    /// Makes what is gathered durable, in one block. If the block doesn't fit, the journal is compacted first, and not if it does.
-    /// If it doesn't fit then either, as many commands are stored, from the first on, as have a block that fits; the others stay
-    /// gathered, for the next call. If nothing is gathered it calls no disk and changes nothing.
+    /// Makes what is gathered durable, in one block. The journal is compacted first, but only if the block doesn't fit. If the block still
+    /// doesn't fit, as many commands are stored, from the first on, as have a block that fits. The others stay gathered, for the next call.
+    /// If nothing is gathered, it calls no disk and changes nothing.
     ///
-    /// At each moment of the call an image of the disk stands for the state after what was stored before, or after what is
-    /// stored at the end, and for none between; after it, for the latter alone. `Full` comes if no snapshot of the state fits
-    /// into an area, which leaves the disk as it was, or if the block of the first command alone doesn't fit behind one, which
-    /// leaves that. `Memory` leaves the disk as it was if the block fits; else pieces of a snapshot may be written, or all of
-    /// it, and the disk stands for what it did.
+    /// At each moment of the call an image of the disk stands for the state after what was stored before, or after what is stored at the
+    /// end. It stands for none between. After the call it stands for the latter alone. `Full` comes if no snapshot of the state fits into
+    /// an area, and then the disk is as it was. `Full` also comes if the block of the first command alone doesn't fit after a snapshot, and
+    /// then the disk has that snapshot. `Memory` leaves the disk as it was if the block fits. Otherwise a snapshot may be written, in part
+    /// or in full, and the disk stands for the same state as before.
     pub fn store(
         &mut self,
         alloc: Global,
@@ -47,7 +47,7 @@ impl<D: Disk, B: Bell, W: Width> Flusher<D, B, W> {
         self.append(alloc, ring, count)
     }
 
-    // How many of the gathered commands, from the first on, have a block that fits; one where not even the first has.
+    // How many of the gathered commands, from the first on, have a block that fits; 1 if not even the first has.
     fn fitting(&self) -> usize
         ensures within { self.now.broken ≡ false → result ≤ length (gathered self.now) }
         ensures some { self.now.broken ≡ false → gathered self.now ≢ [] → 0 < result }
@@ -59,8 +59,8 @@ impl<D: Disk, B: Bell, W: Width> Flusher<D, B, W> {
         count_fitting(self.journal.size(), self.journal.used(), &self.batch)
     }
 
-    // Makes so many gathered commands durable in one block, behind what the live area holds. If there are none it calls no disk
-    // and changes nothing. `Full` and `Memory` leave the disk as it was.
+    // Makes the first `count` gathered commands durable in one block, after what the live area holds. If `count` is 0, it calls no disk and
+    // changes nothing. `Full` and `Memory` leave the disk as it was.
     fn append(
         &mut self,
         alloc: Global,

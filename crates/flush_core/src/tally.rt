@@ -1,20 +1,19 @@
-//! What was published so far.
+//! What has been published so far.
 
 use command_core::Out;
 use frame_core::{Verb, first};
 
-/// How many outputs were published since the flusher was made, for whoever tells an operator how it does. No clause speaks of these
-/// numbers.
+/// How many outputs were published since the flusher was made, for reports to an operator. No clause speaks of these numbers.
 #[derive(Clone, Copy)]
 pub struct Tally {
-    /// All of them: a frame each.
+    /// All outputs: each is a frame.
     pub frames: u64,
-    /// Those that say that there is no room for a message (E12).
+    /// The outputs that say that there is no room for a message (E12).
     pub no_room: u64,
 }
 
 impl Tally {
-    // Nothing was published.
+    // Nothing is published yet.
     pub(crate) fn none() -> Tally {
         Tally {
             frames: 0,
@@ -22,7 +21,7 @@ impl Tally {
         }
     }
 
-    // These are published.
+    // Counts these as published.
     pub(crate) fn add(&mut self, outs: &[Out]) {
         for out in outs {
             self.frames = self.frames.saturating_add(1);

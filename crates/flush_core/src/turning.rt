@@ -13,15 +13,14 @@ use outbox_core::{Bell, OutSender};
 use std::alloc::Global;
 
 impl<D: Disk, B: Bell, W: Width> Flusher<D, B, W> {
-    /// Takes what is ready, makes it durable in one block, executes it and publishes it. Answers how many commands it took. If the
-    /// block of what waits to be stored doesn't fit, the journal is compacted first, and not if it does. If it doesn't fit then
-    /// either, as many commands are stored, from the first on, as have a block that fits, and the others wait for the next
-    /// turn.
+    /// Takes what is ready, makes it durable in one block, executes it and publishes it. It answers how many commands it took. The journal
+    /// is compacted first, but only if the block of what waits to be stored doesn't fit. If the block still doesn't fit, as many commands
+    /// are stored, from the first on, as have a block that fits. The others wait for the next turn.
     ///
-    /// At each moment of the call an image of the disk stands for the state after what was stored before, or after what is
-    /// stored at the end, and for none between; after it, for the latter alone. `Full` comes if no snapshot of the state after
-    /// what was stored before fits into an area, or if the block of the next command alone doesn't fit behind one. If nothing
-    /// waits to be stored the disk stays as it was.
+    /// At each moment of the call an image of the disk stands for the state after what was stored before, or after what is stored at the
+    /// end. It stands for none between. After the call it stands for the latter alone. `Full` comes if no snapshot of the state after what
+    /// was stored before fits into an area, or if the block of the next command alone doesn't fit after one. If nothing waits to be stored,
+    /// the disk stays as it was.
     pub fn turn(
         &mut self,
         alloc: Global,

@@ -2,13 +2,13 @@
 
 ghost use Rattle.std.specs.Prelude.{ℕ};
 
-/// How wide a flusher's blocks are: two numbers of the program, which a type of its own stands for. Both are at least 1, else a
-/// flusher takes no command.
+/// How wide a flusher's blocks are: two numbers that the program chooses, with a type to stand for them. Both must be at least 1; otherwise
+/// a flusher takes no command.
 pub trait Width {
     /// How many commands a block has at most.
     const COMMANDS: usize;
 
-    /// A block whose records have as many bytes takes no further command.
+    /// A block whose records have this many bytes takes no further command.
     const BYTES: u64;
 
     ghost COMMANDS: { ℕ };

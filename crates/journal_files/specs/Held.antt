@@ -25,7 +25,7 @@ waits_of lot = record { messages = lot.messages; bytes = lot.bytes; place = stri
 abbrev pub waits_at : List ℕ → List Message → Waits
 waits_at place line = record { messages = length line; bytes = sum_by bytes line; place = place }
 
--- a queue by its destination, and a durable name by those of the client and of the subscription
+-- a queue by its destination, and a durable name by the names of its client and its subscription
 abbrev pub queue_text : List ℕ → List ℕ
 queue_text destination = codes "queue " ++ encoded destination
 
@@ -42,11 +42,11 @@ queues_waiting lines = map (λ line. waits_at (queue_text line.0) line.1) lines
 abbrev pub all_waiting : Shared → List Waits
 all_waiting shared = names_waiting shared.names ++ queues_waiting shared.queues
 
--- no lot has more messages than one before it, so that it lacks no fewer of the most that there can be
+-- no lot has more messages than one before it, so it is no nearer to the most that there can be
 abbrev pub AreMostFirst : List Lot → Type 0
 AreMostFirst lots = IsNonDecreasingBy (λ (lot : Lot). 2 ^ 64 - 1 - lot.messages) lots
 
--- these lots are all that wait, most first
+-- these lots are all that waits, most messages first
 pub record AreLotsOf (shared : Shared) (lots : List Lot) : Type 0 where
   pub found : List Lot
   pub all : map waits_of found ≡ all_waiting shared
@@ -57,7 +57,7 @@ pub record AreLotsOf (shared : Shared) (lots : List Lot) : Type 0 where
 abbrev pub line_of : Lot → List ℕ
 line_of lot = decimal lot.messages ++ (codes " " ++ (decimal lot.bytes ++ (codes " " ++ (string_bytes lot.place ++ codes "\n"))))
 
--- the totals beside their limits
+-- the totals with their limits
 abbrev pub totals_text : ℕ → ℕ → List ℕ
 totals_text messages held = codes "messages " ++ (decimal messages ++ (codes " of 4096\nbytes " ++ (decimal held ++ codes " of 16777216\n")))
 
@@ -68,13 +68,13 @@ held_text messages held lots = totals_text messages held ++ flat_map line_of lot
 abbrev pub ShowsHeld : Option (List ℕ) → Option (List ℕ) → Type 0
 ShowsHeld before after = (messages : ℕ) × (held : ℕ) × (lots : List Lot) × Appends before after (held_text messages held lots)
 
--- What a journal of this state holds was written: the totals as they count against the limits, and where messages wait once all
--- sessions have ended, as they do when it is opened.
+-- What a journal of this state holds was written: the totals as they count against the limits, and where messages wait once all sessions
+-- have ended. Opening the journal ends them all.
 pub record ShowsHeldOf (s : State) (before after : Option (List ℕ)) : Type 0 where
   pub lots : List Lot
   pub are : AreLotsOf (restarted s).shared lots
   pub written : Appends before after (held_text (held_messages s) (held_bytes s) lots)
 
--- the journal of this content
+-- the same for the journal of this content
 abbrev pub ShowsHeldIn : List ℕ → Option (List ℕ) → Option (List ℕ) → Type 0
 ShowsHeldIn content before after = (s : State) × Stands content s × ShowsHeldOf s before after

@@ -1,4 +1,4 @@
--- What is done with journals in files.
+-- What is shown of journals in files.
 use Rattle.std.specs.Prelude.{List, ◌++◌, ℕ, Option, codes}
 use Rattle.std.specs.Fmt.{decimal}
 use Rattle.std.specs.Io.KnownBytes.{Appends}
@@ -23,12 +23,13 @@ Shows before after = (seen : Seen) × Appends before after (text_of seen)
 abbrev pub ShowsOf : List ℕ → Option (List ℕ) → Option (List ℕ) → Type 0
 ShowsOf content before after = (seen : Seen) × IsSeen seen content × Appends before after (text_of seen)
 
--- what is told where this content is not shown, or not all, is so: what it shows was not written only once it was read
+-- If this content is not shown, or not all of it, what the fault says of it is true. `Output` comes only once the
+-- content was read.
 abbrev pub IsShowTold : ShowFault → List ℕ → Type 0
 IsShowTold (Read fault) content = IsStateRefused fault content
 IsShowTold Output content = (seen : Seen) × IsSeen seen content
 
--- what the user is told of a journal of which nothing is shown, or not all
+-- the text for the user, of a journal of which nothing is shown, or not all
 abbrev pub show_text : ShowFault → List ℕ
 show_text (Read fault) = open_text fault
 show_text Output = codes "input or output failed"

@@ -18,12 +18,12 @@ use std::alloc::{AllocError, Global};
 use std::io;
 use std::io::Write;
 
-/// Writes what the journal of a disk holds: the totals beside their limits, and then a line for each queue and durable name for
-/// which messages wait, most first: how many messages, how many bytes, and which it is. The disk is only read.
+/// Writes what the journal of a disk holds: the totals with their limits, and then a line for each queue and durable name for which
+/// messages wait, most messages first. A line says how many messages, how many bytes, and for which queue or name. The disk is only read.
 ///
-/// The totals are those that count against the limits, with what listeners of topics still have to be sent. The lines are as they
-/// would be once all sessions had ended: what a client has not acknowledged stands in its line. Where the disk is not read as a
-/// journal, or memory is refused, nothing is written.
+/// The totals are those that count against the limits, with what is still to be sent to listeners of topics. The lines are as they would be
+/// once all sessions had ended: what a client has not acknowledged is in its line again. If the disk cannot be read as a journal, or memory
+/// is refused, nothing is written.
 pub fn show_held<D: Disk, W: Write>(
     alloc: Global,
     disk: &mut D,
@@ -40,7 +40,7 @@ pub fn show_held<D: Disk, W: Write>(
     }
 }
 
-// Writes what a broker holds, which is let go then.
+// Writes what a broker holds, and lets the broker go.
 fn show_broker<W: Write>(alloc: Global, broker: Broker, writer: &mut W) -> Result<(), ShowFault>
     requires { broker.broken ≡ false }
     ensures shown { OnOk result (ShowsHeldOf broker.state (W.contents writer.old) (W.contents writer.new)) }
@@ -63,7 +63,7 @@ fn show_broker<W: Write>(alloc: Global, broker: Broker, writer: &mut W) -> Resul
     }
 }
 
-// Ends all sessions, and says what waits then.
+// Ends all sessions, and answers what waits then.
 fn gather(alloc: Global, broker: &mut Broker) -> Result<Vec<Lot>, AllocError>
     requires { broker.old.broken ≡ false }
     ensures { IfOk result (λ lots. AreLotsOf (restarted broker.old.state).shared lots.items) }

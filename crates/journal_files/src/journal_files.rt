@@ -1,4 +1,4 @@
-//! Journals in files: how long their areas are, and what they show. Nothing here opens a file: that is for the program.
+//! Journals in files: how long their areas are, and what they show. Nothing here opens a file; the program does that.
 
 ghost use Rattle.std.specs.Prelude.{◌≡◌, ◌≢◌, ◌+◌, ◌*◌, ◌<◌, ◌≤◌, IfErr, IfOk, IfSome, IsNone, OnOk};
 ghost use Rattle.std.specs.Io.KnownBytes.{Appends};
@@ -17,12 +17,12 @@ const LEAST_AREA: u64 = 4_096;
 /// The bytes before the first area.
 const HEADER: u64 = 32;
 
-/// Why nothing was shown of a journal, or not all.
+/// Why a journal was not shown, or not fully.
 #[derive(Debug, Drop)]
 pub enum ShowFault {
-    /// It was not read as a journal.
+    /// The disk could not be read as a journal.
     Read(OpenFault),
-    /// What it shows was not written.
+    /// What it shows could not be written.
     Output,
 }
 
@@ -43,8 +43,8 @@ impl fmt::Display for ShowFault {
 
 impl error::Error for ShowFault {}
 
-/// How many bytes each of the two areas of a journal has in a file of so many bytes: they share what the header leaves, of which
-/// one byte may be left over. `None` where they would have fewer than 4,096 bytes each.
+/// How many bytes each of the two areas of a journal has in a file of `bytes` bytes. They share what the header leaves, and one byte may be
+/// left over. `None` if they would have fewer than 4,096 bytes each.
 pub fn area_in(bytes: u64) -> Option<u64>
     ensures share { IfSome result (λ area. (32 + 2 * area ≤ bytes) × (bytes ≤ 33 + 2 * area)) }
     ensures enough { IfSome result (λ area. 4096 ≤ area) }
@@ -57,9 +57,9 @@ pub fn area_in(bytes: u64) -> Option<u64>
     Some(area)
 }
 
-/// Writes what the journal of a disk shows of itself: its version, its live area, how much of that is used, and the count and
-/// the held messages of the state that it stands for, in five lines. The disk is only read. Where it is not read as a journal,
-/// nothing is written.
+/// Writes what the journal of a disk shows of itself, in five lines. They are its version, its live area, how much of that is used, and the
+/// count and the held messages of the state that it stands for. The disk is only read. If it cannot be read as a journal, nothing is
+/// written.
 pub fn show<D: Disk, W: Write>(alloc: Global, disk: &mut D, writer: &mut W) -> Result<(), ShowFault>
     ensures shown { D.honest disk.old → OnOk result (ShowsOf (D.content disk.old) (W.contents writer.old) (W.contents writer.new)) }
     ensures shows { OnOk result (Shows (W.contents writer.old) (W.contents writer.new)) }

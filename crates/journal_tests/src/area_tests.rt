@@ -35,7 +35,7 @@ fn formatted(alloc: Global) -> Result<MemDisk, Fail> {
     Ok(disk)
 }
 
-// The live area and its snapshot, which lies within the disk.
+// The live area, which lies within the disk, and its snapshot.
 fn front<D: Disk>(
     rt: &impl Abort,
     alloc: Global,
@@ -64,7 +64,7 @@ fn commands<D: Disk>(
     Ok(count)
 }
 
-// The area is new, and tells whether a batch of so many bytes fits.
+// The area is new, and answers whether a batch of `bytes` bytes fits.
 fn expect_new(
     rt: &impl Abort,
     alloc: Global,
@@ -121,7 +121,7 @@ fn overfill(
     assert_eq!(rt; disk.calls().len(), before);
 }
 
-// A new area is offered the batch, which fits or doesn't.
+// Offers a new area the batch, which fits or doesn't.
 fn offer(
     rt: &impl Abort,
     alloc: Global,
@@ -137,7 +137,7 @@ fn offer(
     Ok(())
 }
 
-// A new journal is offered a batch with so large a body, which fits or doesn't.
+// Offers a new journal a batch with a body of `body` bytes, which fits or doesn't.
 fn offer_to_new(
     rt: &impl Abort,
     alloc: Global,
@@ -158,7 +158,7 @@ fn offer_to_new(
     Ok(answer?)
 }
 
-// How many commands the journal has, when its area is looked for again.
+// How many commands the journal has, once its area is read again.
 fn commands_again(rt: &impl Abort, alloc: Global, disk: &mut MemDisk) -> Result<usize, ReadFault> {
     let (mut area, snapshot) = front(rt, alloc, disk)?;
     drop(snapshot);
@@ -167,7 +167,7 @@ fn commands_again(rt: &impl Abort, alloc: Global, disk: &mut MemDisk) -> Result<
     count
 }
 
-// Its closing gate is the last byte of the area.
+// The block's closing gate is the last byte of the area.
 #[test]
 fn a_block_of_4046_bytes_fills_a_new_area_of_4096(rt: HostRuntime) -> Result<(), Fail> {
     for (body, fits) in [(4_018, true), (4_019, false)] {

@@ -92,7 +92,7 @@ fn a_disk_is_formatted_where_both_areas_fit(rt: HostRuntime) -> Result<(), Fail>
     Ok(())
 }
 
-// Of its three calls each may be the one that fails.
+// Each of its three calls may be the one that fails.
 #[test]
 fn formatting_fails_where_its_disk_fails(rt: HostRuntime) -> Result<(), Fail> {
     for passed in 0..4_u64 {
@@ -117,7 +117,7 @@ fn made_header(name: &[u8; 8]) -> [u8; 32] {
     bytes
 }
 
-// The front of an area that begins with this byte: it and how long the snapshot is, which is empty, and a closed gate.
+// The front of an area that begins with this byte: the byte, the length of the snapshot, the empty snapshot, and a closed gate.
 fn made_front(first: u8) -> [u8; 41] {
     let mut bytes = [0; 41];
     BigEndian::write_u64(&mut bytes[..8], 32);
@@ -138,7 +138,7 @@ fn written_over(rt: &impl Abort, alloc: Global) -> Result<MemDisk, Fail> {
     Ok(disk)
 }
 
-// Formatting gives up what the disk held.
+// Formatting loses what the disk held.
 #[test]
 fn an_empty_journal_has_the_bytes_of_its_format(rt: HostRuntime) -> Result<(), Fail> {
     let mut disk = written_over(&rt, rt.alloc())?;
@@ -170,8 +170,8 @@ fn is_same(made: Result<Vec<u8>, AllocError>, wanted: &[u8]) -> bool {
     }
 }
 
-// The digits in the name, and the byte that an area begins with: 0 in the first version, 2 in the second. A block has no such
-// byte.
+// The digits in the name, and the byte that an area begins with: 0 in the first version, 2 in the second. A block does not begin with such
+// a byte.
 #[test]
 fn each_version_has_its_bytes(rt: HostRuntime) -> Result<(), Fail> {
     let old = header_of(rt.alloc(), Version::One, 4_096);
@@ -187,8 +187,8 @@ fn each_version_has_its_bytes(rt: HostRuntime) -> Result<(), Fail> {
     Ok(())
 }
 
-// A selector, where the area lies that it does not name, the selector that names that one, and how long a snapshot is. The
-// longest fills its area.
+// A selector, where the area that it does not name lies, the selector that names that area, and how long a snapshot is. The longest
+// snapshot fills its area.
 const MOVES: [(u8, u64, u8, usize); 4] = [
     (0, 4_128, 1, 4_087),
     (1, 32, 2, 32),
@@ -196,7 +196,7 @@ const MOVES: [(u8, u64, u8, usize); 4] = [
     (255, 32, 0, 0),
 ];
 
-// An empty journal with that selector. Where that is odd, the second area has an empty snapshot of no bytes.
+// An empty journal with that selector. If the selector is odd, the second area has a snapshot of no bytes.
 fn selecting(rt: &impl Abort, alloc: Global, selector: u8) -> Result<MemDisk, Fail> {
     let mut disk = formatted(alloc)?;
     assert!(rt; disk.size() == SIZE);
@@ -206,7 +206,7 @@ fn selecting(rt: &impl Abort, alloc: Global, selector: u8) -> Result<MemDisk, Fa
     Ok(disk)
 }
 
-// The area takes a snapshot into the other one, which is then the live one.
+// The area takes a snapshot into the other area, which is then the live one.
 fn move_over<D: Disk>(
     rt: &impl Abort,
     alloc: Global,
@@ -227,7 +227,7 @@ fn front(rt: &impl Abort, alloc: Global, disk: &mut MemDisk) -> Result<(Area, Ve
     Ok((area, snapshot))
 }
 
-// That is what it asks of the disk: the snapshot between its length and a closed gate, a sync, the selector, a sync.
+// The move asks this of the disk: the snapshot between its length and a closed gate, a sync, the selector, a sync.
 fn expect_move(
     rt: &impl Abort,
     alloc: Global,
@@ -335,8 +335,8 @@ fn a_snapshot_that_is_too_long_breaks_the_area(rt: HostRuntime) -> Result<(), Fa
     overfill(&rt, rt.alloc(), &mut disk)
 }
 
-// A new journal's area takes a snapshot into the other one over a disk that passes so many calls. Answers whether it failed,
-// after which nothing is done any more.
+// A new journal's area takes a snapshot into the other area over a disk that passes `passed` calls. It answers whether that failed; after a
+// failure nothing more is done.
 fn fails_to_move(rt: &impl Abort, alloc: Global, passed: u64) -> Result<bool, Fail> {
     let mut disk = formatted(alloc)?;
     let (mut area, old) = front(rt, alloc, &mut disk)?;
@@ -353,7 +353,7 @@ fn fails_to_move(rt: &impl Abort, alloc: Global, passed: u64) -> Result<bool, Fa
     }
 }
 
-// Of its four calls each may be the one that fails.
+// Each of its four calls may be the one that fails.
 #[test]
 fn a_snapshot_fails_where_its_disk_fails(rt: HostRuntime) -> Result<(), Fail> {
     for passed in 0..5_u64 {
@@ -364,7 +364,7 @@ fn a_snapshot_fails_where_its_disk_fails(rt: HostRuntime) -> Result<(), Fail> {
     Ok(())
 }
 
-// The digits in the name, the byte that the live area begins with, and the version that it tells, or none where its first word is
+// The digits in the name, the byte that the live area begins with, and the version that this gives, or `None` if the area's first word is
 // damaged.
 const VERSIONS: [(&[u8; 2], u8, Option<u8>); 8] = [
     (b"01", 0, Some(1)),
@@ -377,7 +377,7 @@ const VERSIONS: [(&[u8; 2], u8, Option<u8>); 8] = [
     (b"02", 255, None),
 ];
 
-// The version that the live area tells, or none where it is damaged in its first word.
+// The version that the live area gives, or `None` if its first word is damaged.
 fn told_version(
     rt: &impl Abort,
     alloc: Global,
@@ -398,7 +398,7 @@ fn told_version(
     }
 }
 
-// The name does not decide.
+// The name does not decide the version.
 #[test]
 fn an_area_tells_its_version_itself(rt: HostRuntime) -> Result<(), Fail> {
     for (digits, first, wanted) in VERSIONS {
@@ -447,7 +447,7 @@ fn a_name_with_other_digits_is_of_another_version(rt: HostRuntime) -> Result<(),
     Ok(())
 }
 
-// The first area of a new journal becomes one of the first version. What is written then is of the second.
+// The first area of a new journal becomes one of the first version. What is written after that is of the second.
 fn move_from_old(rt: &impl Abort, alloc: Global, disk: &mut MemDisk) -> Result<(), Fail> {
     assert!(rt; disk.size() == SIZE);
     disk.write_at(32, &[0])?;

@@ -101,7 +101,7 @@ fn crash_unsynced(
     Ok(())
 }
 
-// A disk that fails after so many calls.
+// A disk that fails after `passed` calls.
 fn fuse_of(alloc: Global, passed: u64) -> Result<FuseDisk<MemDisk>, AllocError> {
     let disk = MemDisk::new(alloc, 6)?;
     Ok(FuseDisk::new(disk, passed))
@@ -121,7 +121,7 @@ fn a_failed_sync_makes_nothing_stable(rt: HostRuntime) -> Result<(), Fail> {
     Ok(())
 }
 
-// Writes of which some overlap, some are empty, and some end the disk.
+// Writes, some of which overlap, some are empty, and some reach the end of the disk.
 fn write_over(rt: &impl Abort, disk: &mut MemDisk) -> Result<(), DeviceFault> {
     write(rt, disk, 0, &[4, 4])?;
     write(rt, disk, 1, &[5, 5])?;
@@ -191,7 +191,7 @@ fn write_three(rt: &impl Abort, disk: &mut MemDisk) -> Result<(), DeviceFault> {
     Ok(())
 }
 
-// It stops at that image where it may. Then nothing is unsynced, and else the two bytes still are.
+// The disk stops at that image if it may. If so, nothing is unsynced; if not, the two bytes still are.
 fn stop_at(
     rt: &impl Abort,
     disk: &mut MemDisk,
@@ -227,8 +227,8 @@ fn a_stop_leaves_an_image_and_nothing_else(rt: HostRuntime) -> Result<(), Fail> 
 
 const F: u8 = 0x37;
 
-// What is left of a write, a sync, a write, a sync and a read, of which the first k pass: where a crash fills with 0x37, and
-// where it puts back what was there.
+// What is left of a write, a sync, a write, a sync and a read, the first k of which pass. First if a crash fills with 0x37, then if it puts
+// back what was there.
 const LEFT: [([u8; 6], [u8; 6]); 6] = [
     ([F, F, F, 0, 0, 0], [0, 0, 0, 0, 0, 0]),
     ([F, F, F, 0, 0, 0], [0, 0, 0, 0, 0, 0]),
@@ -238,7 +238,7 @@ const LEFT: [([u8; 6], [u8; 6]); 6] = [
     ([1, 2, 2, 0, 0, 0], [1, 2, 2, 0, 0, 0]),
 ];
 
-// The first k of the calls pass, and no other.
+// The first k of the calls pass, and no others.
 fn call_all(rt: &impl Abort, fuse: &mut FuseDisk<MemDisk>, k: usize) {
     let passed = [
         write(rt, fuse, 0, &[1, 1]).is_ok(),
@@ -275,7 +275,7 @@ fn a_fuse_passes_so_many_calls(rt: HostRuntime) -> Result<(), Fail> {
     Ok(())
 }
 
-// The content after a payload was published over a disk that fails after k calls, and whether that was answered as done.
+// The content after a payload was published over a disk that fails after k calls, and whether the answer was that it was done.
 fn published(
     rt: &impl Abort,
     alloc: Global,
@@ -361,7 +361,7 @@ fn a_file_that_is_no_disk_is_not_opened(rt: HostRuntime) -> Result<(), Fail> {
 
 const LOCKED: &str = "journal_tests_disk_locked";
 
-// What a disk with the lock of its file leaves to others: it is not locked twice, and opened without the lock.
+// What a disk with the lock of its file leaves to others: the file is not locked twice, and can be opened without the lock.
 fn beside_the_lock(
     rt: &(impl Abort + Files<File = File>),
     disk: &mut FileDisk,
@@ -413,7 +413,7 @@ fn a_file_that_is_cut_short_fails(rt: HostRuntime) -> Result<(), Fail> {
 
 const PLACES: [u64; 6] = [0, 4_095, 5_000, 8_191, 11_990, 5_000];
 
-// Ten bytes in each place, the number of the turn.
+// Ten bytes in each place, each the number of the turn.
 fn write_each<D: Disk>(rt: &impl Abort, disk: &mut D) -> Result<(), DeviceFault> {
     for (turn, at) in PLACES.iter().enumerate() {
         write(rt, disk, *at, &[turn as u8 + 1; 10])?;
@@ -441,7 +441,7 @@ fn read_each<D: Disk>(rt: &impl Abort, disk: &mut D) -> Result<(), DeviceFault> 
     Ok(())
 }
 
-// Of a file no contract knows what it holds: each place and each call is looked at here.
+// No contract knows what a file holds, so each place and each call is looked at here.
 #[test]
 fn a_file_keeps_each_of_many_writes_in_its_place(rt: HostRuntime) -> Result<(), Fail> {
     let path = "journal_tests_disk_far";

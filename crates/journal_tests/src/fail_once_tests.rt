@@ -12,8 +12,8 @@ const F: u8 = 0x37;
 // How many calls are made.
 const CALLS: usize = 5;
 
-// What is left of a write, a sync, a write, a sync and a read, of which that one fails, or none: where a crash fills with 0x37,
-// and where it puts back what was there. The second sync makes both writes stable, the first alone only the first.
+// What is left of a write, a sync, a write, a sync and a read, one of which fails, or none. First if a crash fills with 0x37, then if it
+// puts back what was there. The second sync makes both writes stable, the first only the first write.
 const LEFT: [([u8; 6], [u8; 6]); 6] = [
     ([1, 2, 2, 0, 0, 0], [1, 2, 2, 0, 0, 0]),
     ([1, 2, 2, 0, 0, 0], [1, 2, 2, 0, 0, 0]),
@@ -43,7 +43,7 @@ fn call_all(rt: &impl Abort, disk: &mut FailOnce<MemDisk>, failing: usize) {
     assert_eq!(rt; disk.has_failed(), failing < CALLS);
 }
 
-// The content after the calls, of which that one fails, and a crash.
+// The content after the calls, one of which fails, and a crash.
 fn left_after(
     rt: &impl Abort,
     alloc: Global,
@@ -72,7 +72,7 @@ fn a_single_call_fails_and_every_other_passes(rt: HostRuntime) -> Result<(), Fai
     Ok(())
 }
 
-// The fifth byte is written by a call that fails, and is then as unsynced as one that was written.
+// A call that fails writes the fifth byte, which is then as unsynced as a byte that was written.
 #[test]
 fn a_write_that_fails_leaves_its_range_unsynced(rt: HostRuntime) -> Result<(), Fail> {
     for (fill, byte) in [(Some(F), F), (Some(0x01), 0x01), (None, 0)] {

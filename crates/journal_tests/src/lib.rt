@@ -1,5 +1,5 @@
-//! Tests of the disk and the journal by their public faces. They are a crate of their own, since a crate that has tests is
-//! proved twice: once without them and once with them.
+//! Tests of the disk and the journal by their public faces. They are in a crate of their own, since a crate with tests is proved twice:
+//! without them and with them.
 
 #![tactic(auto)]
 

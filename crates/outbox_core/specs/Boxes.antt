@@ -11,20 +11,20 @@ pub record RingId : Type 0 where
   pub slots : Ptr
   pub names : Names
 
--- which box it is: the ring that outputs go through, and the ring by which the taker tells how much it took
+-- which box it is: the ring that outputs go through, and the ring by which the taker reports how much it took
 pub record BoxId : Type 0 where
   pub outputs : RingId
   pub credits : RingId
 
 -- The sending end: which box it is of; how much that has room for; all that was given, in order; and whether the box is
--- cut, which it then is for good. Of a box whose taker was gone when it was cut nothing more is known.
+-- cut. A cut is for good. Of a box whose taker was gone when it was cut, nothing more is known.
 pub record SenderValue : Type 0 where
   pub box : BoxId
   pub size : BoxSize
   pub given : List OutValue
   pub cut : Bool
 
--- The taking end: which box it is of; all that was taken, in order; and what was seen to wait, which comes next.
+-- The taking end: which box it is of; all that was taken, in order; and what was seen to wait, and so comes next.
 pub record TakerValue : Type 0 where
   pub box : BoxId
   pub taken : List OutValue
@@ -36,7 +36,7 @@ pub record GivenValue : Type 0 where
   pub size : BoxSize
   pub given : List OutValue
 
--- one output more is given
+-- one more output is given
 abbrev pub with_given : SenderValue → OutValue → SenderValue
 with_given s out = record s { given = s.given ++ out ∷ [] }
 
@@ -52,6 +52,6 @@ no_ring = record { words = null_ptr; slots = null_ptr; names = (0, (0, 0)) }
 abbrev pub gone : SenderValue
 gone = record { box = record { outputs = no_ring; credits = no_ring }; size = record { outputs = 0; bytes = 0 }; given = []; cut = true }
 
--- a box is cut, or was
+-- the box is cut now, or was before
 abbrev pub CutsOff : SenderValue → SenderValue → Type 0
 CutsOff old new = (new ≡ when_cut old) ⊎ (new ≡ gone)

@@ -29,19 +29,19 @@ module _ {P Q : Type 0} where
   abbrev pub taker_value : Consumer OutValue Global P → Producer ℕ Global Q → TakerValue
   taker_value outputs credits = record { box = box_of outputs.end credits.end; taken = received outputs; seen = known_items outputs }
 
-  -- What is free of an open box: so many of its bytes that what was given and they are no fewer than the box's bytes, and no
-  -- more than these and all credits.
+  -- How many bytes of an open box are free. What was given and the free bytes are together no fewer than the box's bytes, and no more than
+  -- these with all credits.
   pub record HasFree (outputs : Producer OutValue Global P) (credits : Consumer ℕ Global Q) (size : BoxSize) (free : ℕ) : Type 0 where
     pub places : producer_capacity outputs ≡ size.outputs
     pub part : free ≤ size.bytes
     pub least : size.bytes ≤ weight (sent outputs) + free
     pub most : weight (sent outputs) + free ≤ size.bytes + sum (received credits)
 
-  -- what was given to a finished box is no more than its bytes and all credits
+  -- what was given to a finished box is no more than its bytes with all credits
   pub record HadRoom (outputs : Finished OutValue Global P) (credits : Consumer ℕ Global Q) (size : BoxSize) : Type 0 where
     pub places : capacity_of outputs.end ≡ size.outputs
     pub most : weight (all_sent outputs) ≤ size.bytes + sum (received credits)
 
-  -- no more is credited and owed than was taken
+  -- what is credited and what is owed are together no more than was taken
   abbrev pub Owes : Consumer OutValue Global P → Producer ℕ Global Q → ℕ → Type 0
   Owes outputs credits owed = sum (sent credits) + owed ≤ weight (received outputs)

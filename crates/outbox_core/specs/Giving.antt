@@ -7,7 +7,7 @@ use Rattle.command_core.specs.Outs.{OutValue}
 use Rattle.outbox_core.specs.Boxes.{CutsOff, SenderValue}
 use Rattle.outbox_core.specs.Weights.{Overfill}
 
--- boxes with the numbers of their sessions, which rise
+-- boxes with the numbers of their sessions, in rising order
 abbrev pub Kept : Type 0
 Kept = List (ℕ × SenderValue)
 
@@ -15,7 +15,7 @@ Kept = List (ℕ × SenderValue)
 abbrev pub box_of : ℕ → Kept → Option SenderValue
 box_of session boxes = lookup (is_at (nat_cmp session)) boxes
 
--- with the box of one session more
+-- with the box of one more session
 abbrev pub with_box : Kept → ℕ → SenderValue → Kept
 with_box boxes session box = insert_entry nat_cmp boxes session box
 
@@ -35,8 +35,8 @@ unboxed boxes outs = filter (λ out. is_none (box_of out.session boxes)) outs
 abbrev pub with_all : SenderValue → List OutValue → SenderValue
 with_all box outs = record box { given = box.given ++ outs }
 
--- A box is cut once it was given so many of the outputs: none where it was cut before; else those in front of the first that
--- it had no room for, with which all that was ever given overfills it.
+-- A box is cut once it was given `number` of the outputs: none if it was cut before, and otherwise those before the first that it had no
+-- room for. With that one, all that was ever given overfills it.
 pub record CutAfter (outs : List OutValue) (old new : SenderValue) : Type 0 where
   pub number : ℕ
   pub full : ((old.cut ≡ true) × (number ≡ 0)) ⊎ ((old.cut ≡ false) × (number < length outs) × Overfill old.size (old.given ++ take (number + 1) outs))
@@ -46,7 +46,7 @@ pub record CutAfter (outs : List OutValue) (old new : SenderValue) : Type 0 wher
 abbrev pub IsGiven : List OutValue → SenderValue → SenderValue → Type 0
 IsGiven outs old new = ((old.cut ≡ false) × (new ≡ with_all old outs)) ⊎ CutAfter outs old new
 
--- the same of the box that a session has, if it has one
+-- the same for the box that a session has, if it has one
 abbrev pub GivesTo : List OutValue → Option SenderValue → Option SenderValue → Type 0
 GivesTo outs None new = new ≡ None
 GivesTo outs (Some old) new = (box : SenderValue) × (new ≡ Some box) × IsGiven outs old box

@@ -1,4 +1,4 @@
--- The sending end by what is left of it.
+-- The sending end, from what is left of it.
 use Rattle.std.specs.Prelude.{Bool, true, false}
 use Rattle.outbox_core.specs.declared.sender.End.{End}
 use Rattle.outbox_core.specs.declared.sender.End.TheVariants.{Open, Cut, Gone}

@@ -9,7 +9,7 @@ use Rattle.outbox_core.specs.Boxes.{TakerValue}
 abbrev pub TakesNothing : TakerValue → TakerValue → Type 0
 TakesNothing old new = (new ≡ old) × (old.seen ≡ [])
 
--- An item is taken, the first of what was seen to wait where something was; else nothing is.
+-- An item is taken: the first of what was seen to wait, if something was. Or nothing is taken.
 abbrev pub Takes : TakerValue → Taken → TakerValue → Type 0
 Takes old (Item out) new = (new.box ≡ old.box) × (new.taken ≡ old.taken ++ out ∷ []) × IsPrefix old.seen (out ∷ new.seen)
 Takes old Empty new = TakesNothing old new

@@ -1,4 +1,4 @@
--- What outputs count for where they wait, and how much of that a box has room for.
+-- What outputs count for while they wait, and how much of that a box has room for.
 use Rattle.std.specs.Prelude.{◌+◌, ◌<◌, ◌≤◌, ◌⊎◌, List, ℕ, length}
 use Rattle.std.specs.List.{sum_by}
 use Rattle.command_core.specs.Outs.{OutValue}
@@ -12,7 +12,7 @@ header_bytes h = length h.0 + length h.1
 abbrev pub weight_of : OutValue → ℕ
 weight_of out = length out.frame.body + sum_by header_bytes out.frame.headers
 
--- and those of outputs
+-- the bytes that several outputs count for
 abbrev pub weight : List OutValue → ℕ
 weight outs = sum_by weight_of outs
 
@@ -21,6 +21,6 @@ pub record Fits (size : BoxSize) (outs : List OutValue) : Type 0 where
   pub few : length outs ≤ size.outputs
   pub light : weight outs ≤ size.bytes
 
--- it has no room for them: they are too many, or too heavy
+-- the box has no room for them: they are too many, or too heavy
 abbrev pub Overfill : BoxSize → List OutValue → Type 0
 Overfill size outs = (size.outputs < length outs) ⊎ (size.bytes < weight outs)

@@ -1,13 +1,13 @@
-//! How a taker that waits elsewhere is told to look.
+//! How a taker that waits elsewhere learns that it should look.
 
-/// Rung when something was put into a box, and when the sending end went: cut, finished or dropped. So a taker that waits
-/// elsewhere can be told to look. What ringing does is its maker's, and no clause speaks of it.
+/// A box rings its bell when something was put in, and when the sending end is gone: cut, finished or dropped. So a taker that waits
+/// elsewhere learns that it should look. What ringing does is up to the bell's maker, and no clause speaks of it.
 pub trait Bell: Drop {
-    /// Tells the taker to look. It is called on the thread that gives, which goes on once it returns.
+    /// Tells the taker to look. The thread that gives makes this call, and goes on once it returns.
     fn ring(&self);
 
-    /// Says that a ring will follow. Where one thread looks for several takers, it can find them all once the first of their
-    /// bells is rung. It need not be written.
+    /// Says that a ring will follow. If one thread looks for several takers, it can find them all once the first of their bells is rung. A
+    /// bell need not define it.
     fn note(&self) {}
 }
 

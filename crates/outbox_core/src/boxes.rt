@@ -10,7 +10,7 @@ use std::alloc::{AllocError, Global};
 use std::collections::BTreeMap;
 use std::marker::Model;
 
-// The boxes that were given something and are not rung yet.
+// The boxes that were given something and have not rung yet.
 #[derive(Drop)]
 struct Unrung {
     // Their sessions. There is room for each session that has a box.
@@ -39,8 +39,8 @@ fn make_room(unrung: &mut Unrung, boxes: usize) -> Result<(), AllocError> {
     unrung.sessions.reserve(boxes.saturating_add(1))
 }
 
-// Gives an output to the box of a session, and notes that the box is to be rung, unless it was cut before. One that can't be
-// noted is rung at once.
+// Gives an output to the box of a session, and notes that the box is to be rung, unless it was cut before. A box that can't be noted is
+// rung at once.
 fn give_noting<B: Bell>(sender: &mut OutSender<B>, session: u64, out: Out, unrung: &mut Unrung)
     ensures { IsGiven (out ∷ []) sender.old sender.new }
 {
@@ -69,7 +69,7 @@ fn ring_each<B: Bell>(all: &BTreeMap<u64, OutSender<B>>, sessions: &[u64]) {
 }
 
 impl<B: Bell> Boxes<B> {
-    /// None yet. No memory is taken.
+    /// No boxes yet. It takes no memory.
     pub fn new(alloc: Global) -> Boxes<B>
         ensures { result ≡ [] }
     {
@@ -89,8 +89,7 @@ impl<B: Bell> Boxes<B> {
         self.all.is_empty()
     }
 
-    /// Keeps the box of a session, in place of one that it had. Where memory is refused the box is let go, and nothing
-    /// changes.
+    /// Keeps the box of a session, in place of one that it had. If memory is refused, the new box is let go, and nothing changes.
     pub fn keep(&mut self, session: u64, sender: OutSender<B>) -> Result<(), AllocError>
         ensures kept { OnOk result (self.new ≡ with_box self.old session sender) }
         ensures refused { OnErr result (self.new ≡ self.old) }
@@ -103,7 +102,7 @@ impl<B: Bell> Boxes<B> {
         Ok(())
     }
 
-    // Gives an output to the box of its session, or leaves it where there is none.
+    // Gives an output to the box of its session, or leaves it if there is none.
     fn give(&mut self, out: Out, left: &mut Vec<Out>)
         requires room { length left.old.items < vec_capacity left.old }
         ensures given { AreGiven (out ∷ []) self.old self.new }
@@ -118,10 +117,10 @@ impl<B: Bell> Boxes<B> {
         give_noting(sender, session, out, &mut self.unrung);
     }
 
-    /// Gives each output to the box of its session, in their order. What goes to a session without a box is left, behind what
-    /// is there. What a box that is full or cut hands back is let go. No memory is taken.
+    /// Gives each output to the box of its session, in their order. Outputs for a session without a box go to `left`, after what is there.
+    /// What a full or cut box hands back is let go. It takes no memory.
     ///
-    /// Each box that was given something, or is cut by it, is rung once, after all boxes have their outputs.
+    /// Each box that was given something, or was cut by it, is rung once, after all boxes have their outputs.
     pub fn give_all(&mut self, outs: Vec<Out>, left: &mut Vec<Out>)
         requires room { length left.old.items + length outs.items ≤ vec_capacity left.old }
         ensures given { AreGiven outs.items self.old self.new }
@@ -160,7 +159,7 @@ impl<B: Bell> Boxes<B> {
         self.unrung.sessions.clear();
     }
 
-    /// Lets go of the boxes of sessions, of those that have one. No memory is taken.
+    /// Lets go of the boxes of these sessions, if they have one. It takes no memory.
     pub fn let_go(&mut self, sessions: &[u64])
         ensures { self.new ≡ without self.old sessions.now }
     {

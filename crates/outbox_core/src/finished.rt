@@ -5,8 +5,8 @@ use command_core::Out;
 use rtrb::Consumer;
 use std::marker::Model;
 
-/// What is left of a sending end that has finished. It can move to the taker's thread. Contracts see which box it is of, its
-/// size and all that was given.
+/// What is left of a sending end that has finished. It can move to the taker's thread. Contracts see which box it is of, the box's size,
+/// and all that was given.
 #[derive(Drop)]
 pub struct Finished {
     pub(crate) outputs: rtrb::Finished<Out>,

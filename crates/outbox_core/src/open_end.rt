@@ -14,10 +14,10 @@ use std::marker::Model;
 use std::sync::Arc;
 use std::sync::atomic::{AtomicU64, Ordering};
 
-/// For how many credits there is room.
+/// How many credits there is room for.
 pub(crate) const CREDITS: usize = 64;
 
-/// What is free once all credits that are there were added to it; no more than so many bytes.
+/// How many bytes are free once all credits that are there are added, at most `bytes`.
 fn collect(credits: &mut Consumer<u64>, free: u64, bytes: u64) -> u64
     requires { free ≤ bytes }
     ensures ring { SameConsumer credits.old credits.new }
@@ -34,23 +34,23 @@ fn collect(credits: &mut Consumer<u64>, free: u64, bytes: u64) -> u64
     sum
 }
 
-/// What is left of so many bytes once an output takes its own, or `None` where it counts for more.
+/// What is left of `free` bytes once an output takes its own, or `None` if it counts for more.
 fn without(free: u64, out: &Out) -> Option<u64>
     ensures { SomeIff result (weight_of out.now ≤ free) (free - weight_of out.now) }
 {
     free.checked_sub(weigh(out)?)
 }
 
-/// The sending end of a box that is not cut. Contracts see which box it is of, its size and what was given.
+/// The sending end of a box that is not cut. Contracts see which box it is of, the box's size, and what was given.
 #[derive(Drop)]
 pub(crate) struct OpenEnd {
     pub(crate) outputs: Producer<Out>,
-    // The taker tells by it how much it took.
+    // Through it the taker reports how much it took.
     pub(crate) credits: Consumer<u64>,
     pub(crate) size: BoxSize,
-    // How many of the box's bytes are free, as far as this end was told.
+    // How many of the box's bytes are free, as far as this end knows.
     pub(crate) free: u64,
-    // How many bytes were given, of which the taker reads.
+    // How many bytes were given; the taker reads this.
     pub(crate) given: Arc<AtomicU64>,
 }
 
@@ -66,7 +66,7 @@ impl Model for OpenEnd {
 }
 
 impl OpenEnd {
-    /// Puts an output in, last, or hands it back where there is no room for it. No memory is taken.
+    /// Puts an output in as the last, or hands it back if there is no room for it. It takes no memory.
     pub(crate) fn put(&mut self, out: Out) -> Result<(), Out>
         ensures given { OnOk result (self.new ≡ record self.old { given = self.old.given ++ out ∷ [] }) }
         ensures back { IfErr result (λ same. (same ≡ out) × (self.new ≡ self.old)) }
@@ -87,7 +87,7 @@ impl OpenEnd {
         }
     }
 
-    /// Ends the box, and shows what was given; `None` where the taker is gone.
+    /// Ends the box, and shows what was given; `None` if the taker is gone.
     pub(crate) fn finish(self) -> Option<Finished>
         ensures { IfSome result (λ all. all ≡ self) }
     {

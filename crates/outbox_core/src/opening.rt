@@ -12,8 +12,8 @@ use std::alloc::{AllocError, Global};
 use std::sync::Arc;
 use std::sync::atomic::AtomicU64;
 
-/// A new box, open and empty, of that size: the end that gives, which rings that bell, and the end that takes. It takes the
-/// memory of all its places. No other call of a box takes memory.
+/// A new box, open and empty, of that size: the end that gives, which rings that bell, and the end that takes. It takes the memory for all
+/// its places at once; no other call of a box takes memory.
 pub fn outbox<B: Bell>(
     alloc: Global,
     bell: B,

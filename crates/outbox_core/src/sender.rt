@@ -12,7 +12,7 @@ use command_core::Out;
 use std::marker::Model;
 use std::mem::replace;
 
-// The open end; once the box is cut what is left of it, and nothing where the taker was gone by then.
+// The open end; once the box is cut, what is left of it, or nothing if the taker was gone by then.
 #[derive(Drop)]
 pub(crate) enum End {
     Open(OpenEnd),
@@ -21,7 +21,7 @@ pub(crate) enum End {
 }
 
 impl End {
-    // Drops the end, so that the taker hears of it.
+    // Drops the end, so that the taker learns of it.
     fn cut(self) -> End
         ensures { CutsOff (sender_value self) (sender_value result) }
     {
@@ -35,10 +35,10 @@ impl End {
     }
 }
 
-/// The end of an outbox that gives. A box is cut, for good, by an output that it has no room for: its taker gets what is in
-/// it, and then hears of the cut. Contracts see which box it is, its size, what was given, and whether the box is cut.
+/// The end of an outbox that gives. An output that the box has no room for cuts it, for good: the taker gets what is in it, and then learns
+/// of the cut. Contracts see which box it is, its size, what was given, and whether the box is cut.
 ///
-/// It can move to another thread. Dropped, it ends the box, and rings.
+/// It can move to another thread. If it is dropped, it ends the box and rings.
 pub struct OutSender<B: Bell> {
     pub(crate) end: End,
     pub(crate) bell: B,
@@ -56,12 +56,12 @@ impl<B: Bell> Model for OutSender<B> {
 }
 
 impl<B: Bell> OutSender<B> {
-    /// Puts an output into the box, last, and rings. A box that has no room for it hands it back and is cut from then on, and
-    /// rings too; a cut box hands back each output. No memory is taken.
+    /// Puts an output into the box as the last, and rings. If the box has no room for it, the call hands it back, cuts the box for good,
+    /// and rings too. A cut box hands back every output. It takes no memory.
     ///
-    /// A box that is not cut takes whatever it has room for beside all that was ever given. That it has room again once its
-    /// taker took some is shown by tests, since its taker may be in another thread. What the taker took and has not told is up
-    /// to a 32nd of the box's bytes, and nothing once it found the box empty.
+    /// A box that is not cut takes whatever it has room for beside all that was ever given. It has room again once its taker took some;
+    /// tests show this, since the taker may be in another thread. The taker may not have reported all that it took: up to a 32nd of the
+    /// box's bytes, and nothing once it found the box empty.
     pub fn give(&mut self, out: Out) -> Result<(), Out>
         ensures given { OnOk result ((self.old.cut ≡ false) × (self.new ≡ with_given self.old out)) }
         ensures full { IfErr result (λ _. (self.old.cut ≡ true) ⊎ Overfill self.old.size (self.old.given ++ out ∷ [])) }
@@ -85,7 +85,7 @@ impl<B: Bell> OutSender<B> {
         }
     }
 
-    // The same without the ring, which has to follow.
+    // The same without the ring, which must follow.
     pub(crate) fn put(&mut self, out: Out) -> Result<(), Out>
         ensures given { OnOk result ((self.old.cut ≡ false) × (self.new ≡ with_given self.old out)) }
         ensures full { IfErr result (λ _. (self.old.cut ≡ true) ⊎ Overfill self.old.size (self.old.given ++ out ∷ [])) }
@@ -101,7 +101,7 @@ impl<B: Bell> OutSender<B> {
         put
     }
 
-    // Says that a ring will follow in this round, and answers whether that was not said yet.
+    // Says that a ring will follow in this round. It answers whether this is the first time in the round.
     pub(crate) fn note(&mut self, round: u64) -> bool
         ensures { self.new ≡ self.old }
     {
@@ -118,8 +118,7 @@ impl<B: Bell> OutSender<B> {
         self.bell.ring();
     }
 
-    /// Ends the box and rings, and shows what was given. `None` where the box was cut, or its taker is gone. No memory is
-    /// taken.
+    /// Ends the box and rings, and shows what was given. `None` if the box was cut, or its taker is gone. It takes no memory.
     pub fn finish(self) -> Option<Finished>
         ensures { IfSome result (λ all. (self.cut ≡ false) × (all ≡ record { box = self.box; size = self.size; given = self.given })) }
     {

@@ -10,7 +10,7 @@ pub struct BoxSize {
 }
 
 impl BoxSize {
-    /// What a server's box has room for: all that its broker can hold, 4,096 messages and 16 MiB, and 512 outputs and 16 MiB
+    /// What a server's box has room for: all that its broker can hold, which is 4,096 messages and 16 MiB, and 512 more outputs and 16 MiB
     /// more.
     pub const SERVER: BoxSize = BoxSize {
         outputs: 4_608,

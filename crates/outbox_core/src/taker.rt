@@ -30,11 +30,11 @@ pub enum Taken {
 #[derive(Drop)]
 pub struct OutTaker {
     pub(crate) outputs: Consumer<Out>,
-    // By it the sending end is told how much was taken.
+    // Through it the sending end learns how much was taken.
     pub(crate) credits: Producer<u64>,
-    // The bytes of what was taken that the sending end was not told of.
+    // The bytes of what was taken that were not reported to the sending end yet.
     pub(crate) owed: u64,
-    // From how many on it is told at once.
+    // From this many bytes on, they are reported at once.
     pub(crate) share: u64,
     // How many bytes were given in all, and how many of them were taken.
     pub(crate) given: Arc<AtomicU64>,
@@ -63,10 +63,10 @@ fn owed_with(owed: u64, out: &Out) -> u64
 }
 
 impl OutTaker {
-    /// The next output, in the order given. What waits comes before `Cut`. No memory is taken.
+    /// The next output, in the order given. What waits comes before `Cut`. It takes no memory.
     ///
-    /// That `Cut` comes only where the sending end is gone, and `Empty` only where it is not, is shown by tests: whether it
-    /// is gone is looked for before the output is, and no clause of the ring below speaks of that look.
+    /// `Cut` comes only if the sending end is gone, and `Empty` only if it is not. Tests show this: the call looks whether the end is gone
+    /// before it looks for an output, and no clause of the ring below speaks of that first look.
     pub fn next(&mut self) -> Taken
         ensures { Takes self.old result self.new }
     {
@@ -83,13 +83,13 @@ impl OutTaker {
         Taken::Item(out)
     }
 
-    /// How many bytes the outputs take that wait: those that the box counts, and 512 for each. One that is just being given may not be
-    /// counted yet. No clause says so, since the sending end counts what it gives in a thread of its own.
+    /// How many bytes the waiting outputs take: those that the box counts, and 512 more for each. An output that is just being given may
+    /// not be counted yet. No clause says so, since the sending end counts what it gives in a thread of its own.
     pub fn waiting(&self) -> u64 {
         self.given.load(Ordering::SeqCst).saturating_sub(self.took)
     }
 
-    // Tells the sending end what was taken, where that is so many bytes at least, and there is room to tell it.
+    // Reports to the sending end what was taken, if that is at least `least` bytes and there is room for the report.
     fn tell_from(&mut self, least: u64)
         ensures { self.new ≡ self.old }
     {
@@ -99,8 +99,8 @@ impl OutTaker {
         }
     }
 
-    /// How many outputs wait, beside the sending end of the same box, which is not cut. What was taken, and then what waits, is
-    /// what was given, and the box has room for what waits. No memory is taken.
+    /// How many outputs wait, seen beside the sending end of the same box, which is not cut. What was taken, and then what waits, is what
+    /// was given. The box has room for what waits. It takes no memory.
     pub fn beside<B: Bell>(&mut self, sender: &mut OutSender<B>) -> usize
         requires one_box { sender.old.box ≡ self.old.box }
         requires whole { sender.old.cut ≡ false }
@@ -119,7 +119,7 @@ impl OutTaker {
         }
     }
 
-    /// How many outputs wait, once the sending end of the same box has finished, as `beside` has it.
+    /// The same as `beside`, once the sending end of the same box has finished.
     pub fn after(&mut self, finished: Finished) -> usize
         requires one_box { finished.box ≡ self.old.box }
         ensures all { self.new.taken ++ self.new.seen ≡ finished.given }

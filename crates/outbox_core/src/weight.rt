@@ -7,10 +7,10 @@ ghost use Rattle.outbox_core.specs.Weights.{header_bytes, weight_of};
 use command_core::Out;
 use frame_core::Text;
 
-/// How many bytes an output that waits takes beside its own, for its list of headers.
+/// How many bytes a waiting output takes beside its own, for its list of headers.
 pub(crate) const OUTPUT_BYTES: u64 = 512;
 
-/// So many bytes and those of the names and values, or `None` where these are 2^64 or more.
+/// `bytes` and the bytes of the names and values, or `None` if the sum is 2^64 or more.
 fn with_headers(bytes: u64, headers: &[(Text, Text)]) -> Option<u64>
     ensures { SomeIff result (bytes + sum_by header_bytes headers.now < 2 ^ 64) (bytes + sum_by header_bytes headers.now) }
 {
@@ -22,7 +22,7 @@ fn with_headers(bytes: u64, headers: &[(Text, Text)]) -> Option<u64>
     Some(sum)
 }
 
-/// The bytes that an output counts for, or `None` where these are 2^64 or more. It looks at each header once, and at no byte.
+/// The bytes that an output counts for, or `None` if there are 2^64 or more. It looks at each header once, and at no byte.
 pub(crate) fn weigh(out: &Out) -> Option<u64>
     ensures { SomeIff result (weight_of out.now < 2 ^ 64) (weight_of out.now) }
 {

@@ -28,8 +28,8 @@ const BOTH: BoxSize = BoxSize {
     bytes: 460_800,
 };
 
-// An output takes two numbers of 64 bits and an address, and the places of a server's box, with those of 64 numbers by which
-// its taker tells what it took, less than 120,000 bytes.
+// An output takes two numbers of 64 bits and an address. The places of a server's box take less than 120,000 bytes, with those of the 64
+// numbers by which its taker reports what it took.
 const _: () = prove!(size_of::<Out>() == 24);
 
 const _: () = prove!(4_608 * size_of::<Out>() + 64 * size_of::<u64>() < 120_000);
@@ -42,7 +42,7 @@ enum Got {
     Cut,
 }
 
-// A MESSAGE of a body of so many bytes and no headers, that the command of that number gives. It counts for its body.
+// A MESSAGE with a body of `bytes` bytes and no headers, which comes from the command of that number. It counts for its body.
 fn output(alloc: Global, number: u64, bytes: usize) -> Result<Out, AllocError> {
     let body = Bytes::new(vec![in alloc; b'x'; bytes]?);
     let frame = Frame {
@@ -53,7 +53,7 @@ fn output(alloc: Global, number: u64, bytes: usize) -> Result<Out, AllocError> {
     Out::new(alloc, number, 3, frame)
 }
 
-// Gives outputs of 100 bytes with the numbers from 0 on, and answers how many of so many the box took.
+// Gives `most` outputs of 100 bytes with the numbers from 0 on, and answers how many the box took.
 pub fn fill<B: Bell>(alloc: Global, sender: &mut OutSender<B>, most: u64) -> Result<u64, AllocError>
     ensures { IfOk result (λ count. count ≡ most → sender.new.box ≡ sender.old.box) }
 {
@@ -66,7 +66,7 @@ pub fn fill<B: Bell>(alloc: Global, sender: &mut OutSender<B>, most: u64) -> Res
     Ok(most)
 }
 
-// The number of an output of so many bytes that comes back.
+// The number of an output of `bytes` bytes, if it comes back.
 fn back<B: Bell>(
     alloc: Global,
     sender: &mut OutSender<B>,
@@ -88,7 +88,7 @@ fn look(taker: &mut OutTaker) -> Got {
     }
 }
 
-// Whether the next outputs have the numbers from 0 on, so many of them.
+// Whether the next `count` outputs have the numbers from 0 on.
 fn takes_all(taker: &mut OutTaker, count: u64) -> bool {
     for number in 0..count {
         if look(taker) != Got::Item(number) {
@@ -143,7 +143,7 @@ fn an_output_that_passes_the_bytes_comes_back(rt: HostRuntime) -> Result<(), Fai
     Ok(())
 }
 
-// Whether a box of so many bytes takes the CONNECTED of session 3.
+// Whether a box of `bytes` bytes takes the CONNECTED of session 3.
 fn takes_connected(alloc: Global, bytes: u64) -> Result<bool, AllocError> {
     let size = BoxSize { outputs: 1, bytes };
     let (mut sender, _taker) = outbox(alloc, Silent, size)?;
@@ -152,7 +152,7 @@ fn takes_connected(alloc: Global, bytes: u64) -> Result<bool, AllocError> {
     Ok(sender.give(out).is_ok())
 }
 
-// It has version:1.2, session:3 and heart-beat:0,0: 10, 8 and 13 bytes without the colons.
+// The CONNECTED has version:1.2, session:3 and heart-beat:0,0: 10, 8 and 13 bytes without the colons.
 #[test]
 fn headers_count_for_their_names_and_values(rt: HostRuntime) -> Result<(), Fail> {
     assert!(rt; takes_connected(rt.alloc(), 31)?);
@@ -191,7 +191,7 @@ fn a_box_that_was_found_empty_has_all_its_room(rt: HostRuntime) -> Result<(), Fa
     Ok(())
 }
 
-// All is taken and the box not found empty: of its 460,800 bytes 446,400 are free at least, which is 31 of 32.
+// All is taken, and the box was not found empty: of its 460,800 bytes at least 446,400 are free, which is 31 of 32.
 #[test]
 fn of_what_was_taken_a_32nd_may_not_be_free_yet(rt: HostRuntime) -> Result<(), Fail> {
     let alloc = rt.alloc();
@@ -278,7 +278,7 @@ fn a_box_rings_when_it_is_given_something_cut_dropped_or_finished(
     Ok(())
 }
 
-// What the taker finds behind all that waits.
+// What the taker finds after all that waits.
 fn look_behind(taker: &mut OutTaker) -> Got {
     for _ in 0..600u32 {
         let got = look(taker);
@@ -289,7 +289,7 @@ fn look_behind(taker: &mut OutTaker) -> Got {
     Got::Item(600)
 }
 
-// Has the taker look as it rings, on the thread that gives, and notes what that found behind all that waited.
+// When it rings, has the taker look, on the thread that gives, and notes what the taker found after all that waited.
 #[derive(Drop)]
 struct Looking<'a> {
     taker: &'a RefCell<Option<OutTaker>>,
@@ -306,7 +306,7 @@ impl Bell for Looking<'_> {
     }
 }
 
-// How the sending end of a box goes.
+// How the sending end of a box ends.
 #[derive(Clone, Copy)]
 enum Way {
     Dropped,
@@ -314,7 +314,7 @@ enum Way {
     Cut,
 }
 
-// What a taker finds that looks as the bell rings, where the end of a full box goes in that way.
+// What a taker that looks as the bell rings finds, if the sending end of a full box ends in that way.
 fn find_at_ring(alloc: Global, way: Way) -> Result<Option<Got>, AllocError> {
     let place = RefCell::new(None);
     let found = Cell::new(None);

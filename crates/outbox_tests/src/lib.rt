@@ -1,4 +1,4 @@
-//! Tests of outboxes by their public face. They are a crate of their own, since a crate that has tests is proved twice.
+//! Tests of outboxes by their public face. They are in a crate of their own, since a crate with tests is proved twice.
 
 #![tactic(auto)]
 

@@ -12,7 +12,8 @@ const ONE: BoxSize = BoxSize {
     bytes: u64::MAX,
 };
 
-// What the bells of some boxes did: how often they rang, and noted that they will, and what was so at the first ring.
+// What the bells of some boxes did: how often they rang, how often they noted that they will, and how things stood at
+// the first ring.
 #[derive(Drop)]
 struct Heard {
     rings: Cell<u64>,
@@ -35,7 +36,7 @@ impl Heard {
     }
 }
 
-// Notes what is so at the first ring, and how often it rings.
+// Notes how things stand at the first ring, and how often it rings.
 #[derive(Drop)]
 struct Noting<'a> {
     heard: &'a Heard,
@@ -95,7 +96,7 @@ fn to_each(alloc: Global, sessions: &[u64]) -> Result<Vec<Out>, AllocError> {
     Ok(outs)
 }
 
-// Keeps a box of that size for a session, whose bell counts its rings there; answers its taker.
+// Keeps a box of that size for a session, whose bell counts its rings in `rings`, and answers the box's taker.
 fn keep<'a>(
     alloc: Global,
     boxes: &mut Boxes<Noting<'a>>,

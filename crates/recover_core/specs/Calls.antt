@@ -19,13 +19,13 @@ use Rattle.recover_core.specs.Opens.{HasWritten}
 use Rattle.recover_core.specs.Standing.{StandFor, Stands, StandsForEither}
 use Rattle.recover_core.specs.Stores.{disk_of, idle_of, is_broken, opened_by, size_of, used_of}
 
--- Areas have as many bytes as before, and the broker that was opened is still to be handed out if it was.
+-- Areas have as many bytes as before, and the broker that was opened is still to be handed out if it was before.
 pub record KeepsOpened {D : Type 0} {disk : Ghosts D} (old new : Store D disk) : Type 0 where
   pub size : size_of new ≡ size_of old
   pub opened : opened_by new ≡ opened_by old
 
--- A call that fails breaks the store. A broken one answers `Broken` to each, and nothing changes; no other answers that. The disk
--- failed just if that is the answer.
+-- A call that fails breaks the store. A broken store answers `Broken` to each call, and nothing changes; no other store answers that. The
+-- disk failed just if that is the answer.
 pub record StoreBreaks {D T : Type 0} (disk : Ghosts D) (old new : Store D disk) (result : Result T AreaFault) : Type 0 where
   pub broken : is_broken old ≡ true → IsErrOf result Broken × (disk_of new ≡ disk_of old)
   pub same : is_broken old ≡ true → new ≡ old
@@ -34,33 +34,33 @@ pub record StoreBreaks {D T : Type 0} (disk : Ghosts D) (old new : Store D disk)
   pub err : OnErr result (is_broken new ≡ true)
   pub cause : IsCaused (disk.failures (disk_of old)) (disk.failures (disk_of new)) result
 
--- Where each image stood for a state, one at any moment of the call stands for that, or for the state after the batch.
+-- If each image stood for a state, an image at any moment of the call stands for that state, or for the state after the batch.
 abbrev pub StandsThroughout : {D : Type 0} (disk : Ghosts D) → Store D disk → Store D disk → List CommandValue → Type 0
 StandsThroughout disk old new batch = (s : State) → StandFor (disk.images (disk_of old)) s → Throughout disk (disk_of old) (disk_of new) (StandsForEither s (state_after s batch))
 
--- Where each image stood for a state, each stands for that after the batch, whose block is behind what was used.
+-- If each image stood for a state, each now stands for the state after the batch. The block of the batch follows what was used.
 pub record StoreAdds {D : Type 0} (disk : Ghosts D) (old new : Store D disk) (batch : List CommandValue) : Type 0 where
   pub stands : disk.honest (disk_of old) → (s : State) → StandFor (disk.images (disk_of old)) s → StandFor (disk.images (disk_of new)) (state_after s batch)
   pub used : used_of new ≡ used_of old + 9 + length (records batch)
 
--- The block with the gate behind it doesn't fit if that is the answer. The disk stays then, and if memory was refused.
+-- If the answer is `Full`, the block with the gate after it doesn't fit. The disk stays then, and also if memory was refused.
 pub record StoreRefuses {D T : Type 0} (disk : Ghosts D) (old new : Store D disk) (batch : List CommandValue) (result : Result T AreaFault) : Type 0 where
   pub full : IsErrOf result Full → (size_of old < used_of old + 9 + length (records batch)) × (disk_of new ≡ disk_of old)
   pub memory : IfMemory result (disk_of new ≡ disk_of old)
 
--- the state's snapshot can be spelled, and fits into an area of so many bytes, with its length before it and a gate behind it
+-- the state's snapshot can be spelled, and fits into an area of `size` bytes, with its length before it and a gate after it
 pub record HasRoomFor (size : ℕ) (s : State) : Type 0 where
   pub sessions : length s.sessions < 2 ^ 32
   pub subscriptions : length s.subscriptions < 2 ^ 32
   pub fits : length (snapshot_of s) + 9 ≤ size
 
--- Where each image had an area, each has now one that holds a snapshot of the state alone.
+-- If each image had an area, each now has one that holds a snapshot of the state alone.
 pub record WritesState {D : Type 0} (disk : Ghosts D) (old new : Area) (before after : D) (s : State) : Type 0 where
   pub written : disk.honest before → (snapshot : List ℕ) (blocks : List (List CommandValue)) → Each (disk.images before) (IsAt old snapshot blocks) → HasWritten (disk.images after) new s
   pub used : new.gate ≡ length (snapshot_of s) + 8
 
--- A whole area with room is whole after a call that goes through, and after one that failed only if nothing changed. The disk
--- failed just if that is the answer, and the area is broken then.
+-- A whole area with room is whole after a call that succeeds, and after one that fails only if nothing changed. The disk failed just if
+-- that is the answer, and then the area is broken.
 pub record BreaksOrKeeps {D T : Type 0} (disk : Ghosts D) (old new : Area) (before after : D) (result : Result T AreaFault) : Type 0 where
   pub full : IsErrOf result Full → ⊥
   pub sound : IsErrOf result Broken → ⊥
@@ -74,12 +74,12 @@ pub record KeepsKind (old new : Area) : Type 0 where
   pub size : new.size ≡ old.size
   pub version : number old.version ≡ 2 → number new.version ≡ 2
 
--- Each image holds a snapshot of the state alone, and no more of an area is used.
+-- Each image holds a snapshot of the state alone, and nothing more of an area is used.
 pub record Compacts {D : Type 0} (disk : Ghosts D) (old new : Store D disk) (s : State) : Type 0 where
   pub alone : disk.honest (disk_of old) → Each (disk.images (disk_of new)) (HoldsItAlone (size_of new) (used_of new) s)
   pub used : used_of new ≡ length (snapshot_of s) + 9
 
--- until a step failed, each image of an honest disk stands for the state
+-- until a step fails, each image of an honest disk stands for the state
 abbrev pub StandsUnbroken : {D : Type 0} (disk : Ghosts D) → Store D disk → State → Type 0
 StandsUnbroken disk store s = disk.honest (disk_of store) → is_broken store ≡ false → StandFor (disk.images (disk_of store)) s
 
@@ -88,9 +88,9 @@ pub record IsCompacting {D : Type 0} (disk : Ghosts D) (old : Store D disk) (s :
   pub stands : Stands c s
   pub two : IsRestOrTwice (idle_of old) (size_of old) (disk.images (disk_of old)) s c
 
--- The state has no room if that is the answer, and nothing changed. A broken store answers `Broken` to each call, and
--- nothing changes; no other answers that. One that isn't broken after a call that failed has the disk as it was. The disk failed
--- just if that is the answer, and the store is broken then.
+-- If the answer is `Full`, the state has no room, and nothing changed. A broken store answers `Broken` to each call, and nothing changes;
+-- no other store answers that. A store that isn't broken after a call that failed has the disk as it was. The disk failed just if that is
+-- the answer, and then the store is broken.
 pub record CompactBreaks {D T : Type 0} (disk : Ghosts D) (old new : Store D disk) (s : State) (result : Result T AreaFault) : Type 0 where
   pub full : IsErrOf result Full → HasNoRoomFor (size_of old) s × (new ≡ old)
   pub broken : is_broken old ≡ true → IsErrOf result Broken × (disk_of new ≡ disk_of old)

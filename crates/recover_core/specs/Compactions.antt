@@ -11,23 +11,23 @@ use Rattle.area_core.specs.Switches.{KeepsRest}
 use Rattle.recover_core.specs.Opens.{HoldsOnlySnapshot}
 use Rattle.recover_core.specs.Standing.{Leads, Stands}
 
--- no snapshot of the state fits into an area of so many bytes, with its length before it and a gate behind it
+-- no snapshot of the state fits into an area of `size` bytes, with its length before it and a gate after it
 abbrev pub HasNoRoomFor : ℕ → State → Type 0
 HasNoRoomFor size s = (spelling : List ℕ) → Spells spelling s → size < length spelling + 9
 
--- both areas stand for the state: so the image does whatever the selector is
+-- both areas stand for the state, so the image does too, whatever the selector is
 abbrev pub StandsTwice : State → List ℕ → Type 0
 StandsTwice s c = (selector : ℕ) → Stands (patched 16 (selector ∷ []) c) s
 
--- the live area has a snapshot of this state and no block behind it, and so many of its bytes are used
+-- the live area has a snapshot of this state and no block after it, and `used` of its bytes are used
 abbrev pub HoldsItAlone : ℕ → ℕ → State → List ℕ → Type 0
 HoldsItAlone size used s c = ∥ HoldsOnlySnapshot size used s c ∥₁
 
--- One of these images with any bytes in a range, the area that is not live; or both areas stand for the state.
+-- This is one of these images with any bytes in a range, the area that is not live; or both areas stand for the state.
 abbrev pub IsRestOrTwice : ℕ → ℕ → (List ℕ → Type 0) → State → List ℕ → Type 0
 IsRestOrTwice at size images s c = ∥ IsTorn at size images c ⊎ StandsTwice s c ∥₁
 
--- where each image had an area that leads to the state, this one stands for it
+-- if each image had an area that leads to the state, this one stands for it
 abbrev pub KeepsState : (List ℕ → Type 0) → Area → State → List ℕ → Type 0
 KeepsState images area s c = (snapshot : List ℕ) (blocks : List (List CommandValue)) → Each images (IsAt area snapshot blocks) → Leads area.version snapshot blocks s → Stands c s
 

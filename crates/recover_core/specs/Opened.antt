@@ -23,8 +23,8 @@ pub record IsRestarting (images : List ℕ → Type 0) (area : Area) (s : State)
   pub either : KeepsEither images area s c
   pub header : KeepsHeader images c
 
--- Where each image had an area, each has now a snapshot of the restart alone, and so has the broker. Both are whole, and the area is
--- of the second version.
+-- If each image had an area, each now has a snapshot of the restart alone. The broker has the restart too. Area and broker are whole, and
+-- the area is of the second version.
 pub record Restarts {D : Type 0} (disk : Ghosts D) (old new : Area) (before after : D) (s : State) (broker : BrokerValue) : Type 0 where
   pub written : disk.honest before → (snapshot : List ℕ) (blocks : List (List CommandValue)) → Each (disk.images before) (IsAt old snapshot blocks) → HasRestarted (disk.images after) new s
   pub state : broker.state ≡ restarted s
@@ -32,7 +32,7 @@ pub record Restarts {D : Type 0} (disk : Ghosts D) (old new : Area) (before afte
   pub area_whole : new.broken ≡ false
   pub version : number new.version ≡ 2
 
--- What is told of writing the restart is so, and if its snapshot doesn't fit, nothing was written.
+-- What the fault says of writing the restart is true, and if the snapshot doesn't fit, nothing was written.
 pub record RefusesRestart {D : Type 0} (size : ℕ) (s : State) (before after : D) (fault : OpenFault) : Type 0 where
   pub told : IsWriteTold fault size s
   pub full : IfFull fault (after ≡ before)
@@ -42,7 +42,7 @@ pub record IsOpening (images : List ℕ → Type 0) (c : List ℕ) : Type 0 wher
   pub restart : KeepsRestart images c
   pub header : KeepsHeader images c
 
--- The broker has the restart of the state that the content stood for. So does each image now, by a snapshot of that alone.
+-- The broker has the restart of the state that the content stood for. Each image now stands for that restart, by its snapshot alone.
 pub record IsRestarted {D : Type 0} (disk : Ghosts D) (old new : D) (size used : ℕ) (broker : BrokerValue) : Type 0 where
   pub state : disk.honest old → (s : State) → Stands (disk.content old) s → broker.state ≡ restarted s
   pub stood : disk.honest old → IsRestartOf (disk.content old) broker.state
@@ -58,20 +58,20 @@ pub record OpensArea {D : Type 0} (disk : Ghosts D) (old new : D) (area : Area) 
   pub sound : disk.honest old → IsSound (disk.images new) area
   pub restarted : IsRestarted disk old new area.size (area.gate + 1) broker
 
--- What is told of the content is so, and it is not that what is left doesn't fit.
+-- What the fault says of the content is true, and it is not that what is left doesn't fit.
 pub record RefusesToRead {D : Type 0} (disk : Ghosts D) (old : D) (fault : OpenFault) : Type 0 where
   pub told : disk.honest old → IsOpenTold fault (disk.content old)
   pub full : IfFull fault ⊥
 
--- What is told of the content is so. A snapshot that doesn't fit is told only of a disk with room for too small areas, and if what
--- was read is the reason, nothing was written.
+-- What the fault says of the content is true. It reports a snapshot that doesn't fit only if the disk has room for areas that are too
+-- small. If what was read is the reason, nothing was written.
 pub record RefusesToOpen {D : Type 0} (disk : Ghosts D) (old new : D) (fault : OpenFault) : Type 0 where
   pub told : disk.honest old → IsOpenTold fault (disk.content old)
   pub full : IfFull fault (IsTooLongFor (length (disk.content old)))
   pub unwritten : disk.honest old → IfRead fault (IsUnwritten disk old new)
 
--- A store was opened: it is whole, with a broker to be handed out, which has the restart of the state that the content stood for. So
--- does each image now, by a snapshot of that alone. At each moment an image restarted as before, and kept its header.
+-- A store was opened: it is whole, with a broker to be handed out. The broker has the restart of the state that the content stood for. Each
+-- image now stands for that restart, by its snapshot alone. At each moment an image restarted as before, and kept its header.
 pub record Opens {D : Type 0} (disk : Ghosts D) (old : D) (store : Store D disk) : Type 0 where
   pub any_moment : Throughout disk old (disk_of store) (KeepsRestart (disk.images old))
   pub header : Throughout disk old (disk_of store) (KeepsHeader (disk.images old))
@@ -85,8 +85,8 @@ pub record Opens {D : Type 0} (disk : Ghosts D) (old : D) (store : Store D disk)
   pub cause : disk.failures (disk_of store) ≡ disk.failures old
   pub lasts : Lasts disk old (disk_of store)
 
--- The disk comes back, with what was refused. At each moment an image restarted as before, and kept its header. What is told of the
--- content is so, and if what was read is the reason, nothing was written.
+-- The disk comes back, with the fault. At each moment an image restarted as before, and kept its header. What the fault says of the content
+-- is true, and if what was read is the reason, nothing was written.
 pub record HandsBack {D : Type 0} (disk : Ghosts D) (old new : D) (fault : OpenFault) : Type 0 where
   pub any_moment : Throughout disk old new (KeepsRestart (disk.images old))
   pub header : Throughout disk old new (KeepsHeader (disk.images old))

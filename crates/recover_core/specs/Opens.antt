@@ -29,7 +29,7 @@ pub record StandsForSome (image : List ℕ) : Type 0 where
   pub state : State
   pub stands : Stands image state
 
--- the content stands for a state of which this is the restart
+-- this is the restart of a state that the content stands for
 pub record IsRestartOf (content : List ℕ) (now : State) : Type 0 where
   pub before : State
   pub stood : Stands content before
@@ -41,7 +41,7 @@ pub record IsUnwritten {D : Type 0} (disk : Ghosts D) (old new : D) : Type 0 whe
   pub images : Within (disk.images new) (disk.images old)
   pub leaves : LeavesOnly disk.moment disk.images_since old new (disk.images old)
 
--- the image stands for a state that restarts as one of those does that one of these images stands for
+-- The image stands for a state. One of these images stands for a state with the same restart.
 pub record RestartsAs (images : List ℕ → Type 0) (c : List ℕ) : Type 0 where
   pub image : List ℕ
   pub among : images image
@@ -51,21 +51,21 @@ pub record RestartsAs (images : List ℕ → Type 0) (c : List ℕ) : Type 0 whe
   pub stands : Stands c now
   pub same : restarted now ≡ restarted before
 
--- where each of these images stands for a state, that one does so too, and it restarts as one of those
+-- if each of these images stands for a state, so does that one, and it restarts as one of them
 abbrev pub KeepsRestart : (List ℕ → Type 0) → List ℕ → Type 0
 KeepsRestart images c = ((d : List ℕ) → images d → ∥ StandsForSome d ∥₁) → ∥ RestartsAs images c ∥₁
 
--- where each image held this area, which led to that state, an image of now stands for the state or for its restart
+-- if each image held this area, which led to that state, an image of now stands for the state or for its restart
 abbrev pub KeepsEither : (List ℕ → Type 0) → Area → State → List ℕ → Type 0
 KeepsEither images area s c =
     (snapshot : List ℕ) (blocks : List (List CommandValue)) → Each images (IsAt area snapshot blocks) → Leads area.version snapshot blocks s → StandsForEither s (restarted s) c
 
--- one of these images with any bytes behind the name and the length of an area
+-- one of these images with any bytes after the name and the length of an area
 abbrev pub KeepsHeader : (List ℕ → Type 0) → List ℕ → Type 0
 KeepsHeader images c = (d : List ℕ) × images d × (take 16 c ≡ take 16 d)
 
--- The live area is of the second version, and has a snapshot of this state and no block behind it. So many of its bytes are
--- used: eight for its version and the snapshot's length, the snapshot, and a gate.
+-- The live area is of the second version, and has a snapshot of this state and no block after it. `used` of its bytes are used: eight for
+-- its version and the snapshot's length, the snapshot, and a gate.
 pub record HoldsOnlySnapshot (size used : ℕ) (s : State) (image : List ℕ) : Type 0 where
   pub selector : ℕ
   pub snapshot : List ℕ
@@ -73,7 +73,7 @@ pub record HoldsOnlySnapshot (size used : ℕ) (s : State) (image : List ℕ) : 
   pub spells : Spells snapshot s
   pub is_used : used ≡ length snapshot + 9
 
--- each image has the area that is held now, and stands for this state, of which it holds the snapshot alone
+-- each image has the area that is held now, and stands for this state, by a snapshot alone
 pub record HasWritten (images : List ℕ → Type 0) (area : Area) (s : State) : Type 0 where
   pub sound : IsSound images area
   pub stands : StandFor images s

@@ -1,4 +1,4 @@
--- What the steps of reading a journal tell.
+-- What the steps of reading a journal show.
 use Rattle.std.specs.Prelude.{◌≡◌, ◌<◌, ◌≤◌, ◌+◌, ◌*◌, ◌^◌, ℕ, List, Bool, true, false, length}
 use Rattle.disk_core.specs.declared.disk.Disk.{Ghosts}
 use Rattle.broker_core.specs.States.{BrokerValue, State}
@@ -7,17 +7,17 @@ use Rattle.recover_core.specs.declared.faults.OpenFault.{OpenFault}
 use Rattle.recover_core.specs.Told.{IsOfReading, IsWalkTold}
 use Rattle.recover_core.specs.Walks.{HasEnded, HasWalked}
 
--- From what was walked, a block more was, or the next gate is closed: which of both is answered.
+-- After what was walked, one more block was walked, or the next gate is closed. The answer says which.
 pub record Walks (old new : Area) (before after : State) (content : List ℕ) (more : Bool) : Type 0 where
   pub on : more ≡ true → HasWalked old before content → HasWalked new after content
   pub end : more ≡ false → HasWalked old before content → HasEnded new after content
 
--- the gate of a block lies behind the one before, and the broker is whole
+-- the gate of a block lies after the gate before, and the broker is whole
 pub record Steps (old new : Area) (broker : BrokerValue) (more : Bool) : Type 0 where
   pub grows : more ≡ true → old.gate < new.gate
   pub whole : broker.broken ≡ false
 
--- What is told of blocks behind what was walked is so, and it is told by reading.
+-- What the fault says of the blocks after what was walked is true, and the fault comes from reading.
 pub record RefusesWalk {D : Type 0} (disk : Ghosts D) (old : D) (area : Area) (s : State) (fault : OpenFault) : Type 0 where
   pub told : disk.honest old → HasWalked area s (disk.content old) → IsWalkTold fault (disk.content old)
   pub kind : IsOfReading fault

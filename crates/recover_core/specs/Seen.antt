@@ -8,8 +8,8 @@ use Rattle.area_core.specs.Journals.{Reads}
 use Rattle.recover_core.specs.declared.seen.Seen.{Seen}
 use Rattle.recover_core.specs.Standing.{Leads}
 
--- The version of its live area, which one that is, how much of it is used up to and with the first closed gate, and the count
--- and what is held of the state that it stands for.
+-- The version of its live area, which area that is, and how much of it is used, the first closed gate included. Then the count of the state
+-- that the journal stands for, and what that state holds.
 pub record IsSeen (seen : Seen) (content : List ℕ) : Type 0 where
   pub version : Version
   pub told : seen.version ≡ number version

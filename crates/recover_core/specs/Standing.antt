@@ -26,7 +26,7 @@ pub record Leads (version : Version) (snapshot : List ℕ) (blocks : List (List 
   pub spells : Spells snapshot first
   pub is : s ≡ state_after_by (rule_of version) first (joined blocks)
 
--- the live area's snapshot spells a state, and its blocks lead from there to this one, by the rule of the version that it tells
+-- the live area's snapshot spells a state, and its blocks lead from there to this one, by the rule of the area's version
 pub record Standing (image : List ℕ) (s : State) : Type 0 where
   pub version : Version
   pub size : ℕ
@@ -40,7 +40,7 @@ pub record Standing (image : List ℕ) (s : State) : Type 0 where
 abbrev pub Stands : List ℕ → State → Type 0
 Stands image s = ∥ Standing image s ∥₁
 
--- it stands for one of these two
+-- the image stands for one of these two
 abbrev pub StandsForEither : State → State → List ℕ → Type 0
 StandsForEither s t image = ∥ Stands image s ⊎ Stands image t ∥₁
 

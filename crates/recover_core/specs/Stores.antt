@@ -17,7 +17,7 @@ size_of store = store.area.size
 abbrev pub used_of : {D : Type 0} {disk : Ghosts D} → Store D disk → ℕ
 used_of store = store.area.gate + 1
 
--- where the area begins that is not live
+-- where the area that is not live begins
 abbrev pub idle_of : {D : Type 0} {disk : Ghosts D} → Store D disk → ℕ
 idle_of store = start store.area.size (other (is_odd store.area.selector))
 

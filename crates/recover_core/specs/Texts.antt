@@ -1,4 +1,4 @@
--- What the user is told of the faults.
+-- The texts of the faults, for the user.
 use Rattle.std.specs.Prelude.{List, ℕ, codes}
 use Rattle.area_core.specs.Texts.{area_text, read_text}
 use Rattle.recover_core.specs.declared.faults.OpenFault.{OpenFault}

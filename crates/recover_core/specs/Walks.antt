@@ -16,7 +16,7 @@ pub record Follows (version : Version) (snapshot : List ℕ) (blocks : List (Lis
   pub spells : Spells snapshot first
   pub folded : IsFolded (rule_of version) first (joined blocks) s
 
--- the live area begins with these, and the next gate is where the area that is held says
+-- the live area begins with these, and the next gate is where the held area has it
 pub record HasWalked (area : Area) (s : State) (image : List ℕ) : Type 0 where
   pub snapshot : List ℕ
   pub blocks : List (List CommandValue)

@@ -17,10 +17,10 @@ use disk_core::Disk;
 use snapshot_core::state_len;
 use std::alloc::Global;
 
-// Four bytes count sessions, and subscriptions.
+// Fewer sessions, or subscriptions, than this can be counted in four bytes.
 const MOST_COUNTED: usize = 1 << 32;
 
-// Whether a snapshot of the broker's state fits into an area of so many bytes, with its length before it and a gate behind it.
+// Whether a snapshot of the broker's state fits into an area of `size` bytes, with its length before it and a gate after it.
 fn has_room_for(broker: &Broker, size: u64) -> bool
     requires whole { broker.now.broken ≡ false }
     requires least { 9 ≤ size }
@@ -54,20 +54,19 @@ fn write_state<D: Disk>(
 }
 
 impl<D: Disk> Store<D> {
-    /// Whether the block of a batch fits into the live area, with the gate behind it.
+    /// Whether the block of a batch fits into the live area with the gate after it.
     pub fn fits<B>(&self, batch: &[Entry<B>]) -> bool
         ensures { IsTrue result ↔ (used_of self.now + 9 + length (records (commands batch.now)) ≤ size_of self.now) }
     {
         self.area.takes(batch)
     }
 
-    /// Writes a snapshot of the state as it is, its sessions included, into the area that is not live, and makes that one live, so
-    /// that there is room again. The broker is that of the state that the store stands for.
+    /// Makes room again: writes a snapshot of the state as it is, its sessions included, into the area that is not live, and makes that
+    /// area live. The broker must have the state that the store stands for.
     ///
-    /// A stop at any moment leaves a disk that stands for that state: while the snapshot is written every byte outside the idle
-    /// area stays, and while the areas are switched both stand for it. `Full` comes where no snapshot of the state fits into an
-    /// area, and leaves the store as it was. Where memory is refused it is as it was or broken; a store that is broken answers
-    /// `Broken` to every further call.
+    /// A stop at any moment leaves a disk that stands for that state. While the snapshot is written, every byte outside the idle area
+    /// stays; while the areas are switched, both stand for the state. `Full` means that no snapshot of the state fits into an area; the
+    /// store stays as it was. If memory is refused, the store is as it was, or broken. A broken store answers `Broken` to every later call.
     pub fn compact(&mut self, alloc: Global, broker: &Broker) -> Result<(), AreaFault>
         requires whole { broker.now.broken ≡ false }
         requires stands { StandsUnbroken D.Disk self.old broker.now.state }

@@ -14,7 +14,8 @@ pub enum OpenFault {
     Read(ReadFault),
     /// The disk stands for a state after more than 2^61 commands.
     CountTooLarge,
-    /// Outside of reading: the disk failed, memory was refused, or the snapshot of the state after the restart does not fit.
+    /// Something other than reading went wrong: the disk failed, memory was refused, or the snapshot of the state after the restart does
+    /// not fit.
     Area(AreaFault),
 }
 

@@ -31,7 +31,7 @@ fn step_by(
     }
 }
 
-// Carries out one command and lets its outputs go: they were given out before the stop, or nobody is there to hear them.
+// Carries out one command and lets its outputs go: they were given out before the stop, or no client is there to hear them.
 fn repeat(
     alloc: Global,
     broker: &mut Broker,
@@ -50,7 +50,7 @@ fn repeat(
     }
 }
 
-// Carries out commands in their order, by the rule of that version. Once more than 2^61 are counted, the rest is let go.
+// Carries out commands in their order, by the rule of that version. Once more than 2^61 are counted, it lets the rest go.
 pub(crate) fn repeat_all(
     alloc: Global,
     broker: &mut Broker,

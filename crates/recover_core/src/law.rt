@@ -7,13 +7,13 @@ ghost use Rattle.area_core.specs.declared.version.Version.TheVariants.{Two};
 ghost use Rattle.broker_core.specs.States.{State, empty_state};
 ghost use Rattle.recover_core.specs.Standing.{Stands};
 
-/// An image stands for one state at most. It does nothing.
+/// An image stands for at most one state. The function does nothing.
 pub fn an_image_stands_for_one_state()
     ensures { (image : List ℕ) (s t : State) → Stands image s → Stands image t → s ≡ t }
 {}
 
-/// An image that reads as a new journal, whose first area is live and has the first snapshot and no block, stands for the
-/// empty state. So each image does of a disk that was formatted. It does nothing.
+/// An image that reads as a new journal stands for the empty state. A new journal's first area is live, and has the first snapshot and no
+/// block. So each image of a disk that was just formatted stands for the empty state. The function does nothing.
 pub fn a_formatted_journal_stands_for_the_empty_state()
     ensures { (size : ℕ) (image : List ℕ) → Reads Two size 0 first_snapshot [] image → Stands image empty_state }
 {}

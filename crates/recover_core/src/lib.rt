@@ -1,4 +1,4 @@
-//! Recovery: what a disk stands for, a journal that is opened, and the store that commands are added to.
+//! Recovery: what a disk stands for, how a journal is opened, and the store that commands are added to.
 
 #![tactic(auto)]
 

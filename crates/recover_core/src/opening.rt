@@ -32,7 +32,7 @@ fn restart(alloc: Global, broker: &mut Broker) -> Result<(), AllocError>
     }
 }
 
-// Writes what a restart leaves of the broker into the area that is not live, and makes that one live.
+// Writes what a restart leaves of the broker into the area that is not live, and makes that area live.
 fn write_restarted<D: Disk>(
     alloc: Global,
     disk: &mut D,
@@ -69,7 +69,7 @@ fn read_synced<D: Disk>(alloc: Global, disk: &mut D) -> Result<(Area, Broker), O
     read_state(alloc, disk)
 }
 
-// Reads the state, writes what a restart leaves of it into the other area, and makes that one live.
+// Reads the state, writes what a restart leaves of it into the other area, and makes that area live.
 fn open_area<D: Disk>(alloc: Global, disk: &mut D) -> Result<(Area, Broker), OpenFault>
     ensures any_moment { Throughout D.Disk disk.old disk.new (IsOpening (D.images disk.old)) }
     ensures opens { IfOk result (λ opened. OpensArea D.Disk disk.old disk.new opened.0 opened.1) }
@@ -84,13 +84,13 @@ fn open_area<D: Disk>(alloc: Global, disk: &mut D) -> Result<(Area, Broker), Ope
     }
 }
 
-/// Opens a journal of either version: reads the state that the disk stands for, its blocks by the rule of the version that the
-/// live area tells, ends its sessions, writes what is left into the other area as the second version, and makes that one live.
+/// Opens a journal of either version. It reads the state that the disk stands for, with the blocks by the rule of the live area's version,
+/// and ends its sessions. Then it writes what is left into the other area as the second version, and makes that area live.
 ///
-/// A stop at any moment leaves a disk that stands for a state with the same restart. After Ok the live area has the snapshot of
-/// the state alone, and is of the second version; the name and the version in the header stay as they are at every moment. A
-/// refusal hands the disk back, and it may be opened again; where what was read is the reason, a snapshot that does not fit
-/// among them, nothing was written at any moment.
+/// A stop at any moment leaves a disk that stands for a state with the same restart. After Ok the live area has the snapshot of the state
+/// alone, and is of the second version. The name and the version in the header stay as they are at every moment. A refusal hands the disk
+/// back, and it may be opened again. If what was read is the reason, nothing was written at any moment; a snapshot that does not fit is
+/// such a reason.
 pub fn open<D: Disk>(alloc: Global, disk: D) -> Result<Store<D>, (D, OpenFault)>
     ensures opens { IfOk result (Opens D.Disk disk) }
     ensures hands_back { IfErr result (λ back. HandsBack D.Disk disk back.0 back.1) }

@@ -17,7 +17,7 @@ use record_core::DecodeFault;
 use snapshot_core::decode_state;
 use std::alloc::Global;
 
-// The broker of the state that the bytes spell, of which the first stands at that place of the disk.
+// The broker of the state that the bytes spell; the first byte is at that place of the disk.
 fn state_of(alloc: Global, bytes: &[u8], place: u64) -> Result<Broker, OpenFault>
     ensures spelled { IfOk result (λ broker. Spells bytes.now broker.state) }
     ensures whole { IfOk result (λ broker. broker.broken ≡ false) }
@@ -30,7 +30,7 @@ fn state_of(alloc: Global, bytes: &[u8], place: u64) -> Result<Broker, OpenFault
     }
 }
 
-// Reads the next block and carries out its commands; answers whether there was one, or the gate is closed.
+// Reads the next block and carries out its commands. It answers whether there was one; if not, the gate is closed.
 fn read_block<D: Disk>(
     alloc: Global,
     disk: &mut D,
@@ -57,8 +57,8 @@ fn read_block<D: Disk>(
     }
 }
 
-// Reads blocks up to the first closed gate, and carries out their commands. Too many commands are told once all was read,
-// since damage anywhere in the live area is told first.
+// Reads blocks up to the first closed gate, and carries out their commands. It reports too many commands only once all was read, since
+// damage anywhere in the live area is reported first.
 fn read_blocks<D: Disk>(
     alloc: Global,
     disk: &mut D,

@@ -20,17 +20,17 @@ pub struct Seen {
     pub area: u8,
     /// How many bytes of the live area are used: those up to its first closed gate, and that gate.
     pub used: u64,
-    /// How many commands were carried out.
+    /// How many commands have been carried out.
     pub count: u64,
-    /// What is held, with the sessions as they were: none has ended.
+    /// What the state holds, with the sessions as they were: none has ended.
     pub held: Held,
 }
 
 /// Reads what a journal shows of itself. Nothing is written, and no session ends.
 ///
-/// It is refused as opening it is before anything is written: `Read` where it is no journal or is damaged, where the disk
-/// failed or where memory was refused; `CountTooLarge`; and `Area` only where memory was refused as its commands were carried
-/// out again.
+/// The faults are those of opening before anything is written. `Read`: the disk is no journal or is damaged, the disk failed, or memory was
+/// refused. `CountTooLarge`: its state comes after more than 2^61 commands. `Area`: memory was refused while its commands were carried out
+/// again.
 pub fn read<D: Disk>(alloc: Global, disk: &mut D) -> Result<Seen, OpenFault>
     ensures seen { D.honest disk.old → IfOk result (λ seen. IsSeen seen (D.content disk.old)) }
     ensures small { IfOk result (λ seen. seen.count ≤ 2 ^ 61) }

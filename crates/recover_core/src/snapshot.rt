@@ -18,7 +18,7 @@ pub(crate) struct Snapshot<'a> {
 }
 
 impl<'a> Snapshot<'a> {
-    // That of a broker whose sessions have ended.
+    // The snapshot of a broker whose sessions have ended.
     pub(crate) fn new(alloc: Global, broker: &'a Broker) -> Result<Snapshot<'a>, AllocError>
         requires whole { broker.now.broken ≡ false }
         requires ended { broker.now.state ≡ restarted broker.now.state }
@@ -31,7 +31,8 @@ impl<'a> Snapshot<'a> {
         })
     }
 
-    // That of a broker, of which four bytes count what it has, and eight the snapshot.
+    // The snapshot of a broker with fewer than 2^32 sessions and subscriptions each, and a snapshot of less than 2^64
+    // bytes.
     pub(crate) fn of(alloc: Global, broker: &'a Broker) -> Result<Snapshot<'a>, AllocError>
         requires whole { broker.now.broken ≡ false }
         requires few_sessions { length broker.now.state.sessions < 2 ^ 32 }

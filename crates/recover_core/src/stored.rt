@@ -11,8 +11,8 @@ use broker_core::Broker;
 use disk_core::Disk;
 use std::alloc::Global;
 
-/// The broker of the state that a journal stands for, with the sessions as they were: none has ended. Nothing is written. It is
-/// refused as `read` is.
+/// The broker of the state that a journal stands for, with the sessions as they were: none has ended. Nothing is written. Its faults are
+/// those of `read`.
 #[tactic(auto, using(crate::proofs::Opens::has_read_stands))]
 pub fn stored_broker<D: Disk>(alloc: Global, disk: &mut D) -> Result<Broker, OpenFault>
     ensures stands { D.honest disk.old → IfOk result (λ broker. Stands (D.content disk.old) broker.state) }

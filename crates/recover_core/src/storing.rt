@@ -41,8 +41,8 @@ impl<D: Disk> Store<D> {
 
     /// Makes the commands of a batch durable, all or none, in one block.
     ///
-    /// A stop at any moment leaves the state before, or that after all of them. `Full` where the block with the gate behind
-    /// it does not fit into the area; after each refusal every further call answers `Broken` and changes nothing.
+    /// A stop at any moment leaves the state before all of them, or the state after. `Full` means that the block with the gate after it
+    /// does not fit into the area. After any refusal every later call answers `Broken` and changes nothing.
     pub fn append<B>(&mut self, alloc: Global, batch: &[Entry<B>]) -> Result<(), AreaFault>
         requires some { batch.now ≢ [] }
         ensures any_moment { StandsThroughout D.Disk self.old self.new (commands batch.now) }
@@ -65,7 +65,7 @@ impl<D: Disk> Store<D> {
         self.disk
     }
 
-    /// The same store over a disk that passes so many more calls and then fails.
+    /// The same store over a disk that passes `calls` more calls on and then fails.
     pub fn fuse(self, calls: u64) -> Store<FuseDisk<D>>
         ensures disk { fused (disk_of result) ≡ disk_of self }
         ensures calls { calls_left (disk_of result) ≡ calls }

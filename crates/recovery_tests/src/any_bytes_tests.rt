@@ -1,4 +1,4 @@
-//! Journals of which a byte is any, or that are cut, are read and opened as docs/JOURNAL.md says.
+//! Journals with any byte in a place, and journals that are cut short, are read and opened as docs/JOURNAL.md says.
 use crate::damage_tests::{bytes_of, journal as journal_of_three};
 use crate::journals::SIZE;
 use area_core::ReadFault;
@@ -8,7 +8,7 @@ use std::alloc::Global;
 use std::process::Abort;
 use std::test::Fail;
 
-// What is told of a disk: how many commands were carried out and how many messages are held, or why it is refused.
+// What is reported of a disk: how many commands were carried out and how many messages are held, or why it is refused.
 #[derive(Clone, Copy, PartialEq, Eq)]
 pub(crate) enum Told {
     Holds(u64, u64),
@@ -17,7 +17,7 @@ pub(crate) enum Told {
     TooSmall,
     Damaged(u64),
     TooMany,
-    // A failed device, a full journal or no memory: of none of these disks.
+    // A failed device, a full journal or no memory; no disk here leads to these.
     Other,
 }
 
@@ -49,8 +49,8 @@ fn told_by_open(alloc: Global, disk: MemDisk) -> Told {
     }
 }
 
-// The two versions of the journal of four commands in three blocks, whose second area is live. In the first version its name
-// ends with 1, and both areas begin with 0 in place of 2.
+// The two versions of the journal of four commands in three blocks, whose second area is live. In the first version the name ends with 1,
+// and both areas begin with 0 in place of 2.
 #[derive(Clone, Copy)]
 enum Version {
     First,
@@ -72,7 +72,7 @@ fn image_of(rt: &impl Abort, alloc: Global, version: Version) -> Result<Image, F
     Ok(image)
 }
 
-// Where images have bytes that are not zero: the header and the first area's front, and the second area.
+// Where images have bytes that are not zero: in the header and the first area's front, and in the second area.
 const WRITTEN: [(usize, usize); 2] = [(0, 73), (4_128, 4_640)];
 
 // Writes the bytes that the image has from one place up to another, as far as it goes.
@@ -104,7 +104,7 @@ fn write_image(
     write_range(rt, disk, image, place, place.saturating_add(1))
 }
 
-// The disk of an image which is zero but for those ranges and the byte at that place.
+// The disk of an image that is zero but for those ranges and the byte at that place.
 fn disk_of(rt: &impl Abort, alloc: Global, image: &[u8], place: usize) -> Result<MemDisk, Fail> {
     let mut disk = MemDisk::new(alloc, image.len() as u64)?;
     match write_image(rt, &mut disk, image, place) {
@@ -116,7 +116,7 @@ fn disk_of(rt: &impl Abort, alloc: Global, image: &[u8], place: usize) -> Result
     }
 }
 
-// Whether reading and opening the disk of that image tell that.
+// Whether reading and opening the disk of that image both report that.
 pub(crate) fn tells(
     rt: &impl Abort,
     alloc: Global,
@@ -132,7 +132,7 @@ pub(crate) fn tells(
 // What the journal holds as it is: four commands, of which the last three each leave a message.
 const ALL: Told = Told::Holds(4, 3);
 
-// A number of eight bytes that are zero but for this byte at this place behind the first.
+// A number of eight bytes that are zero but for this byte, which is this many places after the first.
 fn number_of(place: u64, byte: u8) -> u64 {
     let mut word = [0; 8];
     if place < 8 {
@@ -154,8 +154,8 @@ fn told_in_header(at: u64, byte: u8) -> Told {
     }
 }
 
-// A byte of the live area's front, from its version to the gate behind its snapshot. Behind another count the session that
-// opens is another one than that which sends.
+// A byte of the live area's front, from its version to the gate after its snapshot. After another count, the session that opens is not the
+// one that sends.
 fn told_in_front(at: u64, byte: u8) -> Told {
     match at {
         4_128 if byte == 0 || byte == 2 => ALL,
@@ -174,14 +174,14 @@ fn told_in_front(at: u64, byte: u8) -> Told {
         // The next delivery is 2^63 at most.
         4_144 if byte >= 0x80 => Told::Damaged(4_136),
         4_144..=4_151 => ALL,
-        // One of four lists that has something, for which there are no bytes.
+        // One of the four lists counts something, but there are no bytes for it.
         4_152..=4_167 => Told::Damaged(4_136),
         _ => Told::Holds(0, 0),
     }
 }
 
-// A byte of a block's length: at its last place, none; one, whose record is none; or more than the block has, so that the gate
-// behind it is read as a record. What is longer than the area is told at the length.
+// A byte of a block's length. In its last place it gives no byte, or one byte, which is no record. Or it gives more than the block has, so
+// that the gate after it is read as a record. A length greater than the area is reported at the length.
 fn told_in_length(at: u64, byte: u8, length: u64, gate: u64) -> Told {
     match (length.saturating_add(7).saturating_sub(at), byte) {
         (0, 0) => Told::Damaged(length),
@@ -194,11 +194,11 @@ fn told_in_length(at: u64, byte: u8, length: u64, gate: u64) -> Told {
 // A byte of the record of a SEND that begins at that place.
 fn told_in_send(at: u64, byte: u8, record: u64) -> Told {
     match (at.saturating_sub(record), byte) {
-        // The session is another one, which is not open: the message is not taken.
+        // The session is another, which is not open: the message is not taken.
         (0..=7, _) => Told::Holds(4, 2),
-        // An Open, which has eleven bytes, and behind it no record.
+        // An Open, which has eleven bytes, and no record after it.
         (9, 1) => Told::Damaged(record.saturating_add(11)),
-        // No body, and behind the record a byte that is none.
+        // No body, and after the record a byte that is no record.
         (27, 0) => Told::Damaged(record.saturating_add(28)),
         // A body of another byte.
         (28, _) => ALL,
@@ -206,7 +206,7 @@ fn told_in_send(at: u64, byte: u8, record: u64) -> Told {
     }
 }
 
-// A byte of the blocks, from the first one's length on. What stands behind the last gate is not read where that is closed.
+// A byte of the blocks, from the first one's length on. What stands behind the last gate is not read if the gate is closed.
 fn told_in_blocks(at: u64, byte: u8) -> Told {
     match at {
         4_169..=4_176 => told_in_length(at, byte, 4_169, 4_217),
@@ -225,8 +225,7 @@ fn told_in_blocks(at: u64, byte: u8) -> Told {
     }
 }
 
-// What is told once the byte at this place is this one, which is not the one that was there. The area that is not live is not
-// read.
+// What is reported once the byte at this place is this one, which was not there before. The area that is not live is not read.
 fn told_at(at: u64, byte: u8) -> Told {
     match at {
         0..=31 => told_in_header(at, byte),
@@ -238,7 +237,7 @@ fn told_at(at: u64, byte: u8) -> Told {
 
 const BYTES: [u8; 3] = [0x00, 0x01, 0xff];
 
-// Whether each of those bytes at this place is told as it should be.
+// Whether each of those bytes at this place is reported as it should be.
 fn is_told_at(
     rt: &impl Abort,
     alloc: Global,
@@ -267,7 +266,7 @@ fn is_tried(place: usize) -> bool {
     place < 80 || (place >= 4_096 && place < 4_352) || place % 29 == 0
 }
 
-// The first place where a byte is told otherwise.
+// The first place where a byte is reported otherwise.
 fn first_wrong(rt: &impl Abort, alloc: Global, image: &mut Image) -> Result<Option<usize>, Fail> {
     for place in 0..SIZE as usize {
         if is_tried(place) && !is_told_at(rt, alloc, image, place)? {
@@ -277,7 +276,7 @@ fn first_wrong(rt: &impl Abort, alloc: Global, image: &mut Image) -> Result<Opti
     Ok(None)
 }
 
-// Bytes of the journal are set to each of those.
+// Sets bytes of the journal to each of those.
 fn expect_each(rt: &impl Abort, alloc: Global, version: Version) -> Result<(), Fail> {
     let mut image = image_of(rt, alloc, version)?;
     let wrong = first_wrong(rt, alloc, &mut image)?;
@@ -295,8 +294,7 @@ fn each_byte_of_an_older_journal_may_be_any(rt: HostRuntime) -> Result<(), Fail>
     expect_each(&rt, rt.alloc(), Version::First)
 }
 
-// The first size of a disk that is cut to it and tells otherwise: one of fewer than 32 bytes is no journal, and any other one is
-// too small.
+// The first size at which a cut disk is reported otherwise. A disk of fewer than 32 bytes is no journal, and any other is too small.
 fn first_wrong_size(rt: &impl Abort, alloc: Global, image: &Image) -> Result<Option<usize>, Fail> {
     for size in 0..SIZE as usize {
         let wanted = if size < 32 {

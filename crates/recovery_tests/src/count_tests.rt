@@ -1,4 +1,4 @@
-//! A count that promises far more than there are bytes is told as damage, and takes no memory.
+//! A count that promises far more than there are bytes is reported as damage, and takes no memory.
 use crate::any_bytes_tests::{Told, tells};
 use crate::journals::SIZE;
 use std::alloc::{AllocError, Global};
@@ -17,8 +17,8 @@ const NO_HEADERS: Part = (b"\0\0", true);
 
 const ONE_HEADER: Part = (b"\0\x01", true);
 
-// The snapshot after five commands and one delivery: the session 0 of `anna`; `reader` of `anna`, for which a message waits; a
-// message in `/queue/q`; and two subscriptions of session 0, of which one has a delivery unacknowledged.
+// The snapshot after five commands and one delivery. It has the session 0 of `anna`; `reader` of `anna`, for which a message waits; a
+// message in `/queue/q`; and two subscriptions of session 0. One of these has a delivery that is not acknowledged.
 const SNAPSHOT: [Part; 53] = [
     (b"\0\0\0\0\0\0\0\x05\0\0\0\0\0\0\0\x01", false),
     ONE,
@@ -101,7 +101,7 @@ fn length_of(parts: &[Part]) -> u64 {
     length
 }
 
-// Adds the parts, of which that one, if it is among them, is as large as it can be.
+// Adds the parts. The damaged one, if it is among them, is as large as it can be.
 fn push_parts(
     image: &mut Vec<u8>,
     parts: &[Part],
@@ -151,7 +151,7 @@ fn tells_of(rt: &impl Abort, alloc: Global, damage: Damage, wanted: Told) -> Res
     tells(rt, alloc, image.as_slice(), 0, wanted)
 }
 
-// The first count that is told otherwise once it is as large as it can be: at the place of the snapshot or the record that has it.
+// The first count that, once it is as large as it can be, is not reported at the place of the snapshot or the record that has it.
 fn first_wrong(rt: &impl Abort, alloc: Global) -> Result<Option<usize>, Fail> {
     let record = length_of(&SNAPSHOT).saturating_add(4_145);
     for (number, (_, is_count)) in SNAPSHOT.iter().enumerate() {
@@ -169,7 +169,7 @@ fn first_wrong(rt: &impl Abort, alloc: Global) -> Result<Option<usize>, Fail> {
     Ok(None)
 }
 
-// The most address space, in kB, that a process has had, as its status tells it.
+// The most address space, in kB, that a process has had, as its status says.
 fn peak_in(status: &str) -> Option<u64> {
     for line in status.lines() {
         if let Some(rest) = line.strip_prefix("VmPeak:") {
@@ -179,7 +179,7 @@ fn peak_in(status: &str) -> Option<u64> {
     None
 }
 
-// A list, a text or a body of 2^32 - 1 bytes or more would take 4 GB. Less than a hundredth of that is.
+// A list, a text or a body of 2^32 - 1 bytes or more would take 4 GB. Less than a hundredth of that is taken.
 #[test]
 fn a_count_takes_no_more_memory_than_the_bytes_there(rt: HostRuntime) -> Result<(), Fail> {
     let is_whole = tells_of(&rt, rt.alloc(), Damage::None, Told::Holds(6, 4))?;

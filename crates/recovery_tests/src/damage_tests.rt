@@ -12,7 +12,7 @@ enum Patch {
     Bytes(&'static [u8]),
     // A number, in eight bytes.
     Word(u64),
-    // So many bytes of a snapshot, in seven bytes behind the one of the second version.
+    // The length of a snapshot, in seven bytes after the byte of the second version.
     Front(u64),
 }
 
@@ -40,15 +40,15 @@ fn write_patch(rt: &impl Abort, disk: &mut MemDisk, at: u64, patch: Patch) -> Re
     }
 }
 
-// A journal whose second area is live, from place 4,128 on: the empty state, a block of an Open and a SEND, and two blocks
-// of a SEND each. The gates stand at 4,168, 4,217, 4,255 and 4,293. What is not named here is zero.
+// A journal whose second area is live, from place 4,128 on. It has the empty state, a block of an Open and a SEND, and two blocks of a SEND
+// each. The gates stand at 4,168, 4,217, 4,255 and 4,293. All bytes that are not named here are zero.
 const JOURNAL: [(u64, Patch); 15] = [
     (0, Patch::Bytes(b"STOMPJ02")),
     (8, Patch::Word(4_096)),
     (16, Patch::Bytes(b"\x01")),
     // The first area, as it was formatted.
     (32, Patch::Front(32)),
-    // The second.
+    // The second area.
     (4_128, Patch::Front(32)),
     (4_168, Patch::Bytes(b"\x01")),
     (4_169, Patch::Word(40)),
@@ -87,24 +87,24 @@ fn a_journal_is_written_as_its_format_says(rt: HostRuntime) -> Result<(), Fail> 
     Ok(())
 }
 
-// What is written over the journal, from a place on, and what opening tells then.
+// What is written over the journal, from a place on, and what opening then reports.
 const DAMAGES: [(u64, Patch, &str); 32] = [
     (0, Patch::Bytes(b"X"), "J1 not a journal"),
     (6, Patch::Bytes(b"03"), "J7 unknown version"),
     (6, Patch::Bytes(b"00"), "J7 unknown version"),
     (8, Patch::Word(4_095), "J8 disk too small"),
     (8, Patch::Word(4_097), "J8 disk too small"),
-    // A name of the first version, which does not decide, and an area of it.
+    // A name of the first version, which does not decide, and an area of that version.
     (6, Patch::Bytes(b"01"), "4 3"),
     (4_128, Patch::Bytes(b"\0"), "4 3"),
-    // Bytes that an area of no version begins with, also where the snapshot's length would not fit.
+    // Bytes that no version's area begins with, even if the snapshot's length would not fit.
     (4_128, Patch::Bytes(b"\x01"), "J2 damaged at 4128"),
     (4_128, Patch::Bytes(b"\x03"), "J2 damaged at 4128"),
     (4_128, Patch::Bytes(b"\xff"), "J2 damaged at 4128"),
     (4_128, Patch::Word(u64::MAX), "J2 damaged at 4128"),
-    // As many bytes of a snapshot as seven bytes count.
+    // The greatest length of a snapshot that fits into seven bytes.
     (4_128, Patch::Front((1 << 56) - 1), "J2 damaged at 4128"),
-    // Another odd selector, bytes that are not read, and an even selector: the area as it was formatted.
+    // Another odd selector; bytes that are not read; and an even selector, for the area as it was formatted.
     (16, Patch::Bytes(b"\x7b"), "4 3"),
     (17, Patch::Bytes(&[0xff; 15]), "4 3"),
     (16, Patch::Bytes(b"\x7a"), "0 0"),
@@ -113,15 +113,15 @@ const DAMAGES: [(u64, Patch, &str); 32] = [
     (4_128, Patch::Front(33), "J2 damaged at 4136"),
     (4_128, Patch::Front(4_087), "J2 damaged at 4136"),
     (4_128, Patch::Front(4_088), "J2 damaged at 4128"),
-    // A count of more than 2^61 before the blocks; one that is 2^61 behind them; and one more.
+    // A count of more than 2^61 before the blocks; one that is 2^61 after them; and one more.
     (4_136, Patch::Word((1 << 61) + 1), "J5 count too large"),
     (4_136, Patch::Word((1 << 61) - 4), "2305843009213693952 0"),
     (4_136, Patch::Word((1 << 61) - 3), "J5 count too large"),
-    // The gates: what is not 1 is closed.
+    // The gates: a gate that is not 1 is closed.
     (4_168, Patch::Bytes(b"\0"), "0 0"),
     (4_217, Patch::Bytes(b"\x37"), "2 1"),
     (4_255, Patch::Bytes(b"\x02"), "3 2"),
-    // A block's length: none, one less, one more, and more than the area has.
+    // A block's length: zero, one less, one more, and more than the area has.
     (4_169, Patch::Word(0), "J2 damaged at 4169"),
     (4_169, Patch::Word(39), "J2 damaged at 4188"),
     (4_169, Patch::Word(41), "J2 damaged at 4217"),
@@ -133,7 +133,7 @@ const DAMAGES: [(u64, Patch, &str); 32] = [
     (4_293, Patch::Bytes(b"\x01"), "J2 damaged at 4294"),
 ];
 
-// Whether opening the disk tells that once this is written over it.
+// Whether opening the disk reports that, once this is written over it.
 fn tells_of(
     rt: &impl Abort,
     alloc: Global,
@@ -156,7 +156,7 @@ fn what_is_damaged_is_told_with_its_place(rt: HostRuntime) -> Result<(), Fail> {
     Ok(())
 }
 
-// The same of an empty journal, whose first area is live.
+// The same for an empty journal, whose first area is live.
 const DAMAGES_OF_EMPTY: [(u64, Patch, &str); 5] = [
     (6, Patch::Bytes(b"03"), "J7 unknown version"),
     (8, Patch::Word(4_095), "J8 disk too small"),
@@ -178,7 +178,7 @@ fn what_is_damaged_in_an_empty_journal_is_told(rt: HostRuntime) -> Result<(), Fa
     Ok(())
 }
 
-// Damage behind a count that is too large is told, wherever in the live area it is.
+// Damage after a count that is too large is reported, wherever in the live area it is.
 #[test]
 fn damage_is_told_before_a_count_that_is_too_large(rt: HostRuntime) -> Result<(), Fail> {
     let mut disk = journal(&rt, rt.alloc())?;
@@ -189,7 +189,7 @@ fn damage_is_told_before_a_count_that_is_too_large(rt: HostRuntime) -> Result<()
     Ok(())
 }
 
-// What opening tells where this byte is turned over.
+// What opening reports if this byte is inverted.
 fn wanted_at(at: u64) -> &'static str {
     match at {
         0..=5 => "J1 not a journal",
@@ -243,7 +243,7 @@ fn an_empty_journal_shows_that_it_holds_nothing(rt: HostRuntime) -> Result<(), F
     Ok(())
 }
 
-// It is shown twice as it is: opening would leave another area and a used length of its own. Then its count is too large.
+// The journal is shown twice as it is: opening would leave another area and another used length. Then its count is made too large.
 fn show_again(rt: &impl Abort, alloc: Global, disk: &mut MemDisk) -> Result<(), Fail> {
     for _ in 0..2_u8 {
         let seen = shown(alloc, disk)?;

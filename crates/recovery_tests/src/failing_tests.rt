@@ -1,5 +1,5 @@
-//! One call of the disk fails while a journal is opened, and every other passes: no store comes of it, nothing is lost, and
-//! it is opened the next time.
+//! One call of the disk fails while a journal is opened, and every other passes. The journal is not opened, nothing is lost, and it is
+//! opened the next time.
 use crate::journals::opens_as;
 use crate::old_journal_tests::{RESTARTED as RESTARTED_OF_OLD, journal as old_journal};
 use crate::stop_tests::{RESTARTED, journal_in};
@@ -11,12 +11,12 @@ use std::alloc::Global;
 use std::process::Abort;
 use std::test::Fail;
 
-// What becomes of the disk once it was not opened.
+// What becomes of the disk after it was not opened.
 #[derive(Clone, Copy)]
 enum Then {
     // It is opened again as it is.
     Again,
-    // It stops before, and its unsynced bytes are that.
+    // It stops first, and its unsynced bytes become that.
     Stop(Option<u8>),
 }
 
@@ -28,7 +28,7 @@ const THEN: [Then; 5] = [
     Then::Stop(Some(0x37)),
 ];
 
-// The disk after opening it while that call fails, and whether it was opened. Where it was not, the device failed.
+// The disk after opening it while that call fails, and whether it was opened. If it was not, the device failed.
 fn failed_opening(alloc: Global, disk: MemDisk, call: u64) -> Result<(MemDisk, bool), Fail> {
     let (disk, is_opened) = match open(alloc, FailOnce::new(disk, call)) {
         Ok(store) => (store.into_disk(), true),
@@ -47,8 +47,8 @@ fn failed_opening(alloc: Global, disk: MemDisk, call: u64) -> Result<(MemDisk, b
     }
 }
 
-// Opening the journal while that call fails, and then again, which gives the state with that snapshot. Answers whether it was
-// opened at first.
+// Opens the journal while that call fails, and then again, which gives the state with that snapshot. It answers whether the journal was
+// opened the first time.
 fn fail_and_open(
     rt: &impl Abort,
     alloc: Global,
@@ -66,7 +66,7 @@ fn fail_and_open(
     Ok(is_opened)
 }
 
-// A journal with one block is opened by fewer than twenty calls, whichever of its areas is live.
+// Opening a journal with one block takes fewer than twenty calls, whichever of its areas is live.
 #[test]
 fn a_journal_of_which_a_call_fails_is_opened_the_next_time(rt: HostRuntime) -> Result<(), Fail> {
     for turn in 0..240_u64 {
@@ -79,7 +79,7 @@ fn a_journal_of_which_a_call_fails_is_opened_the_next_time(rt: HostRuntime) -> R
     Ok(())
 }
 
-// That of nine blocks by about forty.
+// Opening a journal with nine blocks takes about forty calls.
 #[test]
 fn an_older_journal_of_which_a_call_fails_keeps_its_state(rt: HostRuntime) -> Result<(), Fail> {
     for turn in 0..220_u64 {

@@ -1,4 +1,4 @@
-//! Journals that the tests are made of.
+//! The journals that the tests use.
 
 use area_core::{AreaFault, format};
 use broker_core::Broker;
@@ -12,16 +12,16 @@ use std::test::Fail;
 // The size of a disk with two areas of 4,096 bytes.
 pub(crate) const SIZE: u64 = 8_224;
 
-// What a stop may fill unsynced bytes with; none leaves what was there.
+// What a stop may fill unsynced bytes with; `None` leaves what was there.
 pub(crate) const FILLS: [Option<u8>; 4] = [None, Some(0x00), Some(0x01), Some(0x37)];
 
 // A session opens.
 pub(crate) const OPEN: &[u8] = b"\0\0\0\0\0\0\0\0\0\x01\0";
 
-// It sends `x` to `/queue/q`.
+// The session sends `x` to `/queue/q`.
 pub(crate) const SEND: &[u8] = b"\0\0\0\0\0\0\0\0\0\x02\0\0\0\x08/queue/q\0\0\0\0\0\x01x";
 
-// It listens to `/queue/q` as `s`, and acknowledges.
+// The session listens to `/queue/q` as `s`, and acknowledges.
 pub(crate) const SUBSCRIBE: &[u8] = b"\0\0\0\0\0\0\0\0\0\x03\0\0\0\x01s\0\0\0\x08/queue/q\x01\0";
 
 // Adds the command of a record to a batch.
@@ -78,13 +78,13 @@ fn add_all(alloc: Global, store: &mut Store<MemDisk>, batches: &[&[&[u8]]]) -> R
     Ok(())
 }
 
-// A journal that was opened, and has these batches.
+// A journal that was opened and has these batches.
 pub(crate) fn journal_of(alloc: Global, batches: &[&[&[u8]]]) -> Result<MemDisk, Fail> {
     let disk = formatted(alloc)?;
     with_batches(alloc, disk, batches)
 }
 
-// The journal after it was opened and took these batches.
+// That journal, after it was opened and took these batches.
 pub(crate) fn with_batches(
     alloc: Global,
     disk: MemDisk,
@@ -131,7 +131,7 @@ fn line_of(alloc: Global, broker: &Broker) -> Result<String, Fail> {
     Ok(format!(in alloc; "{} {held}", broker.count())?)
 }
 
-// That of the store that was opened.
+// The same for the store that was opened.
 fn opened_line(alloc: Global, store: &mut Store<MemDisk>) -> Result<String, Fail> {
     match store.broker() {
         Some(broker) => line_of(alloc, &broker),
@@ -139,7 +139,7 @@ fn opened_line(alloc: Global, store: &mut Store<MemDisk>) -> Result<String, Fail
     }
 }
 
-// Whether the broker that opening the disk gives has the state with this snapshot.
+// Whether opening the disk gives a broker that has the state with this snapshot.
 pub(crate) fn opens_as(alloc: Global, disk: MemDisk, wanted: &[u8]) -> Result<bool, Fail> {
     match open(alloc, disk) {
         Ok(mut store) => {
@@ -151,7 +151,7 @@ pub(crate) fn opens_as(alloc: Global, disk: MemDisk, wanted: &[u8]) -> Result<bo
     }
 }
 
-// Whether opening the disk tells that.
+// Whether opening the disk reports that.
 pub(crate) fn tells(alloc: Global, disk: MemDisk, wanted: &str) -> Result<bool, Fail> {
     let line = told(alloc, disk)?;
     let is_right = line.as_str() == wanted;
@@ -159,7 +159,7 @@ pub(crate) fn tells(alloc: Global, disk: MemDisk, wanted: &str) -> Result<bool, 
     Ok(is_right)
 }
 
-// What opening the disk tells: that, or the fault.
+// What opening the disk reports: that line, or the fault.
 fn told(alloc: Global, disk: MemDisk) -> Result<String, Fail> {
     match open(alloc, disk) {
         Ok(mut store) => {

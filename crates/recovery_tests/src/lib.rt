@@ -1,4 +1,4 @@
-//! Tests of recovery by its public face: what is told of a damaged journal, and what a stop at each call leaves.
+//! Tests of recovery by its public face: what is reported of a damaged journal, and what a stop at each call leaves.
 
 #![tactic(auto)]
 

@@ -53,9 +53,9 @@ const WRITTEN: [(u64, &[u8]); 12] = [
     ),
 ];
 
-// What is left of that once both sessions have ended: nine commands and four deliveries, no session; `reader` of `anna`, for
-// which both messages to `/topic/news` wait again; and in `/queue/jobs` the message of command 6. That of command 5 was
-// refused, and is gone.
+// What is left of that once both sessions have ended: nine commands, four deliveries, and no session. There is `reader` of `anna`, for
+// which both messages to `/topic/news` wait again, and in `/queue/jobs` the message of command 6. The message of command 5 was refused, and
+// is gone.
 pub(crate) const RESTARTED: &[u8] = b"\0\0\0\0\0\0\0\x09\0\0\0\0\0\0\0\x04\0\0\0\0\
 \0\0\0\x01\0\0\0\x04anna\0\0\0\x06reader\0\0\0\x0b/topic/news\0\0\0\x02\
 \0\0\0\0\0\0\0\x03\0\0\0\0\0\0\0\x0b/topic/news\0\0\0\0\0\x05first\
@@ -87,7 +87,7 @@ fn an_older_journal_is_shown(rt: HostRuntime) -> Result<(), Fail> {
     Ok(())
 }
 
-// Opening it with so many calls that pass, and then again. Answers whether it was opened at first.
+// Opens the journal while `passed` calls pass, and then again. It answers whether it was opened the first time.
 fn stop_opening(
     rt: &impl Abort,
     alloc: Global,
@@ -101,7 +101,7 @@ fn stop_opening(
     Ok(is_opened)
 }
 
-// Its header is read by six calls, its front by two, and each of nine blocks by three, so it is opened by about forty.
+// Six calls read its header, two its front, and three each of the nine blocks, so opening it takes about forty.
 #[test]
 fn a_stop_at_each_call_of_opening_it_leaves_its_state(rt: HostRuntime) -> Result<(), Fail> {
     for turn in 0..176_u64 {

@@ -47,7 +47,7 @@ fn each_refusal_to_open_has_its_text(rt: HostRuntime) -> Result<(), Fail> {
     Ok(())
 }
 
-// Whether it is a read that leaves the bytes from 17 to 31 alone, which have no meaning.
+// Whether the call is a read that leaves the bytes from 17 to 31 alone, which have no meaning.
 fn is_read_beside(call: &Call) -> bool {
     match *call {
         Call::Read { at, len } => at >= 32 || at <= 17 && len <= 17 - at,
@@ -55,7 +55,7 @@ fn is_read_beside(call: &Call) -> bool {
     }
 }
 
-// A sync, reads, and then these writes, a sync, and the other area is made the live one.
+// Whether the calls are a sync, reads, these writes, a sync, and those that make the other area live.
 fn are_of_opening(calls: &[Call], writes: &[Call]) -> bool {
     let live = [Call::Sync, Call::Write { at: 16, len: 1 }, Call::Sync];
     let Some((Call::Sync, rest)) = calls.split_first() else {
@@ -88,8 +88,8 @@ fn expect_opening(
     }
 }
 
-// An empty journal has a snapshot of 32 bytes. Four commands that leave three messages in a queue have one of 141: 32, 16 for
-// the queue's name and how many messages it has, and 31 for each of them.
+// An empty journal has a snapshot of 32 bytes. Four commands that leave three messages in a queue have one of 141: 32, then 16 for the
+// queue's name and how many messages it has, and 31 for each message.
 #[test]
 fn opening_syncs_reads_writes_and_switches(rt: HostRuntime) -> Result<(), Fail> {
     let empty = formatted(rt.alloc())?;
@@ -100,7 +100,7 @@ fn opening_syncs_reads_writes_and_switches(rt: HostRuntime) -> Result<(), Fail> 
     expect_opening(&rt, rt.alloc(), journal, writes.as_slice())
 }
 
-// A SEND to `/queue/q` with so long a body.
+// A SEND to `/queue/q` with a body of `body` bytes.
 fn sending(alloc: Global, body: u32) -> Result<Vec<u8>, Fail> {
     let mut record = Vec::from_slice(alloc, b"\0\0\0\0\0\0\0\0\0\x02\0\0\0\x08/queue/q\0\0")?;
     record.extend_from_slice(&body.to_be_bytes())?;
@@ -110,7 +110,7 @@ fn sending(alloc: Global, body: u32) -> Result<Vec<u8>, Fail> {
     Ok(record)
 }
 
-// Whether the store takes the record. Then it has no room for it once more; if not, it is broken.
+// Whether the store takes the record. If it does, it has no room for it a second time; if not, it is broken.
 fn takes(
     rt: &impl Abort,
     alloc: Global,
@@ -134,7 +134,7 @@ fn takes(
     }
 }
 
-// Whether a new journal takes a batch with so long a body, and what opening it again tells.
+// Whether a new journal takes a batch with a body of `body` bytes, and the disk that this leaves.
 fn offer(rt: &impl Abort, alloc: Global, body: u32) -> Result<(bool, MemDisk), Fail> {
     let record = sending(alloc, body)?;
     let journal = formatted(alloc)?;
@@ -147,7 +147,7 @@ fn offer(rt: &impl Abort, alloc: Global, body: u32) -> Result<(bool, MemDisk), F
     }
 }
 
-// A block of 4,046 bytes of records fills a new area. The SEND counts, and does no more since its session is not open.
+// A block of 4,046 bytes of records fills a new area. The SEND counts, but does nothing more, since its session is not open.
 #[test]
 fn a_batch_that_does_not_fit_leaves_the_state_before(rt: HostRuntime) -> Result<(), Fail> {
     for (body, fits, wanted) in [(4_018, true, "1 0"), (4_019, false, "0 0")] {
@@ -159,7 +159,7 @@ fn a_batch_that_does_not_fit_leaves_the_state_before(rt: HostRuntime) -> Result<
     Ok(())
 }
 
-// An empty journal with areas of so many bytes.
+// An empty journal with areas of `area_bytes` bytes.
 fn formatted_with(alloc: Global, area_bytes: u32) -> Result<MemDisk, Fail> {
     let size = u64::from(area_bytes);
     let mut disk = MemDisk::new(alloc, 32 + 2 * size)?;
@@ -169,8 +169,8 @@ fn formatted_with(alloc: Global, area_bytes: u32) -> Result<MemDisk, Fail> {
     }
 }
 
-// The snapshot after four commands, of which the last three were this SEND to `/queue/q`. A message is its command's number, its
-// place among that command's, and what follows the record's first ten bytes: a session, no receipt, and the operation.
+// The snapshot after four commands, of which the last three were this SEND to `/queue/q`. A message is its command's number, its place
+// among that command's messages, and what follows the record's first ten bytes. Those ten are a session, no receipt, and the operation.
 fn three_held(alloc: Global, record: &[u8]) -> Result<Vec<u8>, Fail> {
     let Some(sent) = record.get(10..) else {
         return Err(Fail::from("no SEND"));
@@ -189,8 +189,8 @@ fn three_held(alloc: Global, record: &[u8]) -> Result<Vec<u8>, Fail> {
     Ok(snapshot)
 }
 
-// Three messages with bodies of 30,000 bytes make a snapshot of 90,138. The second opening writes it, and the third reads it. No
-// memory is refused here, so none of them is.
+// Three messages with bodies of 30,000 bytes make a snapshot of 90,138. The second opening writes it, and the third reads it. No memory is
+// refused here, so no opening is either.
 #[test]
 fn a_journal_with_a_snapshot_over_65_536_bytes_opens(rt: HostRuntime) -> Result<(), Fail> {
     let record = sending(rt.alloc(), 30_000)?;
@@ -205,7 +205,7 @@ fn a_journal_with_a_snapshot_over_65_536_bytes_opens(rt: HostRuntime) -> Result<
     Ok(())
 }
 
-// With its length and a gate that snapshot has 90,147 bytes, which are written by two calls into the second area.
+// With its length and a gate that snapshot has 90,147 bytes, which two calls write into the second area.
 #[test]
 fn a_snapshot_over_65_536_bytes_is_written_in_pieces(rt: HostRuntime) -> Result<(), Fail> {
     let record = sending(rt.alloc(), 30_000)?;

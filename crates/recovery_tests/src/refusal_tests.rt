@@ -1,5 +1,5 @@
-//! Opening a journal while memory is refused. In an ordinary run none is, and it opens; `tests/program/no_memory.py` has each growth refused
-//! in turn, and reads what this test says of it.
+//! Opening a journal while memory is refused. In an ordinary run none is, and it opens. `tests/program/no_memory.py` has each growth
+//! refused in turn, and reads what this test says of it.
 ghost use Rattle.std.specs.Prelude.{◌≤◌, length};
 
 use crate::journals::SIZE;
@@ -41,7 +41,7 @@ const RESTARTED: &[u8] = b"\0\0\0\0\0\0\0\x04\0\0\0\0\0\0\0\0\
 \0\0\0\0\0\0\0\x03\0\0\0\0\0\0\0\x08/queue/q\0\0\0\0\0\x01x\
 \0\0\0\0";
 
-// Whether the broker has that state; nothing where memory is refused for its snapshot.
+// Whether the broker has that state; `None` if memory is refused for its snapshot.
 fn is_restarted(alloc: Global, broker: &Broker) -> Option<bool> {
     if broker.is_broken()
         || broker.sessions().len() > 1_000
@@ -53,8 +53,8 @@ fn is_restarted(alloc: Global, broker: &Broker) -> Option<bool> {
     Some(snapshot.as_slice() == RESTARTED)
 }
 
-// What comes of opening the disk: whether it has that state, where memory was had for its snapshot; or the disk, and whether it was
-// refused for want of memory, the disk's own among it.
+// What comes of opening the disk: whether it has that state, or `None` if there was no memory for its snapshot. If it was not opened, the
+// disk, and whether the reason was that memory was refused, the disk's own included.
 fn opened(alloc: Global, disk: MemDisk) -> Result<Option<bool>, (MemDisk, bool)> {
     match open(alloc, disk) {
         Ok(mut store) => match store.broker() {
@@ -73,7 +73,7 @@ fn opened(alloc: Global, disk: MemDisk) -> Result<Option<bool>, (MemDisk, bool)>
     }
 }
 
-// What the script beside the gate reads. A journal that was not opened for want of memory is opened the next time.
+// What the script beside the gate reads. A journal that was not opened because memory was refused is opened the next time.
 fn word_of_opening(alloc: Global) -> &'static str {
     let Some(disk) = journal(alloc) else {
         return "unseen";

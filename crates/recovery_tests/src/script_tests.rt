@@ -12,8 +12,8 @@ use std::alloc::Global;
 use std::process::Abort;
 use std::test::Fail;
 
-// A script by chance: the sessions that it opened since the last stop, the broker in memory that carries it out, and how many
-// commands of each kind were not refused.
+// A random script: the sessions that it opened since the last stop, the broker in memory that carries it out, and how many commands of each
+// kind were not refused.
 #[derive(Drop)]
 struct Script {
     seed: u64,
@@ -22,7 +22,7 @@ struct Script {
     done: [u32; 9],
 }
 
-// The next of some numbers that look like chance, by the generator `xorshift`.
+// The next of some numbers that look random, by the generator `xorshift`.
 fn chance(seed: &mut u64) -> u64 {
     *seed ^= *seed << 13;
     *seed ^= *seed >> 7;
@@ -30,7 +30,7 @@ fn chance(seed: &mut u64) -> u64 {
     *seed
 }
 
-// A session opens, mostly with a name of its client.
+// A session opens, mostly with its client's name.
 const OPENS: [&[u8]; 4] = [
     b"\0\0\0\0\0\0\0\0\0\x01\0",
     b"\0\0\0\0\0\0\0\0\0\x01\x01\0\0\0\x02c1",
@@ -38,7 +38,7 @@ const OPENS: [&[u8]; 4] = [
     b"\0\0\0\0\0\0\0\0\0\x01\x01\0\0\0\x02c2",
 ];
 
-// What a session may ask for, behind its number.
+// What a session may ask for, after its number.
 const ASKED: [&[u8]; 23] = [
     // To send: to two queues and a topic, once with a header, once for a receipt.
     b"\0\x02\0\0\0\x08/queue/q\0\0\0\0\0\x01x",
@@ -59,11 +59,11 @@ const ASKED: [&[u8]; 23] = [
     // To listen under two durable names.
     b"\0\x03\0\0\0\x01f\0\0\0\x08/topic/t\x01\x01\0\0\0\x01n",
     b"\0\x03\0\0\0\x01g\0\0\0\x08/topic/t\x02\x01\0\0\0\x01o",
-    // To give up the durable names, and to listen no more to what it may not listen to.
+    // To give up the durable names, and to stop listening to what it may not listen to.
     b"\0\x04\0\x01\0\0\0\x01n",
     b"\0\x04\0\x01\0\0\0\x01o",
     b"\0\x04\x01\0\0\0\x01b\0",
-    // Nothing, without a receipt and for one.
+    // Nothing, without a receipt and with one.
     b"\0\x08",
     b"\x01\0\0\0\x01r\x08",
     // To end: by itself, with its connection, by a fault.
@@ -72,7 +72,7 @@ const ASKED: [&[u8]; 23] = [
     b"\0\x09\x02\x03",
 ];
 
-// What it may say of a delivery, before its number: to acknowledge it, with a receipt too, to refuse it, and each in a
+// What it may say of a delivery, before the delivery's number: to acknowledge it, with a receipt too, to refuse it, and each in a
 // transaction.
 const SETTLED: [&[u8]; 5] = [
     b"\0\x05",
@@ -82,7 +82,7 @@ const SETTLED: [&[u8]; 5] = [
     b"\0\x07\0\x02\x02\0\0\0\x08/queue/q\0\0\0\0\0\x01m\x06",
 ];
 
-// A session opens, whose number is that of this command.
+// A session opens; its number is that of this command.
 fn open_record(
     alloc: Global,
     opened: &mut Vec<u64>,
@@ -104,7 +104,8 @@ fn request_record(alloc: Global, opened: &[u64], chosen: u64) -> Result<Vec<u8>,
     Ok(record)
 }
 
-// A session and one of its deliveries that wait to be acknowledged, of the first subscription in waiting order that has one.
+// A session and one of its deliveries that wait to be acknowledged. The delivery is of the first subscription in waiting order that has
+// one.
 fn some_delivery(memory: &Broker, chosen: u64) -> Option<(u64, u64)> {
     for at in 0..memory.subscription_count() {
         let subscription = memory.subscription(at);
@@ -126,8 +127,8 @@ fn acknowledgement_record(alloc: Global, memory: &Broker, chosen: u64) -> Result
     Ok(record)
 }
 
-// A session listens no more to one of its subscriptions, or gives up a durable one too. Where there is none it is a note of a
-// session that is not open.
+// A session stops listening to one of its subscriptions, or also gives up a durable one. If there is none, it is a note of a session that
+// is not open.
 fn unsubscribe_record(alloc: Global, memory: &Broker, chosen: u64) -> Result<Vec<u8>, Fail> {
     let count = memory.subscription_count() as u64;
     if count == 0 {
@@ -147,7 +148,7 @@ fn unsubscribe_record(alloc: Global, memory: &Broker, chosen: u64) -> Result<Vec
     Ok(record)
 }
 
-// A record by chance.
+// A random record.
 fn some_record(alloc: Global, script: &mut Script) -> Result<Vec<u8>, Fail> {
     let kind = chance(&mut script.seed);
     let chosen = chance(&mut script.seed);
@@ -176,7 +177,8 @@ fn kind_of(op: &Op) -> usize
     }
 }
 
-// Executes a command on the broker. Answers whether it was one of an open session and not refused, which would have ended it.
+// Executes a command on the broker. It answers whether the command was of an open session and not refused; a refusal would have ended the
+// session.
 fn execute(alloc: Global, memory: &mut Broker, command: Command) -> Result<bool, Fail> {
     let session = command.session();
     let (opens, ends) = match command.op() {
@@ -210,7 +212,7 @@ fn step(alloc: Global, script: &mut Script, record: &[u8]) -> Result<(), Fail> {
     Ok(())
 }
 
-// Adds a command by chance to a batch. The broker in memory carries it out, unless the batch will be lost.
+// Adds a random command to a batch. The broker in memory carries it out, unless the batch will be lost.
 fn push_some(
     alloc: Global,
     batch: &mut Vec<Entry<()>>,
@@ -225,7 +227,7 @@ fn push_some(
     Ok(())
 }
 
-// Twelve commands by chance, which the broker in memory carries out, unless they will be lost.
+// Twelve random commands, which the broker in memory carries out, unless they will be lost.
 fn some_batch(alloc: Global, script: &mut Script, is_in: bool) -> Result<Vec<Entry<()>>, Fail> {
     let mut batch = Vec::new(alloc);
     for _ in 0..12_u8 {
@@ -234,7 +236,7 @@ fn some_batch(alloc: Global, script: &mut Script, is_in: bool) -> Result<Vec<Ent
     Ok(batch)
 }
 
-// Whether the store was opened with the broker in memory.
+// Whether the store was opened with the state of the broker in memory.
 fn is_opened_as(alloc: Global, store: &mut Store<MemDisk>, memory: &Broker) -> Result<bool, Fail> {
     let opened = opened_snapshot(alloc, store)?;
     let is_same = match snapshot(alloc, memory) {
@@ -245,7 +247,7 @@ fn is_opened_as(alloc: Global, store: &mut Store<MemDisk>, memory: &Broker) -> R
     is_same
 }
 
-// What is opened is the broker in memory; then both take so many batches.
+// What is opened is the broker in memory; then both take `batches` batches.
 fn live(
     rt: &impl Abort,
     alloc: Global,
@@ -264,7 +266,7 @@ fn live(
     Ok(())
 }
 
-// The store stops within one more batch, which the broker in memory carries out where it is in.
+// The store stops within one more batch, which the broker in memory carries out if the batch is in.
 fn stop(
     alloc: Global,
     store: Store<MemDisk>,
@@ -278,7 +280,7 @@ fn stop(
     }
 }
 
-// The disk after opening it was stopped at every fourth of the calls, from one of the first four on, until all of them passed.
+// The disk after its opening was stopped at every fourth call, from one of the first four on, until all calls passed.
 fn stopped_openings(
     alloc: Global,
     mut disk: MemDisk,
@@ -296,8 +298,8 @@ fn stopped_openings(
     Err(Fail::from("64 calls are not enough to open a journal"))
 }
 
-// One life of a journal: to open it is stopped again and again, then it is opened, takes up to four batches, and stops within
-// the next. Its number says after how many batches, at which of its calls, and with what fill.
+// One life of a journal. Its opening is stopped again and again; then it is opened, takes up to four batches, and stops within the next.
+// The life's number says after how many batches, at which of the calls, and with what fill.
 fn life(
     rt: &impl Abort,
     alloc: Global,
@@ -317,8 +319,8 @@ fn life(
     }
 }
 
-// Forty lives of a journal. In each five of them all stop with one fill, each at another call and in another batch; no two of
-// the forty are alike.
+// Forty lives of a journal. Each five of them stop with one fill, each life at another call and in another batch. No two of the forty are
+// alike.
 fn lives(rt: &impl Abort, alloc: Global, script: &mut Script) -> Result<(), Fail> {
     let mut disk = MemDisk::new(alloc, 2_097_184)?;
     format(alloc, &mut disk, 1_048_576)?;
@@ -330,8 +332,7 @@ fn lives(rt: &impl Abort, alloc: Global, script: &mut Script) -> Result<(), Fail
     Ok(())
 }
 
-// A thousand commands and more, of each kind some that are not refused: what is opened is the broker in memory after the same
-// commands and restarts.
+// A thousand commands and more, some of each kind not refused. What is opened is the broker in memory after the same commands and restarts.
 #[test]
 fn what_is_opened_is_the_broker_that_did_the_same(rt: HostRuntime) -> Result<(), Fail> {
     let mut script = Script {

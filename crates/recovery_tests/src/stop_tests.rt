@@ -12,7 +12,7 @@ use std::fs;
 use std::process::Abort;
 use std::test::Fail;
 
-// The disk after opening it with so many calls that pass, and whether it was opened. Where it was not, the device failed.
+// The disk after opening it while `passed` calls pass, and whether it was opened. If it was not, the device failed.
 pub(crate) fn stopped_opening(
     alloc: Global,
     disk: MemDisk,
@@ -31,8 +31,8 @@ pub(crate) fn stopped_opening(
     Ok((disk, is_opened))
 }
 
-// A journal with one block behind the snapshot of the empty state, in the area of that number. Each opening writes into the
-// other area, the first into area 1.
+// A journal with one block after the snapshot of the empty state, in the area of that number. Each opening writes into the other area; the
+// first writes into area 1.
 pub(crate) fn journal_in(alloc: Global, area: u8) -> Result<MemDisk, Fail> {
     let disk = match area {
         0 => journal_of(alloc, &[])?,
@@ -57,7 +57,7 @@ fn live_area(alloc: Global, journal: &mut MemDisk) -> Option<u8> {
     }
 }
 
-// Opening that journal with so many calls that pass leaves the state. Answers whether it was opened.
+// Opening that journal while `passed` calls pass leaves the state. It answers whether the journal was opened.
 fn stop_opening(
     rt: &impl Abort,
     alloc: Global,
@@ -86,7 +86,7 @@ fn a_stop_at_each_call_of_opening_leaves_the_state(rt: HostRuntime) -> Result<()
     Ok(())
 }
 
-// The store over a disk that stops after so many calls takes the batch or fails, and the disk is then as the stop left it.
+// The store over a disk that stops after `passed` calls takes the batch or fails. The disk is then as the stop left it.
 pub(crate) fn stopped(
     alloc: Global,
     store: Store<MemDisk>,
@@ -101,7 +101,7 @@ pub(crate) fn stopped(
     disk
 }
 
-// That of a journal that is opened for it.
+// The same for a journal that is opened for it.
 fn stopped_batch(
     alloc: Global,
     journal: MemDisk,
@@ -115,7 +115,7 @@ fn stopped_batch(
     }
 }
 
-// Whether a batch is in where a stop comes after so many calls.
+// Whether a batch is in if a stop comes after `passed` calls.
 pub(crate) fn is_in(passed: u64, fill: Option<u8>) -> bool {
     passed >= 4 || passed >= 2 && fill == Some(1)
 }
@@ -167,7 +167,7 @@ fn fail_and_stay(
     Ok(())
 }
 
-// After a fault the store is broken, and touches the disk no more.
+// After a fault the store is broken, and no longer touches the disk.
 #[test]
 fn a_store_that_failed_stays_broken(rt: HostRuntime) -> Result<(), Fail> {
     let journal = formatted(rt.alloc())?;
@@ -205,7 +205,7 @@ fn append_two(alloc: Global, store: &mut Store<FileDisk>) -> Result<(), Fail> {
     Ok(answer?)
 }
 
-// Of a file no contract knows what it holds.
+// No contract knows what a file holds.
 #[test]
 fn a_store_over_a_file_is_opened_again(rt: HostRuntime) -> Result<(), Fail> {
     let path = "recovery_tests_file";
@@ -229,7 +229,7 @@ fn a_store_over_a_file_is_opened_again(rt: HostRuntime) -> Result<(), Fail> {
 
 const SENDS: [&[u8]; 27] = [SEND; 27];
 
-// A message takes two bytes more in a snapshot than in its record: what fitted as blocks may not fit once it was restarted.
+// A message takes two bytes more in a snapshot than in its record. So what fitted as blocks may not fit once it is restarted.
 #[test]
 fn a_snapshot_that_does_not_fit_is_told(rt: HostRuntime) -> Result<(), Fail> {
     let sends: &[&[u8]] = &SENDS[..26];

@@ -16,9 +16,8 @@ fn write(rt: &impl Abort, disk: &mut MemDisk, at: u64, bytes: &[u8]) -> Result<(
     Ok(())
 }
 
-// A journal whose name has these digits. Its first area is live and begins with this byte, for its version; it has the empty
-// state and one block: a session opens, listens to `/queue/q`, sends there what it is handed, and refuses that. The records
-// have 87 bytes.
+// A journal whose name has these digits. Its first area is live and begins with this byte, for its version. It has the empty state and one
+// block: a session opens, listens to `/queue/q`, sends a message there, is handed it, and refuses it. The records have 87 bytes.
 fn journal(rt: &impl Abort, alloc: Global, digits: &[u8], first: u8) -> Result<MemDisk, Fail> {
     let mut disk = MemDisk::new(alloc, SIZE)?;
     write(rt, &mut disk, 0, b"STOMPJ")?;
@@ -34,16 +33,16 @@ fn journal(rt: &impl Abort, alloc: Global, digits: &[u8], first: u8) -> Result<M
     Ok(disk)
 }
 
-// The digits in a journal's name, the byte that its live area begins with, and what opening it tells: how many commands were
+// The digits in a journal's name, the byte that its live area begins with, and what opening it reports. That is how many commands were
 // carried out, and how many messages are held.
 const JOURNALS: [(&[u8], u8, &str); 7] = [
-    // By the rule of the first version a NACK drops the message, and by that of the second it keeps it. The area decides, not
-    // the name.
+    // By the rule of the first version a NACK drops the message; by that of the second it keeps the message. The area decides, not the
+    // name.
     (b"01", 0, "4 0"),
     (b"02", 2, "4 1"),
     (b"01", 2, "4 1"),
     (b"02", 0, "4 0"),
-    // Other bytes are of no version.
+    // Other bytes belong to no version.
     (b"02", 1, "J2 damaged at 32"),
     (b"02", 3, "J2 damaged at 32"),
     (b"01", 255, "J2 damaged at 32"),
@@ -72,7 +71,7 @@ fn shown(alloc: Global, disk: &mut MemDisk) -> Result<[u64; 6], OpenFault> {
     ])
 }
 
-// What a journal shows before it is opened and then.
+// What a journal shows before it is opened, and after.
 fn shown_twice(alloc: Global, disk: MemDisk) -> Result<([u64; 6], [u64; 6], MemDisk), Fail> {
     let mut disk = disk;
     let before = match shown(alloc, &mut disk) {
@@ -113,7 +112,7 @@ fn opening_makes_a_journal_one_of_the_second_version(rt: HostRuntime) -> Result<
     Ok(())
 }
 
-// A message has 22 bytes in a snapshot beside its destination and body, its queue 8 and its name, and the rest of the state 32.
+// In a snapshot a message has 22 bytes beside its destination and body, its queue has 8 and its name, and the rest of the state has 32.
 #[test]
 fn a_journal_of_the_second_version_keeps_what_was_refused(rt: HostRuntime) -> Result<(), Fail> {
     let new = journal(&rt, rt.alloc(), b"02", 2)?;
@@ -124,7 +123,7 @@ fn a_journal_of_the_second_version_keeps_what_was_refused(rt: HostRuntime) -> Re
     Ok(())
 }
 
-// Opening a journal of the first version, with so many calls that pass, and then again. Answers whether it was opened at first.
+// Opens a journal of the first version while `passed` calls pass, and then again. It answers whether it was opened the first time.
 fn stop_opening(
     rt: &impl Abort,
     alloc: Global,

@@ -2,7 +2,7 @@ use Rattle.std.specs.Prelude.{List, ℕ, Bool, ◌||◌, ◌==◌, ◌∷◌, []
 use Rattle.std.specs.List.{flat_map}
 use Rattle.percent_encoding.specs.Percent.{percent_encode_byte, percent_decode}
 
--- the byte is written by its number: a control, `%`, or no ASCII
+-- the byte is written by its number: it is a control, `%`, or not ASCII
 abbrev pub is_encoded : ℕ → Bool
 is_encoded b = nat_lt b 32 || b == 37 || nat_lt 126 b
 

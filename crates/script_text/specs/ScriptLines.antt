@@ -37,7 +37,7 @@ IsCountAndFill text k b = (k < 2 ^ 64) × (high : ℕ) × (low : ℕ) × AreHexD
 abbrev pub IsNoCountAndFill : List ℕ → Type 0
 IsNoCountAndFill text = (k b : ℕ) → IsCountAndFill text k b → ⊥
 
--- the line is `crash`, a blank and how many calls pass, and where a byte fills, a blank and its digits
+-- the line is `crash`, a blank and how many calls pass, and if a byte fills, a blank and its digits
 abbrev pub IsCrash : List ℕ → ℕ → Option ℕ → Type 0
 IsCrash line k None = (text : List ℕ) × (line ≡ codes "crash " ++ text) × IsCount text k
 IsCrash line k (Some b) = (text : List ℕ) × (line ≡ codes "crash " ++ text) × IsCountAndFill text k b
@@ -71,11 +71,11 @@ IsDigit b = (48 ≤ b) × (b ≤ 57)
 abbrev pub HasDigit : List ℕ → ℕ → Type 0
 HasDigit line n = (n < 10) × (2 ≤ length line) × (line ≡ (48 + n) ∷ 32 ∷ drop 2 line)
 
--- the line begins with no digit and a blank
+-- the line does not begin with a digit and a blank
 abbrev pub HasNoDigit : List ℕ → Type 0
 HasNoDigit line = (n : ℕ) (text : List ℕ) → n < 10 → line ≢ (48 + n) ∷ 32 ∷ text
 
--- these are the two digits of that number of a connection
+-- these are the two digits of a connection with that number
 abbrev pub AreDigits : ℕ → ℕ → ℕ → Type 0
 AreDigits tens units n = (10 ≤ n) × (n < SEATS) × (tens ≡ 48 + n / 10) × (units ≡ 48 + n % 10)
 
@@ -86,6 +86,6 @@ AreNoDigits tens units = (n : ℕ) → AreDigits tens units n → ⊥
 abbrev pub HasDigits : List ℕ → ℕ → Type 0
 HasDigits line n = (10 ≤ n) × (n < SEATS) × (3 ≤ length line) × (line ≡ (48 + n / 10) ∷ (48 + n % 10) ∷ 32 ∷ drop 3 line)
 
--- the line begins with no two digits of a connection's number and a blank
+-- the line does not begin with the two digits of a connection's number and a blank
 abbrev pub HasNoDigits : List ℕ → Type 0
 HasNoDigits line = (n : ℕ) (text : List ℕ) → 10 ≤ n → n < SEATS → line ≢ (48 + n / 10) ∷ (48 + n % 10) ∷ 32 ∷ text

@@ -6,7 +6,7 @@ ghost use Rattle.script_text.specs.PercentTexts.{encoded, decoded};
 use percent_encoding::{AsciiSet, CONTROLS, ascii_set, percent_decode, percent_encode};
 use std::alloc::{AllocError, Global};
 
-// what is written as `%XX`: controls, `%`, and all that is no ASCII
+// what is written as `%XX`: controls, `%`, and all that is not ASCII
 const ESCAPED: AsciiSet = ascii_set!(CONTROLS.add(b'%'));
 
 /// Adds bytes as text: those under 0x20, 0x7F, `%` and those from 0x80 on as `%XX`, the others as they are.

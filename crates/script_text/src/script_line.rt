@@ -13,20 +13,20 @@ use itoa::Buffer;
 pub enum ScriptLine<'a> {
     /// Nothing: the line is empty.
     Blank,
-    /// All waiting commands are made durable and carried out, and their outputs printed.
+    /// All waiting commands are made durable and carried out, and their outputs are printed.
     Flush,
     /// The disk is opened.
     Open,
-    /// The disk stops after so many more calls, within a flush. What was not synced holds this byte then, or without one
-    /// what it held before.
+    /// The disk stops after this many more calls, within a flush. Each unsynced byte then holds the fill, or without one what it held
+    /// before.
     Crash { calls: u64, fill: Option<u8> },
-    /// A connection, whose number is under that of the seats, is gone.
+    /// A connection is gone; its number is less than the number of seats.
     Lose { connection: u8 },
-    /// Such a connection receives what the text stands for.
+    /// A connection with such a number receives the bytes that the text stands for.
     Receive { connection: u8, text: &'a [u8] },
 }
 
-/// Reads a line, which is given without its LF; `None` where it says nothing that a script can say.
+/// Reads a line, which is given without its LF; `None` if it says nothing that a script can say.
 pub fn read_line(line: &[u8]) -> Option<ScriptLine<'_>>
     ensures { MatchOption result (IsOfNoForm line.now) (Says line.now) }
 {
@@ -163,7 +163,7 @@ fn connection_number(text: &[u8]) -> Option<u8>
     }
 }
 
-// the number at the front of a line, where it is one digit with a blank behind it
+// the number at the front of a line, if it is one digit followed by a blank
 fn one_digit(line: &[u8]) -> Option<u8>
     ensures { MatchOption result (HasNoDigit line.now) (HasDigit line.now) }
 {
@@ -173,7 +173,7 @@ fn one_digit(line: &[u8]) -> Option<u8>
     digit(line[0])
 }
 
-// the number of a connection at the front of a line, where it is two digits with a blank behind them
+// the number of a connection at the front of a line, if it is two digits followed by a blank
 fn two_digits(line: &[u8]) -> Option<u8>
     ensures { MatchOption result (HasNoDigits line.now) (HasDigits line.now) }
 {

@@ -1,14 +1,14 @@
--- A worker that waits for its sockets and its bell, and any number of callers that ring for one of its clients. Each step is one atomic step
--- of the code, and the steps of all of them come in any order.
+-- A worker that waits for its sockets and its bell, and any number of callers that ring for one of its clients. Each step is one atomic
+-- step of the code. The steps of all of them come in any order.
 use Rattle.std.specs.Prelude.{◌≡◌, ◌+◌, ◌-◌, ◌<◌, ℕ, Bool, true, false, List, [], ◌∷◌, if◌then◌else◌}
 use Rattle.waker_model.specs.declared.step.Step.{Step}
 use Rattle.waker_model.specs.declared.step.Step.TheVariants.{Note, Ring, RingForOthers, Look, Wake, SayAsleep, Check, Return, SayAwake, TakeRing, TakeCalls}
 use Rattle.waker_model.specs.declared.step.Worker.{Worker}
 use Rattle.waker_model.specs.declared.step.Worker.TheVariants.{Serves, FallsAsleep, Waits, Hurries, Returned, Awake, TakesCalls}
 
--- Whether the client's bit is set, there was a ring, the worker has said that it sleeps, and the system was asked to end its wait; how far the
--- worker has come; and how many callers have set the bit and not rung yet, have rung and not looked whether it sleeps, and have found it
--- asleep and not asked the system yet.
+-- Whether the client's bit is set, there was a ring, the worker has said that it sleeps, and the system was asked to end its wait. How far
+-- the worker has come. How many callers have set the bit but not rung yet; how many have rung but not looked whether the worker sleeps; and
+-- how many have found it asleep but not asked the system yet.
 pub record Machine : Type 0 where
   pub called : Bool
   pub rung : Bool
@@ -23,7 +23,7 @@ pub record Machine : Type 0 where
 abbrev pub begin : Machine
 begin = record { called = false; rung = false; asleep = false; woken = false; worker = Serves; noting = 0; looking = 0; waking = 0 }
 
--- its poll may end
+-- the worker's poll may end
 abbrev pub Polls : Worker → Type 0
 Polls Serves = Unit {0}
 Polls Waits = Unit {0}

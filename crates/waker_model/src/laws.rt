@@ -1,4 +1,4 @@
-//! What is so after whatever steps.
+//! What holds after any steps.
 
 ghost use Rattle.std.specs.Prelude.{◌≡◌, ◌∷◌, [], List, Bool, false, true};
 ghost use Rattle.waker_model.specs.declared.step.Step.{Step};
@@ -7,15 +7,16 @@ ghost use Rattle.waker_model.specs.declared.step.Worker.TheVariants.{Waits};
 ghost use Rattle.waker_model.specs.Machines.{Machine, Runs, begin};
 ghost use Rattle.waker_model.specs.Promises.{IsHeard};
 
-/// After any steps of the worker and of any number of callers, in any order, no call is lost: a client that was called for is found by the
-/// worker before it sleeps, or the system was asked to end its wait. A worker may wait and be called for then (`reached`).
+/// After any steps of the worker and of any number of callers, in any order, no call is lost. The worker finds a client that was called for
+/// before it sleeps, or the system was asked to end its wait. A call may come while the worker waits (`reached`).
 pub fn every_call_is_heard()
     ensures heard { (steps : List Step) (m : Machine) → Runs begin steps m → IsHeard m }
     ensures reached { (m : Machine) × (Runs begin (SayAsleep ∷ Check ∷ Note ∷ Ring ∷ Look ∷ Wake ∷ []) m
         × ((m.worker ≡ Waits) × (m.called ≡ true) × (m.noting ≡ 0))) }
 {}
 
-/// A worker that wakes takes what was called for: after any steps, once its callers are done, the next four steps of the worker alone take it.
+/// A worker that wakes takes what was called for. After any steps, once its callers are done, the next four steps of the worker alone take
+/// it.
 pub fn what_was_called_for_is_taken()
     ensures taken { (steps : List Step) (m n : Machine) (told : Bool) → Runs begin steps m → m.worker ≡ Waits → m.called ≡ true → m.noting ≡ 0
         → Runs m (Return told ∷ SayAwake ∷ TakeRing ∷ TakeCalls ∷ []) n → n.called ≡ false }

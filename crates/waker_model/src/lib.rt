@@ -1,5 +1,5 @@
-//! How a worker's doorbell loses no call: each of its atomic steps, and those of any number of callers, in whatever order. Nothing is run: the
-//! doorbell of `server_core` takes these steps, in this order.
+//! How a worker's doorbell loses no call: each of its atomic steps, and those of any number of callers, in any order. Nothing here is run;
+//! the doorbell of `server_core` takes these steps, in this order.
 
 #![tactic(auto)]
 

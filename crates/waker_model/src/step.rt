@@ -4,7 +4,7 @@
 pub enum Worker {
     /// It serves its clients.
     Serves,
-    /// It has said that it sleeps, and looks next whether there was a ring.
+    /// It has said that it sleeps, and next looks whether there was a ring.
     FallsAsleep,
     /// It waits in the poll, for sockets and for the system's wake.
     Waits,
@@ -12,29 +12,29 @@ pub enum Worker {
     Hurries,
     /// The poll has ended.
     Returned,
-    /// It has said that it is awake, and takes the ring back next.
+    /// It has said that it is awake, and next takes the ring back.
     Awake,
-    /// It has taken a ring back, and takes the calls next.
+    /// It has taken a ring back, and next takes the calls.
     TakesCalls,
 }
 
-/// One atomic step: of a caller the first five, of the worker the others.
+/// One atomic step: the first five are a caller's, the others the worker's.
 pub enum Step {
     /// A caller sets the bit of the client.
     Note,
     /// A caller that has set the bit says that there was a ring.
     Ring,
-    /// One that calls for another client, or for none, says so.
+    /// A caller that calls for another client, or for none, says that there was a ring.
     RingForOthers,
-    /// One that has rung looks whether the worker sleeps, and says that it does not.
+    /// A caller that has rung looks whether the worker sleeps, and marks it as not asleep.
     Look,
-    /// One that found it asleep asks the system to end its wait.
+    /// A caller that found the worker asleep asks the system to end its wait.
     Wake,
     /// The worker says that it sleeps.
     SayAsleep,
     /// It looks whether there was a ring.
     Check,
-    /// Its poll ends: at any time, and at once if it does not wait. It may have told of the system's wake, which is gone then.
+    /// Its poll ends: at any time, and at once if it does not wait. The poll may report the system's wake, which is then gone.
     Return(bool),
     /// It says that it is awake.
     SayAwake,

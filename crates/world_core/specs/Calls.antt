@@ -21,14 +21,14 @@ use Rattle.world_core.specs.Limits.{most_counted}
 use Rattle.world_core.specs.Readings.{Reading}
 use Rattle.world_core.specs.Worlds.{DiskValue, WorldValue, between}
 
--- Where the next call of a list leads when it succeeds, by the place where the world is. None where it may not come.
+-- Where the next call of a list leads if it succeeds, by the place where the world is. `None` if the call may not come.
 
--- A snapshot is written with its length and a closed gate, in pieces of 65,536 bytes, of which the last may be shorter: so far a
--- piece goes that begins behind so many bytes of the whole.
+-- A snapshot is written with its length and a closed gate, in pieces of 65,536 bytes, the last of which may be shorter. This is how far a
+-- piece goes that begins after `done` bytes of the whole.
 abbrev pub piece_end : ℕ → ℕ → ℕ
 piece_end done whole = min (done + 65536) whole
 
--- a block is written behind the closed gate and synced, and then its gate; it has all that is taken when it is written
+-- a block is written behind the closed gate and synced, and then its gate; the block has all that is taken when it is written
 abbrev pub append_writes : ℕ → Place → Option Place
 append_writes taken Rest = Some (BlockWritten taken)
 append_writes taken CopySynced = Some (BlockWritten taken)
@@ -40,7 +40,7 @@ append_syncs (BlockWritten to) = Some (BlockSynced to)
 append_syncs (GateWritten to) = Some Rest
 append_syncs at = None
 
--- a snapshot of the state as it is may be written where no list is under way
+-- a snapshot of the state as it is may be written if no list is under way
 abbrev pub copy_writes : ℕ → Place → Option Place
 copy_writes whole Rest = Some (Copying (piece_end 0 whole) whole)
 copy_writes whole CopySynced = Some (Copying (piece_end 0 whole) whole)
@@ -52,7 +52,7 @@ abbrev pub copy_syncs : Place → Option Place
 copy_syncs (Copying done all) = if nat_lt done all then None else Some CopySynced
 copy_syncs at = None
 
--- the areas are switched right behind that, and at no other time
+-- the areas are switched right after that, and at no other time
 abbrev pub switch_writes : Place → Option Place
 switch_writes CopySynced = Some SwitchWritten
 switch_writes at = None
@@ -61,8 +61,8 @@ abbrev pub switch_syncs : Place → Option Place
 switch_syncs SwitchWritten = Some Rest
 switch_syncs at = None
 
--- The list of Open may begin at rest and when broken, behind a snapshot and between two of its pieces; and anew after its first
--- sync, after a read and between two pieces.
+-- The list of Open may begin at rest and when broken, after a snapshot, and between two of its pieces. It may begin anew after its first
+-- sync, after a read, and between two pieces.
 abbrev pub open_syncs : Place → Option Place
 open_syncs Rest = Some OpenSynced
 open_syncs Broken = Some OpenSynced
@@ -85,15 +85,15 @@ open_writes whole (SnapshotWriting done all) = if nat_lt done all then Some (Sna
 open_writes whole SnapshotSynced = Some SelectorWritten
 open_writes whole at = None
 
--- What is written of the state that is read, its sessions included, and of what a restart leaves of it: an area of the second
--- version.
+-- What is written of the state that is read, its sessions included, and of what a restart leaves of that state. Each is an area of the
+-- second version.
 abbrev pub copy_of : Reading → List ℕ
 copy_of r = closed_snapshot Two (snapshot_of r.state)
 
 abbrev pub rest_of : Reading → List ℕ
 rest_of r = closed_snapshot Two (snapshot_of (restarted r.state))
 
--- where this is read of the disk
+-- the same, if this is read of the disk
 abbrev pub leads : WorldValue → Reading → CallList → CallKind → Option Place
 leads w r Append Read = None
 leads w r Append Write = append_writes w.taken w.place
@@ -112,26 +112,26 @@ leads w r Open Sync = open_syncs w.place
 abbrev pub batch : WorldValue → ℕ → List CommandValue
 batch w to = between w.base w.history w.stored to
 
--- there is something to store under that number, and its block fits with the gate behind it
+-- there is something to store under that number, and its block fits with the gate after it
 pub record MayStore (w : WorldValue) (r : Reading) (to : ℕ) : Type 0 where
   pub some : w.stored < to
   pub fits : r.gate + 10 + length (records (batch w to)) ≤ w.disk.size
 
--- The state that is read has a snapshot, which fits into an area of this length with the gate behind it, and its count is not too
--- large for a journal to be opened again.
+-- The state that is read has a snapshot, which fits into an area of this length with the gate after it. The state's count is not too large
+-- for the journal to be opened again.
 pub record CanCopy (size : ℕ) (r : Reading) : Type 0 where
   pub low : r.state.count ≤ most_counted
   pub spelled : Spells (snapshot_of r.state) r.state
   pub fits : length (snapshot_of r.state) + 9 ≤ size
 
--- A new life may begin with the count of what was read, and what a restart leaves of that has a snapshot, which fits into an
--- area of this length with the gate behind it.
+-- A new life may begin with the count of what was read. What a restart leaves of that has a snapshot, which fits into an area of this
+-- length with the gate after it.
 pub record CanRestart (size : ℕ) (r : Reading) : Type 0 where
   pub low : r.state.count ≤ most_counted
   pub spelled : Spells (snapshot_of (restarted r.state)) (restarted r.state)
   pub fits : length (snapshot_of (restarted r.state)) + 9 ≤ size
 
--- what a call asks for that leads to a place
+-- what a call that leads to a place asks for
 abbrev pub MayLead : WorldValue → Reading → Place → Type 0
 MayLead w r (BlockWritten to) = MayStore w r to
 MayLead w r (Copying done all) = CanCopy w.disk.size r
@@ -160,12 +160,12 @@ done_at (Copying done all) = done
 done_at (SnapshotWriting done all) = done
 done_at at = 0
 
--- these bytes from one place on and before another, written where the whole of them begins
+-- these bytes from one place on up to another, with the place where the whole of them begins
 abbrev pub piece : ℕ → ℕ → ℕ → List ℕ → Patch
 piece begins from to bytes = patch (begins + from) (take (to - from) (drop from bytes))
 
--- What the write that leads to a place writes: a block and the next gate, the block's own gate as 1, a piece of a snapshot, or
--- the selector plus 1.
+-- What the write that leads to a place writes. It is a block and the next gate, the block's own gate as 1, a piece of a snapshot, or the
+-- selector plus 1.
 abbrev pub patch_to : WorldValue → Reading → Place → Patch
 patch_to w r (BlockWritten to) = patch (gate_of w.disk r + 1) (closed (records (batch w to)))
 patch_to w r (GateWritten to) = patch (gate_of w.disk r) (1 ∷ [])
@@ -175,7 +175,7 @@ patch_to w r (SnapshotWriting done all) = piece (idle_of w.disk) (done_at w.plac
 patch_to w r SelectorWritten = patch 16 (((slice_index w.disk.content 16 + 1) % 256) ∷ [])
 patch_to w r to = patch 0 []
 
--- the disk once these bytes are written, which are unsynced then
+-- the disk once these bytes are written, and so unsynced
 abbrev pub wrote : DiskValue → Patch → DiskValue
 wrote d p = record d { content = patched p.at p.bytes d.content; held = held_over p.at (length p.bytes) d.held d.content }
 
@@ -183,7 +183,7 @@ wrote d p = record d { content = patched p.at p.bytes d.content; held = held_ove
 abbrev pub synced : DiskValue → DiskValue
 synced d = record d { held = none_held (length d.content) }
 
--- the disk after a call: a write that fails leaves its range unsynced too, and a sync that fails makes nothing stable
+-- the disk after a call: even a write that fails leaves its range unsynced, and a sync that fails makes nothing stable
 abbrev pub disk_after : WorldValue → Reading → CallKind → Bool → Place → DiskValue
 disk_after w r Read ok to = w.disk
 disk_after w r Write ok to = wrote w.disk (patch_to w r to)
@@ -193,7 +193,7 @@ disk_after w r Sync false to = w.disk
 abbrev pub with_disk : WorldValue → DiskValue → WorldValue
 with_disk w d = record w { disk = d }
 
--- after a call that fails the list is broken off
+-- a call that fails breaks the list off
 abbrev pub place_after : Bool → Place → Place
 place_after true to = to
 place_after false to = Broken
@@ -203,12 +203,12 @@ abbrev pub stored_after : ℕ → Place → Bool → ℕ
 stored_after stored (GateWritten to) true = to
 stored_after stored at ok = stored
 
--- a list of Open that begins ends the running life
+-- the beginning of a list of Open ends the running life
 abbrev pub phase_after : CallList → Phase → Phase
 phase_after Open Running = Reopening
 phase_after list phase = phase
 
--- the world after a call from a place, which leads to another when it succeeds
+-- the world after a call from a place, which leads to another if it succeeds
 abbrev pub called : WorldValue → Reading → Call → Place → Option Place → WorldValue
 called w r call at None = w
 called w r call at (Some to) = record w {

@@ -30,7 +30,7 @@ open_of seat = count_by (nat_le seat.seen) seat.own
 abbrev pub last_of : List ℕ → Option ℕ
 last_of own = slice_get own (length own - 1)
 
--- the last command is ready, where there is one
+-- the last command is ready, if there is one
 abbrev pub IsReady : WorldValue → Option ℕ → Type 0
 IsReady w None = Unit {0}
 IsReady w (Some number) = slice_get w.ready (number - w.base) ≡ Some true
@@ -40,7 +40,7 @@ abbrev pub IsPending : WorldValue → Option ℕ → Type 0
 IsPending w None = ⊥
 IsPending w (Some number) = slice_get w.ready (number - w.base) ≡ Some false
 
--- the seat may claim one command more
+-- the seat may claim one more command
 pub record MayClaim (w : WorldValue) (seat : Seat) : Type 0 where
   pub near : seat.seen < far
   pub room : open_of seat < WINDOW
@@ -50,7 +50,7 @@ pub record MayClaim (w : WorldValue) (seat : Seat) : Type 0 where
 abbrev pub CanClaim : WorldValue → ℕ → Type 0
 CanClaim w j = (w.phase ≡ Running) × IsSomeAnd (slice_get w.seats j) (MayClaim w)
 
--- When an event is possible in a world of whose disk this is read.
+-- When an event is possible in a world, if this is read of its disk.
 abbrev pub Possible : WorldValue → Reading → Event → Type 0
 Possible w r (Look j) = AreThere w.phase × (j < length w.seats)
 Possible w r (Claim j command) = CanClaim w j × HasRecord command
@@ -106,7 +106,7 @@ reopened w s = record {
   disk = w.disk;
 }
 
--- The world after an event that is possible, where this was read of its disk.
+-- The world after an event that is possible, if this was read of its disk.
 abbrev pub after : WorldValue → Reading → Event → WorldValue
 after w r (Look j) = record w { seats = with_seat (looks w.mark) j (slice_get w.seats j) w.seats }
 after w r (Claim j command) = record (with_number w j) { history = w.history ++ command ∷ [] }

@@ -35,8 +35,8 @@ log_of w = record { base = w.base; opening = w.opening; history = w.history; sto
 abbrev pub upto : Log → ℕ → State
 upto log n = state_under log.base log.opening log.history n
 
--- An image stands for the state after what is stored or more, not more than is taken; or, once the life has ended, for one
--- with the same restart.
+-- An image stands for the state after what is stored, or after more, but not more than is taken. Once the life has ended, it may instead
+-- stand for a state with the same restart.
 pub record HasPrefix (log : Log) (size : ℕ) (c : List ℕ) : Type 0 where
   pub number : ℕ
   pub stored : log.stored ≤ number
@@ -68,8 +68,8 @@ pub record Staged (log : Log) (d : DiskValue) (to : ℕ) : Type 0 where
   pub room : reading.gate + 10 + length (records (between log.base log.history log.stored to)) ≤ d.size
   pub content : d.content ≡ patched (start d.size (is_odd was_read.selector) + reading.gate + 1) (closed (records (between log.base log.history log.stored to))) before
 
--- Of these bytes the first so many stand in the idle area, and so many are all. A stop leaves any bytes in that area, and nothing
--- else but what is read.
+-- Of these bytes, which are `all` in number, the first `done` stand in the idle area. A stop may leave any bytes in that area, and
+-- elsewhere only what is read.
 pub record Copies (d : DiskValue) (bytes : List ℕ) (done all : ℕ) : Type 0 where
   pub whole : all ≡ length bytes
   pub within : done ≤ all
@@ -86,7 +86,7 @@ pub record Copied (log : Log) (d : DiskValue) (done all : ℕ) : Type 0 where
   pub can : CanCopy d.size reading
   pub copies : Copies d (copy_of reading) done all
 
--- and all of it
+-- and all of it stands there
 pub record HasCopy (log : Log) (d : DiskValue) : Type 0 where
   pub running : log.phase ≡ Running
   pub reading : Reading
@@ -122,7 +122,7 @@ pub record Restarted (d : DiskValue) : Type 0 where
 abbrev pub IsStill : DiskValue → Type 0
 IsStill d = d.held ≡ none_held (length d.content)
 
--- what is known of the disk, by the call that was made last
+-- what is known of the disk, by the last call that was made
 abbrev pub IsAt : Log → DiskValue → Place → Type 0
 IsAt log d Rest = IsStill d × Exact log d log.stored
 IsAt log d Broken = Unit {0}
@@ -139,7 +139,7 @@ IsAt log d SnapshotSynced = IsStill d × (log.phase ≢ Running) × Prepared d
 IsAt log d SelectorWritten = (log.phase ≢ Running) × Restarted d
 IsAt log d Opened = IsStill d × (log.phase ≢ Running) × Restarted d
 
--- what each event keeps, and what is promised follows from
+-- what each event keeps; what is promised follows from it
 pub record IsKept (w : WorldValue) : Type 0 where
   pub least : 4096 ≤ w.disk.size
   pub most : w.disk.size ≤ 1048576

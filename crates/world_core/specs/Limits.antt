@@ -1,7 +1,7 @@
 -- The limits of a world.
 use Rattle.std.specs.Prelude.{ℕ, ◌^◌}
 
--- a seat that saw a mark so high claims nothing more
+-- a seat that saw a mark this high claims nothing more
 abbrev pub far : ℕ
 far = 2 ^ 60
 

@@ -1,4 +1,4 @@
--- What sessions were told in a life, and what the images of a disk have to keep of it.
+-- What sessions were told in a life, and what of it the images of a disk have to keep.
 use Rattle.std.specs.Prelude.{◌≡◌, ℕ, zero, suc, ◌+◌, ◌-◌, ◌<◌, ◌≤◌, List, [], ◌∷◌, length, All}
 use Rattle.command_core.specs.Commands.{CommandValue}
 use Rattle.broker_core.specs.Operations.{restarted}
@@ -8,8 +8,8 @@ use Rattle.world_core.specs.declared.place.Phase.{Phase}
 use Rattle.world_core.specs.declared.place.Phase.TheVariants.{Running}
 use Rattle.world_core.specs.Worlds.{state_under}
 
--- A life as far as it is promised of: its first number and its opening state, the claimed commands, the numbers under which
--- they are taken, and told of to sessions, and the released numbers of this life and of those before it.
+-- A life, as far as the promises speak of it: its first number, its opening state, and the claimed commands. Then the number under which
+-- commands are taken, and the one under which sessions were told of them. Then the released numbers of this life, and of those before it.
 pub record Life : Type 0 where
   pub base : ℕ
   pub opening : State
@@ -24,8 +24,8 @@ pub record Life : Type 0 where
 abbrev pub state_of_life : Life → ℕ → State
 state_of_life life n = state_under life.base life.opening life.history n
 
--- An image has a prefix of the history, with all that sessions were told of: it stands for the state after those commands,
--- or in a life that has ended for one with the same restart.
+-- An image has a prefix of the history, with all that sessions were told of. It stands for the state after those commands; if the life has
+-- ended, it may instead stand for a state with the same restart.
 pub record IsPrefixKept (life : Life) (image : List ℕ) : Type 0 where
   pub number : ℕ
   pub told : life.mark ≤ number
@@ -35,20 +35,20 @@ pub record IsPrefixKept (life : Life) (image : List ℕ) : Type 0 where
   pub same : restarted state ≡ restarted (state_of_life life number)
   pub running : life.phase ≡ Running → state ≡ state_of_life life number
 
--- Each of these images does, what is taken was claimed, and all released numbers are under what the images have.
+-- Each of these images has such a prefix. What is taken was claimed, and all released numbers are under what the images have.
 pub record HoldsOn (life : Life) (images : List ℕ → Type 0) : Type 0 where
   pub each : (image : List ℕ) → images image → ∥ IsPrefixKept life image ∥₁
   pub claimed : life.taken ≤ life.base + length life.history
   pub released : All (λ n. n < life.mark) life.released
   pub earlier : All (λ n. n < life.base) life.earlier
 
--- so many numbers, from one on
+-- this many numbers, from one on
 abbrev pub numbers : ℕ → ℕ → List ℕ
 numbers from zero = []
 numbers from (suc k) = from ∷ numbers (from + 1) k
 
--- What running threads show once they have ended: the history of the ring, the flusher's opening state, how many were taken
--- and published, and as released all numbers under the greatest mark that a session has read.
+-- What running threads show once they have ended: the history of the ring, the flusher's opening state, and how many commands were taken
+-- and published. Released are all numbers under the greatest mark that a session has read.
 abbrev pub shown : ℕ → State → List CommandValue → ℕ → ℕ → ℕ → Life
 shown base opening history taken published seen = record {
   base = base;

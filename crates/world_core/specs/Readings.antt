@@ -7,8 +7,7 @@ use Rattle.area_core.specs.Areas.{front}
 use Rattle.area_core.specs.Journals.{Reads}
 use Rattle.recover_core.specs.Standing.{Leads}
 
--- the version of the live area, where its first closed gate is, from the area's first byte on, and the state that the disk
--- stands for
+-- the version of the live area, where its first closed gate is, counted from the area's first byte, and the state that the disk stands for
 pub record Reading : Type 0 where
   pub version : Version
   pub gate : ℕ

@@ -21,7 +21,7 @@ use Rattle.world_core.specs.Worlds.{WorldValue}
 abbrev pub formatted : ℕ → List ℕ
 formatted size = patched 0 (header Two size ++ replicate 16 0) (patched 32 (closed_snapshot Two first_snapshot) (replicate (32 + 2 * size) 0))
 
--- and opening then: the second area has the empty state too, and the selector names it
+-- and what opening then leaves: the second area has the empty state too, and the selector names it
 abbrev pub opened_once : ℕ → List ℕ
 opened_once size = patched 16 (1 ∷ []) (patched (32 + size) (closed_snapshot Two first_snapshot) (formatted size))
 
@@ -44,7 +44,7 @@ first size = record {
   disk = record { size = size; content = opened_once size; held = none_held (32 + 2 * size) };
 }
 
--- these commands in one block, and no block where there are none
+-- these commands in one block, and no block if there are none
 abbrev pub one_block : List CommandValue → List (List CommandValue)
 one_block [] = []
 one_block (command ∷ commands) = (command ∷ commands) ∷ []
@@ -53,7 +53,7 @@ one_block (command ∷ commands) = (command ∷ commands) ∷ []
 abbrev pub old_area : List CommandValue → List ℕ
 old_area commands = front One first_snapshot (one_block commands) ++ 0 ∷ []
 
--- these commands have records, and such an area has at most so many bytes
+-- these commands have records, and such an area has at most `size` bytes
 pub record FitsOld (size : ℕ) (commands : List CommandValue) : Type 0 where
   pub each : AllByRecursion HasRecord commands
   pub fits : length (old_area commands) ≤ size
@@ -62,7 +62,7 @@ pub record FitsOld (size : ℕ) (commands : List CommandValue) : Type 0 where
 abbrev pub old_journal : ℕ → List CommandValue → List ℕ
 old_journal size commands = patched 0 (header One size ++ replicate 16 0) (patched 32 (old_area commands) (replicate (32 + 2 * size) 0))
 
--- a life that ended with that state by a crash, which left these bytes
+-- a life that a crash ended, with that state; the crash left these bytes
 abbrev pub crashed : ℕ → State → List ℕ → WorldValue
 crashed size s content = record {
   base = s.count;
@@ -81,16 +81,16 @@ crashed size s content = record {
   disk = record { size = size; content = content; held = none_held (32 + 2 * size) };
 }
 
--- The world of a journal of the first version, as after a crash: its life ended with the state that its blocks lead to by the
--- old rule of NACK.
+-- The world of a journal of the first version, as after a crash. Its life ended with the state that its blocks lead to by the old rule of
+-- NACK.
 abbrev pub first_old : ℕ → List CommandValue → WorldValue
 first_old size commands = crashed size (state_after_v1 empty_state commands) (old_journal size commands)
 
--- a world that schedules begin with: that of an empty journal, or that of one of the first version
+-- a world that schedules begin with: that of an empty journal, or that of a journal of the first version
 abbrev pub IsFirst : ℕ → WorldValue → Type 0
 IsFirst size w = (w ≡ first size) ⊎ ((commands : List CommandValue) × FitsOld size commands × (w ≡ first_old size commands))
 
--- A list of events leads from a world to another; one that is not possible changes nothing.
+-- A list of events leads from one world to another; an event that is not possible changes nothing.
 abbrev pub Reaches : WorldValue → List Event → WorldValue → Type 0
 Reaches old [] new = new ≡ old
 Reaches old (event ∷ events) new = (answer : Bool) × (mid : WorldValue) × Answers old event answer mid × Reaches mid events new

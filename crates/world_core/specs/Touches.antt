@@ -14,11 +14,11 @@ use Rattle.world_core.specs.Events.{reopened}
 use Rattle.world_core.specs.Readings.{IsRead, Reading}
 use Rattle.world_core.specs.Worlds.{DiskValue, WorldValue}
 
--- the bytes from one place on and before another are there
+-- the bytes from one place on up to another are there
 abbrev pub HasPiece : ℕ → ℕ → List ℕ → Type 0
 HasPiece from to bytes = (from ≤ to) × (to ≤ length bytes)
 
--- a block has all that is taken, and a piece is of what there is to write
+-- a block has all that is taken, and a piece is a part of what there is to write
 abbrev pub IsDue : WorldValue → Place → Type 0
 IsDue w (BlockWritten to) = to ≡ w.taken
 IsDue w (Copying done all) = (r : Reading) → IsRead w.disk.size w.disk.content r → HasPiece (done_at w.place) done (copy_of r)
@@ -33,13 +33,13 @@ LeadsTo w list kind to = (r : Reading) → IsRead w.disk.size w.disk.content r �
 abbrev pub LeadsNowhere : WorldValue → CallList → CallKind → Type 0
 LeadsNowhere w list kind = (r : Reading) → IsRead w.disk.size w.disk.content r → IsSomeAnd (leads w r list kind) (MayLead w r) → ⊥
 
--- it may be the write of a snapshot, whose length is read
+-- the call may be the write of a snapshot, whose length is read
 abbrev pub writes_snapshot : CallList → CallKind → Bool
 writes_snapshot Snapshot Write = true
 writes_snapshot Open Write = true
 writes_snapshot list kind = false
 
--- but for these, it leads there whatever is read
+-- but for these, the call leads there whatever is read
 abbrev pub IsLead : WorldValue → CallList → CallKind → Option Place → Type 0
 IsLead w list kind found = writes_snapshot list kind ≡ false → (r : Reading) → found ≡ leads w r list kind
 
@@ -47,7 +47,7 @@ IsLead w list kind found = writes_snapshot list kind ≡ false → (r : Reading)
 abbrev pub IsPatch : WorldValue → Place → ℕ → List ℕ → Type 0
 IsPatch w to at bytes = (r : Reading) → IsRead w.disk.size w.disk.content r → MayLead w r to × (patch at bytes ≡ patch_to w r to)
 
--- a block of these records stands behind that gate, and fits with the gate behind it
+-- a block of these records stands behind that gate, and fits with the gate after it
 abbrev pub IsBlockPatch : DiskValue → ℕ → List ℕ → ℕ → List ℕ → Type 0
 IsBlockPatch d gate records at bytes =
     (at ≡ start d.size (is_odd (slice_index d.content 16)) + gate + 1) × (bytes ≡ closed records) × (gate + 10 + length records ≤ d.size)
@@ -61,6 +61,6 @@ abbrev pub IsTouched : WorldValue → CallKind → Bool → Place → Bool → W
 IsTouched old kind ok to answer new =
     (r : Reading) → IsRead old.disk.size old.disk.content r → MatchBool answer (MayLead old r to × (new ≡ with_disk old (disk_after old r kind ok to))) ((MayLead old r to → ⊥) × (new ≡ old))
 
--- a new life, where the released numbers have gone to the earlier ones
+-- a new life, once the released numbers have gone to the earlier ones
 abbrev pub begun : WorldValue → State → WorldValue
 begun w s = record (reopened w s) { earlier = w.earlier }

@@ -7,8 +7,8 @@ use Rattle.world_core.specs.declared.seat.Seat.{Seat}
 use Rattle.world_core.specs.declared.place.Place.{Place}
 use Rattle.world_core.specs.declared.place.Phase.{Phase}
 
--- A disk: the bytes of each of its two areas, what a read gives, and of each byte that was written since the last sync
--- what it held then.
+-- A disk: the bytes of each of its two areas, what a read gives, and what each byte that was written since the last
+-- sync held then.
 pub record DiskValue : Type 0 where
   pub size : ℕ
   pub content : List ℕ
@@ -22,7 +22,7 @@ pub record WorldValue : Type 0 where
   -- the claimed commands, by number from the base on, and which of them are ready
   pub history : List CommandValue
   pub ready : List Bool
-  -- the commands under these numbers are taken by the flusher, are known to be stored, and are told of to sessions
+  -- the commands under these numbers are taken by the flusher; known to be stored; and known to sessions
   pub taken : ℕ
   pub stored : ℕ
   pub mark : ℕ
@@ -43,6 +43,6 @@ claimed w = w.base + length w.history
 abbrev pub state_under : ℕ → State → List CommandValue → ℕ → State
 state_under base opening history n = state_after opening (take (n - base) history)
 
--- the commands of a history from a number on and under another
+-- the commands of a history from one number on, and under another
 abbrev pub between : ℕ → List CommandValue → ℕ → ℕ → List CommandValue
 between base history low high = take (high - low) (drop (low - base) history)

@@ -12,10 +12,10 @@ use crate::parts::Parts;
 use crate::{CallKind, CallList, Phase, Place};
 use std::alloc::{AllocError, Global};
 
-// A snapshot is written in pieces of so many bytes, of which the last may be shorter.
+// A snapshot is written in pieces of this many bytes, the last of which may be shorter.
 const PIECE_BYTES: u64 = 65_536;
 
-// How far the piece goes that begins behind so many bytes of the whole.
+// How far the piece goes that begins after `done` bytes of the whole.
 fn piece_end(done: u64, whole: u64) -> u64
     ensures { result ≡ piece_end done whole }
 {
@@ -115,7 +115,7 @@ fn open_writes(whole: u64, place: Place) -> Option<Place>
     }
 }
 
-// Whether it may be the write of a snapshot, for which it takes the length of that to know where it leads.
+// Whether it may be the write of a snapshot; where that leads depends on the snapshot's length.
 fn writes_snapshot(list: CallList, kind: CallKind) -> bool
     ensures { result ≡ writes_snapshot list kind }
 {
@@ -126,7 +126,7 @@ fn writes_snapshot(list: CallList, kind: CallKind) -> bool
 }
 
 impl Parts {
-    // Where the next call leads when it succeeds, but for the writes of snapshots.
+    // Where the next call leads if it succeeds, but for the writes of snapshots.
     fn place_leads(&self, list: CallList, kind: CallKind) -> Option<Place>
         ensures { IsLead (value_of self.now) list kind result }
     {
@@ -142,7 +142,7 @@ impl Parts {
         }
     }
 
-    // Where the next write of a snapshot of the state as it is leads, or none where it may not come.
+    // Where the next write of a snapshot of the state as it is leads, or `None` if it may not come.
     fn copy_leads(&self, alloc: Global) -> Result<Option<Place>, AllocError>
         requires { IsKept (value_of self.now) }
         ensures some { IfOk result (λ found. IfSome found (LeadsTo (value_of self.now) Snapshot Write)) }
@@ -158,7 +158,7 @@ impl Parts {
         }
     }
 
-    // Where the next write of an opening leads, or none where it may not come.
+    // Where the next write of an opening leads, or `None` if it may not come.
     fn open_leads(&self, alloc: Global) -> Result<Option<Place>, AllocError>
         requires { IsKept (value_of self.now) }
         ensures some { IfOk result (λ found. IfSome found (LeadsTo (value_of self.now) Open Write)) }
@@ -177,7 +177,7 @@ impl Parts {
         }
     }
 
-    // Where the next call of a list leads when it succeeds, or none where it may not come.
+    // Where the next call of a list leads if it succeeds, or `None` if it may not come.
     pub(crate) fn leads(
         &self,
         alloc: Global,

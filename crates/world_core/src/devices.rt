@@ -20,7 +20,7 @@ use std::alloc::{AllocError, Global};
 use std::snapshot::Snapshot;
 
 impl Parts {
-    // Writes over a range of the disk, which is unsynced then.
+    // Writes over a range of the disk, which is then unsynced.
     fn put(&mut self, at: usize, bytes: &[u8])
         requires sizes { length self.old.held.items ≡ length self.old.content.items }
         requires within { at + length bytes.now ≤ length self.old.content.items }
@@ -29,7 +29,7 @@ impl Parts {
         overwrite(&mut self.content, &mut self.held, at, bytes);
     }
 
-    // Writes what the write that leads to a place writes, where it may come.
+    // Writes what the write that leads to a place writes, if it may come.
     fn write(&mut self, alloc: Global, ok: bool, to: Place) -> Result<bool, AllocError>
         requires kept { IsKept (value_of self.old) }
         requires due { IsDue (value_of self.old) to }
@@ -43,7 +43,7 @@ impl Parts {
         Ok(true)
     }
 
-    // Makes all stable, where it succeeds.
+    // Makes all stable, if it succeeds.
     fn sync(&mut self, ok: bool)
         requires sizes { length self.old.held.items ≡ length self.old.content.items }
         ensures ok { ok ≡ true → value_of self.new ≡ with_disk (value_of self.old) (synced (disk_of self.old)) }
@@ -54,7 +54,7 @@ impl Parts {
         }
     }
 
-    // Makes a call on the disk that leads to a place when it succeeds, where it may come.
+    // Makes a call on the disk, if it may come. If the call succeeds, it leads to a place.
     fn touch(&mut self, alloc: Global, call: Call, to: Place) -> Result<bool, AllocError>
         requires kept { IsKept (value_of self.old) }
         requires leads { LeadsTo (value_of self.old) call.list call.kind to }
@@ -107,7 +107,7 @@ impl Parts {
         self.place = Place::Rest;
     }
 
-    // It begins, and the released numbers go to the earlier ones.
+    // A new life begins, and the released numbers go to the earlier ones.
     fn begin_behind(&mut self, broker: &Broker) -> Result<bool, AllocError>
         ensures ok { IfOk result (λ begun. (begun ≡ true) × (value_of self.new ≡ reopened (value_of self.old) broker.now.state)) }
         ensures err { OnErr result (value_of self.new ≡ value_of self.old) }

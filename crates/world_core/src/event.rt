@@ -8,13 +8,13 @@ use frame_core::Bytes;
 pub enum CallList {
     /// A block is added: written, synced, and its gate written and synced.
     Append,
-    /// A snapshot of the state as it is, its sessions included, is written into the area that is not live, piece by piece, and
-    /// synced. It begins where no list is under way.
+    /// A snapshot of the state as it is, its sessions included, is written into the area that is not live, piece by piece, and synced. It
+    /// begins only if no list is under way.
     Snapshot,
-    /// The area with that snapshot is made live: the selector is written and synced. It comes right behind Snapshot.
+    /// The area with that snapshot is made live: the selector is written and synced. This comes right after Snapshot.
     Switch,
-    /// A journal is opened: a sync, reads, a snapshot of what a restart leaves written and synced, the selector written and
-    /// synced.
+    /// A journal is opened: a sync, then reads. Then a snapshot of what a restart leaves is written and synced, and the selector is written
+    /// and synced.
     Open,
 }
 
@@ -23,7 +23,7 @@ pub enum CallList {
 pub enum CallKind {
     /// Bytes are read.
     Read,
-    /// Bytes are written, and not stable yet.
+    /// Bytes are written, and are not stable yet.
     Write,
     /// All that was written becomes stable.
     Sync,
@@ -33,7 +33,7 @@ pub enum CallKind {
 /// nothing stable.
 #[derive(Clone, Copy, Debug)]
 pub struct Call {
-    /// The list that it is of.
+    /// The list that the call is of.
     pub list: CallList,
     /// What kind of call it is.
     pub kind: CallKind,
@@ -52,15 +52,15 @@ pub enum Event {
     Ready(usize),
     /// The flusher takes the next command.
     Take,
-    /// The flusher, or one that opens the journal, calls the device.
+    /// The flusher, or whatever opens the journal, calls the device.
     Device(Call),
     /// The flusher raises the mark to a number.
     Raise(u64),
-    /// A session releases what waits for a number.
+    /// A session releases an output that waited for a number.
     Release(usize, u64),
     /// The flusher stops the ring.
     Stop,
-    /// All stops, and the disk is started again with these bytes.
+    /// Everything stops, and the disk is started again with these bytes.
     Crash(Bytes),
     /// Opening the journal has ended, and a new life begins.
     Open,

@@ -27,7 +27,7 @@ fn zeros(alloc: Global, count: usize) -> Result<Vec<u8>, AllocError>
     Ok(bytes)
 }
 
-// The first area begins so.
+// Puts these at the front of the disk and of the first area.
 fn put_first(bytes: &mut [u8], size: u64, head: &[u8], front: &[u8])
     requires room { length bytes.old ≡ 32 + 2 * size }
     requires head { length head.now ≤ 32 }
@@ -38,7 +38,7 @@ fn put_first(bytes: &mut [u8], size: u64, head: &[u8], front: &[u8])
     put_at(bytes, 0, head);
 }
 
-// Both areas begin alike, and the selector names the second.
+// The same for both areas, which begin alike; the selector names the second.
 fn put_both(bytes: &mut [u8], size: u64, head: &[u8], front: &[u8])
     requires least { 4096 ≤ size }
     requires most { size ≤ 1048576 }
@@ -53,7 +53,7 @@ fn put_both(bytes: &mut [u8], size: u64, head: &[u8], front: &[u8])
     put_at(bytes, 16, &[1]);
 }
 
-// The records of commands, one behind the other.
+// The records of commands, one after another.
 fn records_of(alloc: Global, commands: &[Command]) -> Result<Vec<u8>, AllocError>
     ensures bytes { IfOk result (λ bytes. bytes.items ≡ records commands.now) }
     ensures each { IfOk result (λ _. AllByRecursion HasRecord commands.now) }
@@ -66,7 +66,7 @@ fn records_of(alloc: Global, commands: &[Command]) -> Result<Vec<u8>, AllocError
     Ok(out)
 }
 
-// Adds these commands as a block behind its open gate, where there are some. Their records are given.
+// Adds these commands as a block behind its open gate, if there are any. Their records are given.
 fn put_block(out: &mut Vec<u8>, commands: &[Command], bytes: &[u8]) -> Result<(), AllocError>
     requires { bytes.now ≡ records commands.now }
     ensures { OnOk result (out.new.items ≡ out.old.items ++ flat_map block (one_block commands.now)) }

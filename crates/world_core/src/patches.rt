@@ -23,7 +23,7 @@ pub(crate) struct Patch {
     pub(crate) bytes: Vec<u8>,
 }
 
-// The records of entries, one behind the other.
+// The records of entries, one after another.
 fn records_of(alloc: Global, entries: &[Entry<()>]) -> Result<Vec<u8>, AllocError>
     ensures { IfOk result (λ bytes. bytes.items ≡ records (commands entries.now)) }
 {
@@ -34,7 +34,7 @@ fn records_of(alloc: Global, entries: &[Entry<()>]) -> Result<Vec<u8>, AllocErro
     Ok(out)
 }
 
-// Where the first or the second of two areas of so many bytes begins.
+// Where the first or the second of two areas of `size` bytes begins.
 pub(crate) fn area_begins(size: u64, second: bool) -> usize
     requires { size ≤ 1048576 }
     ensures at { result ≡ start size second }
@@ -43,7 +43,7 @@ pub(crate) fn area_begins(size: u64, second: bool) -> usize
     if second { 32 + size as usize } else { 32 }
 }
 
-// The block of these records, and the next gate, behind the gate that stands there.
+// The block of these records and the next gate, behind the gate at that place.
 fn block_behind(alloc: Global, gate: usize, records: &[u8]) -> Result<Patch, AllocError>
     requires { gate ≤ 2097184 }
     ensures at { IfOk result (λ p. p.at ≡ gate + 1) }
@@ -64,7 +64,7 @@ impl Parts {
         self.content[16] % 2 == 1
     }
 
-    // Where the first closed gate of the live area is, from the area's first byte on.
+    // Where the first closed gate of the live area is, counted from the area's first byte.
     fn gate(&self, alloc: Global) -> Result<u64, AllocError>
         requires { IsKept (value_of self.now) }
         ensures is { IfOk result (λ gate. (r : Reading) → IsRead self.now.size self.now.content.items r → gate ≡ r.gate) }
@@ -85,7 +85,7 @@ impl Parts {
         Ok(records)
     }
 
-    // The block of these records behind the gate, or none where it doesn't fit.
+    // The block of these records behind the gate, or `None` if it doesn't fit.
     fn block_within(
         &self,
         alloc: Global,
@@ -144,7 +144,7 @@ impl Parts {
         })
     }
 
-    // What the write that leads to a place writes, or none where it may not come.
+    // What the write that leads to a place writes, or `None` if it may not come.
     pub(crate) fn patch(&self, alloc: Global, to: Place) -> Result<Option<Patch>, AllocError>
         requires kept { IsKept (value_of self.now) }
         requires due { IsDue (value_of self.now) to }

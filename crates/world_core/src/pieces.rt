@@ -25,7 +25,7 @@ fn done_at(place: Place) -> u64
 }
 
 impl Parts {
-    // What is written of the state that is read, or none where that can't be.
+    // What is written of the state that is read, or `None` if it can't be written.
     pub(crate) fn copy_bytes(&self, alloc: Global) -> Result<Option<Vec<u8>>, AllocError>
         requires { IsKept (value_of self.now) }
         ensures some { IfOk result (λ found. IfSome found (λ bytes. (r : Reading) → IsRead self.now.size self.now.content.items r
@@ -40,7 +40,7 @@ impl Parts {
         Ok(Some(bytes?))
     }
 
-    // What is written of what a restart leaves of the state that is read, or none where that can't be.
+    // What is written of what a restart leaves of the state that is read, or `None` if it can't be written.
     pub(crate) fn rest_bytes(&self, alloc: Global) -> Result<Option<Vec<u8>>, AllocError>
         requires { IsKept (value_of self.now) }
         ensures some { IfOk result (λ found. IfSome found (λ bytes. (r : Reading) → IsRead self.now.size self.now.content.items r
@@ -55,7 +55,7 @@ impl Parts {
         Ok(Some(bytes?))
     }
 
-    // The piece of these bytes that ends before a place, behind those that are written.
+    // The piece of these bytes that ends before a place, after those that are written.
     fn piece(&self, alloc: Global, done: u64, bytes: &[u8]) -> Result<Patch, AllocError>
         requires kept { IsKept (value_of self.now) }
         requires there { HasPiece (done_at self.now.place) done bytes.now }

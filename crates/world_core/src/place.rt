@@ -1,21 +1,22 @@
 //! How far a world has come.
 
-/// The device call that was made last of the list in progress.
+/// The last device call that was made of the list in progress.
 #[derive(Clone, Copy, PartialEq, Eq)]
 pub enum Place {
-    /// No list is in progress, and any may begin.
+    /// No list is in progress, and any list may begin.
     Rest,
     /// A call failed, or the disk crashed: only the list of Open may begin.
     Broken,
     /// Append: the block of the commands under a number is written behind the closed gate.
     BlockWritten(u64),
-    /// Append: it is synced.
+    /// Append: the block is synced.
     BlockSynced(u64),
-    /// Append: its gate is written.
+    /// Append: the block's gate is written.
     GateWritten(u64),
-    /// Snapshot: so many bytes of a snapshot of the state as it is, and of so many in all, are written into the idle area.
+    /// Snapshot: of a snapshot of the state as it is, the first number of bytes is written into the idle area; the second is how many there
+    /// are in all.
     Copying(u64, u64),
-    /// Snapshot: it is synced. All its calls are made.
+    /// Snapshot: it is synced. All calls of the list are made.
     CopySynced,
     /// Switch: the selector is written.
     SwitchWritten,
@@ -23,22 +24,22 @@ pub enum Place {
     OpenSynced,
     /// Open: a read is made.
     OpenRead,
-    /// Open: so many bytes of the snapshot, and of so many in all, are written into the idle area.
+    /// Open: of the snapshot, the first number of bytes is written into the idle area; the second is how many there are in all.
     SnapshotWriting(u64, u64),
-    /// Open: it is synced.
+    /// Open: the snapshot is synced.
     SnapshotSynced,
     /// Open: the selector is written.
     SelectorWritten,
-    /// Open: it is synced. All calls are made.
+    /// Open: the selector is synced. All calls of the list are made.
     Opened,
 }
 
-/// Which part of a life it is.
+/// Which part of its life a world is in.
 #[derive(Clone, Copy, PartialEq, Eq)]
 pub enum Phase {
-    /// Sessions and flusher run.
+    /// Sessions and the flusher run.
     Running,
-    /// The journal is opened again, without a crash before it.
+    /// The journal is opened again, without a crash before.
     Reopening,
     /// A crash came.
     Crashed,

@@ -32,7 +32,7 @@ fn copy_of(alloc: Global, content: &[u8]) -> Result<MemDisk, AllocError>
     }
 }
 
-// The live area before its first block. A journal is refused for want of memory alone.
+// The live area at its first gate. A journal is refused only if memory is.
 fn front_of(alloc: Global, disk: &mut MemDisk) -> Result<Area, AllocError>
     ensures passed { IfOk result (λ area. HasPassed area disk.old.content) }
     ensures room { IfOk result (λ area. 32 + 2 * area.size ≤ length disk.new.content) }
@@ -47,7 +47,7 @@ fn front_of(alloc: Global, disk: &mut MemDisk) -> Result<Area, AllocError>
     }
 }
 
-// Goes on behind the next block, and answers whether there was one.
+// Goes on past the next block, and answers whether there was one.
 fn pass_block(alloc: Global, disk: &mut MemDisk, area: &mut Area) -> Result<bool, AllocError>
     requires room { 32 + 2 * area.old.size ≤ length disk.old.content }
     ensures on { IfOk result (λ more. more ≡ true → HasPassed area.old disk.old.content → HasPassed area.new disk.old.content) }
@@ -64,7 +64,7 @@ fn pass_block(alloc: Global, disk: &mut MemDisk, area: &mut Area) -> Result<bool
     }
 }
 
-// Where the first closed gate of the live area is, from the area's first byte on.
+// Where the first closed gate of the live area is, counted from the area's first byte.
 fn gate_on(alloc: Global, disk: &mut MemDisk) -> Result<u64, AllocError>
     ensures { IfOk result (λ gate. (size : ℕ) (r : Reading) → IsRead size disk.old.content r → gate ≡ r.gate) }
 {
@@ -95,7 +95,7 @@ fn broker_of(store: Store<MemDisk>) -> Option<Broker>
     broker
 }
 
-// The count was too large, or the snapshot did not fit.
+// Whether the count was too large, or the snapshot did not fit.
 fn is_too_much(fault: &OpenFault) -> bool
     ensures { IsTrue result → (content : List ℕ) → IsOpenTold fault.now content → IsTooLarge content ⊎ IsTooLong content }
 {
@@ -106,8 +106,8 @@ fn is_too_much(fault: &OpenFault) -> bool
     }
 }
 
-// The broker of what a restart leaves of the state that these bytes stand for, or none where its count is too large or its
-// snapshot doesn't fit. A journal is refused for these two and for want of memory alone.
+// The broker of what a restart leaves of the state that these bytes stand for, or `None` if its count is too large or its snapshot doesn't
+// fit. A journal is refused only for these two reasons, or if memory is refused.
 pub(crate) fn restarted_broker(alloc: Global, content: &[u8]) -> Result<Option<Broker>, AllocError>
     ensures state { IfOk result (λ found. IfSome found (λ broker. (s : State) → Stands content.now s → broker.state ≡ restarted s)) }
     ensures small { IfOk result (λ found. IfSome found (λ broker. (broker.state.count ≤ 2 ^ 61) × (broker.broken ≡ false))) }
@@ -128,7 +128,7 @@ pub(crate) fn restarted_broker(alloc: Global, content: &[u8]) -> Result<Option<B
     }
 }
 
-// A broker's snapshot, or none where it doesn't fit into an area of so many bytes with the gate behind it.
+// A broker's snapshot, or `None` if it doesn't fit into an area of `size` bytes with the gate after it.
 fn snapshot_within(alloc: Global, broker: &Broker, size: u64) -> Result<Option<Vec<u8>>, AllocError>
     requires whole { broker.now.broken ≡ false }
     requires few_sessions { length broker.now.state.sessions < 2 ^ 32 }
@@ -144,7 +144,7 @@ fn snapshot_within(alloc: Global, broker: &Broker, size: u64) -> Result<Option<V
     Ok(Some(snapshot))
 }
 
-// Its snapshot, or none where its count is too large or it doesn't fit into an area of so many bytes.
+// The snapshot of that broker, or `None` if its count is too large or the snapshot doesn't fit into an area of `size` bytes.
 pub(crate) fn restarted_snapshot(
     alloc: Global,
     content: &[u8],
@@ -165,8 +165,8 @@ pub(crate) fn restarted_snapshot(
     }
 }
 
-// The broker of the state that these bytes stand for, or none where its count is too large. A journal is refused for that and
-// for want of memory alone.
+// The broker of the state that these bytes stand for, or `None` if its count is too large. A journal is refused only for that, or if memory
+// is refused.
 pub(crate) fn broker_in(alloc: Global, content: &[u8]) -> Result<Option<Broker>, AllocError>
     ensures state { IfOk result (λ found. IfSome found (λ broker. Stands content.now broker.state)) }
     ensures small { IfOk result (λ found. IfSome found (λ broker. (broker.state.count ≤ 2 ^ 61) × (broker.broken ≡ false))) }
@@ -185,7 +185,8 @@ pub(crate) fn broker_in(alloc: Global, content: &[u8]) -> Result<Option<Broker>,
     }
 }
 
-// A broker's snapshot, or none where four bytes can't count what it has, or where it doesn't fit into an area of so many bytes.
+// A broker's snapshot, or `None` if four bytes can't count what the broker has, or if the snapshot doesn't fit into an area of `size`
+// bytes.
 fn counted_snapshot(
     alloc: Global,
     broker: &Broker,
@@ -201,8 +202,8 @@ fn counted_snapshot(
     snapshot_within(alloc, broker, size)
 }
 
-// The snapshot of the state that these bytes stand for, its sessions included, or none where its count is too large, where four
-// bytes can't count what it has, or where it doesn't fit into an area of so many bytes.
+// The snapshot of the state that these bytes stand for, its sessions included. `None` if the state's count is too large, if four bytes
+// can't count what it has, or if the snapshot doesn't fit into an area of `size` bytes.
 pub(crate) fn stored_snapshot(
     alloc: Global,
     content: &[u8],

@@ -58,7 +58,7 @@ impl Tickets {
         self.tickets.clear();
     }
 
-    // How many are not under a number.
+    // How many tickets are not under a number.
     fn count_from(&self, least: u64) -> usize
         ensures { result ≡ count_by (nat_le least) self.now }
     {
@@ -115,7 +115,7 @@ pub(crate) fn renew(seats: &mut [Seat], seen: u64)
     }
 }
 
-// So many seats, which have seen that mark.
+// `count` seats, which have seen that mark.
 pub(crate) fn seats(alloc: Global, count: usize, seen: u64) -> Result<Vec<Seat>, AllocError>
     ensures { IfOk result (λ all. all.items ≡ replicate count (record { own = []; seen = seen })) }
 {

@@ -18,10 +18,10 @@ use disk_core::{is_image, release};
 use frame_core::Bytes;
 use std::alloc::{AllocError, Global};
 
-// A seat that saw a mark so high claims nothing more.
+// A seat that saw a mark this high claims nothing more.
 const FAR: u64 = 1 << 60;
 
-// The seat saw no mark so high, and there is room for a command more.
+// Whether the seat saw no mark this high, and has room for one more command.
 fn has_room(seat: &Seat) -> bool
     ensures { IsTrue result ↔ (seat.now.seen < far) × (open_of seat.now < WINDOW) }
 {
@@ -82,7 +82,7 @@ impl Parts {
         self.may_claim(j)
     }
 
-    // The seat has one number more, which is not ready, and there is room for its entry.
+    // Gives the seat one more number, which is not ready, and makes room for its entry.
     fn note_claim(&mut self, j: usize) -> Result<(), AllocError>
         requires kept { IsKept (value_of self.old) }
         requires seat { j < length self.old.seats.items }
@@ -98,7 +98,7 @@ impl Parts {
         Ok(())
     }
 
-    // The seat's next command is this entry's.
+    // Makes this entry's command the seat's next.
     fn put_claim(&mut self, j: usize, entry: Entry<()>) -> Result<(), AllocError>
         requires kept { IsKept (value_of self.old) }
         requires seat { j < length self.old.seats.items }
@@ -136,7 +136,7 @@ impl Parts {
         Ok(true)
     }
 
-    // Where it is noted whether a command is ready, if it is not.
+    // The place that notes whether a command is ready, if it is not.
     fn clear_at(&self, number: u64) -> Option<usize>
         ensures { MatchOption result (slice_get self.now.ready.items (number - self.now.base) ≢ Some false)
             (λ at. (at ≡ number - self.now.base) × (slice_get self.now.ready.items at ≡ Some false)) }
@@ -148,7 +148,7 @@ impl Parts {
         None
     }
 
-    // Where it is noted whether a seat's last command is ready, if it is not.
+    // The place that notes whether a seat's last command is ready, if it is not.
     fn pending(&self, j: usize) -> Option<usize>
         ensures some { IfSome result (λ at. IsSomeAnd (slice_get self.now.seats.items j) (λ seat. IsPending (value_of self.now) (last_of seat.own))) }
         ensures none { result ≡ None → IsSomeAnd (slice_get self.now.seats.items j) (λ seat. IsPending (value_of self.now) (last_of seat.own)) → ⊥ }
@@ -202,7 +202,7 @@ impl Parts {
         true
     }
 
-    // There is a seat of that number that saw a mark over n.
+    // Whether there is a seat of that number that saw a mark over n.
     fn has_seen(&self, j: usize, n: u64) -> bool
         ensures { IsTrue result ↔ IsSomeAnd (slice_get self.now.seats.items j) (λ seat. n < seat.seen) }
     {
@@ -233,7 +233,7 @@ impl Parts {
         true
     }
 
-    // A crash may leave the disk with these bytes.
+    // Whether a crash may leave the disk with these bytes.
     fn may_read_as(&self, image: &[u8]) -> bool
         requires { length self.now.held.items ≡ length self.now.content.items }
         ensures { IsTrue result ↔ IsImage self.now.content.items self.now.held.items image.now }

@@ -23,8 +23,7 @@ use std::snapshot::Snapshot;
 
 /// A world: sessions, a flusher and the disk of a journal.
 ///
-/// It is a model to be tried, and no part of the running broker: a write looks through the whole disk, by the code that
-/// reads journals.
+/// It is a model to try, and no part of the running broker. A write reads through the whole disk, with the code that reads journals.
 #[derive(Drop)]
 pub struct World {
     alloc: Global,
@@ -165,7 +164,7 @@ fn old_parts(alloc: Global, size: u64, area: &[u8]) -> Result<Parts, AllocError>
 }
 
 impl Parts {
-    // Lets an event happen where it is possible, and answers whether it was.
+    // Lets an event happen if it is possible, and answers whether it was.
     fn apply(&mut self, alloc: Global, event: Event) -> Result<bool, AllocError>
         requires { IsKept (value_of self.old) }
         ensures ok { IfOk result (λ answer. IsTold (value_of self.old) event answer (value_of self.new)) }
@@ -187,8 +186,8 @@ impl Parts {
 }
 
 impl World {
-    /// The first world: an empty journal with two areas of so many bytes each, formatted and opened. The error is want of
-    /// memory.
+    /// The first world: an empty journal with two areas of `area_bytes` bytes each, formatted and opened. It fails only if memory is
+    /// refused.
     pub fn new(alloc: Global, area_bytes: u64) -> Result<World, AllocError>
         requires least { 4096 ≤ area_bytes }
         requires most { area_bytes ≤ 1048576 }
@@ -203,9 +202,8 @@ impl World {
         })
     }
 
-    /// The world of a journal of the first version with two areas of so many bytes each, as after a crash: the empty state and
-    /// these commands in one block, or no block where there are none. `None` where they do not fit. The error is want of
-    /// memory.
+    /// The world of a journal of the first version with two areas of `area_bytes` bytes each, as after a crash. It has the empty state and
+    /// these commands in one block, or no block if there are none. `None` if they do not fit. It fails only if memory is refused.
     pub fn new_v1(
         alloc: Global,
         area_bytes: u64,
@@ -229,8 +227,8 @@ impl World {
         }))
     }
 
-    /// Lets an event happen where it is possible, and answers whether it was. One that is not changes nothing; nor does want
-    /// of memory, which is the error.
+    /// Lets an event happen if it is possible, and answers whether it was. An event that is not possible changes nothing. The call fails
+    /// only if memory is refused, and that changes nothing either.
     pub fn apply(&mut self, event: Event) -> Result<bool, AllocError>
         ensures ok { IfOk result (λ answer. Answers self.old event answer self.new) }
         ensures err { OnErr result (self.new ≡ self.old) }
@@ -267,7 +265,7 @@ impl World {
         self.parts.stored
     }
 
-    /// The first number that sessions are not told of.
+    /// The mark: the first number that sessions are not told of.
     pub fn mark(&self) -> u64
         ensures { result ≡ self.now.mark }
     {

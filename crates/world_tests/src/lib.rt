@@ -1,5 +1,5 @@
-//! Tests of worlds by their public face: single schedules, every schedule of a small bound with a stop at each place, and
-//! random events against a world that is computed slowly. They are a crate of their own, since a crate that has tests is
+//! Tests of worlds by their public face: single schedules, every schedule of a small bound with a stop at each place, and random events.
+//! The random events are compared with a world that is computed slowly. They are in a crate of their own, since a crate with tests is
 //! proved twice.
 
 #![tactic(auto)]

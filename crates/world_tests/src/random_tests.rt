@@ -17,7 +17,7 @@ fn next(seed: &mut u64) -> u64 {
     *seed / 4_294_967_296
 }
 
-// One in so many times.
+// Whether it is so this time: once in `times` times.
 fn once_in(seed: &mut u64, times: u64) -> bool
     requires { times ≢ 0 }
 {
@@ -46,7 +46,7 @@ fn pick_call(seed: &mut u64, running: bool) -> Call {
     }
 }
 
-// A byte of the disk: one that is unsynced, or any.
+// A byte of the disk: an unsynced one, or any.
 fn pick_place(seed: &mut u64, slow: &SlowWorld) -> usize {
     if once_in(seed, 4) {
         return (next(seed) % (32 + 2 * AREA as u64)) as usize;
@@ -105,7 +105,7 @@ fn compare(rt: &impl Abort, world: &World, slow: &SlowWorld) {
     );
 }
 
-// After an event that may have changed the disk.
+// Compares the disks after an event that may have changed them.
 fn compare_disks(rt: &impl Abort, world: &World, slow: &SlowWorld, step: u32, pick: Pick) {
     if let Pick::Device(_) | Pick::Crash(_, _) = pick {
         assert!(rt;
@@ -115,7 +115,7 @@ fn compare_disks(rt: &impl Abort, world: &World, slow: &SlowWorld, step: u32, pi
     }
 }
 
-// An event in both worlds. Answers whether it was possible.
+// Applies an event in both worlds, and answers whether it was possible.
 fn take_step(
     rt: &impl Abort,
     alloc: Global,
@@ -134,7 +134,7 @@ fn take_step(
     Ok(answer)
 }
 
-// So many events from that beginning of the row.
+// Applies `events` events, from that beginning of the row.
 fn take_steps(
     rt: &impl Abort,
     alloc: Global,

@@ -1,4 +1,4 @@
-//! Single schedules: tables of events, and whether each is possible then.
+//! Single schedules: tables of events, and whether each is possible when it comes.
 use crate::schedules::{FIRST_GATE, Pick, apply, claim, open};
 use command_core::{Command, Op};
 use frame_core::{Bytes, Headers};
@@ -92,7 +92,7 @@ fn a_command_is_released_once_it_is_stored_and_seen(rt: HostRuntime) -> Result<(
     Ok(())
 }
 
-// The base after a crash that leaves this byte at a place, or none where a stop does not leave that.
+// The base after a crash that leaves this byte at a place, or `None` if a stop cannot leave it.
 fn crash_with(
     rt: &impl Abort,
     alloc: Global,
@@ -180,7 +180,7 @@ fn fail_and_open(rt: &impl Abort, alloc: Global, world: &mut World) -> Result<()
     run(rt, alloc, world, &[(READ, false), (Pick::Stop, true)])
 }
 
-// After a call that fails only opening goes on; until then sessions may look and release.
+// After a call that fails, only opening goes on. Sessions may look and release until then.
 #[test]
 fn after_a_failure_the_journal_is_opened(rt: HostRuntime) -> Result<(), Fail> {
     let alloc = rt.alloc();
@@ -221,7 +221,7 @@ const OPEN_SYNC: Pick = Pick::Device(Call {
     ok: true,
 });
 
-// A snapshot is synced before the switch, which comes right behind it, while sessions claim.
+// A snapshot is synced before the switch, which comes right after it, while sessions claim.
 const COMPACT: [(Pick, bool); 13] = [
     (SWITCH, false),
     (COPY, true),
@@ -238,7 +238,7 @@ const COMPACT: [(Pick, bool); 13] = [
     (SWITCH, false),
 ];
 
-// A block may come between a snapshot and its switch, which may not come then.
+// A block may come between a snapshot and its switch; the switch may then not come.
 const APPEND_BEHIND_A_COPY: [(Pick, bool); 6] = [
     (COPY, true),
     (COPY_SYNC, true),
@@ -296,7 +296,7 @@ const STORE_ONE: [(Pick, bool); 6] = [
     (SYNC, true),
 ];
 
-// Between the two pieces an opening may begin, and behind the second it may not.
+// An opening may begin between the two pieces, but not after the second.
 const TWO_PIECES: [(Pick, bool); 7] = [
     (COPY, true),
     (COPY_SYNC, false),

@@ -7,10 +7,10 @@ use world_core::{Call, CallKind, CallList, Event, World};
 /// The bytes of an area.
 pub(crate) const AREA: usize = 4_096;
 
-/// Where the second area begins, which is live at first.
+/// Where the second area, which is live at first, begins.
 pub(crate) const SECOND: usize = 32 + AREA;
 
-/// The gate behind the first snapshot, which has 32 bytes behind its length.
+/// The gate after the first snapshot, which has 32 bytes after its length.
 pub(crate) const FIRST_GATE: usize = SECOND + 40;
 
 /// An event in short. A crash leaves this byte at a place.
@@ -46,7 +46,7 @@ pub(crate) fn append(world: &mut World, kind: CallKind) -> Result<bool, AllocErr
     call(world, CallList::Append, kind)
 }
 
-/// All calls of opening, and its end: true where each of them is possible.
+/// All calls of opening, and its end; true if each of them is possible.
 pub(crate) fn open(world: &mut World) -> Result<bool, AllocError> {
     for kind in [
         CallKind::Sync,
@@ -82,7 +82,7 @@ fn crash(alloc: Global, world: &mut World, at: usize, byte: u8) -> Result<bool, 
     world.apply(crash)
 }
 
-/// Lets it happen where it is possible, and answers whether it was.
+/// Lets an event happen if it is possible, and answers whether it was.
 pub(crate) fn apply(alloc: Global, world: &mut World, pick: Pick) -> Result<bool, AllocError> {
     match pick {
         Pick::Look(j) => world.apply(Event::Look(j)),

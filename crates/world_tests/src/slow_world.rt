@@ -48,7 +48,7 @@ fn fill_block(block: &mut Vec<u8>, count: u64) -> Result<(), AllocError> {
     Ok(())
 }
 
-// A block of so many commands, and the closed gate behind it.
+// A block of `count` commands, and the closed gate after it.
 fn block_of(alloc: Global, count: u64) -> Result<Vec<u8>, AllocError> {
     let mut block = Vec::new(alloc);
     match fill_block(&mut block, count) {
@@ -60,8 +60,8 @@ fn block_of(alloc: Global, count: u64) -> Result<Vec<u8>, AllocError> {
     }
 }
 
-// A snapshot of the second version with its length and a closed gate: the count, no delivery, the open sessions, each a number
-// and no client's name, of which some stand in these bytes and those between these numbers come behind, and nothing else.
+// A snapshot of the second version with its length and a closed gate. It has the count, no delivery, the open sessions, each a number and
+// no client's name, and nothing else. Some of the sessions stand in these bytes; those between these numbers come after them.
 fn fill_copy(copy: &mut Vec<u8>, stood: &[u8], from: u64, to: u64) -> Result<(), AllocError> {
     let sessions = (stood.len() / 9) as u64;
     let all = sessions.saturating_add(to.saturating_sub(from));
@@ -79,8 +79,8 @@ fn fill_copy(copy: &mut Vec<u8>, stood: &[u8], from: u64, to: u64) -> Result<(),
     copy.extend_from_slice(&[0; 13])
 }
 
-// What a restart leaves is the count alone: 32 bytes, of which the first eight are not zero. A closed gate is behind it, and
-// before it the byte of the second version and how many these are.
+// What a restart leaves is only the count: 32 bytes, of which the first eight are not zero. A closed gate comes after it. Before it stand
+// the byte of the second version and how many bytes follow.
 fn front_of(count: u64) -> [u8; 41] {
     let mut front = [0; 41];
     front[..8].copy_from_slice(&32_u64.to_be_bytes());
@@ -321,7 +321,7 @@ impl SlowWorld {
         self.place = Place::SnapshotWriting(41, 41);
     }
 
-    // The sessions of the live area's snapshot: how many there are stands behind three numbers of eight bytes.
+    // The sessions of the live area's snapshot. How many there are stands after three numbers of eight bytes.
     fn sessions(&self) -> &[u8] {
         let from = self.live().saturating_add(24);
         let count = number_at(&self.content, from.saturating_sub(4)) % 4_294_967_296;

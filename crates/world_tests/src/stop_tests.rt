@@ -1,6 +1,6 @@
-//! Every schedule of a small bound: two sessions with a command each, of which one claims and is ready at once, and a
-//! flusher that takes twice and stores once. A stop comes after each device call, and leaves of what is unsynced what was
-//! there before, or one of three bytes throughout.
+//! Every schedule of a small bound: two sessions with a command each, and a flusher that takes twice and stores once. One of the sessions
+//! claims and is ready at once. A stop comes after each device call. It leaves unsynced bytes as they were before, or makes all of them one
+//! of three bytes.
 use crate::schedules::{append, claim, open};
 use frame_core::Bytes;
 use std::alloc::{AllocError, Global};
@@ -34,7 +34,7 @@ fn turns_for(turns: &[u8], one: u8) -> usize {
     count
 }
 
-// Whether turns do not fall. Of all ends behind the same beginning one is so.
+// Whether turns do not fall. Of all ends after the same beginning, one does not.
 fn is_rising(turns: &[u8]) -> bool {
     let mut last = 0;
     for turn in turns {
@@ -46,7 +46,7 @@ fn is_rising(turns: &[u8]) -> bool {
     true
 }
 
-// What has come of a schedule so far.
+// What has become of a schedule so far.
 #[derive(Drop)]
 struct Run {
     world: World,
@@ -134,7 +134,7 @@ impl Run {
         (from, to)
     }
 
-    // The disk after a stop: what is unsynced, and what lies between, is the fill, or what was there.
+    // The disk after a stop: what is unsynced, and what lies between, becomes the fill, or what was there.
     fn image(&self, alloc: Global, fill: Option<u8>) -> Result<Vec<u8>, AllocError> {
         let (from, to) = self.unsynced();
         let mut image = Vec::from_slice(alloc, self.world.content())?;
@@ -161,7 +161,7 @@ impl Run {
     }
 }
 
-// Stops, and opens: all that is stored is there, and a block whose gate is not synced where it is 1.
+// Stops and opens: all that is stored is there, and so is a block whose gate is not synced, if the gate is 1.
 fn stop(rt: &impl Abort, alloc: Global, run: &mut Run, fill: Option<u8>) -> Result<(), AllocError> {
     let wanted = run.wanted(fill);
     let stopped = run.crash(alloc, fill)?;
@@ -175,7 +175,7 @@ fn stop(rt: &impl Abort, alloc: Global, run: &mut Run, fill: Option<u8>) -> Resu
     Ok(())
 }
 
-// Runs these turns and stops. Answers whether anything was unsynced then.
+// Runs these turns and stops. It answers whether anything was unsynced then.
 fn run_turns(
     rt: &impl Abort,
     alloc: Global,

@@ -6,7 +6,7 @@ use std::process::Abort;
 use std::test::Fail;
 use world_core::World;
 
-// A session opens, listens to `/queue/q` as `s`, sends there what it is handed, and refuses that.
+// A session opens, listens to `/queue/q` as `s`, sends a message there, is handed it, and refuses it.
 const RECORDS: [&[u8]; 4] = [
     b"\0\0\0\0\0\0\0\0\0\x01\0",
     b"\0\0\0\0\0\0\0\0\0\x03\0\0\0\x01s\0\0\0\x08/queue/q\x01\0",
@@ -23,7 +23,7 @@ fn commands(alloc: Global) -> Result<Vec<Command>, Fail> {
     Ok(commands)
 }
 
-// The disk that they are in, up to its last byte that is not zero, or a closed gate behind it.
+// The disk that these are in, up to its last byte that is not zero, or a closed gate after it.
 const DISK: &[u8] = b"STOMPJ01\0\0\0\0\0\0\x10\0\
 \0\0\0\0\0\0\0\0\0\0\0\0\0\0\0\0\
 \0\0\0\0\0\0\0\x20\
@@ -35,7 +35,7 @@ const DISK: &[u8] = b"STOMPJ01\0\0\0\0\0\0\x10\0\
 \0\0\0\0\0\0\0\0\0\x06\0\0\0\0\0\0\0\0\
 \0";
 
-// Nothing is possible but to open it, and the numbers go on from the four.
+// Nothing is possible but to open the journal, and the numbers go on from the four.
 fn opens(rt: &impl Abort, alloc: Global, world: &mut World) -> Result<(), AllocError> {
     assert!(rt; world.content().starts_with(DISK) && world.content().len() == 8_224);
     assert_eq!(rt; (world.base(), world.claimed(), world.mark()), (4, 4, 4));
@@ -85,7 +85,7 @@ fn a_journal_of_the_first_version_may_have_no_block(rt: HostRuntime) -> Result<(
     Ok(())
 }
 
-// An Open has 11 bytes, so 367 fit behind a gate at 40 into an area of 4,096 bytes, and 368 do not.
+// An Open has 11 bytes, so 367 of them fit after a gate at 40 into an area of 4,096 bytes, and 368 do not.
 #[test]
 fn commands_that_do_not_fit_make_no_world(rt: HostRuntime) -> Result<(), Fail> {
     for (count, fits) in [(367, true), (368, false)] {
@@ -102,7 +102,7 @@ fn commands_that_do_not_fit_make_no_world(rt: HostRuntime) -> Result<(), Fail> {
     Ok(())
 }
 
-// A crash may leave any bytes of what was written and not synced, and the four stay.
+// A crash may leave any bytes in place of what was written and not synced, and the four stay.
 fn crashes(rt: &impl Abort, alloc: Global, world: &mut World) -> Result<(), AllocError> {
     let crash = image_of(alloc, world, 8_224, 0)?;
     assert!(rt; world.apply(crash)?);
