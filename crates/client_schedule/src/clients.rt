@@ -134,7 +134,7 @@ impl Clients {
         self.timers.set(number, NEVER);
     }
 
-    /// That client.
+    /// The client of that number.
     pub fn get(&self, number: usize) -> Option<&Client>
         ensures { option_copied result ≡ client_at number self.now }
     {

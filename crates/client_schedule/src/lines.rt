@@ -12,11 +12,11 @@ use std::alloc::{AllocError, Global};
 /// The lines in which a desk's clients stand, by their numbers.
 #[derive(Drop)]
 pub struct Lines {
-    // Those that have a turn next.
+    // Clients that have a turn next.
     pub(crate) ready: Line,
-    // Those that found the window full, in the order in which they were refused.
+    // Clients that found the window full, in the order in which they were refused.
     pub(crate) room: Waiting,
-    // Those whose next output waits for the mark.
+    // Clients whose next output waits for the mark.
     pub(crate) outputs: Waiting,
     // The client that was let in to room, while its turn lasts.
     pub(crate) let_in: Option<usize>,

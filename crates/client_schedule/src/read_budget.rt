@@ -59,7 +59,7 @@ pub struct ReadBudget<S> {
 impl<S: Drop> ReadBudget<S> {
     ghost use Rattle.client_schedule.specs.declared.supply.Supply.{Supply};
 
-    /// That socket, of which nothing is known yet.
+    /// A budget over that socket, of which nothing is known yet.
     pub fn new(socket: S) -> ReadBudget<S>
         ensures { (result.socket ≡ socket) × (result.left ≡ READS) × (result.supply ≡ Supply.Unknown) × (result.flow ≡ record { taken = 0; has_rest = false }) }
     {

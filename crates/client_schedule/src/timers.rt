@@ -34,7 +34,7 @@ impl Model for Timers {
 }
 
 impl Timers {
-    /// Those of so many clients, none of which is to be looked at.
+    /// The moments of so many clients, none of which is to be looked at.
     pub fn new(alloc: Global, clients: usize) -> Result<Timers, AllocError>
         ensures { IfOk result (λ timers. timers ≡ record { all = replicate clients NEVER; earliest = NEVER }) }
     {

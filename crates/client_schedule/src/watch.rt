@@ -16,7 +16,7 @@ pub struct Watch {
 }
 
 impl Watch {
-    /// One that shows what the system's clock does.
+    /// A clock that shows what the system's clock does.
     pub fn new(real: u64) -> Watch
         ensures { (result.seen ≡ real) × (result.shown ≡ real) }
     {

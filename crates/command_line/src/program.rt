@@ -297,7 +297,7 @@ fn empty_journal(alloc: Global, size: u64) -> Result<MemDisk, Failure>
     }
 }
 
-/// Why the words were refused. If memory was refused, that is told as a script's failure.
+/// Why the words were refused. If memory was refused, that is reported as a script's failure.
 fn refusal(error: clap::Error) -> Failure
     ensures { Tells error result }
 {

@@ -12,7 +12,7 @@ pub struct Holdings {
     pub total: u64,
     /// How many clients there are.
     pub clients: u64,
-    /// The most bytes that any client holds about which somebody else decides.
+    /// Of the clients for which somebody else decides, the most bytes that one holds.
     pub elsewhere: u64,
 }
 

@@ -48,7 +48,7 @@ pub(crate) fn client_of(token: Token) -> (usize, usize) {
     (token.0 / CLIENTS, token.0 % CLIENTS)
 }
 
-// By which token the poll tells of that client.
+// The token by which the poll tells of that client.
 fn token_of(desk: usize, client: usize) -> Token {
     Token(desk.saturating_mul(CLIENTS).saturating_add(client))
 }

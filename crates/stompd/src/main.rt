@@ -42,7 +42,7 @@ fn main(rt: HostRuntime) -> ExitCode {
 
 /// Opens `/dev/null` as often as there are standard streams, and never closes these files. A file gets the least number that is free.
 /// So whichever of the three streams are closed, these files have their numbers from now on, and nothing that is opened later gets
-/// them. What the program writes to a closed stream is lost, and is in no file. If `/dev/null` can't be opened, that is told, and the
+/// them. What the program writes to a closed stream is lost, and is in no file. If `/dev/null` can't be opened, that is reported, and the
 /// status is the answer.
 fn hold_standard_streams(rt: &HostRuntime) -> Result<(), u8> {
     for _stream in 0..3u32 {
@@ -67,7 +67,7 @@ fn hold_null(rt: &HostRuntime) -> io::Result<()> {
     Ok(())
 }
 
-/// The status of a server that has ended so. A fault is told.
+/// The status of a server that has ended so. A fault is reported.
 fn status_of(rt: &HostRuntime, end: ServeEnd) -> u8 {
     match end {
         ServeEnd::Asked => DONE,
@@ -158,7 +158,7 @@ fn threads_for(rt: &impl Threads, asked: Option<u16>) -> usize {
 }
 
 /// The arguments, of which the first is the program's name. If they are not UTF-8, they are a bad command line, of which nothing is
-/// told; if memory is refused, that is told. The status is the answer then.
+/// reported. If memory is refused, that is reported. The status is the answer then.
 fn words_of(rt: &HostRuntime) -> Result<Vec<String>, u8> {
     match collected(rt) {
         Ok(words) => Ok(words),

@@ -6,10 +6,12 @@ ghost use Rattle.ws_core.specs.Handshakes.{body_of, further_fields, refusal_byte
 use std::alloc::{AllocError, Global};
 use websocket::handshake::HandshakeError;
 
-/// Why a client is refused that asks for a WebSocket, or for something else.
+/// Why a client that asks for a WebSocket, or for something else, is refused.
 #[derive(Clone, Copy)]
 pub enum Refusal {
-    /// 400: its head is none, it has no Host or two, no key or none of 16 bytes, or it says that a body follows in pieces.
+    /// 400: its head is no request's, it has no Host or two, its key is missing or not of 16 bytes, or it says that a body
+    /// follows in pieces.
+    /// body follows in pieces.
     Malformed,
     /// 400: it offers only other subprotocols, such as `v10.stomp` and `v11.stomp`.
     OtherProtocol,

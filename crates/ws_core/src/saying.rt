@@ -24,7 +24,7 @@ pub struct Saying {
 }
 
 impl Saying {
-    /// That answer, of which nothing was written. It fails only if memory is refused.
+    /// An answer of which nothing was written yet. It fails only if memory is refused.
     pub fn new(alloc: Global, answer: Answer) -> Result<Saying, LinkFault>
         ensures said { IfOk result (λ saying. (saying.answer ≡ answer) × (saying.said ≡ 0)) }
         ensures response { IfOk result (λ saying. saying.response.items ≡ response_to answer) }
@@ -74,7 +74,7 @@ fn refusing(alloc: Global, refusal: Refusal) -> Result<Vec<u8>, LinkFault>
     }
 }
 
-// That the WebSocket is there, and its subprotocol.
+// The response that the WebSocket is there, with its subprotocol.
 fn acceptance(alloc: Global, accept_key: &[u8; 28], has_stomp: bool) -> Result<Vec<u8>, LinkFault>
     ensures response { IfOk result (λ response. response.items ≡ accepting accept_key.now has_stomp) }
     ensures memory { IfErr result (λ fault. fault ≡ LinkFault.Memory) }
