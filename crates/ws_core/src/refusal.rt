@@ -11,7 +11,6 @@ use websocket::handshake::HandshakeError;
 pub enum Refusal {
     /// 400: its head is no request's, it has no Host or two, its key is missing or not of 16 bytes, or it says that a body
     /// follows in pieces.
-    /// body follows in pieces.
     Malformed,
     /// 400: it offers only other subprotocols, such as `v10.stomp` and `v11.stomp`.
     OtherProtocol,
