@@ -12,7 +12,7 @@ pub const KINDS: usize = 15;
 pub enum Kind {
     /// A malformed request was answered 400.
     Malformed,
-    /// A client that does not offer `v12.stomp` was answered 400.
+    /// A client that offers only other subprotocols than `v12.stomp` was answered 400.
     OtherProtocol,
     /// A page of an origin that is not served was answered 403.
     Foreign,
