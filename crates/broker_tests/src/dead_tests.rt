@@ -130,7 +130,7 @@ const ONE_BY_ONE: [Part<'static>; 4] = [
 /// Refusals in the places 0 and 1.
 const UP_TO_EACH: [Part<'static>; 2] = [Part::Nacks(0), Part::Nacks(2)];
 
-/// The second of them finds no delivery any more.
+/// The second of them no longer finds a delivery.
 const TWICE: [Part<'static>; 2] = [Part::Nacks(0), Part::Nacks(0)];
 
 #[test]

@@ -1,5 +1,5 @@
-//! Tests of the broker and of the snapshots of its state, by their public faces. They are a crate of their own, since a crate that has tests is proved twice: once
-//! without them and once with them.
+//! Tests of the broker and of the snapshots of its state, by their public faces. They are a crate of their own, since a crate that has
+//! tests is proved twice: once without them and once with them.
 
 #![tactic(auto)]
 

@@ -1,5 +1,5 @@
-//! Calls whose memory is refused. In an ordinary run nothing is, and each gives its whole answer; `tests/program/no_memory.py` has each
-//! growth refused in turn, and reads what these tests say of it.
+//! Calls whose memory is refused. In an ordinary run nothing is refused, and each call gives its whole answer.
+//! `tests/program/no_memory.py` has each growth refused in turn, and reads what these tests say of it.
 
 use broker_core::{Broker, BrokerFault};
 use command_core::decode;
@@ -15,7 +15,7 @@ enum Seen {
     Whole,
     // It was refused memory, said so, and left what it should.
     Refused,
-    // Memory was refused before it or behind it.
+    // Memory was refused before it or after it.
     Unseen,
     // It answered or left something else.
     Wrong,
@@ -35,9 +35,9 @@ fn seen_if(is_right: bool, seen: Seen) -> Seen {
     if is_right { seen } else { Seen::Wrong }
 }
 
-// Commands, and how many outputs each gives: `anna` opens a session; she listens to a topic under a durable name, and to a queue;
-// a message goes to each and is handed out; she refuses the first, which is kept, and is told so; a transaction sends another,
-// which is handed out, and acknowledges the second; what she has of the queue goes back as she leaves it; and her session ends.
+// Commands, and how many outputs each gives. `anna` opens a session, and listens to a topic under a durable name, and to a queue. A
+// message goes to each and is handed out. She refuses the first, which is kept, and is told so. A transaction sends another, which is
+// handed out, and acknowledges the second. What she has of the queue goes back as she leaves it, and her session ends.
 const COMMANDS: [(&[u8], usize); 9] = [
     (b"\0\0\0\0\0\0\0\0\0\x01\x01\0\0\0\x04anna", 1),
     (
@@ -88,7 +88,7 @@ fn step_one(alloc: Global, broker: &mut Broker, record: &[u8], outputs: usize) -
     }
 }
 
-// Two messages are held then: `x` of the dead ones, and `z`. Three were handed out.
+// Then two messages are held: `x` of the dead ones, and `z`. Three were handed out.
 fn step_all(alloc: Global) -> Seen {
     let mut broker = Broker::new(alloc);
     let mut seen = Seen::Whole;
@@ -119,8 +119,8 @@ fn a_broker_that_is_refused_memory_holds_nothing_but_its_count(
     Ok(())
 }
 
-// The snapshot after five commands and one delivery: the session 0 of `anna`; `reader` of `anna`, for which `hi` waits; `x` in
-// `/queue/q`; and two subscriptions of session 0, of which one has `y` unacknowledged.
+// The snapshot after five commands and one delivery. It has the session 0 of `anna`; `reader` of `anna`, for which `hi` waits; and
+// `x` in `/queue/q`. It has two subscriptions of session 0, of which one has `y` unacknowledged.
 const SNAPSHOT: &[u8] = b"\0\0\0\0\0\0\0\x05\0\0\0\0\0\0\0\x01\
 \0\0\0\x01\0\0\0\0\0\0\0\0\x01\0\0\0\x04anna\
 \0\0\0\x01\0\0\0\x04anna\0\0\0\x06reader\0\0\0\x0b/topic/news\
@@ -153,7 +153,7 @@ fn snapshot(alloc: Global, broker: &Broker) -> Result<Option<Vec<u8>>, AllocErro
     Ok(Some(encode_state(alloc, broker)?))
 }
 
-// Whether that is its snapshot; nothing where memory is refused.
+// Whether that is its snapshot; nothing if memory is refused.
 fn has_snapshot(alloc: Global, broker: &Broker, wanted: &[u8]) -> Option<bool> {
     match snapshot(alloc, broker) {
         Ok(Some(bytes)) => {
@@ -226,7 +226,7 @@ fn a_snapshot_for_which_memory_is_refused_is_not_called_damaged(
     Ok(())
 }
 
-// The snapshot is written again where memory was refused for it.
+// The snapshot is written again if memory was refused for it.
 fn encode_broker(alloc: Global) -> Seen {
     match decode_state(alloc, SNAPSHOT) {
         Ok(broker) => {

@@ -93,7 +93,7 @@ fn the_first_state_is_32_zero_bytes(rt: HostRuntime) -> Result<(), Fail> {
 
 // Two sessions, of which the second one's client is `c`. It listens to `/topic/t` as `d` under the durable name `n`, the
 // first one as `p`, and to `/queue/q` as `q`; each has one delivery to acknowledge. `m` is bound to `/topic/u`, where a
-// message waits though nobody listens, as three do in `/queue/w`, two of them sent in a transaction.
+// message waits though nobody listens. Three wait so in `/queue/w`, two of them sent in a transaction.
 const COMMANDS: [&[u8]; 12] = [
     b"\0\0\0\0\0\0\0\0\0\x01\0",
     b"\0\0\0\0\0\0\0\0\0\x01\x01\0\0\0\x01c",
@@ -109,8 +109,8 @@ const COMMANDS: [&[u8]; 12] = [
     b"\0\0\0\0\0\0\0\0\0\x07\0\x02\x02\0\0\0\x08/queue/w\0\0\0\0\0\x01z\x02\0\0\0\x08/queue/w\0\0\0\0\0\x01!",
 ];
 
-// The snapshot after them, part by part. Beside each byte stands what comes of it where it is one greater: `.` another
-// state, and `x` none, as with `#`, which stands beside counts.
+// The snapshot after them, part by part. Beside each byte stands what comes of it if it is one greater: `.` another state,
+// and `x` none, as with `#`, which stands beside counts.
 const STATE: [(&[u8], &str); 66] = [
     // How many commands were carried out, and the next delivery.
     (b"\0\0\0\0\0\0\0\x0c", "........"),
@@ -148,7 +148,7 @@ const STATE: [(&[u8], &str); 66] = [
     (b"\0\0\0\x08/queue/w", "xxxxxxxxxxxx"),
     (b"\0\0", "xx"),
     (b"\0\0\0\x01!", "xxxx."),
-    // The subscriptions, those first that were served longest ago. `q` may be one of the other session.
+    // The subscriptions, first those that were served longest ago. `q` may be one of the other session.
     (b"\0\0\0\x03", "####"),
     (b"\0\0\0\0\0\0\0\0", "xxxxxxx."),
     (b"\0\0\0\x01q", "xxxx."),
@@ -224,7 +224,7 @@ fn goes_both_ways_with(alloc: Global, bytes: &mut [u8], at: usize) -> Result<boo
     Ok(is_state)
 }
 
-// The first byte of which something else comes than the marks say, or how many bytes are marked.
+// The first byte that gives something other than the marks say, or how many bytes are marked.
 fn marked(alloc: Global, bytes: &mut [u8]) -> Result<usize, Fail> {
     let mut at = 0_usize;
     for (_, marks) in &STATE {
@@ -260,7 +260,7 @@ fn a_part_of_a_state_is_none(rt: HostRuntime) -> Result<(), Fail> {
     Ok(())
 }
 
-// The bytes of the parts with 2^32 - 1 in place of one of them.
+// The bytes of the parts, with 2^32 - 1 instead of one of them.
 fn with_count(alloc: Global, place: usize) -> Result<Vec<u8>, AllocError> {
     let mut bytes = Vec::new(alloc);
     for (at, (part, _)) in STATE.iter().enumerate() {
@@ -307,7 +307,7 @@ const NO_STATES: [&[u8]; 12] = [
     b"\0\0\0\0\0\0\0\x01\0\0\0\0\0\0\0\x01\0\0\0\x01\0\0\0\0\0\0\0\0\0\0\0\0\0\0\0\0\0\0\0\0\x01\0\0\0\0\0\0\0\0\0\0\0\x01s\0\0\0\x08/queue/q\0\0\0\0\0\x01\0\0\0\0\0\0\0\0\0\0\0\0\0\0\0\0\0\0\0\0\0\0\0\x08/queue/q\0\0\0\0\0\0",
 ];
 
-// The same with the rule kept, where it is not a byte of the state of every part.
+// The same with the rule kept, if it is not a byte of the state of every part.
 const STATES: [&[u8]; 6] = [
     b"\0\0\0\0\0\0\0\x02\0\0\0\0\0\0\0\0\0\0\0\x02\0\0\0\0\0\0\0\0\0\0\0\0\0\0\0\0\x01\0\0\0\0\0\0\0\0\0\0\0\0\0",
     b"\0\0\0\0\0\0\0\0\x80\0\0\0\0\0\0\0\0\0\0\0\0\0\0\0\0\0\0\0\0\0\0\0",

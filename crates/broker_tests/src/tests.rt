@@ -17,7 +17,7 @@ pub(crate) enum Event<'a> {
     /// To that topic, in `client` mode, under that durable name.
     SubscribeUnder(u64, &'a str, &'a str, &'a str),
     Unsubscribe(u64, &'a str),
-    /// Gives that durable name up, after the subscription of that id where one is given.
+    /// Gives that durable name up, after the subscription of that id if one is given.
     GiveUp(u64, Option<&'a str>, &'a str),
     /// Sends `hi` there.
     Send(u64, &'a str),
@@ -186,7 +186,7 @@ pub(crate) fn command_of(alloc: Global, event: &Event<'_>) -> Result<Command, Fa
     }
 }
 
-/// Carries the command out, where the broker can count one more.
+/// Carries the command out, if the broker can count one more.
 pub(crate) fn execute(
     alloc: Global,
     broker: &mut Broker,
@@ -218,7 +218,7 @@ fn prepare(alloc: Global, broker: &mut Broker, before: &[(Event<'_>, usize)]) ->
     Ok(())
 }
 
-// An output: the session and the verb; of a MESSAGE the subscription and the message, else the last header's value.
+// An output: the session and the verb; then the subscription and the message of a MESSAGE, else the last header's value.
 fn tell(alloc: Global, told: &mut String, out: &Out) -> Result<(), AllocError> {
     let frame = out.frame();
     let (first, second) = match frame.headers.as_slice() {
@@ -264,7 +264,7 @@ pub(crate) fn answers(
     }
 }
 
-/// What is answered: of each row the last event, behind all rows before.
+/// What is answered: of each row the last event, after all rows before.
 pub(crate) type Rows<'a> = &'a [(&'a [Event<'a>], &'a str)];
 
 /// Has a broker answer so.

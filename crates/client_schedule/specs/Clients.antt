@@ -76,22 +76,22 @@ begun client = record client { standing = in_turn client.standing; is_short = fa
 abbrev pub Begins : ℕ → Clients → Clients → Type 0
 Begins n old new = client_at n new ≡ option_map begun (client_at n old)
 
--- so many milliseconds later; where no clock can tell that, a moment that does not come
+-- so many milliseconds later; if no clock can tell that, a moment that does not come
 abbrev pub later : ℕ → ℕ → ℕ
 later now millis = min (now + millis) (2 ^ 64 - 1)
 
--- where something came of it in its turn, that is known
+-- if something came of it in its turn, that is known
 abbrev pub heard_if : Bool → ℕ → Deadlines → Deadlines
 heard_if true now p = heard_by now p
 heard_if false now p = p
 
--- what a client is waited for behind a turn that came to this
+-- what a client is waited for after a turn that came to this
 abbrev pub waited_by : Next → ℕ → Deadlines → Deadlines
 waited_by Write now p = held_up_by now p
 waited_by Close now p = parting_by now (freed_by now p)
 waited_by _ now p = freed_by now p
 
--- what is known of a client behind a turn, where its socket has taken so many bytes
+-- what is known of a client after a turn, if its socket has taken so many bytes
 abbrev pub waited_for : Turned → ℕ → ℕ → Client → Deadlines
 waited_for turned taken now client = waited_by turned.next now (taken_by taken now (heard_if turned.heard now client.deadlines))
 
@@ -100,8 +100,8 @@ abbrev pub parts_now : Option Client → Bool
 parts_now None = false
 parts_now (Some client) = not (is_some client.deadlines.parting)
 
--- More of its bytes may be there of which the poll tells no more: a turn that came to this has read its client last, at the end of a portion,
--- or has closed it, before which nothing was heard.
+-- More of its bytes may be there of which the poll tells no more. A turn that came to this has read its client last, at the end of a
+-- portion. Or it has closed it, before which nothing was heard.
 abbrev pub has_more : Bool → Next → Option Client → Bool
 has_more has_rest Read client = has_rest
 has_more has_rest (Output mark) client = has_rest
@@ -113,13 +113,13 @@ abbrev pub look_at : Due → ℕ → ℕ
 look_at (dues.In millis) now = later now millis
 look_at _ now = now
 
--- when it is to be looked at behind a turn that came to this, at the latest
+-- when it is to be looked at after a turn that came to this, at the latest
 abbrev pub LooksBy : Next → Deadlines → ℕ → ℕ → Type 0
 LooksBy Write p now at = (due : Due) × IsDue Open p now due × (at ≡ look_at due now)
 LooksBy Close p now at = (due : Due) × IsDue Open p now due × (at ≡ look_at due now)
 LooksBy _ p now at = at ≡ NEVER
 
--- when they try again to whom memory was refused, behind a turn that came to this
+-- when clients to which memory was refused try again, after a turn that came to this
 abbrev pub retry_by : Next → ℕ → ℕ → ℕ
 retry_by Memory retry now = min retry (later now SHORTAGE)
 retry_by _ retry now = retry
@@ -128,7 +128,7 @@ retry_by _ retry now = retry
 abbrev pub IsLookedAtBy : ℕ → Next → Deadlines → ℕ → Clients → Clients → Type 0
 IsLookedAtBy n next p now old new = (at : ℕ) × LooksBy next p now at × (new.timers ≡ with_earlier n at old.timers)
 
--- behind a turn a client is waited for as the turn says; of one that is gone nothing is
+-- after a turn a client is waited for as the turn says; a client that is gone is not waited for
 pub record IsWaitedFor (n : ℕ) (turned : Turned) (taken now : ℕ) (old new : Clients) : Type 0 where
   pub timers : MatchOption (client_at n old) (new.timers ≡ old.timers) (λ client. IsLookedAtBy n turned.next (waited_for turned taken now client) now old new)
   pub retry : MatchOption (client_at n old) (new.retry ≡ old.retry) (λ client. new.retry ≡ retry_by turned.next old.retry now)
@@ -139,14 +139,14 @@ abbrev pub done_by : Due → ℕ → Deadlines → Deadlines
 done_by dues.Ping now p = pinged_by now p
 done_by _ now p = p
 
--- When a client is to be looked at of which this is due: behind its next turn where something is done, and never where it is given up.
+-- When a client is to be looked at of which this is due: after its next turn if something is done, and never if it is given up.
 abbrev pub moment_of : Due → ℕ → ℕ
 moment_of dues.GivenUp now = NEVER
 moment_of dues.Write now = later now 1
 moment_of dues.Ping now = later now 1
 moment_of (dues.In millis) now = later now millis
 
--- That is due of a client, each ping counts, and it is looked at next when something is due then.
+-- This is due of a client. Each ping counts, and the client is looked at next when something is due then.
 pub record ComesDue (n : ℕ) (phase : Phase) (now : ℕ) (due : Due) (old new : Clients) (client : Client) : Type 0 where
   pub is : IsDue phase client.deadlines now due
   pub done : option_map (λ (c : Client). c.deadlines) (client_at n new) ≡ Some (done_by due now client.deadlines)
@@ -169,7 +169,7 @@ abbrev pub is_short : Option Client → Bool
 is_short None = false
 is_short (Some client) = client.is_short
 
--- those of so many numbers to whom memory was refused stand in line for a turn, the lowest first
+-- clients of so many numbers to which memory was refused stand in line for a turn, the lowest first
 unfoldable pub woken_short : ℕ → Clients → Lines → Lines
 woken_short zero c l = l
 woken_short (suc n) c l = cond (is_short (client_at n c)) (woken n (woken_short n c l)) (woken_short n c l)

@@ -23,7 +23,7 @@ OpensNothing Greeting p now = Passed LONGEST_GREETING p.connected now
 OpensNothing Unopened p now = Passed LONGEST_GREETING p.connected now
 OpensNothing Open p now = ⊥
 
--- Something has waited for it, and its socket took nothing, for so long before it was offered that the last time.
+-- Something has waited for it, and its socket took nothing, for so long before it was last offered that.
 abbrev pub TakesNothing : Option ℕ → Deadlines → Type 0
 TakesNothing None p = ⊥
 TakesNothing (Some since) p = Passed LONGEST_WRITE since p.offered × Passed LONGEST_WRITE p.took p.offered
@@ -40,11 +40,11 @@ counts Unopened None None = true
 counts Open None None = true
 counts _ _ _ = false
 
--- in how many milliseconds a client reads so many bytes that reads as slowly as it may: 300,000 at most
+-- in how many milliseconds a client reads so many bytes if it reads as slowly as it may: 300,000 at most
 abbrev pub reading_time : ℕ → ℕ
 reading_time bytes = min bytes MOST_UNREAD * 1000 / SLOWEST
 
--- For how long it may be silent before a ping, and behind one: then it has to read first what its socket took before.
+-- For how long it may be silent before a ping, and after one: then it first has to read what its socket took before.
 abbrev pub wait_of : Deadlines → ℕ
 wait_of p = cond (p.pings == 0) QUIET (QUIET + reading_time p.unanswered)
 
@@ -77,14 +77,14 @@ IsPingDue phase p now = (counts phase p.held_up p.parting ≡ true) × (p.pings 
 abbrev pub IsSomethingDue : Phase → Deadlines → ℕ → Type 0
 IsSomethingDue phase p now = IsGivenUp phase p now ⊎ IsWriteDue p.held_up p now ⊎ IsPingDue phase p now
 
--- From now on that is not so for so long, and then it is; where no clock can tell that moment, it need not be.
+-- From now on that is not so for so long, and then it is. If no clock can tell that moment, it need not be.
 pub record Until (Holds : ℕ → Type 0) (now left : ℕ) : Type 0 where
   pub at_once : left ≡ 0 → Holds now
   pub not_before : (then : ℕ) → now ≤ then → then < now + left → Holds then → ⊥
   pub by_then : Holds (now + left) ⊎ (2 ^ 64 - 1 ≤ now + left)
 
--- What is due of a client: it is given up just where it is to be; or else what waits is offered, or a ping is sent, just where that is
--- to be; or else nothing is due, and for so long nothing will be.
+-- What is due of a client. It is given up exactly if it is to be. Or else what waits is offered, or a ping is sent, exactly if that is
+-- to be. Or else nothing is due, and for so long nothing will be.
 abbrev pub IsDue : Phase → Deadlines → ℕ → Due → Type 0
 IsDue phase p now GivenUp = IsGivenUp phase p now
 IsDue phase p now Write = IsWriteDue p.held_up p now × (IsGivenUp phase p now → ⊥)

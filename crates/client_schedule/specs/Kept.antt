@@ -3,7 +3,7 @@ use Rattle.std.specs.Prelude.{◌≡◌, ℕ, ◌≤◌, Bool, false, List, cond
 use Rattle.client_schedule.specs.Lines.{times}
 use Rattle.client_schedule.specs.declared.limits.TheConstants.{CLIENTS}
 
--- once where it stands there, else not at all
+-- once if it stands there, else not at all
 abbrev pub told : ℕ → List Bool → ℕ
 told n stands = cond (slice_index_or stands n false) 1 0
 

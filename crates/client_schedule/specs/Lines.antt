@@ -15,11 +15,11 @@ pub record IsLine (line : List ℕ) : Type 0 where
 abbrev pub may_join : ℕ → List ℕ → Bool
 may_join n line = nat_lt n CLIENTS && nat_lt (times n line) 1
 
--- the line once it has joined behind all others; who stands there keeps its place
+-- the line once it has joined behind all others; a client that stands there keeps its place
 abbrev pub joined : ℕ → List ℕ → List ℕ
 joined n line = cond (may_join n line) (line ++ n ∷ []) line
 
--- the line once it has joined before all others; who stands there keeps its place
+-- the line once it has joined before all others; a client that stands there keeps its place
 abbrev pub joined_first : ℕ → List ℕ → List ℕ
 joined_first n line = cond (may_join n line) (n ∷ line) line
 
@@ -33,19 +33,19 @@ abbrev pub is_over_its : ℕ → List ℕ → Option ℕ → Bool
 is_over_its mark marks None = false
 is_over_its mark marks (Some n) = nat_lt (slice_index_or marks n 0) mark
 
--- the first in line is to go on where the mark is this
+-- the first in line is to go on at this mark
 abbrev pub is_over : ℕ → WaitingValue → Bool
 is_over mark w = is_over_its mark w.marks (slice_get w.line 0)
 
--- the marks once that client waits for one over this; who waits keeps its own
+-- the marks once that client waits for one over this; a client that waits keeps its own
 abbrev pub marks_with : ℕ → ℕ → WaitingValue → List ℕ
 marks_with n mark w = cond (may_join n w.line) (slice_set w.marks n mark) w.marks
 
--- that client waits for a mark over this behind all others; who waits keeps its place and its mark
+-- that client waits for a mark over this behind all others; a client that waits keeps its place and its mark
 abbrev pub waiting : ℕ → ℕ → WaitingValue → WaitingValue
 waiting n mark w = record { line = joined n w.line; marks = marks_with n mark w }
 
--- that client waits for a mark over this before all others; who waits keeps its place and its mark
+-- that client waits for a mark over this before all others; a client that waits keeps its place and its mark
 abbrev pub waiting_first : ℕ → ℕ → WaitingValue → WaitingValue
 waiting_first n mark w = record { line = joined_first n w.line; marks = marks_with n mark w }
 

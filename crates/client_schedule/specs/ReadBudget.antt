@@ -23,7 +23,7 @@ module _ {S : Type 0} where
     pub rest : new.flow.has_rest ≡ false
     pub supply_is : new.supply ≡ drained asked result supply
 
-  -- A read that asked for so many bytes, where the poll had told this since the one before: it asks the socket unless that is dry, or the
+  -- A read that asked for so many bytes, if the poll had told this since the one before. It asks the socket unless that is dry, or the
   -- portion is at its end.
   pub record Reads (told : Told) (asked : ℕ) (old new : ReadBudget S) (result : Result ℕ Error) : Type 0 where
     pub dry : is_dry (with_told told old.supply) ≡ true → Declines false old new result × (new.supply ≡ with_told told old.supply)

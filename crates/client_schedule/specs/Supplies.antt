@@ -34,13 +34,13 @@ abbrev pub is_would_block : ErrorKind → Bool
 is_would_block kinds.WouldBlock = true
 is_would_block _ = false
 
--- A read that asked for so many bytes has found that there are no more now: it gave some, but fewer; or there were none. One that gave
+-- A read that asked for so many bytes has found that there are no more now: it gave some, but fewer, or there were none. One that gave
 -- no byte has found the end.
 abbrev pub leaves_nothing : ℕ → Result ℕ Error → Bool
 leaves_nothing asked (Ok count) = nat_lt 0 count && nat_lt count asked
 leaves_nothing asked (Err error) = is_would_block (error_kind error)
 
--- what there may be to read behind a read that asked for so many bytes: nothing where it has found that, unless the end was told
+-- what there may be to read after a read that asked for so many bytes: nothing if it has found that, unless the end was told
 abbrev pub drained : ℕ → Result ℕ Error → Supply → Supply
 drained asked result Unknown = cond (leaves_nothing asked result) Dry Unknown
 drained asked result Dry = Dry

@@ -12,7 +12,7 @@ pub record TimersValue : Type 0 where
 abbrev pub Earliest : ℕ → List ℕ → Type 0
 Earliest first all = All (λ at. first ≤ at) all
 
--- the first of moments; where there are none, one that does not come
+-- the first of moments; if there are none, one that does not come
 abbrev pub first_of : List ℕ → ℕ
 first_of all = fold (λ first at. min first at) NEVER all
 
@@ -32,6 +32,6 @@ with_moment client at t = cond (nat_lt client (length t.all)) (record { all = sl
 abbrev pub with_earlier : ℕ → ℕ → TimersValue → TimersValue
 with_earlier client at t = with_moment client (min at (slice_index_or t.all client NEVER)) t
 
--- the moments once no client has one that has come: the first of them is known again where it was not
+-- the moments once no client has one that has come: the first of them is known again if it was not
 abbrev pub looked_through : ℕ → TimersValue → TimersValue
 looked_through now t = cond (nat_lt now t.earliest) t (record t { earliest = first_of t.all })

@@ -1,4 +1,4 @@
--- Who has a turn, and what comes of one.
+-- Which client has a turn, and what comes of one.
 use Rattle.std.specs.Prelude.{◌≡◌, ℕ, ◌&&◌, Bool, false, [], Option, Some, None, cond, eqb, not, slice_get}
 use Rattle.client_schedule.specs.Lines.{WaitingValue, is_over, joined, waiting, waiting_first, without_first}
 use Rattle.client_schedule.specs.declared.lines.Lines.{Lines}
@@ -10,11 +10,13 @@ use Rattle.desk_core.specs.declared.turned.Next.TheVariants.{Go, Room, Output, C
 abbrev pub woken : ℕ → Lines → Lines
 woken n l = record l { ready = joined n l.ready }
 
--- whom a mark lets in: the first of those that wait for room, or else of those whose next output waits for the mark
+-- the client that a mark lets in: the first of those that wait for room, or else of those whose next output waits for
+-- the mark
 abbrev pub let_in : ℕ → Lines → Option ℕ
 let_in mark l = cond (is_over mark l.room) (slice_get l.room.line 0) (cond (is_over mark l.outputs) (slice_get l.outputs.line 0) None)
 
--- the lines once it is let in: it waits no more, and who waited for room has its place in front while its turn lasts
+-- the lines once it is let in: it waits no more, and one that waited for room has its place in front while its turn
+-- lasts
 abbrev pub after_let_in : ℕ → Lines → Lines
 after_let_in mark l =
     cond (is_over mark l.room)
@@ -26,7 +28,7 @@ abbrev pub is_that : ℕ → Option ℕ → Bool
 is_that n None = false
 is_that n (Some other) = eqb n other
 
--- who was let in and could put nothing into the ring keeps its place in front
+-- a client that was let in and could put nothing into the ring keeps its place in front
 abbrev pub keeps_place : ℕ → Turned → Lines → Bool
 keeps_place n turned l = is_that n l.let_in && not turned.appended
 
@@ -34,7 +36,7 @@ keeps_place n turned l = is_that n l.let_in && not turned.appended
 abbrev pub refused : Bool → ℕ → ℕ → WaitingValue → WaitingValue
 refused in_front n mark w = cond in_front (waiting_first n mark w) (waiting n mark w)
 
--- the lines behind a turn of that client which came to this, where it keeps its place in front or does not
+-- the lines after a turn of that client which came to this, if it keeps its place in front or does not
 abbrev pub settled_by : Next → Bool → Bool → ℕ → Lines → Lines
 settled_by Go heard in_front n l = woken n l
 settled_by Close heard in_front n l = cond heard (woken n l) l
@@ -42,11 +44,11 @@ settled_by (Room mark) heard in_front n l = record l { room = refused in_front n
 settled_by (Output mark) heard in_front n l = record l { outputs = waiting n mark l.outputs }
 settled_by _ heard in_front n l = l
 
--- the lines behind a turn of that client
+-- the lines after a turn of that client
 abbrev pub settled : ℕ → Turned → Lines → Lines
 settled n turned l = settled_by turned.next turned.heard (keeps_place n turned l) n (record l { let_in = None })
 
--- that client stands in line for a turn where more of its bytes may be there
+-- that client stands in line for a turn if more of its bytes may be there
 abbrev pub gone_on : Bool → ℕ → Lines → Lines
 gone_on has_rest n l = cond has_rest (woken n l) l
 

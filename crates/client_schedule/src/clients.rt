@@ -27,7 +27,7 @@ pub enum Standing {
     Greeting(Greeting<ReadBudget<TcpStream>>),
     /// It sits at its desk, at the place that its number names.
     Seated,
-    /// Its handshake is just gone on with, or it is gone.
+    /// Its handshake is going on just now, or it is gone.
     Away,
 }
 
@@ -51,7 +51,7 @@ impl Client {
         }
     }
 
-    // Where it is whose turn begins. A handshake is taken out, to be gone on with.
+    // Where the client is whose turn begins. Its handshake is taken out, to go on.
     fn begin_turn(&mut self) -> Standing
         ensures whose { result ≡ self.old.standing }
         ensures begins { self.new ≡ begun self.old }
@@ -64,10 +64,10 @@ impl Client {
     }
 }
 
-/// The clients of a desk, by their numbers, which name their places there too; the lines in which they stand; and when each is to be looked at.
+/// The clients of a desk, by their numbers, which also name their places there; their lines; and when each is to be looked at.
 ///
-/// A number may stand in a line whose client has gone. Then there is a turn for which nobody is there, or in which the client that has the
-/// number now finds nothing.
+/// A number may stand in a line though its client has gone. Then there is a turn for which nobody is there, or in which the client that has
+/// the number now finds nothing.
 #[derive(Drop)]
 pub struct Clients {
     pub(crate) all: Slab<Client>,
@@ -75,7 +75,7 @@ pub struct Clients {
     pub(crate) reach: usize,
     pub(crate) lines: Lines,
     pub(crate) timers: Timers,
-    // When those are to try again to whom memory was refused.
+    // When clients to which memory was refused are to try again.
     pub(crate) retry: u64,
 }
 
@@ -96,7 +96,7 @@ impl Clients {
         })
     }
 
-    /// The number of the next client; `None` where there are as many as there may be.
+    /// The number of the next client; `None` if there are as many as there may be.
     pub fn next_number(&self) -> Option<usize>
         ensures number { IfSome result (λ number. (number ≡ self.now.all.vacant_key) × (number < CLIENTS)) }
         ensures full { IsNone result → CLIENTS ≤ self.now.all.vacant_key }
@@ -134,7 +134,7 @@ impl Clients {
         self.timers.set(number, NEVER);
     }
 
-    /// That client.
+    /// The client of that number.
     pub fn get(&self, number: usize) -> Option<&Client>
         ensures { option_copied result ≡ client_at number self.now }
     {
@@ -148,7 +148,7 @@ impl Clients {
         self.reach
     }
 
-    /// A client whose moment has come to be looked at. It has none until `come_due` sets one.
+    /// A client whose moment to be looked at has come. It has none until `come_due` sets one.
     pub fn take_due(&mut self, now: u64) -> Option<usize>
         ensures due { IfSome result (λ client. IsDue now client self.old.timers.all × (self.new ≡ record self.old { timers = record self.old.timers { all = slice_set self.old.timers.all client NEVER } })) }
         ensures none { IsNone result → IsNotDue now self.old.timers.all × (self.new ≡ record self.old { timers = looked_through now self.old.timers }) }
@@ -156,7 +156,7 @@ impl Clients {
         self.timers.take_due(now)
     }
 
-    /// Has a client stand in line for a turn, behind all others. Who stands there keeps its place.
+    /// Has a client stand in line for a turn, behind all others. A client that stands there keeps its place.
     pub fn wake(&mut self, number: usize)
         ensures { self.new ≡ record self.old { lines = woken number self.old.lines } }
     {
@@ -177,14 +177,14 @@ impl Clients {
         self.lines.count_waiting()
     }
 
-    /// Whether somebody is let in where the mark is this.
+    /// Whether a client is let in at this mark.
     pub fn is_over(&self, mark: u64) -> bool
         ensures { result ≡ (is_over mark self.now.lines.room || is_over mark self.now.lines.outputs) }
     {
         self.lines.is_over(mark)
     }
 
-    /// The next that has a turn, and where it is. It stands in line no more.
+    /// The next client that has a turn, and where it is. It stands in line no more.
     pub fn next(&mut self) -> Option<(usize, Standing)>
         ensures none { IsNone result → self.old.lines.ready ≡ [] }
         ensures first { IfSome result (λ turn. self.old.lines.ready ≡ turn.0 ∷ self.new.lines.ready) }
@@ -196,8 +196,8 @@ impl Clients {
         Some((number, self.begin_turn(number)))
     }
 
-    /// Who is let in where the mark is this, and where it is: the first that waits for room, or else the first whose output waits. It
-    /// has a turn before all that stand in line for one, and waits no more.
+    /// The client that is let in at this mark, and where it is: the first that waits for room, or else the first whose output waits. It has
+    /// a turn before all that stand in line for one, and waits no more.
     pub fn let_in(&mut self, mark: u64) -> Option<(usize, Standing)>
         ensures who { option_map (λ turn. turn.0) result ≡ let_in mark self.old.lines }
         ensures after { self.new.lines ≡ after_let_in mark self.old.lines }
@@ -208,7 +208,7 @@ impl Clients {
         Some((number, self.begin_turn(number)))
     }
 
-    // Where a client is whose turn begins.
+    // Where the client is whose turn begins.
     fn begin_turn(&mut self, number: usize) -> Standing
         ensures whose { result ≡ standing_at number self.old }
         ensures begins { Begins number self.old self.new }
@@ -220,7 +220,7 @@ impl Clients {
         }
     }
 
-    /// A client is where it is said to be now. It stands in line again if more of its bytes may be there.
+    /// A client is now where it is said to be. It stands in line again if more of its bytes may be there.
     pub fn stand(&mut self, number: usize, standing: Standing, has_rest: bool)
         ensures there { MatchOption (client_at number self.old) (self.new.all ≡ self.old.all) (λ _. option_map (λ client. client.standing) (client_at number self.new) ≡ Some standing) }
         ensures rest { self.new ≡ record self.old { all = self.new.all; lines = gone_on has_rest number self.old.lines } }
@@ -231,7 +231,7 @@ impl Clients {
         self.go_on(number, has_rest);
     }
 
-    // Has a client stand in line whose last turn left bytes that may be there.
+    // Has a client stand in line if its last turn left bytes that may be there.
     pub(crate) fn go_on(&mut self, number: usize, has_rest: bool)
         ensures { self.new ≡ record self.old { lines = gone_on has_rest number self.old.lines } }
     {

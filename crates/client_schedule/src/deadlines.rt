@@ -7,26 +7,26 @@ ghost use Rattle.client_schedule.specs.Deadlines.{IsDue, IsGivenUp, IsPingDue, I
 /// For how many milliseconds a client may say nothing between two parts of its handshake.
 const LONGEST_PART: u64 = 20_000;
 
-/// For how many milliseconds a client may be connected and have opened no session, its handshake counted.
+/// For how many milliseconds a client may be connected without having opened a session, counting its handshake.
 const LONGEST_GREETING: u64 = 60_000;
 
-/// After how many milliseconds in which nothing came a client is sent a ping. For so long its answer is waited for too, besides the time
-/// that it has to read what its socket took before.
+/// After how many milliseconds in which nothing came a client is sent a ping. Its answer is waited for as long too, and also for the
+/// time that the client needs to read what its socket took before.
 const QUIET: u64 = 20_000;
 
 /// How many pings a client may leave unanswered.
 const PINGS: u64 = 3;
 
-/// How many bytes a second a client is expected to read behind a ping.
+/// How many bytes a second a client is expected to read after a ping.
 const SLOWEST: u64 = 32_768;
 
-/// For how many bytes behind a ping it is given that time: for 300 seconds.
+/// For how many bytes after a ping it is given that time: for 300 seconds.
 const MOST_UNREAD: u64 = 9_830_400;
 
 /// For how many milliseconds a client may take nothing of what is written to it.
 const LONGEST_WRITE: u64 = 10_000;
 
-/// For how many milliseconds a client's close is waited for, once it was told that its connection is being closed.
+/// For how many milliseconds a client's close is waited for, once it was sent that its connection is being closed.
 const LONGEST_CLOSE: u64 = 10_000;
 
 /// How far a client has come.
@@ -45,7 +45,7 @@ pub enum Phase {
 pub enum Due {
     /// It is to be given up.
     GivenUp,
-    /// What waits for it is to be offered to its socket once more: where that takes nothing, it is to be given up.
+    /// What waits for it is to be offered to its socket once more. If the socket takes nothing, it is to be given up.
     Write,
     /// It is to be sent a ping.
     Ping,
@@ -53,7 +53,7 @@ pub enum Due {
     In(u64),
 }
 
-/// What has happened to a client, as far as its worker's deadlines depends on it. Moments are in milliseconds of the worker's clock.
+/// What has happened to a client, as far as its worker's deadlines depend on it. Moments are in milliseconds of the worker's clock.
 #[derive(Clone, Copy)]
 pub struct Deadlines {
     // When it was connected.
@@ -67,7 +67,7 @@ pub struct Deadlines {
     took: u64,
     unanswered: u64,
     taken: u64,
-    // Since when something waits to be written, where something does; or when nothing did any more, or it was connected.
+    // Since when something waits to be written, if something does; since when nothing does, or when it was connected.
     held_up: Option<u64>,
     freed: u64,
     // When what waits was offered to its socket last, or it was connected.
@@ -77,7 +77,7 @@ pub struct Deadlines {
 }
 
 impl Deadlines {
-    /// That with a client which was connected just now.
+    /// The deadlines of a client that was connected just now.
     pub fn new(now: u64) -> Deadlines
         ensures { result ≡ fresh now }
     {
@@ -124,7 +124,7 @@ impl Deadlines {
         }
     }
 
-    /// Something waits to be written to the client, which was offered to its socket just now. That began now, unless it had begun.
+    /// Something waits to be written to the client, and was offered to its socket just now. That began now, unless it had begun.
     pub fn held_up(&mut self, now: u64)
         ensures { self.new ≡ held_up_by now self.old }
     {
@@ -160,7 +160,7 @@ impl Deadlines {
         self.parting.is_some()
     }
 
-    /// What is due of the client that has come so far.
+    /// What is due of a client that has come so far.
     pub fn due(&self, phase: Phase, now: u64) -> Due
         ensures { IsDue phase self.now now result }
     {
@@ -178,7 +178,7 @@ impl Deadlines {
         }
     }
 
-    // For how long it is waited for yet.
+    // For how much longer it is waited for.
     fn given_up_in(&self, phase: Phase, now: u64) -> u64
         ensures { Until (IsGivenUp phase self.now) now result }
     {
@@ -208,7 +208,7 @@ impl Deadlines {
         }
     }
 
-    // Nothing, where its socket took nothing for so long, up to the last that it was offered.
+    // Nothing, if its socket took nothing for so long, up to the last time that it was offered something.
     fn take_in(&self) -> u64
         ensures { (now : ℕ) → Until (λ _. TakesNothing self.now.held_up self.now) now result }
     {

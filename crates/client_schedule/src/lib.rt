@@ -1,4 +1,4 @@
-//! The clients of a desk: who stands in line for a turn, what each waits for behind one, and for how long it is waited for.
+//! The clients of a desk: which stand in line for a turn, what each waits for after one, and for how long it is waited for.
 
 #![tactic(auto)]
 

@@ -9,8 +9,8 @@ use std::alloc::{AllocError, Global};
 use std::collections::VecDeque;
 use std::marker::Model;
 
-/// A line of clients, by their numbers. Each stands in it once at most, so its room, which is made at the beginning, is enough.
-/// Contracts see it as a list, the first one first.
+/// A line of clients, by their numbers. Each stands in it once at most, so the room that is made for it at the beginning is
+/// enough. Contracts see it as a list, the first one first.
 #[derive(Drop)]
 pub struct Line {
     order: VecDeque<usize>,
@@ -57,14 +57,14 @@ impl Line {
         front_of(&self.order)
     }
 
-    /// Whether that client may join: there is that number, and it does not stand there.
+    /// Whether that client may join: there is that number, and it does not stand there yet.
     pub fn takes(&self, client: usize) -> bool
         ensures { result ≡ may_join client self.now }
     {
         client < CLIENTS && !self.stands[client]
     }
 
-    /// A client joins, behind all others. Who stands there keeps its place.
+    /// A client joins, behind all others. A client that stands there keeps its place.
     pub fn join(&mut self, client: usize)
         ensures { self.new ≡ joined client self.old }
     {
@@ -74,7 +74,7 @@ impl Line {
         }
     }
 
-    /// A client joins, before all others. Who stands there keeps its place.
+    /// A client joins, before all others. A client that stands there keeps its place.
     pub fn join_first(&mut self, client: usize)
         ensures { self.new ≡ joined_first client self.old }
     {

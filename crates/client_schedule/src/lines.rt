@@ -12,13 +12,13 @@ use std::alloc::{AllocError, Global};
 /// The lines in which a desk's clients stand, by their numbers.
 #[derive(Drop)]
 pub struct Lines {
-    // Those that have a turn next.
+    // Clients that have a turn next.
     pub(crate) ready: Line,
-    // Those that found the window full, in the order in which they were refused.
+    // Clients that found the window full, in the order in which they were refused.
     pub(crate) room: Waiting,
-    // Those whose next output waits for the mark.
+    // Clients whose next output waits for the mark.
     pub(crate) outputs: Waiting,
-    // Who was let in to room, while its turn lasts.
+    // The client that was let in to room, while its turn lasts.
     pub(crate) let_in: Option<usize>,
 }
 
@@ -52,7 +52,7 @@ impl Lines {
         self.room.len() + self.outputs.len()
     }
 
-    /// Whether somebody is let in where the mark is this.
+    /// Whether a client is let in at this mark.
     pub(crate) fn is_over(&self, mark: u64) -> bool
         ensures { result ≡ (is_over mark self.now.room || is_over mark self.now.outputs) }
     {
@@ -75,7 +75,8 @@ impl Lines {
         self.ready.next()
     }
 
-    /// Who is let in where the mark is this: the first that waits for room, or else the first whose output waits. It waits no more.
+    /// The client that is let in at this mark: the first that waits for room, or else the first whose output waits. It waits no
+    /// more.
     pub(crate) fn let_in(&mut self, mark: u64) -> Option<usize>
         ensures who { result ≡ let_in mark self.old }
         ensures after { self.new ≡ after_let_in mark self.old }

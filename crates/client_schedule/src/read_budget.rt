@@ -1,4 +1,4 @@
-//! The socket of a client, which is read in portions, and not in vain.
+//! The socket of a client, which is read in portions, and never in vain.
 
 ghost use Rattle.std.specs.Prelude.{◌≡◌, ◌≤◌, ◌+◌, ◌-◌, ◌^◌, false, IfOk, OnErr, length, min};
 ghost use Rattle.std.specs.Io.{ReadsAtMost, WritesAtMost};
@@ -13,14 +13,14 @@ use std::io::{ErrorKind, Read, Write};
 use std::net::Shutdown;
 use ws_core::Ending;
 
-/// How many reads that gave bytes make a portion. A link reads 4,096 bytes at a time: for as long as it takes to hear so many of the
-/// smallest fragments the other clients of the worker wait.
+/// How many reads that gave bytes make a portion. A link reads 4,096 bytes at a time. The other clients of the worker wait for as long as
+/// it takes to hear so many of the smallest fragments.
 const READS: u32 = 1;
 
-/// How many bytes are dropped at a time that come behind a close.
+/// How many bytes are dropped at a time that come after a close.
 const DROPPED: usize = 16_384;
 
-/// What the stream of a client tells behind a turn.
+/// What the stream of a client tells after a turn.
 #[derive(Clone, Copy)]
 pub struct Flow {
     /// How many bytes its socket took in all.
@@ -29,20 +29,20 @@ pub struct Flow {
     pub has_rest: bool,
 }
 
-/// A socket that says that it has nothing to give after so many reads that gave bytes, though it may have. So whoever reads until
-/// there is nothing comes to an end, whatever a client sends: of a WebSocket's message a client may send fragments without end
-/// (RFC 6455, section 5.4). `flow` tells that there may be more, since the poll does not tell it again; and how many bytes the socket
-/// took, from which a worker knows whether its client takes anything.
+/// A socket that says that it has nothing to give after so many reads that gave bytes, though it may have more. So a caller that reads
+/// until there is nothing comes to an end, whatever a client sends. For a client may send fragments of a WebSocket's message without end
+/// (RFC 6455, section 5.4). `flow` tells that there may be more, since the poll does not tell it again. It also tells how many bytes the
+/// socket took, from which a worker knows whether its client takes anything.
 ///
-/// Nor is a socket asked in vain. A read that gave fewer bytes than it asked for has left a stream empty, and so has one that gave none for now
-/// (epoll(7), on edge-triggered polls): from then on reads say `WouldBlock` without asking the socket, until `tell` says that the poll
-/// has told of it. Once its end or a failure was told it is asked each time, since the poll doesn't tell of that again: a read that gave
-/// fewer bytes may have left the end. A client that marks bytes as urgent (RFC 6093 says that none should) may be heard up to its mark, and beyond
-/// only once it sends more.
+/// Nor is a socket asked in vain. A read that gave fewer bytes than it asked for has left a stream empty, and so has one that gave none for
+/// now (epoll(7), on edge-triggered polls). From then on reads say `WouldBlock` without asking the socket, until `tell` says that the poll
+/// has told of it. Once its end or a failure was told, it is asked each time, since the poll doesn't tell of that again. For a read that
+/// gave fewer bytes may have left the end. A client may mark bytes as urgent, though RFC 6093 says that none should. It may be heard up to
+/// its mark, and beyond only once it sends more.
 ///
-/// Contracts see the socket; how many reads that give bytes are left of the portion, one at most: each takes one away, and one that
-/// gives none begins another portion; what there may be to read; and what the flow is. What the poll has told since the last read no
-/// contract sees.
+/// Contracts see the socket; how many reads that give bytes are left of the portion, one at most; what there may be to read; and what the
+/// flow is. Each read that gives bytes takes one away, and one that gives none begins another portion. No contract sees what the poll has
+/// told since the last read.
 #[derive(Drop)]
 pub struct ReadBudget<S> {
     socket: S,
@@ -59,7 +59,7 @@ pub struct ReadBudget<S> {
 impl<S: Drop> ReadBudget<S> {
     ghost use Rattle.client_schedule.specs.declared.supply.Supply.{Supply};
 
-    /// That socket, of which nothing is known yet.
+    /// A budget over that socket, of which nothing is known yet.
     pub fn new(socket: S) -> ReadBudget<S>
         ensures { (result.socket ≡ socket) × (result.left ≡ READS) × (result.supply ≡ Supply.Unknown) × (result.flow ≡ record { taken = 0; has_rest = false }) }
     {
@@ -95,7 +95,7 @@ impl<S: Drop> ReadBudget<S> {
 impl<S: Read> ReadBudget<S> {
     ghost use Rattle.client_schedule.specs.ReadBudget.{Declines, Reads};
 
-    // Reads, where the poll has told this since the last read.
+    // Reads, if the poll has told this since the last read.
     fn read_told(&mut self, told: Told, buf: &mut [u8]) -> io::Result<usize>
         ensures bound { ReadsAtMost result buf.new }
         ensures bytes { ReadConsumes (S.remaining self.old.socket) (S.remaining self.new.socket) result buf.new }

@@ -14,23 +14,23 @@ pub enum Told {
     Nothing,
     /// That there are bytes.
     Bytes,
-    /// That its peer sends no more, or that it has failed. A read tells that behind the bytes that came before.
+    /// That its peer sends no more, or that it has failed. A read tells that after the bytes that came before.
     End,
 }
 
 /// What there may be to read.
 #[derive(Clone, Copy)]
 pub enum Supply {
-    /// Bytes perhaps, of which the poll need not tell again.
+    /// Perhaps bytes, of which the poll need not tell again.
     Unknown,
     /// Nothing, until the poll tells of it.
     Dry,
-    /// Bytes, and then the end, of neither of which the poll tells again.
+    /// Bytes, and then the end. The poll tells of neither again.
     Ending,
 }
 
-/// What the poll tells of a socket that is to be read. Each flag that a read may answer to counts, whether the poll says that there are bytes or
-/// not.
+/// What the poll tells of a socket that is to be read. Each flag that a read may answer to counts, whether or not the poll says that there
+/// are bytes.
 pub fn told_by(event: &Event) -> Told
     ensures { result ≡ told_by event.now }
 {
@@ -61,7 +61,7 @@ pub(crate) fn is_dry(supply: Supply) -> bool
     matches!(supply, Supply::Dry)
 }
 
-/// What there may be to read behind a read that asked for so many bytes and came to this.
+/// What there may be to read after a read that asked for so many bytes and came to this.
 pub(crate) fn supply_behind(supply: Supply, asked: usize, outcome: &io::Result<usize>) -> Supply
     ensures { result ≡ drained asked outcome.now supply }
 {

@@ -11,11 +11,11 @@ use std::marker::Model;
 /// A moment that does not come.
 pub const NEVER: u64 = u64::MAX;
 
-/// The moments at which clients are to be looked at, in milliseconds, one for each client, by their numbers, and a moment before which
-/// none of them is.
+/// The moments at which clients are to be looked at, in milliseconds, one for each client, by their numbers. There is also a moment
+/// before which none of them is.
 ///
-/// A worker has some hundreds of clients at most, and none of them is to be looked at more often than once in ten seconds or so:
-/// what comes from a client does not touch its moment, which is set anew once it comes too early. So they need no order.
+/// A worker has some hundreds of clients at most, and none of them is to be looked at more often than once in ten seconds or so. What
+/// comes from a client does not touch its moment, which is set anew once it comes too early. So they need no order.
 #[derive(Drop)]
 pub struct Timers {
     all: Vec<u64>,
@@ -34,7 +34,7 @@ impl Model for Timers {
 }
 
 impl Timers {
-    /// Those of so many clients, none of which is to be looked at.
+    /// The moments of so many clients, none of which is to be looked at.
     pub fn new(alloc: Global, clients: usize) -> Result<Timers, AllocError>
         ensures { IfOk result (λ timers. timers ≡ record { all = replicate clients NEVER; earliest = NEVER }) }
     {

@@ -9,7 +9,7 @@ use crate::line::Line;
 use std::alloc::{AllocError, Global};
 use std::marker::Model;
 
-/// A line of clients that wait for a mark, each for one over its own. It moves at its front alone: nobody goes on before the first.
+/// A line of clients that wait for a mark, each for one over its own. It moves only at its front: nobody goes on before the first.
 #[derive(Drop)]
 pub struct Waiting {
     line: Line,
@@ -48,7 +48,7 @@ impl Waiting {
         self.line.len()
     }
 
-    /// Whether the first is to go on where the mark is this.
+    /// Whether the first is to go on at this mark.
     pub fn is_over(&self, mark: u64) -> bool
         ensures { result ≡ is_over mark self.now }
     {
@@ -78,7 +78,7 @@ impl Waiting {
         }
     }
 
-    /// The first goes on, where the mark is over its: it waits no more.
+    /// The first goes on, if the mark is over its: it waits no more.
     pub fn next(&mut self, mark: u64) -> Option<usize>
         ensures first { result ≡ cond (is_over mark self.old) (slice_get self.old.line 0) None }
         ensures rest { self.new ≡ cond (is_over mark self.old) (without_first self.old) self.old }

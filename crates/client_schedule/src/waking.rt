@@ -1,4 +1,4 @@
-//! How a desk's clients come to stand in line for a turn, and what they wait for behind one.
+//! How a desk's clients come to stand in line for a turn, and what they wait for after one.
 
 ghost use Rattle.std.specs.Prelude.{◌≡◌, MatchOption, cond, min, nat_lt, option_map};
 ghost use Rattle.client_schedule.specs.declared.timers.TheConstants.{NEVER};
@@ -16,7 +16,7 @@ impl Clients {
     ghost use Rattle.client_schedule.specs.Turns.{gone_on, settled, woken};
 
     /// The poll told this of a client's socket. It stands in line for a turn; its stream hears it if its handshake is under way. Answers
-    /// whether it sits at the desk: its stream is to hear it there.
+    /// whether it sits at the desk: then its stream is to hear it there.
     pub fn hear_of(&mut self, number: usize, told: Told, now: u64) -> bool
         ensures client { client_at number self.new ≡ option_map (heard_greeting told now) (client_at number self.old) }
         ensures rest { self.new ≡ record self.old { all = self.new.all; lines = woken number self.old.lines } }
@@ -32,7 +32,7 @@ impl Clients {
         }
     }
 
-    /// Has those stand in line to whom memory was refused, once they are to try again.
+    /// Has clients to which memory was refused stand in line, once they are to try again.
     pub fn retry(&mut self, now: u64)
         ensures { self.new ≡ cond (nat_lt now self.old.retry) self.old (record self.old { lines = woken_short self.old.reach self.old self.old.lines; retry = NEVER }) }
     {
@@ -75,8 +75,8 @@ impl Clients {
         self.go_on(number, has_more);
     }
 
-    // Whether more of a client's bytes may be there, of which the poll tells no more, behind a turn that came to this. While it
-    // was to be closed nothing of it was heard.
+    // Whether more of a client's bytes may be there, of which the poll tells no more, after a turn that came to this. While the client
+    // was to be closed, nothing of it was heard.
     fn has_more(&self, number: usize, has_rest: bool, next: Next) -> bool
         ensures { result ≡ has_more has_rest next (client_at number self.now) }
     {
@@ -97,7 +97,7 @@ impl Clients {
         }
     }
 
-    // Begins to wait for what a client is waited for behind a turn.
+    // Begins to wait for what a client is waited for after a turn.
     fn await_client(&mut self, number: usize, turned: Turned, taken: u64, now: u64)
         ensures lines { self.new.lines ≡ self.old.lines }
         ensures rest { IsWaitedFor number turned taken now self.old self.new }
@@ -184,7 +184,7 @@ impl Client {
     }
 }
 
-// When a client is to be looked at of which this is due. Where something is done, that is behind its next turn.
+// When a client is to be looked at of which this is due. If something is done, that is after its next turn.
 fn moment_of(due: Due, now: u64) -> u64
     ensures { result ≡ moment_of due now }
 {

@@ -3,7 +3,7 @@
 ghost use Rattle.std.specs.Prelude.{◌≡◌, ◌+◌, ◌-◌, ◌^◌, min};
 ghost use Rattle.client_schedule.specs.Watches.{counted};
 
-/// By how many milliseconds a round may be longer than it was allowed to wait, before that counts as a pause.
+/// By how many milliseconds a round may take longer than it was allowed to wait, before that counts as a pause.
 const SPARE: u64 = 1_000;
 
 /// A clock that does not count the time for which the whole process stood still: no client is to be given up for that. Moments are in
@@ -16,7 +16,7 @@ pub struct Watch {
 }
 
 impl Watch {
-    /// One that shows what the system's clock does.
+    /// A clock that shows what the system's clock does.
     pub fn new(real: u64) -> Watch
         ensures { (result.seen ≡ real) × (result.shown ≡ real) }
     {
@@ -33,8 +33,8 @@ impl Watch {
         self.shown
     }
 
-    /// A round is over for which so long a wait was allowed, and the system's clock shows this. If it was longer by more than a
-    /// second, only what was allowed counts.
+    /// A round is over for which so long a wait was allowed, and the system's clock shows this. If the round was longer by more than
+    /// a second, only what was allowed counts.
     pub fn go_on(&mut self, real: u64, allowed: u64)
         ensures seen { self.new.seen ≡ real }
         ensures shown { self.new.shown ≡ min (self.old.shown + counted allowed (real - self.old.seen)) (2 ^ 64 - 1) }

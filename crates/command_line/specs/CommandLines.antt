@@ -17,8 +17,8 @@ AskForAlone word words = (name : List ℕ) × (words ≡ name ∷ word ∷ [])
 abbrev pub AsksForScript : List (List ℕ) → Type 0
 AsksForScript = AskForAlone (codes "script")
 
--- What the words behind a subcommand give: its arguments, the origins, the texts for the number of threads and for the memory of
--- clients, whether a file is to be sparse, and whether a server ends with standard input.
+-- What the words after a subcommand give: its arguments, the origins, and the texts for the number of threads and for the memory of
+-- clients. Also whether a file is to be sparse, and whether a server ends with standard input.
 pub record Words : Type 0 where
   pub arguments : List (List ℕ)
   pub origins : List (List ℕ)
@@ -59,9 +59,9 @@ with_written word given =
 abbrev pub is_flag : List ℕ → Bool
 is_flag word = bytes_eq word (codes "--sparse") || bytes_eq word (codes "--until-eof")
 
--- What words give: each is an argument, but for `--origin`, `--threads` and `--memory` with the word after it, the same with `=` and
--- their value, `--sparse`, `--until-eof`, and the first `--`, after which each is one whatever it is. Which of these a subcommand
--- takes is for `clap` to tell.
+-- What words give. Each is an argument, but for `--origin`, `--threads` and `--memory` with the word after it, the same with `=` and
+-- their value, `--sparse`, `--until-eof`, and the first `--`. After that `--`, each is an argument whatever it is. Which of these a
+-- subcommand takes is for `clap` to tell.
 abbrev pub given_from : Place → List (List ℕ) → Words
 given_from place [] = nothing_given
 given_from Behind (word ∷ words) = with_argument word (given_from Behind words)
@@ -80,11 +80,11 @@ given_from Free (word ∷ words) =
 abbrev pub given_by : List (List ℕ) → Words
 given_by = given_from Free
 
--- what these words give, and behind that what those give
+-- what these words give, and after that what those give
 abbrev pub joined : Words → Words → Words
 joined a b = record { arguments = a.arguments ++ b.arguments; origins = a.origins ++ b.origins; threads = a.threads ++ b.threads; memory = a.memory ++ b.memory; is_sparse = a.is_sparse || b.is_sparse; until_eof = a.until_eof || b.until_eof }
 
--- the text has decimal digits alone, and they mean this number
+-- the text has only decimal digits, and they mean this number
 abbrev pub IsNumber : List ℕ → ℕ → Type 0
 IsNumber text n = IsNumeral 10 text × (n ≡ digits_value 10 text)
 
@@ -101,15 +101,15 @@ abbrev pub AskForThreads : List (List ℕ) → Option ℕ → Type 0
 AskForThreads texts None = texts ≡ []
 AskForThreads texts (Some n) = AreNumber texts n × (0 < n) × (n ≤ 64)
 
--- The texts give clients so many bytes of memory: there is no text and no number, or just one text, which means that number, 16,777,216
+-- The texts give clients so many bytes of memory. There is no text and no number, or just one text, which means that number, 16,777,216
 -- at least and under 2 ^ 64.
 abbrev pub AskForMemory : List (List ℕ) → Option ℕ → Type 0
 AskForMemory texts None = texts ≡ []
 AskForMemory texts (Some n) = AreNumber texts n × (16777216 ≤ n) × (n < 2 ^ 64)
 
--- This word and what the words behind it give ask for just that: a file's size in bytes is a number under 2 ^ 64, and a port one under
--- 2 ^ 16 that is not 0; an origin is one that browsers send; the number of
--- threads is one from 1 to 64, and the memory of clients 16,777,216 bytes or more, and both may be left out.
+-- This word asks for just that, with what the words after it give. A file's size in bytes is a number under 2 ^ 64, and a port one
+-- under 2 ^ 16 that is not 0. An origin is one that browsers send. The number of threads is one from 1 to 64, and the memory of clients
+-- 16,777,216 bytes or more; both may be left out.
 abbrev pub AskWith : List ℕ → Words → Subcommand → Type 0
 AskWith name given Script = (name ≡ codes "script") × (given.arguments ≡ [])
 AskWith name given Version = (name ≡ codes "--version") × (given.arguments ≡ [])
@@ -138,7 +138,7 @@ AskForNothing words = (asked : Subcommand) → AskFor words asked → ⊥
 abbrev pub HasOtherOrigin : Words → Type 0
 HasOtherOrigin given = list_all is_origin given.origins ≡ false
 
--- what is given for the number of threads is none, and so is what is given for the memory of clients
+-- what is given for the number of threads is not one, and so is what is given for the memory of clients
 abbrev pub HasOtherThreads : Words → Type 0
 HasOtherThreads given = (threads : Option ℕ) → AskForThreads given.threads threads → ⊥
 

@@ -45,8 +45,9 @@ Untouched unread left before after = (left ≡ unread) × (after ≡ before)
 abbrev pub version_line : List ℕ
 version_line = codes "stompd 0.1.0\n"
 
--- A subcommand is done: a script was read to its end, and what it prints is written; the version is written; a file has bytes
--- enough for a journal; what a journal shows, or holds, is written. A server is never done, and a ping by another call (`end_ping`). That a file is made, and which file is shown, no contract can see.
+-- A subcommand is done. A script was read to its end, and what it prints is written. Or the version is written, or what a journal shows or
+-- holds. Or a file has bytes enough for a journal. A server is never done, and a ping is done by another call (`end_ping`). No contract can
+-- see that a file is made, and which file is shown.
 abbrev pub IsDoneAs : Subcommand → Option (List ℕ) → Option (List ℕ) → Option (List ℕ) → Option (List ℕ) → Type 0
 IsDoneAs asks.Script unread left before after = RunsToEnd unread left before after
 IsDoneAs asks.Version unread left before after = (left ≡ unread) × Appends before after version_line
@@ -112,8 +113,8 @@ pub record StopsOnDisk (fault : ScriptFault) (unread left before after : Option 
   pub now : Memory
   pub stops : Stops empty_state first fault now unread left before after
 
--- the failure is the script's, which a fault stops, at once or once it began with an empty journal; or nothing was read, and
--- written only where a journal is shown
+-- The failure is the script's, which a fault stops, at once or once it began with an empty journal. Or nothing was read, and nothing was
+-- written unless a journal was being shown.
 abbrev pub StopsBy : Failure → Option (List ℕ) → Option (List ℕ) → Option (List ℕ) → Option (List ℕ) → Type 0
 StopsBy (CommandLine error) unread left before after = Untouched unread left before after
 StopsBy (Script fault) unread left before after = (IsAtOnce fault × Untouched unread left before after) ⊎ StopsOnDisk fault unread left before after
@@ -152,7 +153,7 @@ file_text (files.Show fault) = show_text fault
 abbrev pub line_of : List ℕ → List ℕ
 line_of text = codes "stompd: " ++ text ++ 10 ∷ []
 
--- what is told of a number that is none, and of an origin that no browser sends
+-- what is told of a number that is invalid, and of an origin that no browser sends
 abbrev pub number_text : List ℕ
 number_text = codes "BYTES is a decimal number under 2^64, and PORT one from 1 to 65535"
 
@@ -185,7 +186,7 @@ pub record EndsByFault {T E : Type 0} (words : List (List ℕ)) (unread left bef
   pub fails : FailsBy words unread left before after failure
   pub is_told : OnOk told (IsTold failure untold all)
 
--- the failure tells of a refused command line, or of want of memory there
+-- the failure tells of a refused command line, or that memory was refused there
 abbrev pub Tells : Error → Failure → Type 0
 Tells error (CommandLine other) = (other ≡ error) × (kind_of error ≢ OutOfMemory)
 Tells error (Script (scripts.Memory refused)) = kind_of error ≡ OutOfMemory

@@ -1,4 +1,4 @@
-//! What the words behind a subcommand give: its arguments, and its options.
+//! What the words after a subcommand give: its arguments, and its options.
 
 ghost use Rattle.std.specs.Prelude.{◌≡◌, ◌∷◌, [], List, ℕ, IfOk, IfSome, IsNone, OnOk, bytes_eq, drop, false, length, map, nat_eq, true};
 ghost use Rattle.std.specs.List.{starts_with};
@@ -7,7 +7,7 @@ ghost use Rattle.command_line.specs.CommandLines.{Words, given_by, given_from, i
 use std::alloc::{AllocError, Global};
 use std::convert::AsStr;
 
-/// What a word is, by those before it.
+/// What a word is, as the words before it decide.
 #[derive(Clone, Copy)]
 pub enum Place {
     /// An option, or an argument.
@@ -18,12 +18,12 @@ pub enum Place {
     Threads,
     /// The number of bytes that belongs to the option before it.
     Memory,
-    /// An argument, whatever it is: it stands behind `--`.
+    /// An argument, whatever it is: it stands after `--`.
     Behind,
 }
 
-/// The arguments, the origins, what is given for the number of threads and for the memory of clients, whether a file is to be sparse, and
-/// whether a server ends with standard input.
+/// The arguments; the origins; what is given for the number of threads and for the memory of clients. Also whether a file is to be
+/// sparse, and whether a server ends with standard input.
 #[derive(Drop)]
 pub struct Given<'a> {
     pub arguments: Vec<&'a str>,

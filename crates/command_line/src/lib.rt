@@ -1,4 +1,4 @@
-//! The program `stompd` as a function of its words and streams, but for the threads of a server: what the words ask for, and doing it.
+//! The program `stompd` as a function of its words and streams, apart from a server's threads: what the words ask for, and doing it.
 
 #![tactic(auto)]
 

@@ -20,15 +20,15 @@ const PIECE: usize = 65_536;
 
 const ZEROS: [u8; PIECE] = [0; PIECE];
 
-/// From how many bytes on it is told how far a file is.
+/// From how many bytes on the progress of a file is reported.
 const LARGE: u64 = 67_108_864;
 
 const MEBIBYTE: u64 = 1_048_576;
 
 /// Makes a file of so many bytes with an empty journal, whose areas share what the header leaves. A file that would be too small
-/// is not made, and one that is there stays as it is. Unless it is to be sparse, its zeros are written, so that it has all of its
-/// room; how far that is stands on `progress` for a large one, in a line a second at most. Where the file system has no room for
-/// them, or the journal is not written, the file is removed again.
+/// is not made, and one that is there stays as it is. Unless the file is to be sparse, its zeros are written, so that it has all
+/// of its room. For a large file `progress` says how far that is, in a line a second at most. If the file system has no room for
+/// the zeros, or the journal is not written, the file is removed again.
 pub fn make_journal<R: Files<File = File> + Clock, P: Write>(
     alloc: Global,
     rt: &R,
@@ -105,7 +105,7 @@ fn fill<R: Files<File = File> + Clock, P: Write>(
     file.sync_all()
 }
 
-// Writes the next zeros, and says how many are left then.
+// Writes the next zeros, and says how many are still left.
 fn fill_piece(file: &mut File, left: u64) -> io::Result<u64>
     ensures { IfOk result (λ rest. rest ≤ left) }
 {
@@ -114,7 +114,7 @@ fn fill_piece(file: &mut File, left: u64) -> io::Result<u64>
     Ok(left - count as u64)
 }
 
-// Says how far a file is. Who can't be told isn't.
+// Says how far a file is. If that can't be written, nothing is said.
 fn tell<P: Write>(progress: &mut P, written: u64, bytes: u64) {
     let (written, all) = (written / MEBIBYTE, bytes / MEBIBYTE);
     let _told = writeln!(progress, "stompd: {written} of {all} MiB are written");

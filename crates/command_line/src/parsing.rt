@@ -16,7 +16,7 @@ use std::convert::AsStr;
 // How many threads may serve clients.
 const MOST_THREADS: u64 = 64;
 
-// How many bytes clients may hold together at least: a server is of little use that has to give up all who wait for a large message.
+// How many bytes clients may hold together at least: a server is of little use if it has to give up all that wait for a large message.
 const LEAST_MEMORY: u64 = 16_777_216;
 
 /// A subcommand that the program has.
@@ -44,9 +44,9 @@ pub enum Subcommand<'a> {
     Held {
         file: &'a str,
     },
-    /// Serves the broker of the journal in a file at a port, to pages of these origins, or of all if none is named, by so many
-    /// threads, 1 to 64, if their number is given, to clients that may hold so many bytes together, 16,777,216 at least, if that is
-    /// given; on request until standard input ends.
+    /// Serves the broker of the journal in a file at a port, to pages of these origins, or to all if none is named. If a number of
+    /// threads is given, 1 to 64, so many serve it. If `memory` is given, its clients may hold so many bytes together, 16,777,216 at
+    /// least. On request it serves until standard input ends.
     Serve {
         file: &'a str,
         port: u16,
@@ -60,23 +60,23 @@ pub enum Subcommand<'a> {
 /// Why the words ask for nothing that the program does.
 #[derive(Drop)]
 pub enum Refused {
-    /// A mistake in the words, the help that they ask for, or want of memory. It holds the text for the user.
+    /// A mistake in the words, the help that they ask for, or that memory was refused. It holds the text for the user.
     Words(Error),
-    /// A number of bytes of a file, or of a port, that is none: it has other than decimal digits, or is too large; a port may not be 0
-    /// either. Nor have the words then another of the program's forms.
+    /// A number of bytes of a file, or of a port, that is invalid: it has other than decimal digits, or is too large, or is the port
+    /// 0. The words then have no other of the program's forms either.
     Number,
-    /// A number of threads that is none from 1 to 64.
+    /// A number of threads that is not one from 1 to 64.
     Threads,
-    /// A number of bytes for clients that is none from 16,777,216 on and under 2^64.
+    /// A number of bytes for clients that is not one from 16,777,216 on and under 2^64.
     Memory,
-    /// An origin that no browser sends: no page would be served.
+    /// An origin that no browser sends. No page would be served.
     Origin,
 }
 
-/// The subcommand that the words ask for, of which the first is the program's name. Where `clap` refuses the words, its error
-/// is the answer; what it takes has one of the program's forms, and is refused as a number that is none where it hasn't.
-/// Words that are refused for a number or an origin ask for nothing that the program does. Of several that are wrong the first is
-/// told: file and port, threads, memory, origins.
+/// The subcommand that the words ask for, of which the first is the program's name. If `clap` refuses the words, its error is the
+/// answer. What `clap` takes has one of the program's forms, or else is refused as an invalid number. Words that are refused for a
+/// number or an origin ask for nothing that the program does. If several are wrong, the first is told: file and port, threads, memory,
+/// origins.
 pub fn subcommand_of<'a, S: AsStr>(alloc: Global, words: &'a [S]) -> Result<Subcommand<'a>, Refused>
     ensures script { AsksForScript (map S.text words.now) → result ≡ Ok Script }
     ensures ok { IfOk result (AskFor (map S.text words.now)) }
@@ -118,7 +118,7 @@ fn is_word(word: &str, wanted: &str) -> bool
     word == wanted
 }
 
-/// The subcommand that words ask for which `clap` takes.
+/// The subcommand that words ask for, if `clap` takes them.
 fn asked_of<'a, S: AsStr>(alloc: Global, words: &'a [S]) -> Result<Subcommand<'a>, Refused>
     ensures ok { IfOk result (AskFor (map S.text words.now)) }
     ensures number { IsErrOf result Refused.Number → AskForNothing (map S.text words.now) }
@@ -135,7 +135,7 @@ fn asked_of<'a, S: AsStr>(alloc: Global, words: &'a [S]) -> Result<Subcommand<'a
     }
 }
 
-/// The word behind the program's name, and the words behind that.
+/// The word after the program's name, and the words after that.
 fn named<'a, S: AsStr>(words: &'a [S]) -> Option<(&'a str, &'a [S])>
     ensures some { IfSome result (λ it. (program : List ℕ) × (map S.text words.now ≡ program ∷ it.0.now ∷ map S.text it.1.now)) }
     ensures none { IfNone result (length words.now < 2) }
@@ -146,7 +146,7 @@ fn named<'a, S: AsStr>(words: &'a [S]) -> Option<(&'a str, &'a [S])>
     Some((words[1].as_str(), &words[2..]))
 }
 
-/// What this word and what those behind it give ask for.
+/// What this word asks for, with what the words after it give.
 fn asked_with<'a>(name: &str, given: Given<'a>) -> Result<Subcommand<'a>, Refused>
     ensures ok { IfOk result (AskWith name.now (words_of given.entry)) }
     ensures number { IsErrOf result Refused.Number → AskNothingWith name.now (words_of given.entry) }
@@ -182,7 +182,7 @@ fn other_asked<'a>(name: &str, given: &Given<'a>) -> Option<Subcommand<'a>>
     }
 }
 
-/// What a word alone asks for, behind which no argument may stand.
+/// What a word asks for that stands alone: no argument may follow it.
 fn asked_alone<'a>(given: &Given<'_>, asked: Subcommand<'a>) -> Option<Subcommand<'a>>
     ensures some { IfSome result (λ it. (it ≡ asked.entry) × ((words_of given.now).arguments ≡ [])) }
     ensures none { IsNone result → (words_of given.now).arguments ≢ [] }

@@ -16,18 +16,18 @@ use std::io;
 use std::io::Write;
 use std::time::Duration;
 
-/// Tells what a ping came to, and how the program ends by it: that it was answered, and how long the RECEIPT took, is written to
-/// `writer`, and why it was not, to `errors`.
+/// Tells what a ping came to, and how the program ends by it. That it was answered, and how long the RECEIPT took, is written to
+/// `writer`; why it was not answered is written to `errors`.
 pub fn end_ping<W: Write, E: Write>(
     pinged: Result<Duration, PingFault>,
     writer: &mut W,
     errors: &mut E,
 ) -> Ended
-    // An answer is told in one line. Where the line can't be written, that is the fault.
+    // An answer is reported in one line. If the line can't be written, that is the fault.
     ensures done { IfOk pinged (λ took. result.status ≡ 0 → Appends (W.contents writer.old) (W.contents writer.new) (ping_line (as_nanos took)) × (errors.new ≡ errors.old)) }
     ensures unwritten { IfOk pinged (λ _. result.status ≢ 0 → (result.status ≡ 1)
         × OnOk result.told (Appends (E.contents errors.old) (E.contents errors.new) (line_of (show_text ShowFault.Output)))) }
-    // What went wrong is told in one line.
+    // What went wrong is reported in one line.
     ensures failed { IfErr pinged (λ fault. (result.status ≡ 1) × (writer.new ≡ writer.old)
         × OnOk result.told (Appends (E.contents errors.old) (E.contents errors.new) (line_of (ping_text fault)))) }
 {

@@ -28,13 +28,13 @@ use std::rt::Files;
 use std::time::Clock;
 use std::{fmt, io};
 
-/// The status where the program did what it was asked for.
+/// The status if the program did what it was asked for.
 pub const DONE: u8 = 0;
 
-/// The status where it could not do it.
+/// The status if it could not do it.
 pub const FAILED: u8 = 1;
 
-/// The status where the words ask for nothing that it does, or for help.
+/// The status if the words ask for nothing that it does, or for help.
 pub const BAD_COMMAND_LINE: u8 = 2;
 
 /// How many bytes the disk of a script has.
@@ -80,15 +80,15 @@ impl fmt::Display for FileFault {
 /// Why the program did not do what it was asked for.
 #[derive(Drop)]
 pub enum Failure {
-    /// The words ask for nothing that the program does, or for help; the error holds the text for the user.
+    /// The words ask for nothing that the program does, or for help. The error holds the text for the user.
     CommandLine(clap::Error),
-    /// A number of a file's bytes, or of a port, is none.
+    /// A number of a file's bytes, or of a port, is invalid.
     Number,
-    /// A number of threads is none.
+    /// A number of threads is invalid.
     ThreadNumber,
-    /// A number of bytes for clients is none.
+    /// A number of bytes for clients is invalid.
     MemoryNumber,
-    /// An origin in the words is none that a browser sends.
+    /// No browser sends an origin that is in the words.
     Origin,
     /// The script did not run to its end, or memory was refused before it began.
     Script(ScriptFault),
@@ -120,14 +120,14 @@ impl Failure {
 /// How the program ends.
 #[derive(Drop)]
 pub struct Ended {
-    /// The status: 0 where it is done, 1 on a fault, 2 on a bad command line.
+    /// The status: 0 if it is done, 1 on a fault, 2 on a bad command line.
     pub status: u8,
     /// Whether what there was to tell could be written.
     pub told: io::Result<()>,
 }
 
 /// Does what the words ask for, of which the first is the program's name, unless that is a server or a ping; answers how it ended. A fault
-/// and a bad command line are told on `errors`; how far the making of a large file is, on `progress`.
+/// and a bad command line are told on `errors`; how far the making of a large file has come, on `progress`.
 pub fn tool<T: Files<File = File> + Clock, S: AsStr, R: Read, W: Write, E: Write, P: Write>(
     rt: &T,
     alloc: Global,
@@ -143,8 +143,8 @@ pub fn tool<T: Files<File = File> + Clock, S: AsStr, R: Read, W: Write, E: Write
         × (errors.new ≡ errors.old) }
     // Words that ask for the script are no bad command line, and a bad one leaves the script unread and writes nothing.
     ensures refused { result.status ≡ 2 → (AsksForScript (map S.text words.now) → ⊥) × (reader.new ≡ reader.old) × (writer.new ≡ writer.old) }
-    // A fault is the failure of what was asked for, that of a script where the words ask for it: what was read and written is
-    // what it leaves, and it is told in one line.
+    // A fault is the failure of what was asked for: the script's failure if the words ask for it. What was read and written is what that
+    // leaves, and it is told in one line.
     ensures failed { result.status ≡ 1 → EndsByFault (map S.text words.now) (R.remaining reader.old) (R.remaining reader.new) (W.contents writer.old) (W.contents writer.new)
         (E.contents errors.old) (E.contents errors.new) result.told }
 {
@@ -159,8 +159,8 @@ pub fn tool<T: Files<File = File> + Clock, S: AsStr, R: Read, W: Write, E: Write
 
 /// Does what the words ask for, of which the first is the program's name.
 ///
-/// On a bad command line nothing is read or written. Where the script stops, what was written is what the lines before
-/// the fault print, unless it is the writer that failed.
+/// On a bad command line nothing is read or written. If the script stops, what was written is what the lines before the fault print,
+/// unless it is the writer that failed.
 pub fn run<T: Files<File = File> + Clock, S: AsStr, R: Read, W: Write, P: Write>(
     rt: &T,
     alloc: Global,
@@ -195,12 +195,12 @@ pub fn run<T: Files<File = File> + Clock, S: AsStr, R: Read, W: Write, P: Write>
             Ok(()) => Ok(()),
             Err(fault) => Err(Failure::File(fault)),
         },
-        // Sockets are for `main` alone to open.
+        // Only `main` may open sockets.
         Ok(Subcommand::Ping { .. }) => Err(Failure::Ping(PingFault {
             step: Step::Connection,
             cause: Cause::System,
         })),
-        // A server has threads, which `main` alone starts.
+        // A server has threads, which only `main` starts.
         Ok(Subcommand::Serve { .. }) => Err(Failure::Server(ServeFault::Threads)),
         Err(Refused::Words(error)) => Err(refusal(error)),
         Err(Refused::Number) => Err(Failure::Number),
@@ -210,7 +210,7 @@ pub fn run<T: Files<File = File> + Clock, S: AsStr, R: Read, W: Write, P: Write>
     }
 }
 
-// Writes which version the program is of.
+// Writes the program's version.
 fn version<W: Write>(writer: &mut W) -> Result<(), Failure>
     ensures ok { OnOk result (Appends (W.contents writer.old) (W.contents writer.new) version_line) }
     ensures err { IfErr result (λ failure. failure ≡ Failure.File (FileFault.Show ShowFault.Output)) }
@@ -221,7 +221,7 @@ fn version<W: Write>(writer: &mut W) -> Result<(), Failure>
     }
 }
 
-// Writes what the journal in a file shows of itself. The file is opened for reading alone, so it stays as it is.
+// Writes what the journal in a file shows of itself. The file is only opened for reading, so it stays as it is.
 fn show_file<R: Files<File = File>, W: Write>(
     alloc: Global,
     rt: &R,
@@ -241,7 +241,7 @@ fn show_file<R: Files<File = File>, W: Write>(
     }
 }
 
-// Writes which queues and durable names of the journal in a file hold messages. The file is opened for reading alone.
+// Writes which queues and durable names of the journal in a file hold messages. The file is only opened for reading.
 fn held_file<R: Files<File = File>, W: Write>(
     alloc: Global,
     rt: &R,
@@ -297,7 +297,7 @@ fn empty_journal(alloc: Global, size: u64) -> Result<MemDisk, Failure>
     }
 }
 
-/// Why the words were refused: want of memory is told as of a script.
+/// Why the words were refused. If memory was refused, that is reported as a script's failure.
 fn refusal(error: clap::Error) -> Failure
     ensures { Tells error result }
 {

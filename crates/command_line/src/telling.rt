@@ -7,7 +7,7 @@ use crate::program::{Ended, Failure};
 use std::io;
 use std::io::Write;
 
-/// Tells a failure, and how the program ends by it: the text about the command line, or one line with the fault, is written to
+/// Tells a failure, and how the program ends by it. The text about the command line, or one line with the fault, is written to
 /// `errors`.
 pub fn end_by<E: Write>(failure: &Failure, errors: &mut E) -> Ended
     ensures status { result.status ≡ status_of failure.now }

@@ -9,10 +9,10 @@ use std::fs::{File, OpenOptions};
 use std::os::unix::fs::FileExt;
 use std::rt::Files;
 
-/// A disk in a file that is opened for reading alone: it has no write. So whoever looks at the journal of a running server cannot
-/// change it, whatever becomes of the program's descriptors.
+/// A disk in a file that is only opened for reading: it has no write. So a program that looks at the journal of a running server
+/// cannot change it, whatever becomes of the program's descriptors.
 ///
-/// Of its content nothing is claimed, as of any file: it is never honest.
+/// Nothing is claimed of its content, as of any file's: it is never honest.
 #[derive(Drop)]
 pub struct FileView {
     file: File,
@@ -46,7 +46,7 @@ impl FileView {
 }
 
 impl Disk for FileView {
-    // Its length alone is meant.
+    // Only its length is meant.
     ghost content = { λ f. zeros f.size };
 
     ghost images = { λ _ _. ⊤ };

@@ -23,12 +23,12 @@ abbrev pub Appended : Bool → SessionSeatValue → SessionSeatValue → Type 0
 Appended true old new = length old.own < length new.own
 Appended false old new = new.own ≡ old.own
 
--- where nothing was heard of the client, no byte came
+-- if nothing was heard of the client, no byte came
 abbrev pub Heard : {L : Type 0} → (L → Option (List ℕ)) → Bool → L → L → Type 0
 Heard received true old new = Unit {0}
 Heard received false old new = received new ≡ received old
 
--- one that has not ended
+-- a connection that has not ended
 abbrev pub GoesOnYet : Stage → Type 0
 GoesOnYet Running = Unit {0}
 GoesOnYet GivingUp = Unit {0}
@@ -37,7 +37,7 @@ GoesOnYet (Parting ended) = Unit {0}
 GoesOnYet Leaving = Unit {0}
 GoesOnYet (Over ended) = ⊥
 
--- an entry waits since the window is full: as many of the seat's own commands as may are not under that mark
+-- an entry waits because the window is full: as many of the seat's own commands as may are not under that mark
 abbrev pub IsFull : {B : Type 0} → ℕ → Option (Pending B) → SessionSeatValue → Type 0
 IsFull mark pending seat = IsSome pending × (WINDOW ≤ above mark seat.own)
 
@@ -49,10 +49,10 @@ WaitsFor mark it = (out : OutValue) × (it ≡ kept.Waits out) × (mark ≡ out.
 abbrev pub IsSatisfied : {B : Type 0} → Slot B → Type 0
 IsSatisfied slot = (slot.pending ≡ None) × (all_of slot.connection.acts ≡ [])
 
--- What a connection waits for that is said to do so: it has ended just where that is said; it waits for room only where an
--- entry does; for a mark over its next output only where that is kept; for that, or for bytes of its client, only where it runs
--- and nothing of what its client asked for is left to be done; that its socket takes some, only where it runs; and for its peer's close only
--- behind its own.
+-- What a connection waits for if that is said. It has ended exactly if that is said. It waits for room only if an entry does. It waits for
+-- a mark over its next output only if that output is kept. It waits for that, or for bytes of its client, only if it runs and nothing of
+-- what its client asked for is left to be done. It waits for its socket to take bytes only if it runs, and for its peer's close only after
+-- its own.
 abbrev pub Awaits : {B : Type 0} → Next → Slot B → SessionSeatValue → Type 0
 Awaits next.Go slot seat = GoesOnYet slot.connection.stage
 Awaits next.Read slot seat = (slot.connection.stage ≡ Running) × IsSatisfied slot
@@ -69,7 +69,7 @@ pub record Answers {B L : Type 0} (received : L → Option (List ℕ)) (turned :
   pub heard : Heard received turned.heard from to
   pub next : Awaits turned.next is new
 
--- one act appends a command just where it says so
+-- one act appends a command exactly if it says so
 abbrev pub Grows : Step → SessionSeatValue → SessionSeatValue → Type 0
 Grows steps.Appended old new = length old.own < length new.own
 Grows steps.Done old new = new.own ≡ old.own
@@ -85,7 +85,7 @@ IsQuiet steps.Appended = ⊥
 IsQuiet (steps.Full mark) = ⊥
 IsQuiet steps.Rest = ⊥
 
--- what the last act of a turn came to: where it found the window full, an entry waits
+-- what the last act of a turn came to: if it found the window full, an entry waits
 abbrev pub Leaves : {B : Type 0} → Step → Option (Pending B) → SessionSeatValue → Type 0
 Leaves (steps.Full mark) pending seat = IsFull mark pending seat
 Leaves steps.Appended pending seat = Unit {0}
@@ -115,7 +115,7 @@ IsPressing next.Write last = ⊥
 IsPressing next.Close last = ⊥
 IsPressing (next.Over ended) last = ⊥
 
--- what one waits for that has nothing to do
+-- what a connection that has nothing to do waits for
 abbrev pub IsRest : {B : Type 0} → Next → Slot B → Type 0
 IsRest next.Read slot = Unit {0}
 IsRest (next.Output mark) slot = WaitsFor mark slot.kept

@@ -32,7 +32,7 @@ abbrev pub last_of : {B L : Type 0} → DeskValue B L → List (DeskValue B L) �
 last_of first [] = first
 last_of first (next ∷ others) = last_of next others
 
--- at each of them somebody sits at that place
+-- in each of them somebody sits at that place
 abbrev pub AreTaken : {B L : Type 0} → ℕ → List (DeskValue B L) → Type 0
 AreTaken {B} {L} place desks = AllByRecursion (λ (d : DeskValue B L). (seated : Seated B L) × SitsAt d.places place seated) desks
 

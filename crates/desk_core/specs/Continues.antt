@@ -11,8 +11,8 @@ use Rattle.desk_core.specs.Conversations.{Speaks, number_of}
 abbrev pub AreSaid : Progress → List Pair → Type 0
 AreSaid progress said = AllByRecursion (λ (p : Pair). number_in progress ≡ Some (number_of p)) said
 
--- The seat is of the same ring and has its number, and gets commands of this conversation's session behind its own. Beside
--- whatever conversations of other connections, its own commands go on with this one. A session's number stays.
+-- The seat is of the same ring and has its number, and gets commands of this conversation's session after its own. Beside
+-- the conversations of other connections, whatever they are, its own commands go on with this one. A session's number stays.
 pub record Continues (was : Progress) (old : SessionSeatValue) (is : Progress) (new : SessionSeatValue) : Type 0 where
   pub ring : new.ring ≡ old.ring
   pub number : new.number ≡ old.number

@@ -33,7 +33,7 @@ IsFarewell n (p ∷ []) = (p.1.session ≡ n) × (role_of p.1.op ≡ Ends)
 IsFarewell n (p ∷ q ∷ ps) = ⊥
 
 -- The commands of the session n with their tickets: the Open, whose ticket is the session's number; then commands of that
--- session; and last its End, where it has one.
+-- session; and last its End, if it has one.
 pub record IsSession (n : ℕ) (ps : List Pair) : Type 0 where
   pub opening : CommandValue
   pub talk : List Pair
@@ -55,34 +55,34 @@ pub record IsOpened (n : ℕ) (ps : List Pair) : Type 0 where
   pub begins : role_of opening.op ≡ Opens
   pub talks : AllByRecursion (IsTalk n) talk
 
--- Behind what was the seat's own before, what belongs to each session is one conversation.
+-- After what was the seat's own before, what belongs to each session is one conversation.
 pub record Converse (before own : List Pair) : Type 0 where
   pub more : List Pair
   pub whole : own ≡ before ++ more
   pub each : (n : ℕ) → IsConversation n (part_of n more)
 
--- 1 where it is the conversation of the session n
+-- 1 if it is the conversation of the session n
 abbrev pub holds : ℕ → Progress → ℕ
 holds n New = 0
 holds n (Open m) = cond (m == n) 1 0
 holds n (Ended m) = cond (m == n) 1 0
 holds n Gone = 0
 
--- 1 where it is that, and goes on
+-- 1 if it is that, and goes on
 abbrev pub opens : ℕ → Progress → ℕ
 opens n New = 0
 opens n (Open m) = cond (m == n) 1 0
 opens n (Ended m) = 0
 opens n Gone = 0
 
--- What stands so of the session n at a seat where its conversation is that of so many connections, and goes on at so many.
+-- What holds for the session n at a seat if its conversation is that of so many connections, and goes on at so many.
 pub record IsPart (n held going : ℕ) (ps : List Pair) : Type 0 where
   pub most : held ≤ 1
   pub conversation : IsConversation n ps
   pub begun : 1 ≤ held → IsSession n ps
   pub opened : 1 ≤ going → IsOpened n ps
 
--- Behind what was the seat's own before, the conversations of all sessions have come so far: no two connections have one.
+-- After what was the seat's own before, the conversations of all sessions have come so far: no two connections have one.
 pub record Speaks (before own : List Pair) (stand : List Progress) : Type 0 where
   pub more : List Pair
   pub whole : own ≡ before ++ more

@@ -43,13 +43,13 @@ pub record Others {B L : Type 0} (old new : List (Option (Seated B L))) (at : �
 abbrev pub SitsAt : {B L : Type 0} → List (Option (Seated B L)) → ℕ → Seated B L → Type 0
 SitsAt places at seated = slice_get places at ≡ Some (Some seated)
 
--- who sits there, if anybody does
+-- the connection that sits there, if one does
 abbrev pub seated_at : {B L : Type 0} → List (Option (Seated B L)) → ℕ → Option (Seated B L)
 seated_at places at = get_or places at None
 
--- These effects were done at that place. The seat got the commands among them, which are of its own session; its client was sent the
--- frames among them, beside outputs of that session; and they are what it has next of what its bytes ask for. It is stopped only
--- where the seat has found that the ring takes nothing more. The turn answers so.
+-- These effects were done at that place. The seat got the commands among them, which are of its own session. Its client was sent the
+-- frames among them, beside outputs of that session. They are what it has next of what its bytes ask for. It is stopped only if the seat
+-- has found that the ring takes nothing more. The turn answers so.
 pub record Turns {B L : Type 0} (sent : L → Option (List (List ℕ))) (received : L → Option (List ℕ)) (old new : DeskValue B L) (at : ℕ) (turned : Turned) : Type 0 where
   pub was : Seated B L
   pub is : Seated B L
@@ -67,7 +67,7 @@ pub record Turns {B L : Type 0} (sent : L → Option (List (List ℕ))) (receive
 abbrev pub AreApart : {B L : Type 0} → List (Option (Seated B L)) → Type 0
 AreApart places = (i j n : ℕ) (s t : Seated _ _) → SitsAt places i s → SitsAt places j t → number_at s.slot ≡ Some n → number_at t.slot ≡ Some n → i ≡ j
 
--- What is so of each desk: after what was its seat's own before, what belongs to each session is one conversation, and no two
+-- What holds for each desk: after what was its seat's own before, what belongs to each session is one conversation, and no two
 -- connections have one session.
 pub record TalkApart {B L : Type 0} (d : DeskValue B L) : Type 0 where
   pub converse : Converse d.before.own d.seat.own
@@ -77,8 +77,8 @@ pub record TalkApart {B L : Type 0} (d : DeskValue B L) : Type 0 where
 abbrev pub reaching : {B L : Type 0} → ℕ → List (Option (Seated B L)) → List (Option (Seated B L))
 reaching at places = places ++ replicate (at + 1 - length places) None
 
--- The link's client sits at that place, where nobody sat, and was not heard yet. Who sits at any other place is who sat there, and places
--- were added up to that one alone.
+-- The link's client sits at that place, where nobody sat, and was not heard yet. At any other place nothing has changed, and places were
+-- added up to that one alone.
 pub record Admits {B L : Type 0} (old new : DeskValue B L) (link : L) (at : ℕ) : Type 0 where
   pub seated : Seated B L
   pub before : new.before ≡ old.before
@@ -90,7 +90,7 @@ pub record Admits {B L : Type 0} (old new : DeskValue B L) (link : L) (at : ℕ)
   pub others : (k : ℕ) → k ≢ at → seated_at new.places k ≡ seated_at old.places k
   pub count : length new.places ≡ max (length old.places) (at + 1)
 
--- why nobody was taken in at that place
+-- why no client was taken in at that place
 abbrev pub IsWhy : {B L : Type 0} → List (Option (Seated B L)) → ℕ → NotAdmitted → Type 0
 IsWhy places at Taken = IsSome (seated_at places at)
 IsWhy places at Memory = seated_at places at ≡ None
@@ -106,8 +106,8 @@ pub record Leaves {B L : Type 0} (old new : DeskValue B L) (at : ℕ) (link : L)
   pub free : slice_get new.places at ≡ Some None
   pub others : Others old.places new.places at
 
--- Nothing was said or sent at any place, and nothing has changed but what the connection at that place is told, which goes on from
--- there with no effect.
+-- Nothing was said or sent at any place. Nothing has changed but what the connection at that place is told, which goes on from there with
+-- no effect.
 pub record Touches {B L : Type 0} (sent : L → Option (List (List ℕ))) (received : L → Option (List ℕ)) (old new : DeskValue B L) (at : ℕ) : Type 0 where
   pub before : new.before ≡ old.before
   pub seat : new.seat ≡ old.seat

@@ -7,7 +7,7 @@ use Rattle.session_core.specs.declared.act.Act.TheVariants.{Do, Direct, Close}
 use Rattle.connection_core.specs.Conversations.{IsNext, after, asked, role_of}
 use Rattle.connection_core.specs.declared.progress.Progress.{Progress}
 
--- A command was appended with its ticket; a frame was told at once; or a frame was not told, since the link was over.
+-- A command was appended with its ticket; a frame was told at once; or a frame was not told, because the link was over.
 pub data Effect : Type 0 where
   Said : Pair → Effect
   Told : Frame → Effect
@@ -35,8 +35,8 @@ untold_of (Untold frame ∷ effects) = frame ∷ untold_of effects
 abbrev pub Tells : Frame → Effect → Type 0
 Tells frame effect = (effect ≡ Told frame) ⊎ (effect ≡ Untold frame)
 
--- What acts ask for is done by these effects, in their order, while a conversation comes from one progress to another: each command
--- is appended, and each frame told, once. A command that may not be the next of the conversation is none of them, and a close is none.
+-- What acts ask for is done by these effects, in their order, while a conversation comes from one progress to another. Each command is
+-- appended, and each frame told, once. A command that may not be the next of the conversation is none of them, and a close is none.
 abbrev pub Does : Progress → List Act → List Effect → Progress → Type 0
 Does p [] effects q = (effects ≡ []) × (q ≡ p)
 Does p (Do op receipt ∷ acts) effects q =

@@ -1,4 +1,4 @@
--- Where a connection is stopped since the broker takes nothing more.
+-- When a connection is stopped because the broker takes nothing more.
 use Rattle.std.specs.Prelude.{◌≡◌, ◌≤◌, ◌⊎◌, true}
 use Rattle.claim_core.specs.Rule.{far}
 use Rattle.claim_core.specs.Seats.{SessionSeatValue}

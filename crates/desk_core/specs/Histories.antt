@@ -28,7 +28,7 @@ use Rattle.desk_core.specs.Spending.{IsCut, Spends, ops_of, waiting_of}
 use Rattle.desk_core.specs.declared.pending.Pending.{Pending}
 use Rattle.desk_core.specs.declared.slot.Slot.{Slot}
 
--- the session's end, which a connection asks for that is lost
+-- the session's end, which a connection that is lost asks for
 abbrev pub IsLoss : Act → Type 0
 IsLoss act = act ≡ Do (ops.End ends.Lost) None
 
@@ -44,14 +44,14 @@ abbrev pub IsAsked : Progress → Wanted → Type 0
 IsAsked p (Append c said) = IsNext p c × (c ≡ asked p c.op c.receipt)
 IsAsked p wanted = Unit {0}
 
--- it ends behind an ERROR
+-- it ends after an ERROR
 abbrev pub IsBad : Ended → Type 0
 IsBad Bad = Unit {0}
 IsBad Bye = ⊥
 IsBad Lost = ⊥
 IsBad Stopped = ⊥
 
--- it runs or is given up, or it ends since an ERROR was sent
+-- it runs or is given up, or it ends because an ERROR was sent
 abbrev pub HasTold : Stage → Type 0
 HasTold Running = Unit {0}
 HasTold GivingUp = Unit {0}
@@ -64,11 +64,11 @@ HasTold (Over ended) = IsBad ended
 abbrev pub IsLast : ConnectionValue → Type 0
 IsLast c = (c.last ≡ None) ⊎ IsFinished c.progress
 
--- These bytes came of its client, and of all that they ask for this was done: what the first acts ask for, and where the connection
--- was lost its session's end. While it runs no byte is left out, and while it may append no act is, but for those that are cut off
--- since its session would pass its bytes; the others wait, the one that is wanted first. While it runs or is given up, and where
--- it ends since an ERROR was sent, no frame was left untold. Where it ends, its session has: none was opened, its End was
--- appended, or its client was sent an ERROR.
+-- These bytes came of its client. Of all that they ask for this was done: what the first acts ask for, and, if the connection was lost, its
+-- session's end. While it runs, no byte is left out. While it may append, no act is left out, but for those that are cut off because its
+-- session would pass its bytes. The others wait, first the one that is wanted. While it runs or is given up, and if it ends because an
+-- ERROR was sent, no frame was left untold. If it ends, its session has ended: none was opened, its End was appended, or its client was
+-- sent an ERROR.
 pub record Lives (bytes : List ℕ) (effects : List Effect) (c : ConnectionValue) (wanted : Wanted) : Type 0 where
   pub heard : List ℕ
   pub unheard : List ℕ
@@ -100,7 +100,7 @@ pub record Lives (bytes : List ℕ) (effects : List Effect) (c : ConnectionValue
   pub last : IsLast c
   pub ended : IsEnding c.stage → IsDone c.progress
 
--- what a slot's connection wants, where an entry waits for room
+-- what a slot's connection wants, if an entry waits for room
 abbrev pub wanted_of : {B : Type 0} → Option (Pending B) → Wanted
 wanted_of None = Rest
 wanted_of (Some pending) = to_append pending.entry.command
@@ -109,8 +109,7 @@ wanted_of (Some pending) = to_append pending.entry.command
 abbrev pub LivesAt : {B : Type 0} → List ℕ → List Effect → Slot B → Type 0
 LivesAt bytes effects slot = Lives bytes effects slot.connection (wanted_of slot.pending) × Spends effects slot.connection (waiting_of slot.pending)
 
--- Nothing of what is to be done has changed, and the connection neither runs nor appends where it did not before, nor ends before its
--- session has.
+-- Nothing of what is to be done has changed. The connection neither runs nor appends if it did not before, nor ends before its session has.
 pub record Restaged (old new : ConnectionValue) : Type 0 where
   pub acts : new.acts ≡ old.acts
   pub session : new.stage ≡ Running → new.session ≡ old.session
@@ -123,7 +122,7 @@ pub record Restaged (old new : ConnectionValue) : Type 0 where
   pub stood : StaysOrEnds old.progress new.progress
   pub ended : IsLast old → (IsEnding old.stage → IsDone old.progress) → IsEnding new.stage → IsDone new.progress
 
--- the same, and it is not stopped where it was not before
+-- the same, and it is not stopped if it was not before
 pub record Steady (old new : ConnectionValue) : Type 0 where
   pub restaged : Restaged old new
   pub halts : HasHalted new.stage → HasHalted old.stage
@@ -134,14 +133,14 @@ pub record Heeds {B L : Type 0} (received : L → Option (List ℕ)) (was : Slot
   pub read : received to ≡ option_map (λ bytes. bytes ++ got) (received from)
   pub lives : (bytes : List ℕ) (before : List Effect) → LivesAt bytes before was → LivesAt (bytes ++ got) (before ++ effects) is
 
--- it goes on so with no effect, and is not stopped where it was not before
+-- it goes on so with no effect, and is not stopped if it was not before
 pub record Idles {B L : Type 0} (received : L → Option (List ℕ)) (was : Slot B) (from : L) (is : Slot B) (to : L) : Type 0 where
   pub heeds : Heeds received was from is to []
   pub halts : HasHalted is.connection.stage → HasHalted was.connection.stage
 
--- This is what the first of all acts ask for that those bytes ask for: of the first bytes, where the others came once
--- nothing more was heard; and behind them the session's end, where the connection was lost. Behind each command the session keeps
--- within its bytes, and acts are cut off only from a command on that would have it pass them.
+-- This is what the first of all acts ask for that those bytes ask for: only of the first bytes, if the others came once nothing more was
+-- heard. Then comes the session's end, if the connection was lost. After each command the session keeps within its bytes. Acts are cut off
+-- only from a command on that would have it pass them.
 pub record Did (bytes : List ℕ) (effects : List Effect) : Type 0 where
   pub heard : List ℕ
   pub unheard : List ℕ

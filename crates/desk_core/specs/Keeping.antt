@@ -14,7 +14,7 @@ use Rattle.desk_core.specs.declared.kept.Kept.{Kept}
 use Rattle.desk_core.specs.declared.kept.Kept.TheVariants as kept
 use Rattle.desk_core.specs.declared.pending.Pending.{Pending}
 
--- While it runs, an output that it keeps and that may leave is of its own session: one whose outbox has another's is given up.
+-- While it runs, an output that it keeps and that may leave is of its own session. A connection whose outbox has another's is given up.
 abbrev pub KeepsOwn : ConnectionValue → Kept → Type 0
 KeepsOwn connection it = (out : OutValue) → it ≡ kept.Unsent out → connection.stage ≡ Running → number_in connection.progress ≡ Some out.session
 

@@ -17,7 +17,7 @@ abbrev pub progress_at : {B L : Type 0} → Option (Seated B L) → Progress
 progress_at None = Gone
 progress_at (Some seated) = seated.slot.connection.progress
 
--- The connection there goes on: its client is served, and what its seat got is what it has next of what its client's bytes ask for. The
+-- The connection there goes on. Its client is served, and what its seat got is what it has next of what its client's bytes ask for. The
 -- turn answers so.
 pub record ServedAt {B L : Type 0} (sent : L → Option (List (List ℕ))) (received : L → Option (List ℕ)) (old : Option (Seated B L)) (before : SessionSeatValue) (new : Option (Seated B L)) (after : SessionSeatValue) (turned : Turned) : Type 0 where
   pub was : Seated B L
@@ -45,17 +45,17 @@ has_no_link (Parting ended) = false
 has_no_link Leaving = true
 has_no_link (Over ended) = true
 
--- the connection has ended that sits at a place
+-- the connection that sits at a place has ended
 abbrev pub is_over_at : {B L : Type 0} → Option (Seated B L) → Bool
 is_over_at None = false
 is_over_at (Some seated) = is_over seated.slot.connection.stage
 
--- the connection has opened its session that sits at a place
+-- the connection that sits at a place has opened its session
 abbrev pub is_open_at : {B L : Type 0} → Option (Seated B L) → Bool
 is_open_at None = false
 is_open_at (Some seated) = is_some (number_at seated.slot)
 
--- nothing was sent there, nobody came or went, and who sits there goes on from there with no effect
+-- nothing was sent there, nobody came or went, and a connection that sits there goes on from there with no effect
 abbrev pub UnservedAt : {B L : Type 0} → (L → Option (List (List ℕ))) → (L → Option (List ℕ)) → Option (Seated B L) → Option (Seated B L) → Type 0
 UnservedAt sent received None new = new ≡ None
 UnservedAt sent received (Some was) new =

@@ -24,7 +24,7 @@ pub record IsNew {B : Type 0} (slot : Slot B) : Type 0 where
 abbrev pub number_at : {B : Type 0} → Slot B → Option ℕ
 number_at slot = number_in slot.connection.progress
 
--- what was taken out of an outbox, where there is one
+-- what was taken out of an outbox, if there is one
 abbrev pub taken_of : Option TakerValue → List OutValue
 taken_of None = []
 taken_of (Some taker) = taker.taken
@@ -67,8 +67,8 @@ abbrev pub IsOwn : Option ℕ → Message → Type 0
 IsOwn number (inl frame) = frame.verb ≡ verbs.Error
 IsOwn number (inr out) = number ≡ Some out.session
 
--- The link was sent these messages, each for its own client. The frames that don't wait for the broker are these, in their order; the
--- outputs are, in theirs, the one that was kept and those that its own outbox gave; what was not sent of these is kept.
+-- The link was sent these messages, each for its own client. The frames that don't wait for the broker are these, in their order. The
+-- outputs are, in theirs, the one that was kept and those that its own outbox gave. What was not sent of these is kept.
 pub record Passes (number : Option ℕ) (frames : List Frame) (old new : Passed) : Type 0 where
   pub messages : List Message
   pub got : List OutValue
@@ -83,8 +83,8 @@ abbrev pub IsTakerOf : TakerValue → Option TakerValue → Type 0
 IsTakerOf t None = ⊥
 IsTakerOf t (Some taker) = taker.box ≡ t.box
 
--- The client was sent messages of its own alone, and of frames that don't wait for the broker these. A session's number stays, and
--- so does its outbox, once there is one.
+-- The client was sent only messages of its own, and of frames that don't wait for the broker these. A session's number stays, and so
+-- does its outbox, once there is one.
 pub record Served {B L : Type 0} (sent : L → Option (List (List ℕ))) (frames : List Frame) (was : Slot B) (before : L) (is : Slot B) (after : L) : Type 0 where
   pub stays : (n : ℕ) → number_at was ≡ Some n → number_at is ≡ Some n
   pub one_box : (t : TakerValue) → was.outbox ≡ Some t → IsTakerOf t is.outbox

@@ -1,4 +1,4 @@
--- How a connection at a seat keeps within its session's bytes, and where it is cut off.
+-- How a connection at a seat keeps within its session's bytes, and when it is cut off.
 use Rattle.std.specs.Prelude.{◌≡◌, ◌⊎◌, ◌<◌, ◌∷◌, ◌++◌, ℕ, List, [], Option, Some, None, map}
 use Rattle.command_core.specs.declared.command.Op.{Op}
 use Rattle.claim_core.specs.Counts.{Pair}
@@ -15,18 +15,18 @@ use Rattle.desk_core.specs.declared.pending.Pending.{Pending}
 abbrev pub ops_of : List Pair → List Op
 ops_of said = map (λ (p : Pair). p.1.op) said
 
--- what an entry asks for that waits for room
+-- what an entry that waits for room asks for
 abbrev pub waiting_of : {B : Type 0} → Option (Pending B) → List Op
 waiting_of None = []
 waiting_of (Some pending) = pending.entry.command.op ∷ []
 
--- Behind each of the commands that were appended the session keeps within its bytes, and behind what waits. What is counted is what
--- stands by these, for as long as more may be appended.
+-- The session keeps within its bytes after each of the commands that were appended, and after what waits. What is counted is what
+-- these leave standing, for as long as more may be appended.
 pub record Spends (effects : List Effect) (c : ConnectionValue) (waiting : List Op) : Type 0 where
   pub within : IsWithin (ops_of (commands_of effects) ++ waiting)
   pub counted : Executes c.stage → c.footprint ≡ standing (ops_of (commands_of effects) ++ waiting)
 
--- The acts are cut off from a command on: with all commands that were appended it would have had its session pass its bytes. All
+-- The acts are cut off from a command on: after all commands that were appended, it would have had its session pass its bytes. All
 -- acts before it are done.
 pub record Cuts (asked cut done : List Act) (said : List Pair) : Type 0 where
   pub op : Op

@@ -41,9 +41,9 @@ pub record TakesStep {B : Type 0} (step : Step) (old new : SessionSeatValue) (pe
 abbrev pub CarriesOut : {B : Type 0} → Wanted → List Op → Slot B → SessionSeatValue → Slot B → SessionSeatValue → Type 0
 CarriesOut wanted waiting was old is new = Executes was.connection.stage → DoesWanted wanted waiting was.connection old is.connection is.pending new
 
--- These effects were done at a slot, of what its client's bytes ask for next: its seat got the commands among them, and nothing
--- else, which go on with its own conversation; and its link was sent the frames among them, beside its own session's outputs.
--- It is stopped only where its seat has found that the ring takes nothing more.
+-- These effects were done at a slot, of what its client's bytes ask for next. Its seat got the commands among them, and nothing
+-- else, which go on with its own conversation. Its link was sent the frames among them, beside its own session's outputs. It is
+-- stopped only if its seat has found that the ring takes nothing more.
 pub record GoesOn {B L : Type 0} (sent : L → Option (List (List ℕ))) (received : L → Option (List ℕ)) (was : Slot B) (old : SessionSeatValue) (from : L) (is : Slot B) (new : SessionSeatValue) (to : L) : Type 0 where
   pub effects : List Effect
   pub added : new.own ≡ old.own ++ commands_of effects

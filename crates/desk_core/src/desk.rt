@@ -17,8 +17,8 @@ use ws_core::Link;
 /// One seat at the broker, and the connections that speak through it, each at a place of its own, which is its client's number. Contracts
 /// see the seat as it was when the desk was made and as it is, and what sits at the places.
 ///
-/// Behind what was the seat's own when the desk was made, what belongs to each session is one conversation, and no two
-/// connections have one session: that is so of each desk, whatever was called of it.
+/// After what was the seat's own when the desk was made, what belongs to each session is one conversation, and no two connections have
+/// one session. This holds for each desk, whatever was called of it.
 #[derive(Drop)]
 pub struct Desk<B: Bell, L> {
     seat: BrokerSeat<OutSender<B>>,
@@ -56,7 +56,7 @@ impl<B: Bell, L: Link + Drop> Desk<B, L> {
         }
     }
 
-    /// How many places there are, free ones counted. What is so of each desk is known with that.
+    /// How many places there are, counting free ones. What holds for each desk is known with that.
     pub fn len(&self) -> usize
         ensures count { result ≡ length self.now.places }
         ensures seat { (self.now.seat.ring ≡ self.now.before.ring) × (self.now.seat.number ≡ self.now.before.number) }
@@ -65,8 +65,8 @@ impl<B: Bell, L: Link + Drop> Desk<B, L> {
         self.places.len()
     }
 
-    /// Takes a client in at that place, if nobody sits there. Places under it that there were not are free ones. Where it is refused,
-    /// nothing has changed, and its link is let go.
+    /// Takes a client in at that place, if nobody sits there. Places under it that did not exist are added as free ones. If it is
+    /// refused, nothing has changed, and its link is let go.
     pub fn admit(&mut self, alloc: Global, at: usize, link: L) -> Result<(), NotAdmitted>
         ensures ok { OnOk result (Admits self.old self.new link at) }
         ensures err { OnErr result (self.new ≡ self.old) }
@@ -99,8 +99,8 @@ impl<B: Bell, L: Link + Drop> Desk<B, L> {
         }
     }
 
-    /// Lets the connection at that place go on by one turn, as `Slot::turn` says; `None` where there is none. All other connections,
-    /// with their links and what those sent, stay as they are.
+    /// Lets the connection at that place go on by one turn, as `Slot::turn` says; `None` if there is none. All other connections, with
+    /// their links and what those sent, stay as they are.
     pub fn turn<M: Ringers<B>>(
         &mut self,
         alloc: Global,
@@ -123,8 +123,8 @@ impl<B: Bell, L: Link + Drop> Desk<B, L> {
         turn_at(alloc, ring, &mut self.seat, &mut self.places[at], ringers)
     }
 
-    /// Reads the ring's mark, and answers it: every number under it is published. The seat has seen it then, and nothing else has
-    /// changed. It never falls.
+    /// Reads the ring's mark, and answers it: every number under it is published. The seat has then seen it, and nothing else has
+    /// changed. The mark never falls.
     pub fn look(&mut self, ring: &BrokerRing<OutSender<B>>) -> u64
         requires { self.old.seat.ring ≡ ring.now }
         ensures looks { self.new ≡ desk self.old.before (with_seen self.old.seat result) self.old.places }
@@ -152,8 +152,8 @@ impl<B: Bell, L: Link + Drop> Desk<B, L> {
         }
     }
 
-    /// Sends a ping to the client at that place (RFC 6455, section 5.5.2), as far as its stream takes it. Nothing where there is none,
-    /// or where memory is refused; a link that is over is found so by the connection's next turn.
+    /// Sends a ping to the client at that place (RFC 6455, section 5.5.2), as far as its stream takes it. It does nothing if there is
+    /// none, or if memory is refused. A link that is over is found so by the connection's next turn.
     pub fn ping(&mut self, at: usize)
         ensures { Touches L.sent L.received self.old self.new at }
     {
@@ -162,7 +162,7 @@ impl<B: Bell, L: Link + Drop> Desk<B, L> {
         }
     }
 
-    /// Whether the client at that place has opened its session: its Open was appended. It is so too once the session has ended.
+    /// Whether the client at that place has opened its session: its Open was appended. This stays so once the session has ended.
     pub fn is_open(&self, at: usize) -> bool
         ensures { result ≡ is_open_at (seated_at self.now.places at) }
     {
@@ -172,8 +172,8 @@ impl<B: Bell, L: Link + Drop> Desk<B, L> {
         }
     }
 
-    /// Lets the connection at that place go, which has ended, and hands its link back. `None` if there is none, or it has not ended, as
-    /// its turns say by `Next::Over`: then nothing changes.
+    /// Lets the connection at that place go, if it has ended, and hands its link back. `None` if there is none, or if it has not ended,
+    /// as its turns say by `Next::Over`: then nothing changes.
     pub fn dismiss(&mut self, at: usize) -> Option<L>
         ensures left { IfSome result (Leaves self.old self.new at) }
         ensures none { IsNone result → self.new ≡ self.old }

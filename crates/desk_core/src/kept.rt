@@ -19,7 +19,7 @@ impl Kept {
     ghost use Rattle.std.specs.Prelude.{IfSome};
     ghost use Rattle.desk_core.specs.Answers.{WaitsFor};
 
-    // Whether it may leave, and the link refused it.
+    // Whether it may leave, but the link refused it.
     pub(crate) fn is_unsent(&self) -> bool {
         matches!(self, Kept::Unsent(_))
     }

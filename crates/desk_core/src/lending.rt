@@ -9,7 +9,7 @@ use outbox_core::Bell;
 use ws_core::Link;
 
 impl<B: Bell, L: Link + Drop> Desk<B, L> {
-    /// The link of the connection at that place; `None` where there is none.
+    /// The link of the connection at that place; `None` if there is none.
     pub fn link(&self, at: usize) -> Option<&L>
         ensures { option_copied result ≡ option_map (λ seated. seated.link) (seated_at self.now.places at) }
     {

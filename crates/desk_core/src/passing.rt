@@ -14,8 +14,8 @@ use outbox_core::{Bell, OutSender};
 use std::alloc::Global;
 use ws_core::{Link, LinkFault};
 
-// How many outputs of a connection are sent in a turn at most, and behind how many bytes of bodies no other follows. Their frames
-// may wait in the link until the turn's flush, which has room for 1,048,576 bytes: a body has 65,536 at most, a head some 17,000.
+// How many outputs of a connection are sent in a turn at most, and after how many bytes of bodies no other follows. Their frames may
+// wait in the link until the turn's flush, which has room for 1,048,576 bytes. A body has 65,536 at most, a head some 17,000.
 const RELAYS: u32 = 32;
 
 const RELAYED_BYTES: usize = 131_072;
@@ -65,8 +65,7 @@ impl<B: Bell> Slot<B> {
         PassedOn::More
     }
 
-    // Sends one output, and answers how many bytes its body has; nothing where none may leave. Once the connection runs no more, none
-    // may.
+    // Sends one output, and answers how many bytes its body has; nothing if none may leave. Once the connection no longer runs, none may.
     fn pass_one<L: Link>(
         &mut self,
         alloc: Global,
@@ -102,7 +101,7 @@ impl<B: Bell> Slot<B> {
     }
 }
 
-// What comes of an output that was handled. One whose outbox is cut is given up, and one whose outbox has another's output.
+// What comes of an output that was handled. A connection is given up if its outbox is cut, or has another's output.
 fn note(connection: &mut Connection, relayed: Relayed) -> Option<usize>
     requires { connection.old.stage ≡ Stage.Running }
     ensures ends { StaysOrEnds connection.old.progress connection.new.progress }

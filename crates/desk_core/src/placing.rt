@@ -67,7 +67,7 @@ pub fn ping_at<B: Bell, L: Link>(place: &mut Place<B, L>)
     }
 }
 
-// Where a connection there has ended, it sits there no more.
+// If a connection there has ended, it sits there no more.
 pub fn vacate<B: Bell, L>(place: &mut Place<B, L>) -> Place<B, L>
     ensures taken { IsSome result → (result ≡ place.old) × (place.new ≡ None) × (is_over_at place.old ≡ true) }
     ensures left { IsNone result → place.new ≡ place.old }
@@ -97,7 +97,7 @@ pub fn take_place<B: Bell, L: Drop>(place: &mut Place<B, L>, seated: Seated<B, L
     drop(mem::replace(place, Some(seated)));
 }
 
-// Sees that there is that place: what is missing up to it is added, free. Where memory is refused, nothing is.
+// Makes sure that there is that place: what is missing up to it is added, free. If memory is refused, nothing is added.
 pub fn add_places<B: Bell, L>(places: &mut Vec<Place<B, L>>, at: usize) -> Result<(), AllocError>
     ensures ok { OnOk result (places.new.items ≡ reaching at places.old.items) }
     ensures err { OnErr result (places.new.items ≡ places.old.items) }

@@ -12,12 +12,11 @@ use std::alloc::Global;
 use std::mem;
 use ws_core::{LinkFault, Outgoing};
 
-/// Handles one output, the one that is kept or else the next in the outbox: sends it where its number is under the mark, and where it
-/// is of that session.
+/// Handles one output, the one that is kept or else the next in the outbox. Sends it if its number is under the mark, and if it is of
+/// that session.
 ///
-/// Where it isn't sent it is kept, and the next call handles it again. No memory is taken but what sending takes. A fault is the
-/// link's own: after `Memory` the link is as it was and the call may be made again, after `Gone` the link is over. The link is
-/// neither read nor closed.
+/// If it isn't sent it is kept, and the next call handles it again. No memory is taken but what sending takes. A fault is the link's own:
+/// after `Memory` the link is as it was and the call may be made again; after `Gone` the link is over. The link is neither read nor closed.
 pub fn relay<B, L: Outgoing>(
     alloc: Global,
     ring: &BrokerRing<B>,
@@ -44,7 +43,7 @@ pub fn relay<B, L: Outgoing>(
     }
 }
 
-// Sends an output that may leave, or keeps it where the link refuses it.
+// Sends an output that may leave, or keeps it if the link refuses it.
 fn pass<L: Outgoing>(
     alloc: Global,
     released: Released,
@@ -75,7 +74,7 @@ fn pass<L: Outgoing>(
     }
 }
 
-// The next output that may leave, or what is the matter where there is none.
+// The next output that may leave, or what is the matter if there is none.
 fn find<B>(
     ring: &BrokerRing<B>,
     seat: &mut BrokerSeat<B>,

@@ -19,7 +19,7 @@ pub enum Next {
     Go,
     /// Bytes of its client, or a ring of its bell.
     Read,
-    /// That its socket takes bytes again. It hears its client no more until then.
+    /// That its socket takes bytes again. Until then it no longer hears its client.
     Write,
     /// A mark over this one: as many commands of its seat as may are not under it.
     Room(u64),
@@ -27,7 +27,7 @@ pub enum Next {
     Output(u64),
     /// Memory, which was refused.
     Memory,
-    /// Its peer's close. Where something was heard, there may be more to hear at once.
+    /// Its peer's close. If something was heard, there may be more to hear at once.
     Close,
     /// It has ended.
     Over(Ended),

@@ -36,11 +36,11 @@ impl<B: Bell> Slot<B> {
     ghost use Rattle.desk_core.specs.Histories.{Idles};
     ghost use Rattle.desk_core.specs.Slots.{Unserved};
 
-    /// Lets the connection go on: what waits in its link is written, its client is heard where nothing else is to be done first, what
-    /// that asks for is appended, and what may leave is sent, all of it bounded. No call waits unless the link's do.
+    /// Lets the connection go on. What waits in its link is written, and its client is heard if nothing else is to be done first.
+    /// What that asks for is appended, and what may leave is sent, all of it bounded. No call waits unless the link's calls do.
     ///
-    /// What is appended goes on with the connection's conversation, whatever others speak through the seat, and the client is
-    /// sent nothing but what is its own: outputs of its session, and before it has one the ERROR that its own bytes ask for, once.
+    /// What is appended goes on with the connection's conversation, whatever others speak through the seat. The client is sent only
+    /// what is its own: outputs of its session, and before it has one, once, the ERROR that its own bytes ask for.
     pub fn turn<M: Ringers<B>, L: Link>(
         &mut self,
         alloc: Global,
@@ -58,7 +58,7 @@ impl<B: Bell> Slot<B> {
         let passed_on = self.pass_on(alloc, ring, seat, link);
         let is_short = self.finish(link);
         let lacks = is_short || passed_on == PassedOn::Short;
-        // A client that was not read may have sent something that nothing will tell of again.
+        // A client that was not read may have sent something of which nothing will tell again.
         let more = !matches!(heard, Hearing::Nothing) || passed_on == PassedOn::More;
         Turned {
             appended: executed.appended,
@@ -67,7 +67,7 @@ impl<B: Bell> Slot<B> {
         }
     }
 
-    // Reads once, where nothing else is to be done first, and answers what came. Behind its own close it waits for the peer's.
+    // Reads once, if nothing else is to be done first, and answers what came. After its own close it waits for the peer's.
     fn read<L: Link>(&mut self, alloc: Global, link: &mut L) -> Hearing
         ensures unserved { Unserved L.sent self.old link.old self.new link.new }
         ensures lives { Idles L.received self.old link.old self.new link.new }
@@ -111,7 +111,7 @@ impl<B: Bell> Slot<B> {
         }
     }
 
-    // Drops what came behind its own close.
+    // Drops what came after its own close.
     fn await_close<L: Link>(&mut self, alloc: Global, link: &mut L) -> Hearing
         requires { self.old.connection.stage ≢ Running }
         ensures unserved { Unserved L.sent self.old link.old self.new link.new }
@@ -133,7 +133,7 @@ impl<B: Bell> Slot<B> {
         }
     }
 
-    // Has all leave that was sent, and closes the link where that is to be done. Answers whether memory was refused for that.
+    // Has all leave that was sent, and closes the link if that is to be done. Answers whether memory was refused for that.
     fn finish<L: Link>(&mut self, link: &mut L) -> bool
         ensures unserved { Unserved L.sent self.old link.old self.new link.new }
         ensures lives { Idles L.received self.old link.old self.new link.new }
@@ -164,8 +164,8 @@ impl<B: Bell> Slot<B> {
         false
     }
 
-    // What it waits for: by whether memory was refused for its close or an output, by whether there may be more to hear or to send,
-    // by what the last act came to, and by whether its link has not taken all.
+    // What it waits for: by whether memory was refused for its close or an output, and by whether there may be more to hear or to
+    // send. Also by what the last act came to, and by whether its link has not taken all.
     fn next(&self, lacks: bool, more: bool, last: Step, waits: bool) -> Next
         ensures { AwaitsBy result last self.now }
     {
@@ -183,7 +183,7 @@ impl<B: Bell> Slot<B> {
         }
     }
 
-    // What one that runs waits for.
+    // What a connection that runs waits for.
     fn next_of_running(&self, lacks: bool, more: bool, last: Step, waits: bool) -> Next
         requires { self.now.connection.stage ≡ Running }
         ensures { AwaitsBy result last self.now }
@@ -208,7 +208,7 @@ impl<B: Bell> Slot<B> {
         self.pending.is_none() && self.connection.listens()
     }
 
-    // What one that runs and has nothing to do waits for.
+    // What a connection that runs and has nothing to do waits for.
     fn rest(&self) -> Next
         requires { self.now.connection.stage ≡ Running }
         ensures { IsRest result self.now }
@@ -220,7 +220,7 @@ impl<B: Bell> Slot<B> {
     }
 }
 
-// What is to come first: memory, where it was refused, or room for an entry that waits.
+// What is to come first: memory, if it was refused, or room for an entry that waits.
 fn pressing(lacks: bool, last: Step) -> Next
     ensures { IsPressing result last }
 {
@@ -241,7 +241,7 @@ fn is_something(heard: Hearing) -> bool
     matches!(heard, Hearing::Something)
 }
 
-// Why the connection is closed that ends so (RFC 6455, section 7.4.1).
+// Why a connection that ends so is closed (RFC 6455, section 7.4.1).
 fn reason_of(ended: Ended) -> CloseReason {
     match ended {
         Ended::Bye => CloseReason::NormalClosure,

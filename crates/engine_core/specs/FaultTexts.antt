@@ -5,7 +5,7 @@ use Rattle.recover_core.specs.Texts.{open_text}
 use Rattle.engine_core.specs.declared.fault.ScriptFault.{ScriptFault}
 use Rattle.engine_core.specs.declared.fault.ScriptFault.TheVariants.{Memory, NotUnderstood, CountTooLarge, Opening, Storing, Input, Output}
 
--- the text that the user is told of a fault
+-- the text of a fault for the user
 abbrev pub fault_text : ScriptFault → List ℕ
 fault_text (Memory refused) = codes "no memory"
 fault_text (NotUnderstood k) = codes "line " ++ decimal k ++ codes " not understood"

@@ -21,9 +21,8 @@ use Rattle.script_journal.specs.Placed.{commands_of}
 use Rattle.session_core.specs.declared.act.Act.{Act}
 use Rattle.session_core.specs.declared.act.Act.TheVariants.{Do, Direct, Close}
 
--- Between the connections and the broker: the commands that wait for the next flush, in their order, each with the
--- connection that it came from; which connection opened which session; the broker as it was last flushed; and whether what
--- was flushed is durable.
+-- Between the connections and the broker: the commands that wait for the next flush, in their order, each with the connection that it came
+-- from. Also which connection opened which session, the broker as it was last flushed, and whether what was flushed is durable.
 pub record QueueValue : Type 0 where
   pub waiting : List Waiting
   pub openers : List (ℕ × ℕ)
@@ -126,7 +125,7 @@ acted connection p (Do op receipt) = submitted connection op receipt p
 acted connection p (Direct frame) = record p { text = p.text ++ line_for connection frame }
 acted connection p (Close code) = p
 
--- what the act leads to that is to be done, where there is one
+-- what the act leads to that is to be done, if there is one
 abbrev pub acted_on : ℕ → Progress → Option Act → Progress
 acted_on connection p None = p
 acted_on connection p (Some act) = acted connection p act
@@ -136,8 +135,8 @@ abbrev pub IsTooFar : ℕ → QueueValue → Act → Type 0
 IsTooFar connection queue (Do op receipt) = CountsTooFar connection queue
 IsTooFar connection queue _ = ⊥
 
--- the disk of this content, whose journal is compacted as far as that goes, stands for the state after the first of the waiting commands, and
--- has no room for a block of the next one alone, or for a snapshot of that state
+-- The journal of the disk of this content is compacted as far as that goes. It stands for the state after the first of the waiting
+-- commands. It has no room for a block of the next one alone, or for a snapshot of that state.
 abbrev pub LacksRoom : List ℕ → QueueValue → Type 0
 LacksRoom content queue = IsFull queue.state (commands_of queue.waiting) content
 
@@ -145,12 +144,12 @@ LacksRoom content queue = IsFull queue.state (commands_of queue.waiting) content
 abbrev pub IsAny : QueueValue → Type 0
 IsAny queue = Unit {0}
 
--- an act is a command that a flush comes before, of a queue that is so
+-- an act is a command that a flush comes before, if the queue is so
 abbrev pub IsFlush : (QueueValue → Type 0) → ℕ → QueueValue → Act → Type 0
 IsFlush Such connection queue (Do op receipt) = (is_full connection queue ≡ true) × Such queue
 IsFlush Such connection queue _ = ⊥
 
--- one of a connection's acts is such an act, behind what those before it lead to
+-- one of a connection's acts is such an act, after what those before it lead to
 pub record ComeTo (connection : ℕ) (Such : ℕ → QueueValue → Act → Type 0) (start : Progress) (acts : List Act) : Type 0 where
   pub before : List Act
   pub act : Act

@@ -22,11 +22,11 @@ pub record ScriptValue : Type 0 where
 abbrev pub on_disk : ScriptValue → QueueOnDisk
 on_disk s = record { queue = s.queue; disk = s.disk }
 
--- with a journal of this state just opened on this disk: nobody is connected, and nothing waits
+-- the script whose journal of this state was just opened on this disk: nobody is connected, and nothing waits
 abbrev pub beginning : State → Memory → ScriptValue
 beginning state disk = record { connections = []; queue = record { waiting = []; openers = []; state = state; durable = true }; disk = disk }
 
--- a connection, new where there is none
+-- a connection, new if there is none
 abbrev pub connection_at : ℕ → ScriptValue → Connection
 connection_at n s = unwrap_or (lookup (is_at (nat_cmp n)) s.connections) new_connection
 
@@ -71,7 +71,7 @@ pub record LosesSuch (Such : ℕ → QueueValue → Act → Type 0) (s : ScriptV
   pub is_loss : loss_of (connection_at n s).session.phase ≡ Some act
   pub such : Such n s.queue act
 
--- A connection is gone: the end of its session is done, where one is to come, and it is none of the connections. That end does
+-- A connection is gone: the end of its session is done, if one is to come, and it is none of the connections any more. That end does
 -- not come once as many commands have been carried out as may be.
 pub record Loses (s : ScriptValue) (n : ℕ) (printed : List ℕ) (t : ScriptValue) : Type 0 where
   pub within : LosesSuch IsTooFar s n → ⊥

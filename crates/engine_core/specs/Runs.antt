@@ -46,13 +46,13 @@ IsCause (Opening fault) s rest disk = HasLineNotOpened s fault rest disk
 IsCause (Storing fault) s rest disk = HasLineNotStored s fault rest disk
 IsCause fault s rest disk = IsCalm s disk
 
--- the number of the line that is told is the next one's
+-- the number of the line that is reported is the next one's
 abbrev pub IsNext : ScriptFault → ℕ → Type 0
 IsNext (NotUnderstood k) lines = k ≡ lines + 1
 IsNext fault lines = Unit {0}
 
--- A fault stops a run within bytes, which leaves this disk: what is written is what the lines before print, and where the writer
--- fails, perhaps the beginning of what the next line does, but not all of it.
+-- A fault stops a run within bytes, which leaves this disk. What is written is what the lines before print, and, if the writer
+-- fails, perhaps the beginning of what the next line prints, but not all of it.
 abbrev pub StopsIn : ScriptFault → Run → List ℕ → Memory → Option (List ℕ) → Option (List ℕ) → Type 0
 StopsIn Output old bytes disk before after = Tries old.script old.begun.items bytes disk before after
 StopsIn fault old bytes disk before after =
@@ -98,12 +98,12 @@ EndsBefore (NotUnderstood k) s rest disk left = IsAtEnd left × (rest ≢ []) ×
 EndsBefore fault s rest disk left = ⊥
 
 -- A fault stops a script that began with this state over this disk, which comes back as that one. What is written is what the
--- lines before print, and where the writer fails, perhaps the beginning of what the next line does, but not all of it. A line
--- is told only where it is none: it has too many bytes, says nothing that is understood, or ends the script with no LF. The
--- commands are too many only where the next line is one that runs too far, and a disk is not opened only where the next line is
--- `open` and what is told of the disk is so. The disk failed, within the next line, just where that is told; the journal is full
--- only where the next line flushes what the disk, as it came back, has no room for; it is broken only where a step failed
--- before, or where the next line flushes. The writer fails only where the next line prints.
+-- lines before print, and, if the writer fails, perhaps the beginning of what the next line prints, but not all of it. A line is
+-- reported only if it is none: it has too many bytes, says nothing that is understood, or ends the script with no LF. The
+-- commands are too many only if the next line is one that runs too far. A disk is not opened only if the next line is `open`,
+-- and what is reported of the disk is so. The disk failed, within the next line, exactly if that is reported. The journal is
+-- full only if the next line flushes what the disk, as it came back, has no room for. It is broken only if a step failed before,
+-- or if the next line flushes. The writer fails only if the next line prints.
 abbrev pub Stops : State → Memory → ScriptFault → Memory → Option (List ℕ) → Option (List ℕ) → Option (List ℕ) → Option (List ℕ) → Type 0
 Stops start first Output disk unread left before after =
     (input : List ℕ) × Consumes unread left input × Tries (Running (beginning start first)) [] input disk before after
@@ -111,7 +111,7 @@ Stops start first fault disk unread left before after =
     (lines : List (List ℕ)) × (rest : List ℕ) × (b : Begins start first lines rest unread left before after) × IsNext fault (length lines)
     × (IsCause fault b.end rest disk ⊎ EndsBefore fault b.end rest disk left)
 
--- memory was refused, or the disk was not opened, and what is told of it is so
+-- memory was refused, or the disk was not opened, and what is reported of it is so
 abbrev pub IsToldAtOnce : ScriptFault → Memory → Memory → Type 0
 IsToldAtOnce (faults.Memory refused) disk now = now ≡ disk
 IsToldAtOnce (Opening fault) disk now = IsNotOpened disk fault now

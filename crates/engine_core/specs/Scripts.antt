@@ -19,8 +19,7 @@ use Rattle.engine_core.specs.Running.{ScriptValue, beginning, Loses, LosesSuch, 
 use Rattle.engine_core.specs.declared.script.Script.{Script}
 use Rattle.engine_core.specs.declared.script.Script.TheVariants.{Running, Stopped, Over}
 
--- A disk is opened: it stands for a state of which this is the restart, for which it stands from then on. None of its calls
--- failed.
+-- A disk is opened: it stands for a state of which this is the restart, for which it stands from then on. None of its calls failed.
 pub record IsOpenedAs (disk : Memory) (state : State) (now : Memory) : Type 0 where
   pub restart : IsRestartOf disk.content state
   pub stands : Stands now.content state
@@ -50,7 +49,7 @@ is_there (Running s) = true
 is_there (Stopped disk) = true
 is_there Over = false
 
--- the script's disk, as the lines so far have left it; one of no bytes where it has none
+-- the script's disk, as the lines so far have left it; one of no bytes if it has none
 abbrev pub disk_of : Script → Memory
 disk_of (Running s) = s.disk
 disk_of (Stopped disk) = disk
@@ -77,7 +76,7 @@ abbrev pub RunsTooFar : Script → List ℕ → Type 0
 RunsTooFar (Running s) line = ComesTo IsTooFar s line
 RunsTooFar _ line = ⊥
 
--- A line flushes, and the queue that it flushes is so: the line is `flush` or a `crash`, or it comes to a command that a flush
+-- A line flushes, and the queue that it flushes is so. The line is `flush` or a `crash`, or it asks for a command that a flush
 -- comes before.
 abbrev pub RunsFlush : (QueueValue → Type 0) → Script → List ℕ → Type 0
 RunsFlush Such (Running s) line =
@@ -119,15 +118,15 @@ pub record Crashes (s : ScriptValue) (printed : List ℕ) (t : Script) : Type 0 
   pub after : t ≡ Stopped disk
   pub stands : ∥ StandsWithin s.queue disk.content ∥₁
 
--- what a line prints that leaves the script running, and what it leaves: `flush` what waits, `lost` with a connection's
--- number what the loss brings, such a number with a blank and a text what the connection receives
+-- What a line prints that leaves the script running, and what it leaves. `flush` prints what waits. `lost` with a connection's number
+-- prints what the loss brings; such a number with a blank and a text, what the connection receives.
 abbrev pub GoesOn : ScriptValue → List ℕ → List ℕ → ScriptValue → Type 0
 GoesOn s line printed t =
     ((line ≡ codes "flush") × (printed ≡ flush_text s.queue) × (t ≡ record s { queue = flushed s.queue; disk = t.disk }))
     ⊎ (((n : ℕ) × IsLoss line n × Loses s n printed t)
     ⊎ ((n : ℕ) × (text : List ℕ) × (n < SEATS) × (line ≡ decimal n ++ 32 ∷ text) × Receives s n (decoded text) printed t))
 
--- what a line prints that is understood while the disk runs alone: none of the disk's calls fails where it runs on
+-- what a line prints that is understood only while the disk runs: none of the disk's calls fails if it runs on
 abbrev pub RunsOn : Script → List ℕ → List ℕ → Script → Type 0
 RunsOn (Running s) line printed t =
     ((u : ScriptValue) × GoesOn s line printed u × (u.disk.failures ≡ s.disk.failures) × (t ≡ Running u))
@@ -165,8 +164,7 @@ pub record IsLine (line : List ℕ) : Type 0 where
 abbrev pub text_of_lines : List (List ℕ) → List ℕ
 text_of_lines lines = flat_map (λ line. line ++ 10 ∷ []) lines
 
--- What a part of a script leads to, behind the beginning of a line: whole lines and what they print, and the beginning of
--- one more line.
+-- What a part of a script leads to, after the beginning of a line: whole lines and what they print, and the beginning of one more line.
 pub record Takes (s : Script) (begun bytes : List ℕ) (lines : List (List ℕ)) (printed : List ℕ) (t : Script) (rest : List ℕ) : Type 0 where
   pub whole : begun ++ bytes ≡ text_of_lines lines ++ rest
   pub each : AllByRecursion IsLine lines

@@ -1,4 +1,4 @@
--- What is told where a step of a script fails, and what it leaves of the script's disk.
+-- What is reported if a step of a script fails, and what it leaves of the script's disk.
 use Rattle.std.specs.Prelude.{◌≡◌, ◌⊎◌, ◌++◌, ◌∷◌, List, ℕ, Bool, Option, codes, false}
 use Rattle.disk_core.specs.Memory.{Memory}
 use Rattle.recover_core.specs.Told.{IsOpenTold, IsCausedBy as IsOpenCausedBy}
@@ -15,7 +15,7 @@ use Rattle.engine_core.specs.declared.script.Script.{Script}
 use Rattle.engine_core.specs.declared.script.Script.TheVariants.{Running}
 
 -- Of a step while the disk runs, from the disk's failures before it, whether the journal is durable after it, and the disk's
--- failures then: it opens no disk. The disk failed just where that is told, and where commands are not stored, whatever the
+-- failures then. It opens no disk. The disk failed exactly if that is reported. If commands are not stored, whatever the
 -- reason, the journal takes nothing more.
 abbrev pub IsStepTold : ℕ → Bool → ℕ → QueueFault → Type 0
 IsStepTold before durable now (queue.Opening fault) = ⊥
@@ -29,13 +29,13 @@ IsPrintTold durable (queue.Memory refused) = Unit {0}
 IsPrintTold durable (queue.Storing flush.Broken) = durable ≡ false
 IsPrintTold durable _ = ⊥
 
--- of a flush in which the disk stops: it is not told that the disk failed
+-- of a flush in which the disk stops: it is not reported that the disk failed
 abbrev pub IsCrashTold : QueueFault → Type 0
 IsCrashTold (queue.Storing flush.Device) = ⊥
 IsCrashTold (queue.Storing fault) = Unit {0}
 IsCrashTold _ = ⊥
 
--- a disk is not opened: what is told of its content is so, and its calls failed, between then and now, just where that is told
+-- A disk is not opened: what is reported of its content is so. Its calls failed, between then and now, exactly if that is reported.
 pub record IsNotOpened (disk : Memory) (fault : OpenFault) (now : Memory) : Type 0 where
   pub told : IsOpenTold fault disk.content
   pub cause : IsOpenCausedBy fault disk.failures now.failures
@@ -48,14 +48,14 @@ IsOpeningTold s now (queue.Opening fault) = IsNotOpened (disk_of s) fault now
 IsOpeningTold s now (queue.Storing flush.Broken) = HasFailed s × IsCalm s now
 IsOpeningTold s now _ = ⊥
 
--- why the commands of a line are not stored: the disk has no room for them, or a step failed before, or the ring did not take
--- what a flush handed to it
+-- Why the commands of a line are not stored. The disk has no room for them, or a step failed before, or the ring did not take what
+-- a flush handed to it.
 abbrev pub IsReason : FlushFault → Script → List ℕ → Memory → Type 0
 IsReason flush.Full s line now = RunsFlush (LacksRoom now.content) s line
 IsReason flush.Broken s line now = HasFailed s ⊎ RunsFlush IsAny s line
 IsReason fault s line now = Unit {0}
 
--- The disk failed, between then and now, just where that is told. Of a `crash`, which has it fail, that is never told.
+-- The disk failed, between then and now, exactly if that is reported. Of a `crash`, which has it fail, that is never reported.
 abbrev pub IsDiskFault : FlushFault → Script → List ℕ → Memory → Type 0
 IsDiskFault fault s line now =
     IsCausedBy (disk_of s).failures now.failures fault
@@ -66,7 +66,7 @@ pub record IsNotStored (fault : FlushFault) (s : Script) (line : List ℕ) (now 
   pub reason : IsReason fault s line now
   pub cause : IsDiskFault fault s line now
 
--- Of a line, with the disk that it leaves: only `open` tells of a disk that is not opened.
+-- Of a line, with the disk that it leaves: only `open` reports a disk that is not opened.
 abbrev pub IsLineTold : Script → List ℕ → Memory → QueueFault → Type 0
 IsLineTold s line now (queue.Opening fault) = (line ≡ codes "open") × IsNotOpened (disk_of s) fault now
 IsLineTold s line now (queue.Storing fault) = IsNotStored fault s line now

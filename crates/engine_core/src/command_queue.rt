@@ -89,7 +89,7 @@ impl CommandQueue {
         (waiting, journal)
     }
 
-    /// The disk, as an error where the journal failed. What waits is dropped.
+    /// The disk, as an error if the journal failed. What waits is dropped.
     pub fn into_disk(self) -> Result<MemDisk, MemDisk>
         ensures stands { IfOk result (λ disk. (disk ≡ self.disk) × Stands disk.content self.queue.state) }
         ensures failed { IfErr result (λ disk. (disk ≡ self.disk) × (self.queue.durable ≡ false)) }
@@ -100,16 +100,16 @@ impl CommandQueue {
         if is_durable { Ok(disk) } else { Err(disk) }
     }
 
-    /// Whether as many commands of the connection wait as may: as many as its seat at the ring may have that are not under the
-    /// mark.
+    /// Whether as many commands of the connection wait as may. That is as many as its seat at the ring may have that are not
+    /// under the mark.
     fn is_full(&self, connection: u8) -> bool
         ensures { result ≡ is_full connection self.now.queue }
     {
         count_of(self.waiting.as_slice(), connection) >= WINDOW
     }
 
-    /// Takes an operation of a connection, whose session has this number, as a command, and flushes first where as many
-    /// commands of the connection wait as may; answers the number of the connection's session.
+    /// Takes an operation of a connection, whose session has this number, as a command. Flushes first if as many commands of
+    /// the connection wait as may. Answers the number of the connection's session.
     pub fn submit(
         &mut self,
         alloc: Global,
@@ -137,7 +137,7 @@ impl CommandQueue {
         }
     }
 
-    // Flushes first where as many commands of the connection wait as may; one more may be counted then.
+    // Flushes first if as many commands of the connection wait as may; then one more may be counted.
     fn make_room(
         &mut self,
         alloc: Global,
@@ -206,8 +206,8 @@ impl CommandQueue {
         }
     }
 
-    // The number of the connection's session once the operation is a command, and the session that the command names: an
-    // Open names none, and its session gets the command's number.
+    // The number of the connection's session once the operation is a command, and the session that the command names. An Open
+    // names none, and its session gets the command's number.
     fn number_session(
         &mut self,
         connection: u8,

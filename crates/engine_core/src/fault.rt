@@ -78,14 +78,14 @@ impl From<SessionFault> for QueueFault {
 pub enum ScriptFault {
     /// Memory was refused.
     Memory(AllocError),
-    /// The line of that number, counted from 1, says nothing that is understood there, is longer than 1,048,576 bytes, or
+    /// The line of that number, counted from 1, says nothing that is understood there, or is longer than 1,048,576 bytes, or
     /// is the last one and has no LF.
     NotUnderstood { line: u64 },
     /// A command comes once as many have been carried out as may be: 2^60.
     CountTooLarge,
     /// The disk was not opened, at the start or by a line.
     Opening(OpenFault),
-    /// Commands were not stored, or what they give was not printed: they do not fit, the disk failed, memory was refused, or
+    /// Commands were not stored, or what they give was not printed. They do not fit, the disk failed, memory was refused, or
     /// the journal failed before.
     Storing(FlushFault),
     /// The script can't be read, or was read 4,294,967,296 times.

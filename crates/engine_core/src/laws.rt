@@ -10,8 +10,8 @@ ghost use Rattle.engine_core.specs.Running.{beginning};
 ghost use Rattle.script_text.specs.ScriptLines.{IsNoCrash};
 ghost use Rattle.engine_core.specs.Scripts.{HasFailed, IsScript, Prints, PrintsAll, RunsTooFar, disk_of};
 
-/// A script without `crash` lines prints one text: from the same state the same lines print the same bytes, whatever runs
-/// them, and whatever the disks are, and so does the same input, which is lines in one way.
+/// A script without `crash` lines prints one text. From the same state the same lines print the same bytes, whatever runs
+/// them, and whatever the disks are. So does the same input, since it is lines in only one way.
 pub fn a_script_has_one_text()
     ensures lines { (start : State) (one other : Memory) (lines : List (List ℕ)) (p q : List ℕ) (t u : Script) → AllByRecursion IsNoCrash lines
         → PrintsAll (Running (beginning start one)) lines p t → PrintsAll (Running (beginning start other)) lines q u → p ≡ q }
@@ -19,7 +19,7 @@ pub fn a_script_has_one_text()
         → IsScript start other input q → p ≡ q }
 {}
 
-/// While lines print, no step of a script fails, and but for its `crash` lines no call of its disk does.
+/// While lines print, no step of a script fails, and except for its `crash` lines no call of its disk fails.
 pub fn a_script_that_prints_has_not_failed()
     ensures durable { (start : State) (first : Memory) (lines : List (List ℕ)) (printed : List ℕ) (end : Script)
         → PrintsAll (Running (beginning start first)) lines printed end → HasFailed end → ⊥ }
@@ -27,7 +27,7 @@ pub fn a_script_that_prints_has_not_failed()
         → PrintsAll (Running (beginning start first)) lines printed end → (disk_of end).failures ≡ first.failures }
 {}
 
-/// A line that comes to a command once 2^60 have been carried out prints nothing.
+/// A line that asks for a command once 2^60 have been carried out prints nothing.
 pub fn a_line_too_far_prints_nothing()
     ensures { (s t : Script) (line printed : List ℕ) → RunsTooFar s line → Prints s line printed t → ⊥ }
 {}

@@ -52,7 +52,7 @@ fn print_bytes(
     Ok(())
 }
 
-/// Lets outputs leave, and adds a line for each to the text, with the number of the connection that opened its session. Where
+/// Lets outputs leave, and adds a line for each to the text, with the number of the connection that opened its session. If
 /// one does not leave, the journal is not durable from then on.
 pub fn print_outs(
     alloc: Global,

@@ -35,30 +35,29 @@ const MOST_WRITES: u64 = 4_294_967_296;
 /// How many bytes a line has at most, without its LF.
 const LONGEST_LINE: usize = 1_048_576;
 
-/// Runs a script over a disk: opens the disk's journal, reads the script to its end, and writes what each line prints as
-/// soon as the line is done. The bytes are read in pieces of 65,536, and at most 4,294,967,296 reads are made.
+/// Runs a script over a disk: opens the disk's journal, reads the script to its end, and writes what each line prints as soon as
+/// the line is done. The bytes are read in pieces of 65,536, and at most 4,294,967,296 reads are made.
 ///
-/// Where it is refused, what was written is what the lines before the refused one print; where it is the writer that failed,
-/// a front of what that line prints may be written too, but not all of it. Commands that wait at the end of the script are
-/// dropped. The disk comes back as the lines have left it.
+/// If it is refused, what was written is what the lines before the refused one print. If it is the writer that failed, a front of
+/// what that line prints may be written too, but not all of it. Commands that wait at the end of the script are dropped. The disk
+/// comes back as the lines have left it.
 pub fn run_script<R: Read, W: Write>(
     alloc: Global,
     reader: &mut R,
     writer: &mut W,
     disk: MemDisk,
 ) -> (MemDisk, Result<(), ScriptFault>)
-    // What is written is what the lines print that were read, and nothing else, from the restart of the state on that the
-    // disk stands for.
+    // What is written is what the lines that were read print, and nothing else, from the restart of the state on that the disk stands for.
     ensures ok { OnOk result.1 ((input : List ℕ) × (printed : List ℕ) × (start : State) × (first : Memory) × IsOpenedAs disk start first
         × Consumes (R.remaining reader.old) (R.remaining reader.new) input × IsAtEnd (R.remaining reader.new)
         × Appends (W.contents writer.old) (W.contents writer.new) printed
         × (script : IsScript start first input printed) × (result.0 ≡ disk_of script.end)) }
-    // On a fault, it is what the lines before print; a line is told only where it is none, and a count too large only where the
-    // next line asks for a command once 2^60 have been carried out. The disk failed within the next line just where that is
-    // told; a full journal is told only where the next line flushes what the disk that comes back has no room for, and a broken
-    // store only where a step failed before, or the next line flushes. The writer's fault comes only where the next line prints,
-    // and some of that is not written, though a front of it may be. Where the disk is not opened at the start, nothing is read or
-    // written.
+    // On a fault, what is written is what the lines before print. A line is reported only if it is none. A count too large is
+    // reported only if the next line asks for a command once 2^60 have been carried out. The disk failed within the next line
+    // exactly if that is reported. A full journal is reported only if the next line flushes what the disk that comes back has no
+    // room for. A broken store is reported only if a step failed before, or the next line flushes. The writer's fault comes only
+    // if the next line prints, and some of that is not written, though a front of it may be. If the disk is not opened at the
+    // start, nothing is read or written.
     ensures err { IfErr result.1 (λ fault. StopsOver disk fault result.0 (R.remaining reader.old) (R.remaining reader.new) (W.contents writer.old) (W.contents writer.new)) }
 {
     match vec![in alloc; 0u8; PIECE] {
@@ -240,7 +239,7 @@ fn end_line<W: Write>(
     }
 }
 
-/// Writes a text. Where the writer fails, a front of the text is written, and not all of it.
+/// Writes a text. If the writer fails, a front of the text is written, and not all of it.
 fn write_text<W: Write>(writer: &mut W, text: &str) -> Result<(), ScriptFault>
     ensures ok { OnOk result (Appends (W.contents writer.old) (W.contents writer.new) text.now) }
     ensures err { IfErr result (λ fault. (fault ≡ ScriptFault.Output) × (written : List ℕ) × (unwritten : List ℕ)
@@ -263,7 +262,7 @@ fn write_text<W: Write>(writer: &mut W, text: &str) -> Result<(), ScriptFault>
     }
 }
 
-/// Writes as much as the writer takes at once, and answers what is left; all where the write was interrupted.
+/// Writes as much as the writer takes at once, and answers what is left: all, if the write was interrupted.
 fn write_some<'a, W: Write>(writer: &mut W, rest: &'a [u8]) -> Result<&'a [u8], ScriptFault>
     ensures ok { IfOk result (λ left. (written : List ℕ) × (rest.now ≡ written ++ left.now) × Appends (W.contents writer.old) (W.contents writer.new) written) }
     ensures err { IfErr result (λ fault. (fault ≡ ScriptFault.Output) × Appends (W.contents writer.old) (W.contents writer.new) []) }

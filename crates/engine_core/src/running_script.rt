@@ -75,7 +75,7 @@ impl RunningScript {
         Ok(text)
     }
 
-    /// The disk, as an error where the journal failed. What waits and the connections are dropped.
+    /// The disk, as an error if the journal failed. What waits and the connections are dropped.
     pub fn into_disk(self) -> Result<MemDisk, MemDisk>
         ensures stands { IfOk result (λ disk. (disk ≡ self.disk) × Stands disk.content self.queue.state) }
         ensures failed { IfErr result (λ disk. (disk ≡ self.disk) × (self.queue.durable ≡ false)) }
@@ -135,7 +135,7 @@ impl RunningScript {
     }
 }
 
-/// Takes a connection out of the others; a new one where there is none of that number.
+/// Takes a connection out of the others; a new one if there is none of that number.
 fn take_connection(alloc: Global, connections: &mut BTreeMap<u8, Connection>, n: u8) -> Connection
     ensures taken { result ≡ unwrap_or (lookup (is_at (nat_cmp n)) connections.old.entries) new_connection }
     ensures others { connections.new.entries ≡ remove_entry (is_at (nat_cmp n)) connections.old.entries }
@@ -168,7 +168,7 @@ fn hear(
     Ok(())
 }
 
-/// Does what the loss of a connection asks for, where it asks for something; answers the number of its session then.
+/// Does what the loss of a connection asks for, if it asks for something; answers the number of its session then.
 fn do_loss(
     alloc: Global,
     queue: &mut CommandQueue,

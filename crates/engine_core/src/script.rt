@@ -23,7 +23,7 @@ pub enum Script {
     Running(RunningScript),
     /// Its disk has stopped, and is to be opened.
     Stopped(MemDisk),
-    /// Its disk is elsewhere: so it is within a step alone.
+    /// Its disk is elsewhere, which is so only within a step.
     Over,
 }
 
@@ -35,8 +35,8 @@ impl Script {
     ghost use Rattle.engine_core.specs.StepFaults.{IsCrashTold, IsLineTold, IsOpeningTold};
     ghost use Rattle.engine_core.specs.Scripts.{Crashes, GoesBy, IsNotUnderstood, IsStopped, OnRunning, Opens, Prints, RunsTooFar, disk_of, is_there};
 
-    /// Does what a line says, and answers what it prints; `None` where the line says nothing that is understood. The disk is
-    /// still there, whatever is told.
+    /// Does what a line says, and answers what it prints; `None` if the line says nothing that is understood. The disk is still
+    /// there, whatever is reported.
     pub fn perform(&mut self, alloc: Global, line: &[u8]) -> Result<Option<String>, QueueFault>
         requires { is_there self.old ≡ true }
         ensures there { is_there self.new ≡ true }
@@ -103,7 +103,7 @@ impl Script {
         }
     }
 
-    /// The disk stops within a flush, of which nothing is printed; `None` where it has stopped before.
+    /// The disk stops within a flush, of which nothing is printed; `None` if it has stopped before.
     fn crash(
         &mut self,
         alloc: Global,
@@ -134,7 +134,7 @@ impl Script {
         }
     }
 
-    /// Flushes; answers what is printed, `None` where the disk has stopped.
+    /// Flushes; answers what is printed, `None` if the disk has stopped.
     fn flush(&mut self, alloc: Global) -> Result<Option<String>, QueueFault>
         requires { is_there self.old ≡ true }
         ensures there { is_there self.new ≡ true }
@@ -148,7 +148,7 @@ impl Script {
         }
     }
 
-    /// A connection is gone; answers what is printed, `None` where the disk has stopped.
+    /// A connection is gone; answers what is printed, `None` if the disk has stopped.
     fn lose(&mut self, alloc: Global, n: u8) -> Result<Option<String>, QueueFault>
         requires { is_there self.old ≡ true }
         ensures there { is_there self.new ≡ true }
@@ -162,7 +162,7 @@ impl Script {
         }
     }
 
-    /// A connection receives what a text stands for; answers what is printed, `None` where the disk has stopped.
+    /// A connection receives what a text stands for; answers what is printed, `None` if the disk has stopped.
     fn receive(&mut self, alloc: Global, n: u8, text: &[u8]) -> Result<Option<String>, QueueFault>
         requires { is_there self.old ≡ true }
         ensures there { is_there self.new ≡ true }
@@ -180,7 +180,7 @@ impl Script {
     }
 }
 
-// The disk, as an error where a step of a script failed.
+// The disk, as an error if a step of a script failed.
 fn whole_disk(script: Script) -> Result<MemDisk, MemDisk>
     requires { is_there script ≡ true }
     ensures ok { IfOk result (λ disk. (disk ≡ disk_of script) × StandsAs script disk) }
@@ -193,8 +193,8 @@ fn whole_disk(script: Script) -> Result<MemDisk, MemDisk>
     }
 }
 
-// Records what waits while so many calls of the disk pass. The disk then stops, and has the fill in what was not synced, or
-// without one what it held at the last sync. Where what waits is not recorded for another reason, that is told too.
+// Records what waits while so many calls of the disk pass. Then the disk stops, and has the fill in what was not synced, or,
+// without a fill, what it held at the last sync. If what waits is not recorded for another reason, that is reported too.
 fn stop_within(
     alloc: Global,
     journal: Journal<MemDisk>,
@@ -221,7 +221,7 @@ fn stop_within(
     }
 }
 
-// The fault where a disk was to stop: that it did is none.
+// The fault if a disk was to stop: that it did is none.
 fn beside_stop(fault: FlushFault) -> FlushFault
     ensures kind { IsCrashTold (QueueFault.Storing result) }
     ensures full { result ≡ FlushFault.Full → fault ≡ FlushFault.Full }

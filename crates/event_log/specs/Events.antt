@@ -1,4 +1,4 @@
--- What an operator is told.
+-- What is reported to an operator.
 use Rattle.std.specs.Prelude.{ℕ, List, [], ◌∷◌, ◌++◌, codes}
 use Rattle.std.specs.Fmt.{decimal}
 use Rattle.event_log.specs.declared.event.Event.{Event}

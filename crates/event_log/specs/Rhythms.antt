@@ -1,4 +1,4 @@
--- When what was counted is told, and how a server does. Moments are in milliseconds.
+-- When counts are reported, and how a server does. Moments are in milliseconds.
 use Rattle.std.specs.Prelude.{ℕ, Bool, ◌+◌, ◌-◌, ◌^◌, cond, min, nat_lt, not}
 use Rattle.event_log.specs.declared.rhythm.Rhythm.{Rhythm}
 use Rattle.event_log.specs.declared.rhythm.TheConstants.{COUNTS, DOING}
@@ -11,14 +11,14 @@ later now millis = min (now + millis) (2 ^ 64 - 1)
 abbrev pub begun : ℕ → Rhythm
 begun now = record { counts = now; doing = later now DOING }
 
--- what was counted may be told, since it was told a second ago or before
+-- counts may be reported, since they were last reported a second ago or before
 abbrev pub counts_due : ℕ → Rhythm → Bool
 counts_due now r = not (nat_lt now r.counts)
 
 abbrev pub with_counts : ℕ → Rhythm → Rhythm
 with_counts now r = cond (counts_due now r) (record r { counts = later now COUNTS }) r
 
--- how the server does may be told, since that was told a minute ago or before
+-- how the server does may be reported, since that was last reported a minute ago or before
 abbrev pub doing_due : ℕ → Rhythm → Bool
 doing_due now r = not (nat_lt now r.doing)
 

@@ -1,9 +1,9 @@
-//! What happens that an operator is told of.
+//! What happens that is reported to an operator.
 
 use crate::kind::Kind;
 use std::fmt;
 
-/// With what a server starts.
+/// What a server starts with.
 #[derive(Clone, Copy)]
 pub struct Start {
     /// How many bytes each of the journal's two areas has.
@@ -31,21 +31,21 @@ pub struct Figures {
     pub used: u64,
 }
 
-/// What happens that an operator is told of.
+/// What happens that is reported to an operator.
 #[derive(Clone, Copy)]
 pub enum Event {
     /// The server listens.
     Started(Start),
-    /// An area has fewer bytes than it takes for all that may be held and as many clients: it may be full before there are so many.
+    /// An area has fewer bytes than it takes for all that may be held and as many clients. It may be full before there are so many.
     Small { area: u64, needed: u64 },
-    /// The journal was compacted: so many bytes of the live area were won, by a turn of the flusher that took so many milliseconds.
-    /// So long receipts waited for it.
+    /// The journal was compacted. So many bytes of the live area were won, by a turn of the flusher that took so many milliseconds.
+    /// For that long, receipts waited for it.
     Compacted { won: u64, millis: u64 },
     /// More than three quarters of the area are used by what is held, once the journal is compacted: it will be full.
     NearlyFull { used: u64, area: u64 },
-    /// How the server does, once a minute in which it did something.
+    /// How the server does, once in each minute in which it did something.
     Doing(Figures),
-    /// This came so often since it was told last.
+    /// This came so often since it was last reported.
     Counted { kind: Kind, count: u64 },
     /// The server was asked to end.
     Ending,

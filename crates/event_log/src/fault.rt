@@ -10,7 +10,8 @@ use std::{error, fmt};
 /// Why a server was not started, or has ended. A journal that was opened holds all that was acknowledged.
 #[derive(Debug, Drop)]
 pub enum ServeFault {
-    /// `/dev/null` was not opened, which keeps the numbers of closed standard streams from files. Nothing else was opened.
+    /// `/dev/null` was not opened, which keeps files from taking the numbers of closed standard streams. Nothing else was
+    /// opened.
     Streams(Unopened),
     /// The file was not opened: it is missing, or another server has its lock, or the system refuses it.
     File(OpenError),
@@ -20,9 +21,9 @@ pub enum ServeFault {
     Opening(OpenFault),
     /// Memory was refused while the server was started.
     Memory,
-    /// The system starts no more threads, or refuses what threads wait by.
+    /// The system starts no more threads, or refuses what threads wait on.
     Threads,
-    /// That it listens could not be written.
+    /// The line that says that it listens could not be written.
     Output,
     /// A step of the flusher failed: nothing more is acknowledged.
     Flushing(FlushFault),

@@ -7,12 +7,12 @@ ghost use Rattle.event_log.specs.declared.kind.TheConstants.{KINDS};
 /// How many kinds there are.
 pub const KINDS: usize = 15;
 
-/// What may come many times in a second: it is counted, and told with how often it came.
+/// What may come many times in a second: it is counted, and reported with how often it came.
 #[derive(Clone, Copy)]
 pub enum Kind {
-    /// A request that is none for a WebSocket as it should be was answered 400.
+    /// A malformed request was answered 400.
     Malformed,
-    /// A client that offers no `v12.stomp` was answered 400.
+    /// A client that offers only other subprotocols than `v12.stomp` was answered 400.
     OtherProtocol,
     /// A page of an origin that is not served was answered 403.
     Foreign,
@@ -24,15 +24,15 @@ pub enum Kind {
     Version,
     /// A request with too large a head was answered 431.
     TooLarge,
-    /// A client was answered 503, since the server has as many as it takes.
+    /// A client was answered 503, since the server has as many clients as it takes.
     Full,
-    /// A client was given up that answered no ping, or no close.
+    /// A client that answered no ping, or no close, was given up.
     Silent,
-    /// A client was given up that took nothing of what was written to it.
+    /// A client that took nothing of what was written to it was given up.
     TakesNothing,
-    /// A client was given up that opened no session in time.
+    /// A client that opened no session in time was given up.
     Unopened,
-    /// A client was given up that held most, since all together held more memory than they may.
+    /// A client that held most was given up, since all together held more memory than they may.
     TookMost,
     /// A SEND was refused with E12.
     NoRoom,

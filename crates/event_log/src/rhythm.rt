@@ -1,15 +1,15 @@
-//! When what was counted is told, and how a server does.
+//! When counts are reported, and how a server does.
 
 ghost use Rattle.std.specs.Prelude.{◌≡◌};
 ghost use Rattle.event_log.specs.Rhythms.{begun, counts_due, doing_due, with_counts, with_doing};
 
-/// For how many milliseconds after a telling nothing more is told of what was counted.
+/// For how many milliseconds after a report of counts there is no other.
 const COUNTS: u64 = 1_000;
 
-/// After how many milliseconds it is told again how a server does.
+/// After how many milliseconds it is reported again how a server does.
 const DOING: u64 = 60_000;
 
-/// When what was counted may be told next, and how the server does. Moments are in milliseconds.
+/// When counts may be reported next, and how the server does. Moments are in milliseconds.
 #[derive(Clone, Copy)]
 pub struct Rhythm {
     counts: u64,
@@ -17,7 +17,7 @@ pub struct Rhythm {
 }
 
 impl Rhythm {
-    /// That of a server that starts now: its counts may be told at once, how it does in a minute.
+    /// The rhythm of a server that starts now: its counts may be reported at once, and how it does in a minute.
     pub fn new(now: u64) -> Rhythm
         ensures { result ≡ begun now }
     {
@@ -27,7 +27,7 @@ impl Rhythm {
         }
     }
 
-    /// Whether what was counted is told now: at most once in a second.
+    /// Whether counts are reported now: at most once in a second.
     pub fn tells_counts(&mut self, now: u64) -> bool
         ensures due { result ≡ counts_due now self.old }
         ensures next { self.new ≡ with_counts now self.old }
@@ -39,7 +39,7 @@ impl Rhythm {
         true
     }
 
-    /// Whether it is told now how the server does: at most once in a minute.
+    /// Whether it is reported now how the server does: at most once in a minute.
     pub fn tells_doing(&mut self, now: u64) -> bool
         ensures due { result ≡ doing_due now self.old }
         ensures next { self.new ≡ with_doing now self.old }

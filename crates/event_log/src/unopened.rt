@@ -9,7 +9,7 @@ use std::io::ErrorKind;
 /// Why a file or a port was not opened, as far as that tells the user what to do.
 #[derive(Clone, Copy, Debug)]
 pub enum Unopened {
-    /// What was to be made is there already.
+    /// What was to be made exists already.
     Exists,
     /// There is no such file.
     Missing,

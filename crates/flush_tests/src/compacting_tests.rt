@@ -94,7 +94,7 @@ fn loaded(alloc: Global, messages: u32) -> Option<MemSetup>
     }
 }
 
-/// Those of the journal of a disk.
+/// The same for the journal of a disk.
 pub(crate) fn loaded_over<D: Disk + Drop>(alloc: Global, disk: D, messages: u32) -> Option<Setup<D>>
     ensures ring { IfSome result (λ s. (s.first.ring ≡ s.ring) × (s.flusher.seat.ring ≡ s.ring)) }
     ensures executed { IfSome result (λ s. s.flusher.executed ≡ s.flusher.stored) }
@@ -163,7 +163,7 @@ pub(crate) fn stored_state(alloc: Global, disk: &mut MemDisk) -> Option<Vec<u8>>
     }
 }
 
-/// The state with which a disk is opened.
+/// The state that a disk opens with.
 pub(crate) fn opened_state(alloc: Global, disk: MemDisk) -> Option<Vec<u8>> {
     match opened_broker(alloc, disk) {
         Some(broker) => {
@@ -197,7 +197,7 @@ struct Compaction {
     is_done: bool,
 }
 
-// That of a journal with so many messages, over a disk that passes so many calls.
+// The compaction of a journal with so many messages, over a disk that passes so many calls.
 fn compact(alloc: Global, messages: u32, passed: u64) -> Option<Compaction> {
     let Setup { ring, flusher, .. } = loaded(alloc, messages)?;
     let mut flusher: TestFlusher<FuseDisk<MemDisk>> = flusher.fuse(passed);
@@ -228,7 +228,7 @@ fn before(alloc: Global, messages: u32) -> Option<MemDisk> {
 // How many messages there are, and in how many pieces their snapshot is written.
 const LOADS: [(u32, u64); 3] = [(0, 1), (2, 2), (4, 3)];
 
-// Whether a stop after so many calls leaves the state as it was, which is opened as that restart of it; and whether the
+// Whether a stop after so many calls leaves the state as it was, and the disk is opened as that restart of it. Also whether the
 // compaction was done.
 fn stop(
     alloc: Global,
@@ -253,7 +253,7 @@ fn stop(
     }
 }
 
-// A stop at each of so many calls, six at most, and behind them, with each fill.
+// A stop at each of so many calls, six at most, and after them, with each fill.
 fn stop_at_each_call(
     rt: &(impl Abort + Log),
     alloc: Global,
@@ -268,7 +268,7 @@ fn stop_at_each_call(
     seen
 }
 
-// The state with which such a journal is opened.
+// The state that such a journal is opened with.
 fn restart_of(alloc: Global, messages: u32) -> Option<Vec<u8>> {
     match before(alloc, messages) {
         Some(disk) => opened_state(alloc, disk),
@@ -276,7 +276,7 @@ fn restart_of(alloc: Global, messages: u32) -> Option<Vec<u8>> {
     }
 }
 
-// Each of them leaves the state, which is opened as that restart of it.
+// Each of them leaves the state, and the disk is opened as that restart of it.
 fn expect_stops(
     rt: &(impl Abort + Log),
     alloc: Global,
@@ -317,8 +317,8 @@ fn piece(number: usize, whole: u64) -> Call {
 // What follows the pieces.
 const SWITCH: [Call; 3] = [Call::Sync, Call::Write { at: 16, len: 1 }, Call::Sync];
 
-// Whether a compaction writes its state in so many pieces, with a length of eight bytes before it and a gate behind it, syncs
-// once, and switches.
+// Whether a compaction writes its state in so many pieces, with a length of eight bytes before it and a gate after it, syncs once,
+// and switches.
 fn is_in_pieces(alloc: Global, messages: u32, pieces: usize) -> Option<bool> {
     let begun = calls_before(alloc, messages)?;
     match compact(alloc, messages, u64::MAX) {
@@ -343,7 +343,7 @@ fn calls_before(alloc: Global, messages: u32) -> Option<usize> {
     }
 }
 
-// Whether that is what a compaction did, behind so many calls.
+// Whether that is what a compaction did, after so many calls.
 fn is_written(compaction: &Compaction, begun: usize, pieces: usize) -> Option<bool> {
     let whole = (compaction.state.len() as u64).saturating_add(9);
     let calls = compaction.disk.calls().get(begun..)?;
@@ -383,7 +383,7 @@ pub(crate) fn shown(alloc: Global, disk: &mut MemDisk) -> Option<[u64; 5]> {
     }
 }
 
-// The same without how much is used.
+// The same, but not how much is used.
 fn shown_but_used(alloc: Global, disk: &mut MemDisk) -> Option<[u64; 4]> {
     let [version, area, _, count, held] = shown(alloc, disk)?;
     Some([version, area, count, held])

@@ -1,4 +1,4 @@
-//! A call of the disk fails, alone or with all behind it, while a flusher makes two batches durable or compacts.
+//! A call of the disk fails, alone or with all after it, while a flusher makes two batches durable or compacts.
 
 ghost use Rattle.std.specs.Prelude.{◌≡◌, ◌≤◌, IfSome, IsTrue};
 
@@ -15,7 +15,7 @@ use std::alloc::Global;
 use std::process::Abort;
 use std::test::Fail;
 
-// What is seen behind it: whether all was done, whether the flusher is broken, what an append is answered, and the mark, under
+// What is seen after it: whether all was done, whether the flusher is broken, what an append is answered, and the mark, under
 // which every number may have left.
 #[derive(Clone, Copy, Debug, PartialEq, Eq)]
 struct Sight {
@@ -25,7 +25,7 @@ struct Sight {
     mark: u64,
 }
 
-// Once a call has failed, with that mark.
+// What is seen once a call has failed, with that mark.
 fn failed(mark: u64) -> Sight {
     Sight {
         done: false,
@@ -35,7 +35,7 @@ fn failed(mark: u64) -> Sight {
     }
 }
 
-// Where none has, and five commands are durable.
+// What is seen if none has failed, and five commands are durable.
 const DONE: Sight = Sight {
     done: true,
     broken: false,
@@ -84,7 +84,7 @@ fn flush_two<D: Disk>(alloc: Global, setup: &mut Setup<D>) -> Option<bool>
     }
 }
 
-// What is seen behind both.
+// What is seen after both.
 fn see_two<D: Disk>(alloc: Global, setup: &mut Setup<D>) -> Option<Sight>
     requires ring { (setup.old.first.ring ≡ setup.old.ring) × (setup.old.second.ring ≡ setup.old.ring) × (setup.old.flusher.seat.ring ≡ setup.old.ring) }
     requires executed { setup.old.flusher.executed ≡ setup.old.flusher.stored }
@@ -95,7 +95,7 @@ fn see_two<D: Disk>(alloc: Global, setup: &mut Setup<D>) -> Option<Sight>
     }
 }
 
-// The journal of two open sessions, over a disk of which that call fails.
+// The journal of two open sessions, over a disk whose call of that number fails.
 fn failing_setup(alloc: Global, call: u64) -> Option<Setup<FailOnce<MemDisk>>>
     ensures ring { IfSome result (λ s. (s.first.ring ≡ s.ring) × (s.second.ring ≡ s.ring) × (s.flusher.seat.ring ≡ s.ring)) }
     ensures executed { IfSome result (λ s. s.flusher.executed ≡ s.flusher.stored) }
@@ -132,7 +132,7 @@ fn calls_of(setup: Setup<FailOnce<MemDisk>>) -> u64 {
 // What is seen of the two batches, and the disk then.
 type Ran = (Option<Sight>, MemDisk);
 
-// The two batches over a disk of which that call fails.
+// The two batches over a disk whose call of that number fails.
 fn fail_two(alloc: Global, call: u64) -> Option<Ran> {
     match failing_setup(alloc, call) {
         Some(mut setup) => {
@@ -171,7 +171,7 @@ fn stop_two(alloc: Global, passed: u64) -> Option<Ran> {
     }
 }
 
-// A block is written and synced, and then its gate is. Where that call of the eight fails, these are seen.
+// A block is written and synced, and then its gate is. If that call of the eight fails, these are seen.
 fn wanted_of(call: u64) -> Sight {
     match call {
         0..=3 => failed(2),
@@ -180,8 +180,8 @@ fn wanted_of(call: u64) -> Sight {
     }
 }
 
-// The snapshots of the states in which both sessions have ended: behind the two Opens; behind the first batch, of which `x`
-// and `y` wait in `/queue/q`; and behind the second, with `z`.
+// The snapshots of the states in which both sessions have ended. They are after the two Opens; after the first batch, of which
+// `x` and `y` wait in `/queue/q`; and after the second, with `z`.
 const OPENS: &[u8] = b"\0\0\0\0\0\0\0\x02\0\0\0\0\0\0\0\0\
 \0\0\0\0\0\0\0\0\0\0\0\0\0\0\0\0";
 
@@ -198,8 +198,8 @@ const BOTH_BATCHES: &[u8] = b"\0\0\0\0\0\0\0\x05\0\0\0\0\0\0\0\0\
 \0\0\0\0\0\0\0\x04\0\0\0\0\0\0\0\x08/queue/q\0\0\0\0\0\x01z\
 \0\0\0\0";
 
-// Where that call fails and the unsynced bytes are the fill, this is opened: a block is in where its gate was to be written
-// and is 1. Each has the commands under the mark.
+// What is opened if that call fails and the unsynced bytes are the fill. A block is in if its gate was to be written and is 1.
+// Each has the commands under the mark.
 fn left_of(call: u64, fill: Option<u8>) -> &'static [u8] {
     let is_gate_open = call % 4 >= 2 && fill == Some(1);
     match (call, is_gate_open) {
@@ -223,7 +223,7 @@ fn is_opened_as(alloc: Global, disk: MemDisk, fill: Option<u8>, wanted: &[u8]) -
     }
 }
 
-// Whether what is seen and left is as it should be where that call of the eight fails.
+// Whether what is seen and left is as it should be if that call of the eight fails.
 fn is_as_wanted(alloc: Global, ran: Option<Ran>, call: u64, fill: Option<u8>) -> bool {
     match ran {
         Some((sight, disk)) => {
@@ -279,7 +279,7 @@ fn compact<D: Disk>(alloc: Global, setup: &mut Setup<D>) -> Option<Sight>
     Some(look_at(alloc, setup, done))
 }
 
-// The journal of two open sessions, of which the first has two messages, over a disk of which that call fails.
+// The journal of two open sessions, of which the first has two messages, over a disk whose call of that number fails.
 fn loaded_setup(alloc: Global, call: u64) -> Option<Setup<FailOnce<MemDisk>>>
     ensures ring { IfSome result (λ s. (s.first.ring ≡ s.ring) × (s.flusher.seat.ring ≡ s.ring)) }
     ensures executed { IfSome result (λ s. s.flusher.executed ≡ s.flusher.stored) }
@@ -295,7 +295,7 @@ fn calls_before_compacting(alloc: Global) -> Option<u64> {
     }
 }
 
-// A compaction of which that call fails: what is seen, the state that is compacted, and the disk.
+// A compaction whose call of that number fails: what is seen, the state that is compacted, and the disk.
 fn fail_compaction(alloc: Global, call: u64) -> Option<(Sight, Vec<u8>, MemDisk)> {
     match loaded_setup(alloc, call) {
         Some(mut setup) => {

@@ -1,5 +1,5 @@
-//! A compaction while memory is refused. In an ordinary run none is, and it is done; `tests/program/no_memory.py` has each growth refused in
-//! turn, and reads what this test says of it.
+//! A compaction while memory is refused. In an ordinary run none is, and it is done. `tests/program/no_memory.py` has each growth refused
+//! in turn, and reads what this test says of it.
 
 ghost use Rattle.std.specs.Prelude.{◌≡◌, ◌≤◌, IfSome};
 
@@ -10,7 +10,7 @@ use flush_core::FlushFault;
 use std::alloc::Global;
 use std::test::Fail;
 
-// Whether a compaction is done, or refused for want of memory, the disk's own among it; nothing where it fails otherwise.
+// Whether a compaction is done, or memory is refused for it, also to the disk; nothing if it fails otherwise.
 fn compacts(alloc: Global, setup: &mut MemSetup) -> Option<bool>
     requires ring { (setup.old.first.ring ≡ setup.old.ring) × (setup.old.flusher.seat.ring ≡ setup.old.ring) }
     requires executed { setup.old.flusher.executed ≡ setup.old.flusher.stored }
@@ -63,7 +63,7 @@ fn compact_it(alloc: Global) -> &'static str {
     match (done, goes_on, is_kept) {
         (Some(true), Some(true), Some(true)) => "whole",
         (Some(false), Some(false), Some(true)) => "refused",
-        // Refused behind it: for an entry or a snapshot.
+        // Refused after it: for an entry or a snapshot.
         (Some(true), None, Some(true)) | (Some(true), Some(true), None) => "unseen",
         _ => "wrong",
     }

@@ -77,7 +77,7 @@ fn count_after(alloc: Global, sends: u32) -> Option<u64> {
     Some(count)
 }
 
-// Each block has nine bytes beside its record of 1,028. The opening's snapshot has 32 bytes, and the one with a session and its
+// Each block has nine bytes besides its record of 1,028. The opening's snapshot has 32 bytes, and the one with a session and its
 // subscription 72, each with nine more. So three fit, and the fourth compacts first.
 #[test]
 fn a_block_that_does_not_fit_compacts_first(rt: HostRuntime) -> Result<(), Fail> {
@@ -95,7 +95,7 @@ fn what_a_compaction_won_is_told_once(rt: HostRuntime) -> Result<(), Fail> {
     Ok(())
 }
 
-// Whether a message of 1,000 bytes is refused since the journal is full.
+// Whether a message of 1,000 bytes is refused because the journal is full.
 fn is_full(alloc: Global, setup: &mut MemSetup) -> bool
     requires ring { (setup.old.first.ring ≡ setup.old.ring) × (setup.old.flusher.seat.ring ≡ setup.old.ring) }
     requires executed { setup.old.flusher.executed ≡ setup.old.flusher.stored }
@@ -112,7 +112,7 @@ fn is_full(alloc: Global, setup: &mut MemSetup) -> bool
 }
 
 // A queue that nobody takes from has room for three messages of 1,000 bytes in the smallest area. Answers whether the fourth is
-// refused as it should.
+// refused as it should be.
 fn fill(alloc: Global, setup: &mut MemSetup) -> bool
     requires ring { (setup.old.first.ring ≡ setup.old.ring) × (setup.old.second.ring ≡ setup.old.ring) × (setup.old.flusher.seat.ring ≡ setup.old.ring) }
     requires executed { setup.old.flusher.executed ≡ setup.old.flusher.stored }

@@ -63,7 +63,7 @@ pub(crate) struct Setup<D: Disk> {
     pub(crate) flusher: TestFlusher<D>,
 }
 
-// That of a journal that was just opened.
+// The setup of a journal that was just opened.
 fn begin<D: Disk + Drop>(alloc: Global, store: Store<D>) -> Option<Setup<D>>
     requires whole { is_broken store ≡ false }
     requires opened { IsSome (opened_by store) }
@@ -107,7 +107,7 @@ fn seated<D: Disk + Drop>(ring: TestRing, seats: Vec<TestSeat>, flusher: TestFlu
     }
 }
 
-/// That of the journal of a disk.
+/// The setup of the journal of a disk.
 pub(crate) fn set_up_over<D: Disk + Drop>(alloc: Global, disk: D) -> Option<Setup<D>>
     ensures ring { IfSome result (λ s. (s.first.ring ≡ s.ring) × (s.second.ring ≡ s.ring) × (s.flusher.seat.ring ≡ s.ring)) }
     ensures executed { IfSome result (λ s. s.flusher.executed ≡ s.flusher.stored) }
@@ -118,7 +118,7 @@ pub(crate) fn set_up_over<D: Disk + Drop>(alloc: Global, disk: D) -> Option<Setu
     }
 }
 
-/// That of an empty journal with areas of so many bytes.
+/// The setup of an empty journal with areas of so many bytes.
 pub(crate) fn set_up(alloc: Global, area_bytes: u64) -> Option<MemSetup>
     requires { (4096 ≤ area_bytes) × (area_bytes ≤ 262144) }
     ensures ring { IfSome result (λ s. (s.first.ring ≡ s.ring) × (s.second.ring ≡ s.ring) × (s.flusher.seat.ring ≡ s.ring)) }

@@ -107,12 +107,12 @@ fn leave(
 // Whether outputs of the commands 4 and 5 leave.
 type Leaving = [Option<Result<u64, NotYet>>; 2];
 
-// What is seen after some steps: how many commands `gather` took last, how many the broker has executed, how many outputs are
-// handed out, and the mark that a session looks at; and which outputs leave then.
+// What is seen after some steps: how many commands `gather` took last, how many the broker has executed, and how many outputs
+// are handed out. Also the mark that a session looks at, and which outputs leave then.
 #[derive(Clone, Copy, Debug, PartialEq, Eq)]
 struct Sight([u64; 4], Leaving);
 
-// That after so many steps.
+// What is seen after so many steps.
 fn see(alloc: Global, setup: &mut MemSetup, steps: u32) -> Option<Sight>
     requires ring { (setup.old.first.ring ≡ setup.old.ring) × (setup.old.second.ring ≡ setup.old.ring) × (setup.old.flusher.seat.ring ≡ setup.old.ring) }
     requires executed { setup.old.flusher.executed ≡ setup.old.flusher.stored }
@@ -144,7 +144,7 @@ fn stop_after(alloc: Global, steps: u32) -> Option<(Sight, MemDisk)> {
     }
 }
 
-// The block of the three stands behind that of both Opens, in the second area: length, records and the next gate; a sync; its
+// The block of the three stands after that of both Opens, in the second area: length, records and the next gate; a sync; its
 // own gate; a sync.
 const BLOCK: [Call; 4] = [
     Call::Write {
@@ -183,7 +183,7 @@ fn calls_before(alloc: Global) -> Option<usize> {
     }
 }
 
-// Whether the calls behind those are so many of the block, and no other.
+// Whether the calls after those are so many of the block, and no other.
 fn are_of_block(calls: &[Call], before: usize, count: usize) -> bool {
     match (calls.get(before..), BLOCK.get(..count)) {
         (Some(made), Some(wanted)) => made == wanted,
@@ -314,7 +314,7 @@ fn break_off(alloc: Global, passed: u64, in_a_turn: bool) -> Option<Answers> {
     }
 }
 
-// Of the four calls of a block each may be the one that fails, in both ways.
+// Each of the four calls of a block may be the one that fails, in both ways.
 #[test]
 fn a_flusher_whose_disk_fails_stays_broken(rt: HostRuntime) -> Result<(), Fail> {
     for turn in 0..8_u64 {

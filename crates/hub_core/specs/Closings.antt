@@ -24,7 +24,7 @@ abbrev pub most_seen : ℕ → List SessionSeatValue → ℕ
 most_seen least [] = least
 most_seen least (seat ∷ seats) = max seat.seen (most_seen least seats)
 
--- no list of device calls is in progress; after a step of the flusher that failed only opening may begin one
+-- no list of device calls is in progress; after a step of the flusher that failed, only opening may begin one
 abbrev pub place_of : Bool → Place
 place_of false = Rest
 place_of true = Broken
@@ -49,7 +49,7 @@ shown history seats f disk = record {
   disk = disk;
 }
 
--- what is told are that world's first number, its next one, what is taken, and the mark
+-- what is reported is that world's first number, its next one, what is taken, and the mark
 pub record Tells {D : Type 0} (closed : Closed D) (w : WorldValue) : Type 0 where
   pub base : closed.base ≡ w.base
   pub claimed_is : closed.claimed ≡ claimed w
@@ -60,14 +60,14 @@ pub record Tells {D : Type 0} (closed : Closed D) (w : WorldValue) : Type 0 wher
 abbrev pub end_of : {D : Type 0} → Closed D → RingEnd
 end_of closed = record { base = closed.base; claimed = closed.claimed; taken = closed.taken; mark = closed.mark }
 
--- what is told of an end with those numbers, and that disk
+-- what is reported of an end with those numbers, and that disk
 abbrev pub closed : {D : Type 0} → RingEnd → D → Closed D
 closed end disk = record { base = end.base; claimed = end.claimed; taken = end.taken; mark = end.mark; disk = disk }
 
--- A hub has ended, with these seats and this flusher, and there was this one history: each caller's commands stand in it
--- at the caller's own tickets, each once, in the order of its calls; what the flusher took begins it, and what it stored
--- begins that. The disk is the flusher's. What is promised of a world is so of the one shown, by the images of that disk:
--- each has a prefix of the history, with all that is released.
+-- A hub has ended, with these seats and this flusher, and there was this one history. Each caller's commands stand in it
+-- at the caller's own tickets, each once, in the order of its calls. What the flusher took begins it, and what it stored
+-- begins that. The disk is the flusher's. What is promised of a world holds for the one shown, by the images of that
+-- disk: each has a prefix of the history, with all that is released.
 pub record Closes {D : Type 0} (honest : D → Type 0) (images : D → List ℕ → Type 0) (seats : List SessionSeatValue) (f : Flushed D) (history : List CommandValue) (closed : Closed D) : Type 0 where
   pub ended : Ends seats f.seat history (end_of closed)
   pub stored : (closed.mark ≤ f.stored) × (f.stored ≤ closed.taken)

@@ -3,7 +3,7 @@ use Rattle.std.specs.Prelude.{◌≡◌, ◌≤◌, [], ◌++◌, List, true, fa
 use Rattle.command_core.specs.Commands.{CommandValue}
 use Rattle.flush_core.specs.Flushed.{Flushed}
 
--- Turns were made, or none: the seat is of the same ring, with the same first ticket and as many sessions' seats, the
+-- Turns were made, or none. The seat is of the same ring, with the same first ticket and as many sessions' seats. The
 -- commands taken are those from before and more, and the mark has not fallen. Unless a step failed, all that is stored is
 -- published if it was before, and no output is left if none was.
 pub record Flushes {D : Type 0} (old new : Flushed D) : Type 0 where

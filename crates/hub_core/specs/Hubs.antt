@@ -64,8 +64,8 @@ pub record Begins {D : Type 0} (h : HubValue D) (disk : D) (opened : Option Brok
   pub disk_is : flusher.disk ≡ disk
   pub opening : IfSome opened (λ broker. flusher.opening ≡ broker.state)
 
--- The flusher has the disk that was opened, and begins with the restart of the state that its content stood for. At each moment an
--- image restarted as before.
+-- The flusher has the disk that was opened, and begins with the restart of the state that its content stood for. At each moment,
+-- an image restarted as before.
 pub record TakesOver {D : Type 0} (disk : Ghosts D) (old : D) (f : Flushed D) : Type 0 where
   pub any_moment : Throughout disk old f.disk (KeepsRestart (disk.images old))
   pub state : disk.honest old → (s : State) → Stands (disk.content old) s → f.opening ≡ restarted s

@@ -17,12 +17,12 @@ use std::collections::VecDeque;
 use world_core::shown_worlds_hold;
 
 impl<D: Disk + Drop, B: Bell> Hub<D, B> {
-    /// Ends the hub, with its flusher, broken or not, and each seat that was handed out; the others it has itself. What
-    /// the flusher did not take is dropped, and so are outputs that wait. Where memory is refused the disk comes back as
-    /// it is; no memory is taken for a hub's own seats.
+    /// Ends the hub, with its flusher, broken or not, and each seat that was handed out; it has the others itself. What
+    /// the flusher did not take is dropped, and so are outputs that wait. If memory is refused, the disk comes back as it
+    /// is. No memory is taken for a hub's own seats.
     ///
-    /// Contracts then know the world that ring, seats and flusher show: what is promised of the core of all interleavings
-    /// is so of it.
+    /// Contracts then know the world that ring, seats and flusher show: what is promised of the core in all interleavings
+    /// holds for it.
     pub fn close(
         self,
         seats: Vec<BrokerSeat<OutSender<B>>>,
@@ -46,7 +46,7 @@ impl<D: Disk + Drop, B: Bell> Hub<D, B> {
     }
 }
 
-// Ends a ring with all its seats: the hub's own, and behind them those that came back.
+// Ends a ring with all its seats: the hub's own, and after them those that came back.
 fn end_ring<B: Bell>(
     ring: BrokerRing<OutSender<B>>,
     own: VecDeque<BrokerSeat<OutSender<B>>>,
@@ -66,7 +66,7 @@ fn end_ring<B: Bell>(
     }
 }
 
-// All seats in one list. No memory is taken where there is room for them beside the hub's own.
+// All seats in one list. No memory is taken if there is room for them beside the hub's own.
 fn join<S: Drop>(own: VecDeque<S>, given: Vec<S>) -> Result<Vec<S>, AllocError>
     ensures all { IfOk result (λ all. all.items ≡ own.items ++ given.items) }
     ensures room { length own.items + length given.items ≤ deque_capacity own → IsOk result }
@@ -79,7 +79,7 @@ fn join<S: Drop>(own: VecDeque<S>, given: Vec<S>) -> Result<Vec<S>, AllocError>
     }
 }
 
-// What is told of a ring's end, with the disk.
+// What is reported of a ring's end, with the disk.
 fn told<D>(end: RingEnd, disk: D) -> Closed<D>
     ensures { result ≡ closed end disk }
 {

@@ -12,9 +12,9 @@ use flush_core::FlushFault;
 use outbox_core::{Bell, OutSender};
 use std::alloc::Global;
 
-/// Makes so many turns of the flusher, those that its pace held up counted, and answers the mark then. Outputs of sessions
-/// that have no outbox are dropped. A fault ends it at once, and the pace hears that the flusher has
-/// stopped: `Device` just where a call of the disk failed.
+/// Makes so many turns of the flusher, counting those that its pace held up, and then answers the mark. Outputs of
+/// sessions that have no outbox are dropped. A fault ends it at once, and the pace hears that the flusher has stopped. The
+/// fault is `Device` exactly if a call of the disk failed.
 pub fn flush_loop<D: Disk, B: Bell, P: Pacing>(
     alloc: Global,
     ring: &BrokerRing<OutSender<B>>,
@@ -72,14 +72,14 @@ fn drop_left<D: Disk, B: Bell>(flusher: &mut HubFlusher<D, B>)
     drop(flusher.take_left());
 }
 
-// Tells the pace where the mark has risen.
+// Tells the pace if the mark has risen.
 fn tell_mark<P: Pacing>(pace: &P, before: u64, mark: u64) {
     if before < mark {
         pace.published(mark);
     }
 }
 
-// Tells the pace of the compaction that the turn made, where it made one.
+// Tells the pace of the compaction that the turn made, if it made one.
 fn tell_compaction<D: Disk, B: Bell, P: Pacing>(pace: &P, flusher: &mut HubFlusher<D, B>)
     ensures { flusher.new ≡ record flusher.old { won = None } }
 {

@@ -26,7 +26,7 @@ use std::marker::Model;
 pub struct Hub<D: Disk, B: Bell> {
     ring: BrokerRing<OutSender<B>>,
     base: u64,
-    // With room for all, so that closing needs none.
+    // With room for all, so that closing needs no memory for them.
     seats: VecDeque<BrokerSeat<OutSender<B>>>,
     flusher: Option<HubFlusher<D, B>>,
 }
@@ -47,7 +47,8 @@ impl<D: Disk, B: Bell> Model for Hub<D, B> {
 impl<D: Disk, B: Bell> Hub<D, B> {
     /// Opens the journal of a disk, and makes a ring whose first ticket is the number of commands that it counts.
     ///
-    /// A refusal hands the disk back, and it may be opened again: those of opening a journal, and want of memory for the ring.
+    /// A refusal hands the disk back, and it may be opened again: those of opening a journal, and one if memory is refused for
+    /// the ring.
     pub fn open(alloc: Global, disk: D) -> Result<Hub<D, B>, (D, OpenFault)>
         ensures whole { IfOk result (λ hub. (f : Flushed D) × IsWhole hub f) }
         ensures takes_over { IfOk result (λ hub. IfSome hub.flusher (TakesOver D.Disk disk)) }
@@ -127,7 +128,7 @@ impl<D: Disk, B: Bell> Hub<D, B> {
 }
 
 impl<D: Disk + Drop, B: Bell> Hub<D, B> {
-    // The ring, and the seats that were not handed out, with room for all. The flusher is let go, where it was not handed out.
+    // The ring, and the seats that were not handed out, with room for all. The flusher is let go, if it was not handed out.
     pub(crate) fn into_seats(self) -> (BrokerRing<OutSender<B>>, VecDeque<BrokerSeat<OutSender<B>>>)
         ensures parts { (result.0 ≡ self.ring) × (result.1.items ≡ self.seats) }
         ensures seated { All (λ seat. seat.ring ≡ self.ring) self.seats }

@@ -16,7 +16,7 @@ pub record HeldValue : Type 0 where
 abbrev pub HasFairShare : Holdings → ℕ → Type 0
 HasFairShare h held = h.budget ≤ held * h.clients
 
--- The client at that place is given up: all together hold more than the budget; nobody holds more than it, here or elsewhere; and it
+-- The client at that place is given up. All together hold more than the budget, and nobody holds more than it, here or elsewhere. It
 -- holds no less than a fair share.
 pub record IsGivenUp (h : Holdings) (here : List ℕ) (at : ℕ) : Type 0 where
   pub over : h.budget < h.total

@@ -12,14 +12,14 @@ pub struct Holdings {
     pub total: u64,
     /// How many clients there are.
     pub clients: u64,
-    /// The most bytes that one of them holds of whom somebody else decides.
+    /// Of the clients for which somebody else decides, the most bytes that one holds.
     pub elsewhere: u64,
 }
 
 impl Holdings {
     /// Which of these clients is given up, each of which holds so many bytes; `None` if none of them is. The place of one is answered only
-    /// if all clients hold more than the budget. It holds no less than any other client, here or elsewhere, and no less than a fair
-    /// share, which is the budget divided by the number of clients. `None` comes only if there is no such client here.
+    /// if all clients hold more than the budget. It holds no less than any other client, here or elsewhere. It also holds no less than a
+    /// fair share, which is the budget divided by the number of clients. `None` comes only if there is no such client here.
     pub fn given_up(&self, here: &[u64]) -> Option<usize>
         ensures some { IfSome result (IsGivenUp self.now here.now) }
         ensures none { IsNone result → (at : ℕ) → IsGivenUp self.now here.now at → ⊥ }

@@ -7,7 +7,7 @@ use std::mem;
 /// How many places there are for clients.
 pub const PLACES: usize = 512;
 
-/// How many bytes each of some clients holds, by their places, and at which of these one is who holds most. Contracts see the two.
+/// How many bytes each of some clients holds, by their places, and the place of one that holds most. Contracts see the two.
 #[derive(Drop)]
 pub struct Held {
     bytes: [u64; PLACES],
@@ -39,7 +39,7 @@ impl Held {
         Held { bytes, most: 0 }
     }
 
-    /// The client at that place holds so many bytes from now on. Answers how many it held.
+    /// The client at that place holds so many bytes from now on. Answers how many it held before.
     pub fn set(&mut self, at: usize, holds: u64) -> u64
         requires { at < PLACES }
         ensures holds { self.new.bytes ≡ slice_set self.old.bytes at holds }

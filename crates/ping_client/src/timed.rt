@@ -9,7 +9,7 @@ use std::time::{Clock, Duration, Instant};
 pub const STEP_SECONDS: u64 = 5;
 
 /// A socket whose reads and writes fail once five seconds of its step have passed: with `WouldBlock` if they waited until then, else
-/// with `TimedOut`. So a peer that says one byte after the other gets no more time.
+/// with `TimedOut`. So a peer that says one byte after another gets no more time.
 #[derive(Drop)]
 pub struct Timed<R> {
     socket: TcpStream,

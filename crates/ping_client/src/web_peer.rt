@@ -18,7 +18,7 @@ use tungstenite::{
 };
 
 /// Finds out whether a server of STOMP 1.2 over WebSocket answers at that port of this machine, and how long it is from a SEND to its
-/// RECEIPT. The SEND goes to `/topic/stompd-ping`. Each step may take five seconds; the first that goes wrong is the fault's.
+/// RECEIPT. The SEND goes to `/topic/stompd-ping`. Each step may take five seconds. The fault names the first step that goes wrong.
 pub fn ping<R>(rt: &R, alloc: Global, port: u16) -> Result<Duration, PingFault>
 where
     R: Net<Stream = TcpStream> + Clock + RandomSource + Clone + Drop,
@@ -65,7 +65,7 @@ impl<R: Clock + RandomSource + Drop> Peer for WebPeer<R> {
         }
     }
 
-    // What the peer still says before its own close is nothing that was asked for.
+    // What the peer still says before its own close was not asked for, and is dropped.
     fn close(&mut self) -> Result<(), Cause> {
         self.begin()?;
         done(self.socket.close(Some(farewell())))?;
@@ -106,7 +106,7 @@ fn done(called: Result<(), Error>) -> Result<(), Cause>
     }
 }
 
-// What a message has of the STOMP stream. A close that tells no code counts as 1005 (RFC 6455, section 7.1.5).
+// What a message has of the STOMP stream. A close without a code counts as 1005 (RFC 6455, section 7.1.5).
 fn piece_of(alloc: Global, message: &Message) -> Result<Vec<u8>, Cause>
     ensures { IfErr result IsOfPeer }
 {

@@ -51,7 +51,7 @@ AreRight stage frames = (is_answered : Bool) × AreHeard stage frames is_answere
 abbrev pub Hears : Stage → List ℕ → List ℕ → Bool → Type 0
 Hears stage bytes rest is_answered = (frames : List Frame) × Reads bytes frames rest × AreHeard stage frames is_answered
 
--- this is the first of the frames that is not to come: it stands first and is no answer, or stands after the answer
+-- this is the first of the frames that should not have come: it stands first and is no answer, or stands after the answer
 abbrev pub IsWrong : Stage → List Frame → Frame → Type 0
 IsWrong stage frames frame =
     ((others : List Frame) × (frames ≡ frame ∷ others) × (IsAnswer stage frame → ⊥))
@@ -61,13 +61,13 @@ IsWrong stage frames frame =
 abbrev pub told_by : Frame → List ℕ
 told_by frame = encoded (unwrap_or (first_of (codes "message") frame.headers) [])
 
--- what is told of a frame that is not to come
+-- what is told of a frame that should not have come
 abbrev pub IsCauseBy : Frame → Cause → Type 0
 IsCauseBy frame (Error text) = (frame.verb ≡ verbs.Error) × (text ≡ told_by frame)
 IsCauseBy frame (Other verb) = (frame.verb ≡ verb) × (verb ≢ verbs.Error)
 IsCauseBy frame _ = ⊥
 
--- what is told of frames, and of the fault after them: it is no STOMP only if all before the fault was right
+-- what is told of frames, and of the fault after them: that it is not STOMP is told only if all before the fault was right
 abbrev pub IsCauseOf : Stage → List Frame → Option FrameFault → Cause → Type 0
 IsCauseOf stage frames fault NotStomp = (code : FrameFault) × (fault ≡ Some code) × AreRight stage frames
 IsCauseOf stage frames fault cause = (frame : Frame) × IsWrong stage frames frame × IsCauseBy frame cause

@@ -19,7 +19,7 @@ Adds more None after = ⊤
 Adds more (Some before) None = ⊥
 Adds more (Some before) (Some after) = after ≡ before ++ more
 
--- the cause is none that a frame is, or bytes that are no frame
+-- the cause is not that of a frame, or of bytes that are no frame
 abbrev pub IsOfPeer : Cause → Type 0
 IsOfPeer (Error text) = ⊥
 IsOfPeer (Other verb) = ⊥
@@ -30,7 +30,7 @@ IsOfPeer _ = Unit {0}
 abbrev pub all_of : List (List ℕ) → List ℕ
 all_of pieces = flat_map (λ piece. piece) pieces
 
--- the pieces are one frame, which answers, and perhaps the beginning of one more, however they are cut
+-- the pieces, however they are cut, are one frame, which answers, and perhaps the beginning of one more
 abbrev pub IsAnswered : Stage → List (List ℕ) → Type 0
 IsAnswered stage pieces = (rest : List ℕ) × Hears stage (all_of pieces) rest true
 
@@ -42,7 +42,7 @@ turn stage pieces = Said (said stage) ∷ map Heard pieces
 abbrev pub Answers : Stage → Option (List Spoken) → Option (List Spoken) → Type 0
 Answers stage before after = (pieces : List (List ℕ)) × Adds (turn stage pieces) before after × IsAnswered stage pieces
 
--- what is said at that stage is not answered, for that cause, which the pieces are
+-- what is said at that stage is not answered, for that cause, which the pieces give
 abbrev pub Refuses : Stage → Cause → Option (List Spoken) → Option (List Spoken) → Type 0
 Refuses stage cause before after = (pieces : List (List ℕ)) × Adds (turn stage pieces) before after × Breaks stage (all_of pieces) cause
 
@@ -52,12 +52,12 @@ Leads Connect talk = talk ≡ []
 Leads Send talk = (one : List (List ℕ)) × (talk ≡ turn Connect one) × IsAnswered Connect one
 Leads Disconnect talk = (one : List (List ℕ)) × (two : List (List ℕ)) × (talk ≡ turn Connect one ++ turn Send two) × IsAnswered Connect one × IsAnswered Send two
 
--- the whole conversation: CONNECT, SEND and DISCONNECT, each said once the one before is answered, and answered
+-- the whole conversation: CONNECT, SEND and DISCONNECT, each said once the one before is answered, and all answered
 abbrev pub Converses : Option (List Spoken) → Option (List Spoken) → Type 0
 Converses before after =
     (talk : List Spoken) × (last : List (List ℕ)) × Leads Disconnect talk × Adds (talk ++ turn Disconnect last) before after × IsAnswered Disconnect last
 
--- At the stage of a fault's step what was heard is no answer, for the fault's cause; all that was said before is answered.
+-- At the stage of a fault's step, what was heard is no answer, for the fault's cause; all that was said before is answered.
 abbrev pub BreaksOff : PingFault → Option (List Spoken) → Option (List Spoken) → Type 0
 BreaksOff fault before after =
     (stage : Stage) × (talk : List Spoken) × (last : List (List ℕ)) × (fault.step ≡ step_of stage) × Leads stage talk

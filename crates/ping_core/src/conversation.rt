@@ -13,7 +13,7 @@ use frame_core::FrameReader;
 use std::alloc::Global;
 use std::time::{Clock, Duration, Instant};
 
-/// Says CONNECT, SEND and DISCONNECT, each once what was said before is answered, and closes; answers how long it was from the SEND
+/// Says CONNECT, SEND and DISCONNECT, each once what was said before is answered, and closes. Answers how long it was from the SEND
 /// to its RECEIPT. A fault names the first step that went wrong.
 pub fn converse<C: Clock, P: Peer>(
     clock: &C,
@@ -68,7 +68,7 @@ fn ask_for_receipt<C: Clock, P: Peer>(
     }
 }
 
-// The system does not tell the time.
+// The fault if the system does not tell the time.
 fn no_clock() -> PingFault
     ensures { IsOfPeer result.cause }
 {
@@ -92,7 +92,7 @@ fn ask<P: Peer>(alloc: Global, stage: Stage, peer: &mut P) -> Result<(), PingFau
     }
 }
 
-// The same, and why the answer did not come.
+// The same. The fault is why the answer did not come.
 fn answer<P: Peer>(alloc: Global, stage: Stage, peer: &mut P) -> Result<(), Cause>
     ensures ok { OnOk result (Answers stage (P.talk peer.old) (P.talk peer.new)) }
     ensures cause { IfErr result (λ cause. IsOfPeer cause ⊎ Refuses stage cause (P.talk peer.old) (P.talk peer.new)) }

@@ -48,7 +48,7 @@ pub enum Cause {
     Late,
     /// The handshake was answered by this status of HTTP, which is not 101.
     Status(u16),
-    /// What came is no WebSocket (RFC 6455).
+    /// What came is not a WebSocket (RFC 6455).
     NotWebSocket,
     /// The peer has closed, with this code (RFC 6455, section 7.4), or 1005 if it told none.
     Closed(u16),
@@ -56,9 +56,9 @@ pub enum Cause {
     Ended,
     /// An ERROR came, with this `message` header. Bytes under 0x20, `%`, 0x7F and those from 0x80 on stand in it as `%XX`.
     Error(Text),
-    /// Another frame came than the answer, or one more than the answer.
+    /// Another frame came than the answer, or one more after the answer.
     Other(Verb),
-    /// What came is no STOMP.
+    /// What came is not STOMP.
     NotStomp,
     /// A growth of memory was refused.
     Memory,

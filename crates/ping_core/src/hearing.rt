@@ -36,7 +36,7 @@ pub fn hear(
     }
 }
 
-// What was read, judged by its first frame that is not to come, and then by its fault.
+// What was read, judged by its first frame that should not have come, and then by its fault.
 fn judge(alloc: Global, stage: Stage, fed: &Fed) -> Result<bool, Cause>
     ensures heard { IfOk result (AreHeard stage fed.now.frames.items) }
     ensures sound { IfOk result (λ _. fed.now.fault ≡ None) }
@@ -51,7 +51,7 @@ fn judge(alloc: Global, stage: Stage, fed: &Fed) -> Result<bool, Cause>
     }
 }
 
-// The first of these frames that is not to come: one that is no answer, or stands after the answer.
+// The first of these frames that should not have come: one that is no answer, or stands after the answer.
 fn wrong(stage: Stage, frames: &[Frame]) -> Option<&Frame>
     ensures { MatchOption result (AreRight stage frames.now) (λ frame. IsWrong stage frames.now frame.now) }
 {
@@ -67,7 +67,7 @@ fn wrong(stage: Stage, frames: &[Frame]) -> Option<&Frame>
     }
 }
 
-// What a frame says that is not to come.
+// What a frame says that should not have come.
 fn cause_by(alloc: Global, frame: &Frame) -> Cause
     ensures { (result ≡ Memory) ⊎ IsCauseBy frame.now result }
 {

@@ -12,7 +12,7 @@ pub trait Peer {
     /// What was said and heard, if the peer tells it.
     ghost talk: { Self → Option (List Spoken) } = { λ _. None };
 
-    /// Says a frame. With it a step begins.
+    /// Says a frame. This begins a step.
     fn say(&mut self, frame: &str) -> Result<(), Cause>
         ensures told { OnOk result (Adds (Said frame.now ∷ []) (talk self.old) (talk self.new)) }
         ensures cause { IfErr result IsOfPeer };
@@ -22,7 +22,7 @@ pub trait Peer {
         ensures told { IfOk result (λ bytes. Adds (Heard bytes.items ∷ []) (talk self.old) (talk self.new)) }
         ensures cause { IfErr result IsOfPeer };
 
-    /// Closes the connection in good order. With it a step begins.
+    /// Closes the connection in good order. This begins a step.
     fn close(&mut self) -> Result<(), Cause>
         ensures told { talk self.new ≡ talk self.old }
         ensures cause { IfErr result IsOfPeer };

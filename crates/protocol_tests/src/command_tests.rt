@@ -22,7 +22,7 @@ const DESTINATIONS: [(&str, Option<bool>); 9] = [
     ("/queue/%", None),
 ];
 
-// Whether it is a queue's, where it is a destination.
+// Whether it is a queue's, if it is a destination.
 fn is_queue(alloc: Global, destination: &str) -> Result<Option<bool>, AllocError> {
     match Dest::read(alloc, destination) {
         Ok(read) => Ok(Some(read.is_queue() && read.as_str() == destination)),
@@ -39,7 +39,7 @@ fn destinations_are_of_topics_and_queues(rt: HostRuntime) -> Result<(), Fail> {
     Ok(())
 }
 
-// So many letters behind `/queue/`.
+// So many letters after `/queue/`.
 fn name_of(alloc: Global, count: u32) -> Result<String, AllocError> {
     let mut name = String::from_str(alloc, "/queue/")?;
     for _ in 0..count {

@@ -9,7 +9,7 @@ use frame_core::{
 use std::alloc::{AllocError, Global};
 use std::test::Fail;
 
-// Streams, the frames that are read of them, and the fault behind these.
+// Streams, the frames that are read of them, and the fault after these.
 pub const STREAMS: [(&[u8], &str); 39] = [
     (b"", ""),
     // A counted body may have a NUL, and another length ends without one.
@@ -51,7 +51,7 @@ pub const STREAMS: [(&[u8], &str); 39] = [
     (b"SEND\nk:v\0", "E1 malformed frame "),
     (b"SEND\rk", "E1 malformed frame "),
     (b"SEND\n\r\r", "E1 malformed frame "),
-    // Lines are refused at their end: of the command, of a header.
+    // Lines are refused at their end: the command's line, and a header's.
     (b"send\n", "E4 unknown command "),
     (b"SE\xffND\n", "E20 bad header value "),
     (b"SEND\nkey\n", "E1 malformed frame "),
@@ -75,7 +75,7 @@ pub const STREAMS: [(&[u8], &str); 39] = [
     (b"SEND\ncontent-length:65537\n\n", "E2 frame too large "),
     (b"ACK\ncontent-length:65537\n\n", "E2 frame too large "),
     (b"ACK\ncontent-length:5\n\n", "E19 body not allowed "),
-    // What may stand behind a head and a body.
+    // What may stand after a head and a body.
     (b"ACK\nid:0\n\nx", "E19 body not allowed "),
     (b"ACK\nid:0\n\n\n", "E19 body not allowed "),
     (b"ACK\ncontent-length:0\n\n\n", "E1 malformed frame "),
@@ -97,7 +97,7 @@ fn pieces_of(alloc: Global, stream: &[u8], size: usize) -> Result<Vec<Vec<u8>>, 
     Ok(pieces)
 }
 
-/// The frames, and the fault behind them.
+/// The frames, and the fault after them.
 pub fn tell_fed(told: &mut String, fed: &Fed) -> Result<(), AllocError> {
     for frame in fed.frames.as_slice() {
         tell_frame(told, frame)?;
@@ -159,7 +159,7 @@ pub fn filled(
     Ok(bytes)
 }
 
-// Whether just one frame comes of the stream, or none and the fault.
+// Whether exactly one frame comes of the stream, or none and the fault.
 fn is_one(alloc: Global, stream: &[u8], is_frame: bool) -> Result<bool, FeedFault> {
     let mut reader = FrameReader::new(alloc);
     let fed = reader.feed(alloc, stream);
@@ -209,7 +209,7 @@ fn frame_with(
     })
 }
 
-// Frames with one header, and how they are written; nothing where they can't be.
+// Frames with one header, and how they are written; nothing if they can't be.
 const WRITTEN: [(Verb, &str, &str, &[u8], &[u8]); 13] = [
     (
         Verb::Message,

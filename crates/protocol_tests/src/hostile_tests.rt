@@ -23,7 +23,7 @@ fn read_piece(
     Ok(has_fault)
 }
 
-// Both pieces of a stream, the second where the first gives no fault.
+// Both pieces of a stream, the second only if the first gives no fault.
 fn read_both(
     alloc: Global,
     reader: &mut FrameReader,
@@ -128,7 +128,7 @@ fn sessions_do_the_same_where_a_stream_is_cut_in_two(rt: HostRuntime) -> Result<
 // How many bytes the command and headers of a frame may have.
 const MOST_OF_A_HEAD: u64 = 8_192;
 
-// Which byte of a line that has no end gives the fault, where each is a piece, counted from 1; and what the next one is answered.
+// Which byte of a line without end gives the fault, if each is a piece, counted from 1; and what the next one is answered.
 fn fault_of_endless_line(
     alloc: Global,
     reader: &mut FrameReader,
@@ -155,7 +155,7 @@ fn a_command_line_without_end_is_refused_at_its_byte_8193(rt: HostRuntime) -> Re
     Ok(())
 }
 
-// The session hears it in pieces of 4,096 bytes, of which the third has that byte.
+// The session hears the line in pieces of 4,096 bytes, of which the third has that byte.
 fn hear_endless_line(alloc: Global, session: &mut Session, told: &mut String) -> Result<(), Fail> {
     for _ in 0..3_u8 {
         if !told.is_empty() {
@@ -202,7 +202,7 @@ fn peak_in(status: &str) -> Option<u64> {
     None
 }
 
-// A byte kept of each would be four million.
+// If a byte of each were kept, four million would be.
 #[test]
 fn four_million_ends_of_lines_take_no_memory(rt: HostRuntime) -> Result<(), Fail> {
     let mut reader = FrameReader::new(rt.alloc());

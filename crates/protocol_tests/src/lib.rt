@@ -1,6 +1,5 @@
-//! Tests of the protocol by the public faces of its crates: escapes, frames, commands and their records, transactions,
-//! sessions and lines. They are a crate of their own, since a crate that has tests is proved twice: once without them and
-//! once with them.
+//! Tests of the protocol by the public faces of its crates: escapes, frames, commands and their records, transactions, sessions
+//! and lines. They are a crate of their own, since a crate that has tests is proved twice: once without them and once with them.
 
 #![tactic(auto)]
 

@@ -106,7 +106,7 @@ fn deliveries(alloc: Global) -> Result<Flight<u64>, AllocError> {
     Ok(flight)
 }
 
-// Whether just these are settled: nothing where the delivery isn't known.
+// Whether exactly these are settled: nothing if the delivery isn't known.
 fn settles(
     flight: &mut Flight<u64>,
     mode: AckMode,

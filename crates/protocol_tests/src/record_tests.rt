@@ -12,7 +12,7 @@ use std::test::Fail;
 // Session 0, receipt `r1`, a Send to `/queue/a` with no headers and the body `hi`.
 const GREETING: &[u8] = b"\0\0\0\0\0\0\0\0\x01\0\0\0\x02r1\x02\0\0\0\x08/queue/a\0\0\0\0\0\x02hi";
 
-// A record of each kind of operation, and of each of its forms. Beside each byte stands what comes of it where it is one
+// A record of each kind of operation, and of each of its forms. Beside each byte stands what comes of it if it is one
 // greater: `.` another record (which may be shorter), and `x` none.
 const RECORDS: [(&[u8], &str); 23] = [
     // Open, of nobody and of `me`.
@@ -134,7 +134,7 @@ const REFUSED: [&[u8]; 28] = [
     b"\0\0\0\0\0\0\0\x05\0\x07\xff\xff\x05\0\0\0\0\0\0\0\x03",
 ];
 
-// How long the record is that begins the bytes, which is written as it stands there; none where none does.
+// How long the record is that begins the bytes and is written as it stands there; none if no record does.
 fn record_at(alloc: Global, bytes: &[u8]) -> Result<Option<usize>, AllocError> {
     let read = decode(alloc, bytes);
     let length = length_of(alloc, &read, bytes);
@@ -161,7 +161,7 @@ fn is_written(alloc: Global, command: &Command, record: &[u8]) -> Result<bool, A
     Ok(encode(alloc, command)?.as_slice() == record)
 }
 
-// Whether the record is read, with other bytes behind it, and no front of it is.
+// Whether the record is read, with other bytes after it, and no front of it is.
 fn is_read_whole(alloc: Global, record: &[u8]) -> Result<bool, AllocError> {
     for length in 0..record.len() {
         if record_at(alloc, &record[..length])?.is_some() {
@@ -174,7 +174,7 @@ fn is_read_whole(alloc: Global, record: &[u8]) -> Result<bool, AllocError> {
     Ok(length? == Some(record.len()))
 }
 
-// Whether that comes of the bytes which the marks say, with each byte one greater.
+// Whether the bytes give what the marks say, with each byte one greater.
 fn bears_marks(alloc: Global, bytes: &mut [u8], marks: &str) -> Result<bool, AllocError> {
     for (at, mark) in marks.as_bytes().iter().enumerate() {
         let Some(was) = bytes.get(at).copied() else {

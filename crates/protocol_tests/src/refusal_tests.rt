@@ -1,5 +1,5 @@
-//! Calls whose memory is refused. In an ordinary run nothing is, and each gives its whole answer; `tests/program/no_memory.py` has each
-//! growth refused in turn, and reads what these tests say of it.
+//! Calls whose memory is refused. In an ordinary run nothing is refused, and each call gives its whole answer.
+//! `tests/program/no_memory.py` has each growth refused in turn, and reads what these tests say of it.
 
 use crate::frame_tests::tell_fed;
 use crate::session_tests::CONNECT;
@@ -18,7 +18,7 @@ enum Seen {
     Whole,
     // It was refused memory, said so, and left what it should.
     Refused,
-    // Memory was refused before it or behind it.
+    // Memory was refused before it or after it.
     Unseen,
     // It answered or left something else.
     Wrong,
@@ -104,8 +104,7 @@ SEND\n:value\n";
 const DONE: &str = "subscribe s /topic/t auto durable n note receipt r \
 commit ack 3 send /queue/a k=v 'hi' receipt r2 end E1 malformed frame close 1002 ";
 
-// Whether the session, which was refused memory, has failed, and ends where its connection is lost: the broker was asked to open
-// it.
+// Whether the session, which was refused memory, has failed, and ends if its connection is lost: the broker was asked to open it.
 fn has_failed(alloc: Global, session: &mut Session, told: &mut String) -> Result<bool, AllocError> {
     let next = session.feed(alloc, b"\n");
     let has_failed = matches!(next, Err(SessionFault::Failed));

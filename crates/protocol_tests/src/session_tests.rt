@@ -34,7 +34,7 @@ pub const NEW: [(&str, &str); 10] = [
         "CONNECT\rx",
         "ERROR message=E1 malformed frame '' close 1002 ",
     ),
-    // Behind the end of a session nothing is heard, and no fault of the stream.
+    // After the end of a session nothing is heard, and no fault of the stream.
     (
         "SEND\n\n\0\0",
         "ERROR message=E7 frame not expected here '' close 1002 ",
@@ -119,7 +119,7 @@ pub const OPEN: [(&str, &str); 51] = [
         "BEGIN\ntransaction:\nreceipt:r\n\n\0ACK\nid:3\ntransaction:\n\n\0ABORT\ntransaction:\nreceipt:r2\n\n\0BEGIN\ntransaction:\n\n\0COMMIT\ntransaction:\n\n\0",
         "note receipt r note receipt r2 commit ",
     ),
-    // The first fault in order ends the session, and tells the receipt of its frame.
+    // The first fault in order ends the session, and reports the receipt of its frame.
     ("MESSAGE\n\n\0", "end E4 unknown command close 1002 "),
     (
         "CONNECTED\nreceipt:r\n\n\0",
@@ -248,7 +248,7 @@ fn hear_all(
     Ok(())
 }
 
-// Whether that is done for the stream, in pieces of so many bytes, behind an opening.
+// Whether that is done for the stream, in pieces of so many bytes, after an opening.
 fn is_told(
     alloc: Global,
     opening: &str,
@@ -297,7 +297,7 @@ fn frames_are_answered_however_they_are_cut(rt: HostRuntime) -> Result<(), Fail>
     Ok(())
 }
 
-// Streams, and what is done where the connection is gone behind them; after that nothing is done.
+// Streams, and what is done if the connection is gone after them; after that nothing is done.
 const LOST: [(&str, &str); 4] = [
     ("", ""),
     (CONNECT, "end lost "),

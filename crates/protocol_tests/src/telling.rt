@@ -49,7 +49,7 @@ fn sending(told: &mut String, sending: &Sending) -> Result<(), AllocError> {
     body(told, sending.body().as_slice())
 }
 
-/// A text behind its name, where there is one.
+/// A text after its name, if there is one.
 fn optional(told: &mut String, name: &str, text: &Option<HeaderText>) -> Result<(), AllocError> {
     match text {
         None => Ok(()),

@@ -63,7 +63,7 @@ const TEXTS: [&str; 20] = [
     "E20 bad header value",
 ];
 
-// Whether the text is that of the fault of this code, which says it too where it is shown.
+// Whether the text is that of the fault of this code, and also what the fault shows.
 fn is_told(alloc: Global, code: u8, text: &str) -> Result<bool, Fail> {
     match Fault::from_code(code) {
         None => Ok(false),

@@ -74,7 +74,7 @@ fn take(open: &mut OpenTx, name: &str, step: Step, told: &mut String) -> Result<
     }
 }
 
-// Whether that comes of the step.
+// Whether the step comes to that.
 fn comes(alloc: Global, open: &mut OpenTx, name: &str, step: Step, expected: &str) -> bool {
     let mut told = String::new(alloc);
     let taken = take(open, name, step, &mut told);
@@ -88,7 +88,7 @@ fn comes(alloc: Global, open: &mut OpenTx, name: &str, step: Step, expected: &st
     }
 }
 
-// The first step of which something else comes.
+// The first step that comes to something else.
 fn first_other(alloc: Global, open: &mut OpenTx) -> Option<usize> {
     for (at, (name, step, expected)) in STEPS.iter().enumerate() {
         if !comes(alloc, open, name, *step, expected) {
@@ -110,8 +110,8 @@ fn transactions_are_kept_by_their_names(rt: HostRuntime) {
     assert!(rt; left == 2 && none == 0);
 }
 
-// A SEND that takes 19 bytes and those of its body: the kind 1, the destination 4 and 8, the count of headers 2, and the
-// length of the body 4 and its bytes.
+// A SEND that takes 19 bytes and those of its body. These are the kind 1, the destination 4 and 8, the count of headers 2,
+// and the length of the body 4.
 fn sending(alloc: Global, length: usize) -> Result<Member, AllocError> {
     let mut body = Vec::new(alloc);
     if length <= 65_536 {

@@ -21,20 +21,20 @@ IsOutOfStep Full = ⊥
 IsOutOfStep Broken = Unit {0}
 IsOutOfStep (Memory refused) = ⊥
 
--- the disk failed just where that is the fault
+-- the disk failed exactly if that is the fault
 abbrev pub IsCausedBy : ℕ → ℕ → FlushFault → Type 0
 IsCausedBy before now Device = IsOneMore before now
 IsCausedBy before now Full = now ≡ before
 IsCausedBy before now Broken = now ≡ before
 IsCausedBy before now (Memory refused) = now ≡ before
 
--- the disk did not fail if all went, it failed if not all did, and else just if that is the fault
+-- the disk did not fail if all went, it failed if not all did, and else exactly if that is the fault
 pub record IsStopCaused (before now : ℕ) (went : Result Bool FlushFault) : Type 0 where
   pub calm : IfOk went (λ all. all ≡ true → now ≡ before)
   pub stopped : IfOk went (λ all. all ≡ false → IsOneMore before now)
   pub cause : IfErr went (IsCausedBy before now)
 
--- a journal is not opened since memory was refused
+-- a journal is not opened because memory was refused
 abbrev pub IsWantOfMemory : OpenFault → Type 0
 IsWantOfMemory (opens.Area (areas.Memory refused)) = Unit {0}
 IsWantOfMemory _ = ⊥

@@ -64,8 +64,8 @@ pub record HasGoneFront {D : Type 0} (old new : Flushed D) (commands : List Comm
   pub taken : new.seat.taken ≡ old.seat.taken ++ take n commands
   pub published : old.seat.published ≤ new.seat.published
 
--- more commands were taken, of which the first are on the disk; it is compacted, as far as that goes, and has no room for a block of the
--- next one
+-- More commands were taken, of which the first are on the disk. It is compacted, as far as that goes, and has no room for a block of the
+-- next one.
 pub record HasFilled {D : Type 0} (old new : Flushed D) (image : List ℕ) : Type 0 where
   pub done : List CommandValue
   pub next : CommandValue

@@ -49,7 +49,7 @@ pub record StandsAfterFront (s : State) (commands : List CommandValue) (image : 
 abbrev pub KeepFront : (List ℕ → Type 0) → State → List CommandValue → Type 0
 KeepFront images s commands = (c : List ℕ) → images c → ∥ StandsAfterFront s commands c ∥₁
 
--- The journal is compacted, as far as that goes: the image stands for the state after the first of these commands. And it has no room for a
+-- The journal is compacted, as far as that goes: the image stands for the state after the first of these commands. It has no room for a
 -- block of the next one alone, or for a snapshot of that state.
 pub record IsFull (s : State) (commands : List CommandValue) (image : List ℕ) : Type 0 where
   pub done : List CommandValue
@@ -58,8 +58,8 @@ pub record IsFull (s : State) (commands : List CommandValue) (image : List ℕ) 
   pub split : commands ≡ done ++ next ∷ behind
   pub no_room : HasNoRoomLeft image (state_after s done) (next ∷ [])
 
--- So many of these commands, from the first on, were taken, and the disk holds so many: all, if all went. Each is its connection's seat's
--- own.
+-- So many of these commands, from the first on, were taken, and the disk holds so many: all, if all went. Each belongs to its connection's
+-- seat.
 pub record GoesThrough {D : Type 0} (disk : Ghosts D) (old new : Flushed D) (seats : List SessionSeatValue) (waiting : List Waiting) (all : Bool) : Type 0 where
   pub own : AreOwn seats waiting
   pub gone : all ≡ true → HasGone old new (commands_of waiting)
@@ -77,14 +77,14 @@ pub record DiskFails {D : Type 0} (disk : Ghosts D) (old new : JournalValue D) :
   pub failed : IsOneMore (disk.failures old.disk) (disk.failures new.disk)
   pub not_durable : new.durable ≡ false
 
--- The journal was durable. Each image stands for the state after the first so many of the commands, each of which is its connection's
--- seat's own.
+-- The journal was durable. Each image stands for the state after the first so many of the commands. Each of these belongs to its
+-- connection's seat.
 pub record KeepsRecorded {D : Type 0} (disk : Ghosts D) (old new : JournalValue D) (waiting : List Waiting) : Type 0 where
   pub durable : old.durable ≡ true
   pub kept : disk.honest new.disk → KeepFront (disk.images new.disk) old.state (commands_of waiting)
   pub own : AreOwn new.seats waiting
 
--- A journal that refuses is not durable. The disk failed just if that is the fault. It has no room for some of the commands if that is.
+-- A journal that refuses is not durable. The disk failed exactly if that is the fault. If `Full` is, some commands have no room in it.
 pub record RefusesToRecord {D T : Type 0} (disk : Ghosts D) (old new : JournalValue D) (commands : List CommandValue) (result : Result T FlushFault) : Type 0 where
   pub failed : OnErr result (new.durable ≡ false)
   pub cause : IfErr result (IsCausedBy (disk.failures old.disk) (disk.failures new.disk))

@@ -23,11 +23,11 @@ pub record IsOwn (seats : List SessionSeatValue) (place ticket : ℕ) (command :
   pub k : ℕ
   pub own : get_elem? seat.own k ≡ some (ticket, command)
 
--- each of these commands is its connection's seat's own, at tickets one after another, from the first on
+-- each of these commands belongs to its connection's seat, at tickets one after another, from the first on
 abbrev pub ArePlaced : ℕ → List SessionSeatValue → List Waiting → Type 0
 ArePlaced first seats waiting = (i : ℕ) (w : Waiting) → get_elem? waiting i ≡ some w → IsOwn seats w.connection (first + i) w.command
 
--- each of these commands is its connection's seat's own
+-- each of these commands belongs to its connection's seat
 abbrev pub AreOwn : List SessionSeatValue → List Waiting → Type 0
 AreOwn seats waiting = (i : ℕ) (w : Waiting) → get_elem? waiting i ≡ some w → (ticket : ℕ) × IsOwn seats w.connection ticket w.command
 

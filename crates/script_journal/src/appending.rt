@@ -13,8 +13,8 @@ use std::alloc::{AllocError, Global};
 
 /// Appends waiting commands, each with the seat of its connection. The first has this ticket, and each the next one.
 ///
-/// `Broken` where there is no such seat, the ring refuses a command, or gives it another ticket, which it does to none who
-/// has all of its seats and flushes before a seat's window is full.
+/// `Broken` if there is no such seat, or if the ring refuses a command or gives it another ticket. The ring does neither
+/// to a caller that has all of its seats and flushes before a seat's window is full.
 pub fn append_all(
     alloc: Global,
     ring: &ScriptRing,
@@ -71,7 +71,7 @@ fn append_one(
     }
 }
 
-// Appends one entry with a seat, where it has this ticket; answers the next one.
+// Appends one entry with a seat, if it has this ticket; answers the next one.
 fn append_at(
     ring: &ScriptRing,
     seat: &mut ScriptSeat,

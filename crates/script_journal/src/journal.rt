@@ -28,15 +28,15 @@ use std::alloc::Global;
 use std::marker::Model;
 use std::mem;
 
-/// An opened journal with its ring, whose seats are all here, and the broker after its commands. Contracts see the broker's
-/// state, whether it is durable, the disk, and the seats, one for each connection. Where it is durable, whatever a stop leaves of the disk stands for it. Once a
-/// step failed it is not, and the journal takes nothing more.
+/// An opened journal with its ring, whose seats are all here, and the broker after its commands. Contracts see the broker's state, whether
+/// it is durable, the disk, and the seats, one for each connection. If it is durable, whatever a stop leaves of the disk stands for it.
+/// Once a step has failed it is not, and the journal takes nothing more.
 #[derive(Drop)]
 pub struct Journal<D: Disk> {
     ring: ScriptRing,
     seats: Vec<ScriptSeat>,
     flusher: ScriptFlusher<D>,
-    // False once a step failed.
+    // False once a step has failed.
     whole: bool,
 }
 
@@ -52,8 +52,7 @@ impl<D: Disk> Model for Journal<D> {
 }
 
 impl Journal<MemDisk> {
-    /// Opens the journal of a disk, whose state is the restart of the one that the disk stood for. A disk that is not opened
-    /// comes back.
+    /// Opens the journal of a disk. Its state is the restart of the one that the disk stood for. A disk that is not opened comes back.
     pub fn open(alloc: Global, disk: MemDisk) -> Result<Journal<MemDisk>, (MemDisk, OpenFault)>
         ensures stood { IfOk result (λ journal. IsRestartOf disk.content journal.state) }
         ensures durable { IfOk result (λ journal. journal.durable ≡ true) }
@@ -78,7 +77,7 @@ impl<D: Disk> Journal<D> {
         self.flusher.broker().count()
     }
 
-    /// How many messages are held. `None` once a step failed.
+    /// How many messages are held. `None` once a step has failed.
     pub fn held(&self) -> Option<u64>
         ensures held { IfSome result (λ messages. messages ≡ held_messages self.now.state) }
         ensures some { self.now.durable ≡ true → IsSome result }
@@ -89,7 +88,7 @@ impl<D: Disk> Journal<D> {
         Some(self.flusher.broker().held().messages)
     }
 
-    /// Whether no step failed.
+    /// Whether no step has failed.
     pub fn is_durable(&self) -> bool
         ensures { result ≡ self.now.durable }
     {
@@ -100,10 +99,10 @@ impl<D: Disk> Journal<D> {
     /// in the flusher's turns. Answers their outputs, in order, or `None` if a call of the disk failed. Whatever a stop then
     /// leaves of the disk stands for the state after the first so many of these commands.
     ///
-    /// After a call that failed, and after a fault, the journal is not durable, and takes nothing more. `Full` comes if the block
-    /// of some of the commands has no room behind those before, and `Memory` if memory was refused. `Broken` comes if a step
-    /// failed before, or if the ring does not take a command: its connection has no seat, or a full window. `Device` comes
-    /// in place of `None` if the flusher took what no seat here has appended; that never happens if all seats are here.
+    /// After a call that failed, and after a fault, the journal is not durable, and takes nothing more. `Full` comes if the block of some
+    /// of the commands has no room after those before, and `Memory` if memory was refused. `Broken` comes if a step failed before, or if
+    /// the ring does not take a command: its connection has no seat, or a full window. `Device` comes instead of `None` if the flusher took
+    /// what no seat here has appended; that never happens if all seats are here.
     pub fn record(
         &mut self,
         alloc: Global,
@@ -135,9 +134,9 @@ impl<D: Disk> Journal<D> {
         }
     }
 
-    /// Lets an output leave by its connection's seat, which has read a mark over its number. `Broken` where a step failed, where
-    /// the connection has no seat, or where the seat reads a mark that isn't over the output's number, which it does of none
-    /// that `record` answered: the journal is not durable then, and takes nothing more.
+    /// Lets an output leave by its connection's seat, which has read a mark over its number. `Broken` if a step has failed, if the
+    /// connection has no seat, or if the seat reads a mark that isn't over the output's number. The last never happens to an output that
+    /// `record` answered. After `Broken` the journal is not durable, and takes nothing more.
     pub fn release(&mut self, connection: u8, out: Out) -> Result<Released, FlushFault>
         ensures same { OnOk result (self.new ≡ record self.old { seats = self.new.seats }) }
         ensures seat { OnOk result (IsReadBy connection out.number self.old.seats self.new.seats) }
@@ -190,7 +189,7 @@ impl<D: Disk> Journal<D> {
     }
 }
 
-// The journal of a store that was just opened. The store's disk comes back where memory is refused.
+// The journal of a store that was just opened. The store's disk comes back if memory is refused.
 fn with_broker(
     alloc: Global,
     store: Store<MemDisk>,

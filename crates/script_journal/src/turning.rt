@@ -16,8 +16,8 @@ use std::alloc::Global;
 
 // Turns until so many commands are taken, stored, carried out and published.
 //
-// `Full` if the next command's block doesn't fit behind a fresh snapshot, or no such snapshot fits. `Broken` if so many turns take
-// others than these, or if a session has a box: none has if its commands are all in the ring, without boxes.
+// `Full` if the next command's block doesn't fit after a fresh snapshot, or no such snapshot fits. `Broken` if so many turns take
+// others than these, or if a session has a box. No session has one if its commands are all in the ring, without boxes.
 fn take_all<D: Disk>(
     alloc: Global,
     ring: &ScriptRing,
@@ -71,7 +71,7 @@ fn take_until_stop<D: Disk>(
     }
 }
 
-// The fault if more was taken than waited: that the disk failed, or none of the disk.
+// The fault if more was taken than waited: that the disk failed, or one that is not the disk's.
 fn out_of_step(went: Result<bool, FlushFault>) -> FlushFault
     ensures kind { IsOutOfStep result }
     ensures cause { (before now : ℕ) → IsStopCaused before now went → IsCausedBy before now result }
@@ -83,12 +83,10 @@ fn out_of_step(went: Result<bool, FlushFault>) -> FlushFault
     }
 }
 
-/// Has waiting commands go into the ring and through the flusher, and answers whether all did. If the disk fails they do not, but the
-/// first so many did. If a block has no room the journal is compacted. `Full` comes if the next command's block has none then
-/// either.
+/// Has waiting commands go into the ring and through the flusher, and answers whether all did. If the disk fails, only the first so
+/// many of them did. If a block has no room, the journal is compacted. `Full` comes if the next command's block still has none then.
 ///
-/// No more is taken than waited if all seats of the ring are here. Else it is told as `Device` if the disk failed, and as
-/// `Broken` if it did not.
+/// No more is taken than waited if all seats of the ring are here. Else the fault is `Device` if the disk failed, and `Broken` if not.
 pub fn go<D: Disk>(
     alloc: Global,
     ring: &ScriptRing,

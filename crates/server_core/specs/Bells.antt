@@ -5,10 +5,10 @@ use Rattle.server_core.specs.declared.mailbox.Mailbox.{Mailbox}
 use Rattle.server_core.specs.declared.mailbox.BellRope.{BellRope}
 use Rattle.server_core.specs.declared.mailbox.Ropes.{Ropes}
 
--- whom a rope calls: a worker, for that client
+-- which worker a rope calls, and for which client
 abbrev pub called_by : BellRope → Mailbox × ℕ
 called_by rope = (arc_value rope.mailbox, rope.client)
 
--- for whom ropes are made
+-- for which client ropes are made
 abbrev pub called_for : Ropes → Mailbox × ℕ
 called_for ropes = (arc_value ropes.mailbox.now, ropes.client)

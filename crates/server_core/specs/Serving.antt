@@ -91,7 +91,7 @@ announced port = codes "listening " ++ (decimal port ++ 10 ∷ [])
 abbrev pub ArePromised : TableId → List (PromisedHandle (Vec SessionSeatValue Global) SeatsBack) → Type 0
 ArePromised ring threads = All (λ (thread : PromisedHandle (Vec SessionSeatValue Global) SeatsBack). thread.promise.ring.value ≡ ring) threads
 
--- the seats that no worker has are at this ring, one for each desk of a worker that is not started, and the started ones hand theirs
+-- the seats that no worker has are at this ring, one for each desk of a worker that is not started, and started workers hand theirs
 -- back to it
 pub record IsStaffed (ring : TableId) (seats : List SessionSeatValue) (setups : List WorkerSetup) (workers : List (PromisedHandle (Vec SessionSeatValue Global) SeatsBack)) : Type 0 where
   pub at : AreAt ring seats
@@ -116,8 +116,8 @@ pub record IsFailed (old new : ServerValue) : Type 0 where
   pub broken : new.flusher.broken ≡ true
   pub stopped : IsStopped old new
 
--- A server serves no more since it was asked to end, and then its ring is stopped; or since its announcement can't be written,
--- and then nothing has changed; or since a step of its flusher has failed.
+-- A server serves no more. It was asked to end, and then its ring is stopped; or its announcement can't be written, and then nothing
+-- has changed; or a step of its flusher has failed.
 abbrev pub IsEnd : ServerValue → ServerValue → ServeEnd → Type 0
 IsEnd old new Asked = IsStopped old new
 IsEnd old new (Fault Output) = new ≡ old

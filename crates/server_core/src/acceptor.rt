@@ -13,7 +13,7 @@ use std::sync::{Arc, Wait};
 use std::thread;
 use std::time::{Clock, Duration};
 
-/// For how many milliseconds nobody is accepted where a connection was not.
+/// For how many milliseconds nobody is accepted after accepting a client has failed.
 const REST: u64 = 20;
 
 /// Where clients come in, the mailboxes of the desks that get them, and how many clients the server takes.
@@ -74,8 +74,8 @@ pub(crate) fn listen<R: Net<Listener = TcpListener, Stream = TcpStream>>(
 }
 
 impl<R: Wait + Clock> Acceptor<R> {
-    /// Accepts clients and hands each to the desk that has the fewest, until the server is asked to end: whoever comes then is let
-    /// go.
+    /// Accepts clients and hands each to the desk that has the fewest, until the server is asked to end. A client that comes then
+    /// is let go.
     pub(crate) fn accept_all(&self) {
         for _client in self.rt.forever() {
             match self.listener.accept() {
@@ -89,7 +89,7 @@ impl<R: Wait + Clock> Acceptor<R> {
         }
     }
 
-    // Hands a client to the desk that has the fewest. If as many are there as the server takes, it is only to be told that.
+    // Hands a client to the desk that has the fewest. If as many are there as the server takes, the client is only to hear that.
     fn hand_out(&self, socket: TcpStream) {
         let mut counts = [0u64; SEATS];
         let total = count(&self.mailboxes, &mut counts);
@@ -113,7 +113,7 @@ fn count(mailboxes: &[Arc<Mailbox>], counts: &mut [u64; SEATS]) -> u64 {
     total
 }
 
-// The place of the least of these counts, the first of several; `None` where there are none.
+// The place of the least of these counts, the first of several; `None` if there are none.
 fn fewest(counts: &[u64]) -> Option<usize>
     ensures fewest { IfSome result (IsFewest counts.now) }
     ensures none { IsNone result → counts.now ≡ [] }

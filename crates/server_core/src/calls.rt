@@ -1,4 +1,4 @@
-//! Who was called for.
+//! Which clients were called for.
 
 ghost use Rattle.std.specs.Prelude.{◌≡◌, IsNone};
 
@@ -13,7 +13,7 @@ pub(crate) const WORDS: usize = 8;
 
 const _: () = prove!(BITS * WORDS == CLIENTS);
 
-/// For which clients of a desk somebody called since it looked: a bit for each, by their numbers. So a look costs as much as there
+/// Which clients of a desk were called for since it looked: a bit for each, by their numbers. So a look costs as much as there
 /// were calls, and a glance at each word.
 #[derive(Drop)]
 pub(crate) struct Calls {

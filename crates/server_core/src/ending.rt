@@ -1,4 +1,4 @@
-//! How a server is asked to end, and what its flusher sleeps by.
+//! How a server is asked to end, and how its flusher sleeps.
 
 use std::sync::Wait;
 use std::sync::atomic::{AtomicBool, Ordering};

@@ -16,22 +16,22 @@ use std::alloc::{AllocError, Global};
 use std::net::{Net, TcpListener, TcpStream};
 use std::sync::Arc;
 
-/// Whom a server takes, how many, by how many threads it serves them, and how much memory they may hold.
+/// Which clients a server takes, how many, how many threads serve them, and how much memory they may hold.
 #[derive(Drop)]
 pub struct Reception {
     /// The origins whose pages are served; all, if none is named.
     pub origins: Vec<Vec<u8>>,
-    /// How many clients it takes at a time. One more is told so (503).
+    /// How many clients it takes at a time. One more is answered 503.
     pub most_clients: u64,
     /// How many threads serve them: one at least, and 64 at most, whatever is said here.
     pub threads: usize,
-    /// How many bytes they may hold together: what waits to be sent to them, and what they have not finished. Beyond that whoever holds
-    /// most is given up.
+    /// How many bytes they may hold together: what waits to be sent to them, and what they have not finished. Beyond that the client
+    /// that holds most is given up.
     pub memory: u64,
 }
 
 impl Reception {
-    /// That of a server which takes as many clients as one can, and lets them hold 1 GiB together.
+    /// The reception of a server that takes as many clients as one can, and lets them hold 1 GiB together.
     pub fn new(origins: Vec<Vec<u8>>, threads: usize) -> Reception
         ensures { result ≡ record { origins = origins; most_clients = MOST_CLIENTS; threads = threads; memory = MOST_MEMORY } }
     {
@@ -44,7 +44,7 @@ impl Reception {
     }
 }
 
-/// A port that is open, for whom, and what the workers wait by that will have its clients.
+/// An open port, the pages that it serves, and what the workers wait on that will have its clients.
 #[derive(Drop)]
 pub(crate) struct Entrance {
     pub(crate) listener: TcpListener,
@@ -59,7 +59,7 @@ pub(crate) struct Entrance {
 }
 
 impl Entrance {
-    /// Opens the port at 127.0.0.1. `Port` if the system refuses it, `Threads` if it refuses what workers wait by.
+    /// Opens the port at 127.0.0.1. `Port` if the system refuses it, `Threads` if it refuses what workers wait on.
     pub(crate) fn open<R: Net<Listener = TcpListener, Stream = TcpStream>>(
         alloc: Global,
         net: &R,
@@ -126,7 +126,7 @@ impl Entrance {
     }
 }
 
-/// The mailboxes once more, for others who share them.
+/// The mailboxes once more, for others that share them.
 pub(crate) fn mailboxes_again(
     alloc: Global,
     mailboxes: &[Arc<Mailbox>],

@@ -23,14 +23,14 @@ const LONGEST_SLEEP: u64 = 10_000;
 /// For how many milliseconds a worker waits at most, once the server ends, for clients to take what is theirs and to close.
 const LONGEST_FAREWELL: u64 = 2_000;
 
-/// For how many milliseconds it waits at most before it looks again whether that time is over, or, while all clients together hold more
-/// memory than they may, whether one of its own holds most.
+/// For how many milliseconds it waits at most before it looks again whether that time is over. Or, while all clients together hold more
+/// memory than they may, before it looks whether one of its own holds most.
 const LONGEST_LOOK: u64 = 250;
 
-/// For how many milliseconds a worker rests to which memory was refused before it has begun, before it tries again.
+/// For how many milliseconds a worker rests before it tries again, if memory was refused to it before it had begun.
 const SHORTAGE: u64 = 20;
 
-/// A worker at work: the desks that it serves, and what it waits by. Contracts see the ring, and how many seats it has.
+/// A worker at work: the desks that it serves, and what it waits on. Contracts see the ring, and how many seats it has.
 #[derive(Drop)]
 pub(crate) struct EventLoop<'a, R: Drop> {
     shared: &'a Shared<R>,
@@ -59,7 +59,7 @@ impl<'a, R: Drop> Model for EventLoop<'a, R> {
 }
 
 impl<'a, R: Wait + Clock + Drop> EventLoop<'a, R> {
-    /// That of the worker with these seats and this setup. If memory is refused, it tries again in a while.
+    /// The loop of the worker with these seats and this setup. If memory is refused, it tries again in a while.
     pub(crate) fn new(
         alloc: Global,
         shared: &'a Shared<R>,
@@ -129,7 +129,7 @@ impl<'a, R: Wait + Clock + Drop> EventLoop<'a, R> {
         seats
     }
 
-    /// Whether the server has ended for it: it parts with its clients, and has none any more, or has waited for them long enough.
+    /// Whether the server has ended for it: if it parts with its clients, and has none any more, or has waited for them long enough.
     pub(crate) fn is_over(&self) -> bool {
         match self.parting {
             Some(since) => {
@@ -140,8 +140,8 @@ impl<'a, R: Wait + Clock + Drop> EventLoop<'a, R> {
         }
     }
 
-    /// Waits until there is something to do, gives each client that is ready its turns, and then looks who took too long: what has come
-    /// from a client is heard before that.
+    /// Waits until there is something to do, gives each ready client its turns, and then looks which clients took too long. What has
+    /// come from a client is heard before that.
     pub(crate) fn round(&mut self)
         ensures { self.new ≡ self.old }
     {
@@ -176,7 +176,7 @@ impl<'a, R: Wait + Clock + Drop> EventLoop<'a, R> {
         self.now = self.watch.now();
     }
 
-    // For how many milliseconds it may wait. Whoever has something for it from then on, wakes it.
+    // For how many milliseconds it may wait. Anyone who has something for it from then on wakes it.
     fn longest_wait(&self) -> u64 {
         if self.is_ready() || !self.bell.falls_asleep() {
             return 0;
@@ -215,14 +215,14 @@ impl<'a, R: Wait + Clock + Drop> EventLoop<'a, R> {
 #[derive(Drop)]
 struct Room<'a, R: Drop> {
     events: Events<Global>,
-    // Those of each desk: there are none yet.
+    // The clients of each desk: there are none yet.
     clients: Vec<Clients>,
     // Room for the services of all desks.
     services: Vec<Service<'a, R>>,
 }
 
 impl<'a, R: Drop> Room<'a, R> {
-    // That of a worker with so many desks.
+    // The room of a worker with so many desks.
     fn new(alloc: Global, desks: usize) -> Result<Room<'a, R>, AllocError>
         ensures { IfOk result (λ room. (room.services.items ≡ []) × (desks ≤ vec_capacity room.services)) }
     {
@@ -290,7 +290,7 @@ fn take_back<R: Wait + Clock + Drop>(
     }
 }
 
-// Has those stand in line of whose sockets the poll told anything, and their streams hear it.
+// Has clients stand in line if the poll told anything of their sockets, and has their streams hear it.
 fn hear_events<R: Wait + Clock + Drop>(
     events: &Events<Global>,
     services: &mut Vec<Service<'_, R>>,

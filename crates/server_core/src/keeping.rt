@@ -12,7 +12,7 @@ use std::time::Clock;
 const _: () = prove!(PLACES == CLIENTS);
 
 impl<'a, R: Wait + Clock + Drop> Service<'a, R> {
-    /// Counts that a client holds so many bytes. If all clients hold more than they may by this, each worker looks whether it is one of its
+    /// Counts that a client holds so many bytes. If by this all clients hold more than they may, each worker looks whether it is one of its
     /// own that holds most.
     pub(crate) fn count(&mut self, number: usize, holds: u64)
         ensures shared { self.new.shared ≡ self.old.shared }

@@ -1,4 +1,4 @@
-//! A server: its workers and its flusher, and what their threads wait by.
+//! A server: its workers and its flusher, and what their threads wait on.
 
 #![tactic(auto)]
 

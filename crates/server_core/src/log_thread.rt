@@ -11,22 +11,22 @@ use std::sync::atomic::{AtomicU64, Ordering};
 use std::thread::Parker;
 use std::time::{Clock, Duration};
 
-/// How many lines wait at most to be told. If nobody reads what is told, the later ones are left out, and counted.
+/// How many lines may wait to be written. If nobody reads what is written, later ones are left out, and counted.
 const UNTOLD: usize = 64;
 
-/// For how many milliseconds it waits at most while something is counted that was not told yet, and while nothing is.
+/// For how many milliseconds it waits at most: while something is counted that was not told yet, and while nothing is.
 const SHORT: u64 = 1_000;
 
 const LONG: u64 = 60_000;
 
-/// Takes what happens from the other threads, which never wait for it, and tells it in a thread of its own: events at once, what is
-/// counted once a second at most, and how the server does once a minute at most, if it did something.
+/// Takes what happens from the other threads, which never wait for it, and tells it in a thread of its own. It tells events at once,
+/// counts once a second at most, and how the server does once a minute at most, if it did something.
 #[derive(Drop)]
 pub(crate) struct LogThread {
     untold: ArrayQueue<Event>,
     counts: [AtomicU64; KINDS],
-    // What the flusher said last: how many commands the journal counts, how many frames were published, how many of these say that there
-    // is no room, and how many bytes are held, and used.
+    // What the flusher said last: how many commands the journal counts, and how many bytes are held and used. Also how many frames were
+    // published, and how many of these say that there is no room.
     commands: AtomicU64,
     frames: AtomicU64,
     no_room: AtomicU64,
@@ -65,7 +65,7 @@ impl LogThread {
         })
     }
 
-    /// Has an event told, unless as many wait as can.
+    /// Has an event told, unless as many wait as may.
     pub(crate) fn note<R: Wait>(&self, rt: &R, event: Event) {
         match self.untold.push(rt, event) {
             Ok(()) => self.thread.unpark(),
@@ -84,8 +84,8 @@ impl LogThread {
         }
     }
 
-    /// Says how many commands the journal counts, what was published so far, how many bytes of messages are held, and how many of its
-    /// area are used.
+    /// Says how many commands the journal counts, what was published so far, how many bytes of messages are held, and how many bytes of
+    /// its area are used.
     pub(crate) fn figures(&self, commands: u64, tally: Tally, held: u64, used: u64) {
         self.commands.store(commands, Ordering::SeqCst);
         self.frames.store(tally.frames, Ordering::SeqCst);

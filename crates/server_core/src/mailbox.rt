@@ -1,4 +1,4 @@
-//! What others know of a worker's desk: where its clients come in, and who was called for.
+//! What others know of a worker's desk: where its clients come in, and which were called for.
 
 ghost use Rattle.std.specs.Prelude.{◌≡◌, IfOk};
 ghost use Rattle.std.specs.Arc.{arc_value};
@@ -29,12 +29,12 @@ pub(crate) struct Arrival {
 pub struct Mailbox {
     // What wakes the worker, which has other desks too.
     bell: Arc<Doorbell>,
-    // Who was called for since the worker looked.
+    // Which clients were called for since the worker looked.
     calls: Calls,
     arrivals: ArrayQueue<Arrival>,
     // How many clients were handed to the desk and are still there.
     clients: AtomicU64,
-    // The number of the desk among all, and how many bytes the one of its clients holds that holds most.
+    // The number of the desk among all, and the most bytes that one of its clients holds.
     desk: usize,
     most: AtomicU64,
 }
@@ -61,7 +61,7 @@ impl Mailbox {
         self.bell.ring();
     }
 
-    /// How many clients the desk has, those counted that its worker has not looked at yet.
+    /// How many clients the desk has, counting those that its worker has not looked at yet.
     pub(crate) fn clients(&self) -> u64 {
         self.clients.load(Ordering::SeqCst)
     }
@@ -71,12 +71,12 @@ impl Mailbox {
         self.desk
     }
 
-    /// How many bytes the one of its clients holds that holds most.
+    /// The most bytes that one of its clients holds.
     pub(crate) fn most(&self) -> u64 {
         self.most.load(Ordering::SeqCst)
     }
 
-    /// Says how many that are.
+    /// Says the most bytes that one of its clients holds.
     pub(crate) fn say_most(&self, bytes: u64) {
         self.most.store(bytes, Ordering::SeqCst);
     }
@@ -103,7 +103,7 @@ impl Mailbox {
         self.clients.fetch_sub(1, Ordering::SeqCst);
     }
 
-    /// Takes the calls of one word of clients, of whom there are `WORDS`.
+    /// Takes the calls of one word of clients. There are `WORDS` of these words.
     pub(crate) fn take_calls(&self, word: usize) -> Called {
         self.calls.take(word)
     }

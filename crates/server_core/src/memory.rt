@@ -5,18 +5,18 @@ use memory_budget::Holdings;
 use std::sync::Arc;
 use std::sync::atomic::{AtomicU64, Ordering};
 
-/// How many bytes all clients may hold together, and what they hold. Each desk counts what its own hold, and says here by how much that
-/// changes, and at its mailbox how much the one holds that holds most.
+/// How many bytes all clients may hold together, and what they hold. Each desk counts what its own clients hold. It says here by how much
+/// that changes, and at its mailbox the most that one of them holds.
 #[derive(Drop)]
 pub struct Memory {
     budget: u64,
     total: AtomicU64,
-    // Those of all desks.
+    // The mailboxes of all desks.
     mailboxes: Vec<Arc<Mailbox>>,
 }
 
 impl Memory {
-    /// That of clients at desks with these mailboxes, that hold nothing yet.
+    /// The memory of clients at desks with these mailboxes, which hold nothing yet.
     pub(crate) fn new(budget: u64, mailboxes: Vec<Arc<Mailbox>>) -> Memory {
         Memory {
             budget,
@@ -35,7 +35,7 @@ impl Memory {
         self.total.load(Ordering::SeqCst) > self.budget
     }
 
-    /// Counts that a client holds so many bytes, which has held so many. Answers whether all together hold more than they may by this, and
+    /// Counts that a client that held so many bytes now holds so many. Answers whether by this all together hold more than they may, and
     /// did not before.
     pub(crate) fn count(&self, held: u64, holds: u64) -> bool {
         if holds < held {
@@ -47,8 +47,8 @@ impl Memory {
         before <= self.budget && before.saturating_add(more) > self.budget
     }
 
-    /// What is known of all clients by the desk of that number. Of clients who hold the same, one at a desk of a lower number counts for a
-    /// byte more, so that one of them is given up and not one of each desk.
+    /// What is known of all clients by the desk of that number. Of clients that hold the same, one at a desk of a lower number counts for
+    /// a byte more. So one of them is given up, and not one of each desk.
     pub(crate) fn holdings(&self, desk: usize) -> Holdings {
         let mut elsewhere = 0u64;
         let mut clients = 0u64;

@@ -48,13 +48,13 @@ pub(crate) fn client_of(token: Token) -> (usize, usize) {
     (token.0 / CLIENTS, token.0 % CLIENTS)
 }
 
-// By which token the poll tells of that client.
+// The token by which the poll tells of that client.
 fn token_of(desk: usize, client: usize) -> Token {
     Token(desk.saturating_mul(CLIENTS).saturating_add(client))
 }
 
 impl<'a, R: Wait + Clock + Drop> Service<'a, R> {
-    /// That at the desk of this seat, with this mailbox, which has this number among its worker's.
+    /// The service at the desk of this seat, with this mailbox, and with this number among its worker's desks.
     pub(crate) fn new(
         alloc: Global,
         shared: &'a Shared<R>,
@@ -115,7 +115,7 @@ impl<'a, R: Wait + Clock + Drop> Service<'a, R> {
         self.clients.count_waiting() > 0
     }
 
-    /// Whether somebody is let in if the mark is this.
+    /// Whether a client is let in at this mark.
     pub(crate) fn is_over(&self, mark: u64) -> bool {
         self.clients.is_over(mark)
     }
@@ -136,8 +136,8 @@ impl<'a, R: Wait + Clock + Drop> Service<'a, R> {
         }
     }
 
-    /// Begins a round at that moment: finds out which of its clients are ready, and gives those a turn that the mark lets in. New clients'
-    /// sockets are registered there. It is told whether the doorbell was rung.
+    /// Begins a round at that moment: finds out which of its clients are ready, and gives a turn to those that the mark lets in. New
+    /// clients' sockets are registered there. The caller says whether the doorbell was rung.
     pub(crate) fn begin(&mut self, registry: &Registry, was_rung: bool, now: u64)
         ensures shared { self.new.shared ≡ self.old.shared }
     {
@@ -149,7 +149,7 @@ impl<'a, R: Wait + Clock + Drop> Service<'a, R> {
         self.let_in();
     }
 
-    /// Begins to part with all clients: each has a turn in which it hears what may leave yet.
+    /// Begins to part with all clients: each has a turn in which it hears what may still leave.
     pub(crate) fn part_with_all(&mut self)
         ensures shared { self.new.shared ≡ self.old.shared }
     {
@@ -171,7 +171,7 @@ impl<'a, R: Wait + Clock + Drop> Service<'a, R> {
         self.take_in(registry);
     }
 
-    // Has those stand in line who were called for.
+    // Has the clients stand in line that were called for.
     fn wake_called(&mut self, mut called: Called)
         ensures shared { self.new.shared ≡ self.old.shared }
     {
@@ -196,7 +196,7 @@ impl<'a, R: Wait + Clock + Drop> Service<'a, R> {
         self.mailbox.ring();
     }
 
-    // Takes a client in. If there is no room for it, or the system refuses what it is waited for by, its socket is closed.
+    // Takes a client in. If there is no room for it, or the system refuses to have its socket watched, the socket is closed.
     fn admit(&mut self, registry: &Registry, arrival: Arrival)
         ensures shared { self.new.shared ≡ self.old.shared }
     {
@@ -294,7 +294,7 @@ impl<'a, R: Wait + Clock + Drop> Service<'a, R> {
         }
     }
 
-    // Why a client at the desk is given up that has come so far.
+    // Why a client at the desk that has come so far is given up.
     fn why_given_up(&self, phase: Phase, number: usize) -> Kind {
         let takes_nothing = match self.desk.link(number) {
             Some(link) => link.waits(),
@@ -307,8 +307,8 @@ impl<'a, R: Wait + Clock + Drop> Service<'a, R> {
         }
     }
 
-    /// Gives each client that stands in line now its turns. After those of each go those that are let in, so that one that never waits does
-    /// not fill the window before them.
+    /// Gives each client that stands in line now its turns. After each of them, those that are let in have theirs, so that a client that
+    /// never waits does not fill the window before them.
     pub(crate) fn pass(&mut self)
         ensures shared { self.new.shared ≡ self.old.shared }
     {
@@ -320,8 +320,8 @@ impl<'a, R: Wait + Clock + Drop> Service<'a, R> {
         }
     }
 
-    // Gives those a turn that the mark lets in, each once at most. It is the ring's own: that rises before the wakeups tells of it, and by
-    // the same mark others find room.
+    // Gives a turn to those that the mark lets in, each once at most. The mark is the ring's own: it rises before the wakeups tell of it,
+    // and by the same mark others find room.
     fn let_in(&mut self)
         ensures shared { self.new.shared ≡ self.old.shared }
     {
@@ -343,7 +343,7 @@ impl<'a, R: Wait + Clock + Drop> Service<'a, R> {
             .max(self.shared.wakeups.mark())
     }
 
-    // Gives a client a turn, where it is there.
+    // Gives a client a turn, if it is there.
     fn give_turn(&mut self, number: usize, standing: Standing)
         ensures shared { self.new.shared ≡ self.old.shared }
     {
@@ -446,9 +446,9 @@ impl<'a, R: Wait + Clock + Drop> Service<'a, R> {
     }
 }
 
-// The turns of the client of those ropes: after each that put a command into the ring and left more to do it has another, up to `TURNS`.
-// So what its link has read already comes into one block. They came to what the last of them did; something was heard or appended if it
-// was in one of them. `None` if there is no client.
+// The turns of the client of those ropes. After each that put a command into the ring and left more to do, it has another, up to `TURNS`.
+// So what its link has read already comes into one block. They came to what the last of them did; something was heard or appended if one of
+// them did so. `None` if there is no client.
 fn take_turns(
     alloc: Global,
     ring: &ServerRing,

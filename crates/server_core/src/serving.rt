@@ -83,11 +83,11 @@ impl<R> Server<R>
 where
     R: Files<File = File> + Net<Listener = TcpListener, Stream = TcpStream> + Wait + Clone + Drop,
 {
-    /// Opens the port at 127.0.0.1, and then the journal in a file, whose lock the server has from then on until its flusher is gone.
-    /// `Port` if the port can't be opened, `Threads` if the system refuses what workers wait by, and `File` if the file can't be opened,
-    /// or another server has its lock: nothing of it is read or written then. `Opening` if the journal is refused: what opening a
-    /// journal leaves is said there. No lock is kept of a refusal. It takes as many clients at a time as `reception` says, or as the
-    /// process may have descriptors for, if these are fewer.
+    /// Opens the port at 127.0.0.1, and then the journal in a file, whose lock the server has from then on until its flusher is gone. It
+    /// takes as many clients at a time as `reception` says, or as the process may have descriptors for, if these are fewer. `Port` if
+    /// the port can't be opened, and `Threads` if the system refuses what workers wait on. `File` if the file can't be opened, or
+    /// another server has its lock: then nothing of it is read or written. `Opening` if the journal is refused: what opening a journal
+    /// leaves is said there. A refusal keeps no lock.
     pub fn open(
         alloc: Global,
         rt: &R,
@@ -173,9 +173,8 @@ impl<R: Wait + Clone + Drop> Server<R> {
 }
 
 impl<R: Wait + Clock + Drop> Server<R> {
-    /// Writes `listening` and the port, and flushes until the server is asked to end, or a step fails: then the flusher is broken.
-    /// The ring is stopped in both cases, and nothing more is acknowledged. `Output` if the line can't be written: nothing has
-    /// changed.
+    /// Writes `listening` and the port, and flushes until the server is asked to end, or a step fails: then the flusher is broken. The
+    /// ring is stopped in both cases, and nothing more is acknowledged. `Output` if the line can't be written: then nothing has changed.
     pub fn run<W: Write>(&mut self, alloc: Global, writer: &mut W) -> ServeEnd
         ensures end { IsEnd self.old self.new result }
         ensures told { result ≢ ServeEnd.Fault ServeFault.Output → Appends (W.contents writer.old) (W.contents writer.new) (announced self.old.port) }
@@ -191,7 +190,7 @@ impl<R: Wait + Clock + Drop> Server<R> {
         }
     }
 
-    // Tells the operator with what the server starts, and whether its journal may be too small.
+    // Tells the operator what the server starts with, and whether its journal may be too small.
     fn tell_start(&self) {
         let clients = self.acceptor.most_clients();
         let area = self.flusher.size();
@@ -283,7 +282,7 @@ fn add_seat(seats: &mut Vec<ServerSeat>, hub: &mut ServerHub) -> Result<(), Serv
     }
 }
 
-// What the flusher and the workers wait by, what asks the server to end, and what tells the operator.
+// What the flusher and the workers wait on, what asks the server to end, and what tells the operator.
 fn wakeups_of<R: Wait + Clone + Drop>(
     alloc: Global,
     rt: &R,
@@ -313,7 +312,7 @@ fn acceptor_of<R: Wait + Clone + Drop>(
     shared_by(alloc, acceptor)
 }
 
-// What the threads share, where clients come in, and what the workers wait by.
+// What the threads share, where clients come in, and what the workers wait on.
 fn share<R: Wait + Clone + Drop>(
     alloc: Global,
     rt: &R,
@@ -369,7 +368,7 @@ fn shared_by<T: Drop>(alloc: Global, value: T) -> Result<Arc<T>, ServeFault>
     }
 }
 
-// Flushes until the server was asked to end and nothing that was claimed is left, and stops the ring then; or until a step fails.
+// Flushes until the server was asked to end and nothing that was claimed is left, and then stops the ring; or until a step fails.
 fn flush<R: Wait + Clock + Drop>(
     alloc: Global,
     shared: &Shared<R>,
@@ -397,8 +396,8 @@ fn flush<R: Wait + Clock + Drop>(
     unreachable!()
 }
 
-// Whether the server was asked to end, and all that was claimed by then is published: the last turn took nothing, or the mark has come
-// over as many commands as the ring has places, and those that the flusher had taken.
+// Whether the server was asked to end, and all that was claimed by then is published. This is so if the last turn took nothing, or the
+// mark has come over as many commands as the ring has places, and those that the flusher had taken.
 fn is_last<R>(shared: &Shared<R>, last: &mut Option<u64>, mark: u64) -> bool {
     if !shared.wakeups.is_asked_to_end() {
         return false;

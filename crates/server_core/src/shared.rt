@@ -24,7 +24,7 @@ pub struct Shared<R> {
 }
 
 impl<R: Clock> Shared<R> {
-    /// The moment, in milliseconds of the clock; 0 where it can't be read.
+    /// The moment, in milliseconds of the clock; 0 if it can't be read.
     pub(crate) fn moment(&self) -> u64 {
         match self.rt.monotonic() {
             Ok(time) => u64::try_from(time.as_millis()).unwrap_or(0),

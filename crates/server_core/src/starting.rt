@@ -30,7 +30,7 @@ where
     R: Threads + Wait + Clock + Clone + Drop + Send + Sync + 'static,
 {
     /// Starts all workers, each in a thread of its own, with all seats, and a thread that accepts clients and hands them to workers.
-    /// `Threads` if the system starts no more, and `Memory` if that is refused: those that were started go on.
+    /// `Threads` if the system starts no more, and `Memory` if memory is refused: those that were started go on.
     pub fn start_workers(&mut self, rt: &R, alloc: Global) -> Result<(), ServeFault>
         ensures all { OnOk result (self.new.seats ≡ []) }
         ensures same { self.new ≡ record self.old { seats = self.new.seats } }
@@ -58,9 +58,9 @@ where
         }
     }
 
-    /// Starts the thread that tells an operator what happens, a line each, and first with what the server starts. No other thread waits
-    /// for it; if the writer takes nothing, up to 64 lines wait, and more are left out and counted. `Threads` if the system starts no
-    /// more, and `Memory` if that is refused: nothing was written then.
+    /// Starts the thread that tells an operator what happens, a line each, and first what the server starts with. No other thread waits
+    /// for it. If the writer takes nothing, up to 64 lines wait, and more are left out and counted. `Threads` if the system starts no
+    /// more, and `Memory` if memory is refused: then nothing was written.
     pub fn start_log_thread<W: Write + Drop + Send + 'static>(
         &self,
         rt: &R,
@@ -200,9 +200,9 @@ fn move_one(seats: &mut Vec<ServerSeat>, its: &mut Vec<ServerSeat>)
 }
 
 impl<R: Threads + Wait + Drop> Server<R> {
-    /// Ends the server: its workers tell their clients that the broker stops, for some seconds at most, and their seats come back
-    /// to the hub, which is closed with them and the flusher. The disk goes then, with its lock. `None` if memory was refused for
-    /// that, or not all workers had started; the server has ended all the same.
+    /// Ends the server. Its workers tell their clients that the broker stops, for some seconds at most. Their seats come back to the
+    /// hub, which is closed with them and the flusher. Then the disk goes, with its lock. `None` if memory was refused for that, or not
+    /// all workers had started; the server has ended all the same.
     pub fn close(self, rt: &R) -> Option<Closed<FileDisk>>
         ensures { IfSome result (IsClosed self.flusher) }
     {

@@ -13,19 +13,19 @@ use std::sync::{Arc, Wait};
 use std::thread;
 use std::time::{Clock, Duration};
 
-/// For how many seconds the flusher sleeps at most before it looks again. Nothing waits for this to end: it is woken when there
-/// is something to do.
+/// For how many seconds the flusher sleeps at most before it looks again. Nothing waits for this to end: the flusher is woken if
+/// there is something to do.
 const LONGEST_SLEEP: u64 = 10;
 
 /// A turn of the flusher that took so many microseconds was on a slow disk.
 const SLOW: u64 = 2_000;
 
-/// For how many microseconds the flusher rests at most behind a turn on a slow disk.
+/// For how many microseconds the flusher rests at most after a turn on a slow disk.
 const LONGEST_REST: u64 = 2_000;
 
-// For how many microseconds the flusher rests behind a turn that took so many, and published so many commands: a quarter, which is
-// half of one of its two syncs, so that who has just heard of these commands is in the next block, and not in the one behind
-// it. One that sends alone, or a quick disk, is not waited for.
+// For how many microseconds the flusher rests after a turn that took so many, and published so many commands. It is a quarter,
+// which is half of one of its two syncs. So a client that has just heard of these commands is in the next block, and not in the
+// one after it. A client that sends alone, or a quick disk, is not waited for.
 fn rest_behind(micros: u64, commands: u64) -> u64
     ensures short { result ≤ 2000 }
     ensures quick { micros < 2000 → result ≡ 0 }
@@ -41,8 +41,8 @@ fn rest_behind(micros: u64, commands: u64) -> u64
 /// will rise no more.
 ///
 /// No wake is lost, and only a wake of a thread that sleeps costs a call of the system. A worker says that it waits, and then
-/// reads the mark; the flusher raises the mark, and then looks who waits. These steps stand in one order, so one of the two
-/// sees what the other did.
+/// reads the mark; the flusher raises the mark, and then looks which workers wait. These steps stand in one order, so one of the
+/// two sees what the other did.
 #[derive(Drop)]
 pub struct Wakeups<T> {
     rt: T,
@@ -65,7 +65,8 @@ pub struct Wakeups<T> {
 }
 
 impl<T: Wait> Wakeups<T> {
-    /// The wakeups of a server whose mark is this, which ends so, tells so of compactions, and whose workers have these bells.
+    /// The wakeups of a server at this mark, with what asks it to end and what tells of compactions, whose workers have these
+    /// bells.
     pub(crate) fn new(
         rt: T,
         mark: u64,
@@ -87,7 +88,7 @@ impl<T: Wait> Wakeups<T> {
         }
     }
 
-    /// Returns once the flusher has something to do: at once where its last turn took something, since more may be ready.
+    /// Returns once the flusher has something to do: at once if its last turn took something, since more may be ready.
     fn await_commands(&self) {
         if !self.took.swap(false, Ordering::SeqCst) {
             let longest = Duration::from_secs(LONGEST_SLEEP);
@@ -129,7 +130,7 @@ impl<T> Wakeups<T> {
         &self.log_thread
     }
 
-    /// By what the server is asked to end.
+    /// What asks the server to end.
     pub(crate) fn ending(&self) -> Result<Arc<Ending>, AllocError> {
         self.ending.clone()
     }
@@ -188,7 +189,7 @@ impl<T> Wakeups<T> {
 }
 
 impl<T: Wait + Clock> Wakeups<T> {
-    // The microseconds of the clock; 0 where it can't be read.
+    // The microseconds of the clock; 0 if it can't be read.
     fn micros(&self) -> u64 {
         match self.rt.monotonic() {
             Ok(time) => u64::try_from(time.as_micros()).unwrap_or(0),
@@ -202,7 +203,7 @@ impl<T: Wait + Clock> Wakeups<T> {
         self.micros().saturating_sub(began)
     }
 
-    // Lets the flusher rest, where its last turn asks for that.
+    // Lets the flusher rest, if its last turn asks for that.
     fn rest(&self) {
         let micros = self.rest.swap(0, Ordering::SeqCst);
         if micros > 0 {

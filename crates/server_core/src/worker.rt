@@ -74,7 +74,7 @@ impl Promise<Vec<ServerSeat>> for SeatsBack {
 /// The thread of a worker.
 pub(crate) type WorkerThread = PromisedHandle<Vec<ServerSeat>, SeatsBack>;
 
-/// Starts a worker in a thread of its own. `Threads` if the system starts no more: its seats are lost then.
+/// Starts a worker in a thread of its own. `Threads` if the system starts no more: then its seats are lost.
 pub(crate) fn start<R>(rt: &R, alloc: Global, worker: Worker<R>) -> Result<WorkerThread, ServeFault>
 where
     R: Threads + Wait + Clock + Drop + Send + Sync + 'static,

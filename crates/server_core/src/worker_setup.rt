@@ -1,4 +1,4 @@
-//! What a worker waits by, and the room for its clients.
+//! What a worker waits on, and the room for its clients.
 
 ghost use Rattle.std.specs.Prelude.{◌≡◌, ◌+◌, ◌≤◌, ◌<◌, IfOk, OnOk, length};
 ghost use Rattle.claim_core.specs.declared.limits.TheConstants.{SEATS};
@@ -16,13 +16,13 @@ use std::io::ErrorKind;
 use std::net::Net;
 use std::sync::Arc;
 
-/// By which token a worker's poll tells that its doorbell was rung. Those of sockets come from their desks and clients' numbers.
+/// The token by which a worker's poll tells that its doorbell was rung. Tokens of sockets come from their desks' and clients' numbers.
 const BELL: Token = Token(usize::MAX);
 
 /// Of how many sockets one look at the poll tells at most; it tells of the others the next time.
 const EVENTS: usize = 256;
 
-/// What a worker waits by, and what others know of its desks.
+/// What a worker waits on, and what others know of its desks.
 #[derive(Drop)]
 pub(crate) struct WorkerSetup {
     pub(crate) poll: Poll,
@@ -32,7 +32,7 @@ pub(crate) struct WorkerSetup {
 }
 
 impl WorkerSetup {
-    // That of a worker that has no desk yet.
+    // The setup of a worker that has no desk yet.
     fn new(alloc: Global, net: &impl Net) -> io::Result<WorkerSetup>
         ensures { IfOk result (λ setup. length setup.mailboxes.items ≡ 0) }
     {
@@ -61,8 +61,8 @@ pub(crate) fn room_for_events(alloc: Global) -> Result<Events<Global>, AllocErro
     Events::with_capacity(alloc, EVENTS)
 }
 
-/// What the workers wait by: one for each of them, and a desk for each seat, which are dealt out in turn. `mailboxes` are those of all desks, so
-/// that neighbours there have different workers. `Threads` if the system refuses what a worker waits by.
+/// What the workers wait on: a setup for each of them, and a desk for each seat; desks are dealt out in turn. `mailboxes` are those of all
+/// desks, so that neighbours there have different workers. `Threads` if the system refuses what a worker waits on.
 pub(crate) fn man(
     alloc: Global,
     net: &impl Net,

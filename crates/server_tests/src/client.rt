@@ -81,7 +81,7 @@ fn stream_to<R: Net<Stream = TcpStream>>(rt: &R, port: u16) -> Option<TcpStream>
     }
 }
 
-// The client of a connection, behind its handshake.
+// The client of a connection, after its handshake.
 fn shake<R: RandomSource + Drop>(alloc: Global, source: R, stream: TcpStream) -> Option<Client<R>> {
     match request_of(alloc) {
         Some(request) => match client(alloc, source, request, stream) {

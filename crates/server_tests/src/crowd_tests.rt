@@ -13,7 +13,7 @@ const PORT: u16 = 47_629;
 
 const JOURNAL: &str = "server_with_a_crowd";
 
-// Each worker has two clients then, and two workers have three.
+// Then each worker has two clients, and two workers have three.
 const AT_ONCE: usize = 130;
 
 // An area that has room for the sessions of all.
@@ -34,7 +34,7 @@ fn crowd(rt: &HostRuntime, alloc: Global) -> usize {
     }
 }
 
-// The clients beside the server: how many were CONNECTED at once, and whether the journal was full at the end.
+// The clients, while the server runs: how many were CONNECTED at once, and whether the journal was full at the end.
 fn serve_crowd<R: Threads + Wait + Clock + Drop + Sync>(
     rt: &R,
     host: &HostRuntime,

@@ -74,7 +74,7 @@ fn shake(rt: &HostRuntime, alloc: Global) -> bool {
     }
 }
 
-// Whether a server that could not announce itself ended for that, and whether a worker takes a handshake then.
+// Whether a server that could not announce itself ended for that, and whether a worker then takes a handshake.
 fn serve<R>(rt: &R, host: &HostRuntime, alloc: Global, path: &str) -> Option<(bool, bool)>
 where
     R: Files<File = File>

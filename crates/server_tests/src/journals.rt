@@ -9,12 +9,12 @@ use std::fs::{File, Files};
 /// The smallest areas that a journal may have, in bytes.
 pub const SMALLEST: u64 = 4_096;
 
-/// Makes a file with an empty journal of the smallest areas, in place of one that is there; answers whether it is made.
+/// Makes a file with an empty journal of the smallest areas, instead of one that is there; answers whether it is made.
 pub fn make_journal<R: Files<File = File>>(rt: &R, alloc: Global, path: &str) -> bool {
     make_journal_of(rt, alloc, path, SMALLEST)
 }
 
-/// The same of areas of so many bytes.
+/// The same with areas of so many bytes.
 pub fn make_journal_of<R: Files<File = File>>(
     rt: &R,
     alloc: Global,

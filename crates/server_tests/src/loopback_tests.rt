@@ -68,7 +68,7 @@ fn speak<R: Threads + Sync>(
     )
 }
 
-// Both clients beside the server.
+// Both clients, while the server runs.
 fn serve_both<R: Threads + Wait + Clock + Drop + Sync>(
     rt: &R,
     host: &HostRuntime,

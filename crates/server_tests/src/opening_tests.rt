@@ -113,7 +113,7 @@ where
     }
 }
 
-// All of 127.0.0.0/8 is this machine: who listens at every address of it is reached at 127.0.0.2 too.
+// All of 127.0.0.0/8 is this machine: a server that listens at every address of it is reached at 127.0.0.2 too.
 #[test]
 fn a_server_listens_at_127_0_0_1_alone(rt: HostRuntime) -> Result<(), Fail> {
     let path = "server_at_one_address";

@@ -80,8 +80,8 @@ where
     }
 }
 
-/// Both take twenty seconds (docs/PROTOCOL.md). A ping is answered by whoever keeps to RFC 6455, section 5.5.2, so a peer that is
-/// gone without a word is found out.
+/// Both take twenty seconds (docs/PROTOCOL.md). Any client that keeps to RFC 6455, section 5.5.2, answers a ping, so a peer that
+/// is gone without a word is found out.
 #[test]
 fn quiet_peers_are_pinged_or_given_up(rt: HostRuntime) -> Result<(), Fail> {
     let ran = run(&rt, &rt, rt.alloc());

@@ -75,7 +75,7 @@ pub fn greet(
     wanted
 }
 
-/// Runs the server until the journal is full, and closes it with its workers' seats. Whether it was that.
+/// Runs the server until the journal is full, and closes it with its workers' seats. Answers whether the journal was full.
 pub fn serve<R: Threads + Wait + Clock + Drop>(
     rt: &R,
     alloc: Global,
@@ -88,7 +88,7 @@ pub fn serve<R: Threads + Wait + Clock + Drop>(
     closed.is_some() && matches!(end, ServeEnd::Fault(ServeFault::Flushing(FlushFault::Full)))
 }
 
-/// Sends to a queue until the journal is full, which it is before the queue where its areas are small: the server ends then.
+/// Sends to a queue until the journal is full, which it is before the queue if its areas are small. Then the server ends.
 pub fn fill(alloc: Global, client: &mut Client<HostRuntime>) -> bool {
     fill_with(alloc, client, SEND)
 }

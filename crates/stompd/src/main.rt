@@ -40,10 +40,10 @@ fn main(rt: HostRuntime) -> ExitCode {
     ExitCode::from(status)
 }
 
-/// Opens `/dev/null` as often as there are standard streams, and never closes these files. A file gets the least number that is free,
-/// so whichever of the three streams are closed, these files have their numbers from now on, and nothing that is opened later gets
-/// them: what the program writes to a closed stream is lost, and in no file. If they can't be opened, that is told, and the status is
-/// the answer.
+/// Opens `/dev/null` as often as there are standard streams, and never closes these files. A file gets the least number that is free.
+/// So whichever of the three streams are closed, these files have their numbers from now on, and nothing that is opened later gets
+/// them. What the program writes to a closed stream is lost, and is in no file. If `/dev/null` can't be opened, that is reported, and the
+/// status is the answer.
 fn hold_standard_streams(rt: &HostRuntime) -> Result<(), u8> {
     for _stream in 0..3u32 {
         match hold_null(rt) {
@@ -67,7 +67,7 @@ fn hold_null(rt: &HostRuntime) -> io::Result<()> {
     Ok(())
 }
 
-/// The status of a server that has ended so; a fault is told.
+/// The status of a server that has ended so. A fault is reported.
 fn status_of(rt: &HostRuntime, end: ServeEnd) -> u8 {
     match end {
         ServeEnd::Asked => DONE,
@@ -83,7 +83,7 @@ struct Asked<'a> {
     port: u16,
     /// The origins whose pages are served; if there are none, all are.
     origins: Vec<&'a [u8]>,
-    /// By how many threads clients are served; as many as there are processors, if it isn't said.
+    /// How many threads serve clients; as many as there are processors, if it isn't said.
     threads: Option<u16>,
     /// How many bytes clients may hold together; 1 GiB, if it isn't said.
     memory: Option<u64>,
@@ -92,7 +92,7 @@ struct Asked<'a> {
 }
 
 /// Serves what is asked for until the server ends, and answers why it did, or why it did not start. What an operator is told is
-/// written to `errors`, and that it listens to `writer`.
+/// written to `errors`, and the line that it listens to `writer`.
 fn serve<R, I, E, W: Write>(
     rt: &R,
     alloc: Global,
@@ -157,8 +157,8 @@ fn threads_for(rt: &impl Threads, asked: Option<u16>) -> usize {
     }
 }
 
-/// The arguments, of which the first is the program's name. Where they are not UTF-8 they are a bad command line, of which
-/// nothing is told; where memory is refused, that is. The status is the answer then.
+/// The arguments, of which the first is the program's name. If they are not UTF-8, they are a bad command line, of which nothing is
+/// reported. If memory is refused, that is reported. The status is the answer then.
 fn words_of(rt: &HostRuntime) -> Result<Vec<String>, u8> {
     match collected(rt) {
         Ok(words) => Ok(words),
@@ -174,7 +174,7 @@ fn collected(rt: &HostRuntime) -> io::Result<Vec<String>> {
     Ok(env::args(rt)?.collect(rt.alloc())?)
 }
 
-/// What the words ask of a server, where that is what they ask for.
+/// What the words ask of a server, if they ask for one.
 fn served(alloc: Global, words: &[String]) -> Option<Asked<'_>> {
     match subcommand_of(alloc, words) {
         Ok(
@@ -198,7 +198,7 @@ fn served(alloc: Global, words: &[String]) -> Option<Asked<'_>> {
     }
 }
 
-/// What the words ask for that is no server, and the status.
+/// What the words ask for, if that is no server, and the status.
 fn run_other(rt: &HostRuntime, words: &[String]) -> u8 {
     match pinged(rt.alloc(), words) {
         Some(port) => run_ping(rt, port),
@@ -231,7 +231,7 @@ fn owned(alloc: Global, origins: &[&[u8]]) -> Result<Vec<Vec<u8>>, AllocError> {
     Ok(owned)
 }
 
-/// What the words ask for that opens no socket, and the status.
+/// What the words ask for, if that opens no socket, and the status.
 fn run_tool(rt: &HostRuntime, words: &[String]) -> u8 {
     let mut reader = rt.stdin().lock();
     let mut writer = rt.stdout().lock();
@@ -291,7 +291,7 @@ where
     }
 }
 
-/// Starts a thread that reads the input to its end, and asks the server to end then.
+/// Starts a thread that reads the input to its end, and then asks the server to end.
 fn end_with<R, I>(rt: &R, ender: Result<Ender, ServeFault>, input: I) -> Result<(), ServeFault>
 where
     R: Threads,

@@ -136,7 +136,7 @@ fn a_durable_subscriber_finds_its_messages_after_a_crash(rt: HostRuntime) -> Res
     )
 }
 
-// After the script `crash` with its calls and fill, and `open`, print this; what came before was printed too.
+// After the script, `crash` with its calls and fill, and `open`, print this. What came before was printed too.
 fn expect_opened<'a>(
     rt: &(impl Abort + Files<File = File> + Clock),
     alloc: Global,
@@ -382,11 +382,11 @@ const NO_LINES: [&str; 15] = [
     "crash x 01",
 ];
 
-// The disk's 2,097,184 bytes leave 1,048,576 for each area. Its snapshot and first gate have 41, the block of a CONNECT 20
-// more, and that of a message 37 and its body, the closed gate behind it counted and the one before it not. Behind 15 messages
-// of 65,536 bytes there are 64,920 bytes left: a body of 64,883 has room. One byte more, and the journal is compacted first. The snapshot
-// of a session and a queue has 57 bytes, 30 more for each message and its body, and 9 of length and gate: 983,556, so that a body of
-// 64,983 has room behind it, and no longer one.
+// The disk's 2,097,184 bytes leave 1,048,576 for each area. Its snapshot and first gate have 41, and the block of a CONNECT 20 more. The
+// block of a message has 37 and its body, counting the closed gate after it and not the one before. After 15 messages of 65,536 bytes
+// there are 64,920 bytes left: a body of 64,883 has room. With one byte more the journal is compacted first. The snapshot of a session
+// and a queue has 57 bytes, 30 more for each message and its body, and 9 of length and gate. That makes 983,556, so a body of 64,983 has
+// room after it, and no longer one.
 fn expect_last(
     rt: &(impl Abort + Files<File = File> + Clock),
     alloc: Global,
@@ -461,7 +461,7 @@ fn expect_done(
 
 #[test]
 fn a_journal_that_is_full_ends_the_script(rt: HostRuntime) -> Result<(), Fail> {
-    // 15 messages of 65,000 bytes fit in the area's 1,048,576 bytes, one more behind a fresh snapshot of them, and no other one behind
+    // 15 messages of 65,000 bytes fit in the area's 1,048,576 bytes. One more fits after a fresh snapshot of them, and no other one after
     // that of 16. So far some 40 calls of the disk are made.
     for end in ["flush\n", "crash 99\n"] {
         expect_full(&rt, rt.alloc(), end, 1, FULL)?;

@@ -75,7 +75,7 @@ fn subscribers_of_a_queue_take_turns(rt: HostRuntime) -> Result<(), Fail> {
             "0 MESSAGE%0Asubscription:a%0Amessage-id:5.0%0Adestination:/queue/q%0Acontent-length:1%0A%0Ax%00",
             "1 MESSAGE%0Asubscription:b%0Amessage-id:6.0%0Adestination:/queue/q%0Acontent-length:1%0A%0Ay%00",
             "0 MESSAGE%0Asubscription:a%0Amessage-id:7.0%0Adestination:/queue/q%0Acontent-length:1%0A%0Az%00",
-            // The turn is still b's, and who has come since waits behind all.
+            // The turn is still b's, and a client that has come since waits after all others.
             "1 MESSAGE%0Asubscription:b%0Amessage-id:9.0%0Adestination:/queue/q%0Acontent-length:1%0A%0Aw%00",
             "0 MESSAGE%0Asubscription:a%0Amessage-id:10.0%0Adestination:/queue/q%0Acontent-length:1%0A%0Av%00",
             "2 MESSAGE%0Asubscription:c%0Amessage-id:11.0%0Adestination:/queue/q%0Acontent-length:1%0A%0Au%00",
@@ -135,7 +135,7 @@ const SEVENTEEN_SENT: [&str; 22] = [
     "flush",
 ];
 
-// The last one comes behind the acknowledgement.
+// The last one comes after the acknowledgement.
 const SEVENTEEN_COME: [&str; 18] = [
     CONNECTED,
     "0 MESSAGE%0Asubscription:s%0Amessage-id:2.0%0Adestination:/queue/q%0Aack:0%0Acontent-length:1%0A%0Ax%00",

@@ -101,10 +101,10 @@ fn a_journal_file_is_made_and_shown(rt: HostRuntime) -> Result<(), Fail> {
     expect_show(&rt, alloc, 0, shown, "")?;
     expect_format(&rt, alloc, "8224", 1, EXISTS)?;
     expect_failures(&rt, alloc, &FORMATS, EXISTS)?;
-    // The threads of a server are started by `main` alone.
+    // Only `main` starts the threads of a server.
     expect_failures(&rt, alloc, &SERVERS, "stompd: cannot start a thread\n")?;
     expect_show(&rt, alloc, 0, shown, "")?;
-    // Behind `--` no word is an option.
+    // After `--` no word is an option.
     for words in [
         ["stompd", "show", "--", JOURNAL],
         ["stompd", "show", JOURNAL, "--"],
@@ -115,7 +115,8 @@ fn a_journal_file_is_made_and_shown(rt: HostRuntime) -> Result<(), Fail> {
     expect_of(&rt, alloc, &option, b"", (1, "", MISSING))?;
     fs::write(&rt, JOURNAL, [0; 64].as_slice())?;
     expect_show(&rt, alloc, 1, "", "stompd: J1 not a journal\n")?;
-    // This one is of the first version. Used are a snapshot of 32 bytes and a block of 109, each with its length before and its gate behind it: 41 + 118.
+    // This one is of the first version. Used are a snapshot of 32 bytes and a block of 109, each with its length before it and its gate
+    // after it: 41 + 118.
     let held = "version 1\narea 0\nused 159\ncount 4\nheld 2\n";
     write_held(&rt, alloc)?;
     expect_show(&rt, alloc, 0, held, "")?;
@@ -136,7 +137,7 @@ fn expect_shown_and_held(
     expect_of(rt, alloc, &["stompd", "held", SERVED], b"", (0, held, ""))
 }
 
-// A server has the lock of its file: who only reads the journal asks for none.
+// A server has the lock of its file. A reader of the journal alone asks for none.
 #[test]
 fn a_journal_is_shown_while_its_file_is_locked(rt: HostRuntime) -> Result<(), Fail> {
     let _ = fs::remove_file(&rt, SERVED);

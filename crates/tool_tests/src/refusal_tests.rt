@@ -1,4 +1,4 @@
-//! A script while memory is refused. In an ordinary run none is, and it prints all; `tests/program/no_memory.py` has each growth refused in
+//! A script while memory is refused. In an ordinary run none is, and it prints all. `tests/program/no_memory.py` has each growth refused in
 //! turn, and reads what this test says of it.
 
 ghost use Rattle.std.specs.Prelude.{◌≤◌, length};
@@ -32,7 +32,7 @@ const PRINTED: &[u8] = b"0 CONNECTED%0Aversion:1.2%0Asession:0%0Aheart-beat:0,0%
 open 7 1
 ";
 
-// The texts of the two faults that it may tell: of memory, and of the device where the growth was the disk's.
+// The texts of the two faults that it may report: of memory, and of the device if the growth was the disk's.
 fn is_want(alloc: Global, fault: &ScriptFault) -> Option<bool> {
     match format!(in alloc; "{fault}") {
         Ok(text) => {

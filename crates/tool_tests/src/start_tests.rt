@@ -14,8 +14,8 @@ use std::test::Fail;
 
 const DISK_BYTES: u64 = 8_224;
 
-// The header names area 0 of two with 4,096 bytes each. The snapshot is the empty state; a block of 109 bytes stands behind it:
-// session 0 opens with a client-id, subscribes durably to a topic, and sends to that and to a queue.
+// The header names area 0 of two with 4,096 bytes each. The snapshot is the empty state; a block of 109 bytes stands after it. In
+// it, session 0 opens with a client-id, subscribes durably to a topic, and sends to that and to a queue.
 pub const HELD: &[u8] = b"STOMPJ01\0\0\0\0\0\0\x10\0\0\0\0\0\0\0\0\0\0\0\0\0\0\0\0\0\
 \0\0\0\0\0\0\0\x20\0\0\0\0\0\0\0\0\0\0\0\0\0\0\0\0\0\0\0\0\0\0\0\0\0\0\0\0\0\0\0\0\
 \x01\0\0\0\0\0\0\0\x6d\
@@ -25,7 +25,7 @@ pub const HELD: &[u8] = b"STOMPJ01\0\0\0\0\0\0\x10\0\0\0\0\0\0\0\0\0\0\0\0\0\0\0
 \0\0\0\0\0\0\0\0\0\x02\0\0\0\x08/queue/q\0\0\0\0\0\x01y\
 \0";
 
-// Session numbers go on behind the commands held, and delivery numbers behind that of the message that was handed out.
+// Session numbers go on after the commands held, and delivery numbers after that of the message that was handed out.
 const SCRIPT: &[u8] = b"0 CONNECT%0Aaccept-version:1.2%0Aclient-id:c1%0A%0A%00
 0 SUBSCRIBE%0Aid:d%0Adestination:/topic/t%0Aack:client%0Aactivemq.subscriptionName:n%0A%0A%00
 0 SUBSCRIBE%0Aid:e%0Adestination:/queue/q%0A%0A%00
@@ -48,7 +48,7 @@ fn printed_over(alloc: Global, script: &[u8], disk: MemDisk) -> Result<(MemDisk,
     Ok((disk, written))
 }
 
-// The lines have left the disk with what they count and hold, which its next script opens.
+// The lines have left the disk with what they count and hold, and its next script opens that.
 #[test]
 fn a_script_goes_on_from_what_its_disk_holds(rt: HostRuntime) -> Result<(), Fail> {
     let mut disk = MemDisk::new(rt.alloc(), DISK_BYTES)?;
@@ -77,7 +77,7 @@ fn push_fault(fault: &ScriptFault, all: &mut Vec<u8>) -> Result<(), Fail> {
     Ok(())
 }
 
-// Adds what a script prints over a disk that begins with these bytes, and the text of its fault where there is one.
+// Adds what a script prints over a disk that begins with these bytes, and the text of its fault if there is one.
 fn push_over(alloc: Global, front: &[u8], script: &[u8], all: &mut Vec<u8>) -> Result<(), Fail>
     requires { length front.now ≤ 8224 }
 {
@@ -134,8 +134,8 @@ fn one_more_than_2_60_commands_are_too_many(rt: HostRuntime) -> Result<(), Fail>
     expect_over(&rt, rt.alloc(), COUNTED, &script, wanted)
 }
 
-// An area has 4,096 bytes. With sixteen commands a block, 132 commands in nine blocks take 41 and nine times 9 bytes beside
-// their records of 11 and 131 times 29: 3,932. A snapshot takes 9 beside its 48, and 31 for each message: 4,087 for 130 messages.
+// An area has 4,096 bytes. With sixteen commands a block, 132 commands in nine blocks take 41 and nine times 9 bytes besides their
+// records of 11 and 131 times 29: 3,932. A snapshot takes 9 besides its 48, and 31 for each message: 4,087 for 130 messages.
 #[test]
 fn a_disk_whose_snapshot_has_no_room_is_not_opened(rt: HostRuntime) -> Result<(), Fail> {
     let script = [(CONNECT, 1), (SEND, 130), ("\nflush\nopen\n", 1)];

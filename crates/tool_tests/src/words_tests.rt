@@ -20,7 +20,7 @@ const RECEIPT: &str = "0 RECEIPT%0Areceipt-id:r1~";
 /// The longest line that a script may have.
 const LONGEST_LINE: usize = 1_048_576;
 
-/// Runs the program on the words and the text; the status and what is printed and told are these then.
+/// Runs the program on the words and the text. The status and what is printed and told are these then.
 pub fn expect_of(
     rt: &(impl Abort + Files<File = File> + Clock),
     alloc: Global,
@@ -445,11 +445,11 @@ fn words_that_ask_for_nothing_are_refused(rt: HostRuntime) -> Result<(), Fail> {
     expect_of(&rt, rt.alloc(), &["stompd", "relay"], b"", (2, "", unknown))
 }
 
-/// What is told of a number that is none.
+/// What is told of an invalid number.
 pub const NO_NUMBER: &str =
     "stompd: BYTES is a decimal number under 2^64, and PORT one from 1 to 65535\n";
 
-/// A port is a number from 1 to 65,535, and a size one below 2^64, in decimal digits alone.
+/// A port is a number from 1 to 65,535, and a size one below 2^64, only in decimal digits.
 #[test]
 fn words_with_a_number_that_is_none_are_refused(rt: HostRuntime) -> Result<(), Fail> {
     let alloc = rt.alloc();

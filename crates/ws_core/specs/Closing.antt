@@ -18,7 +18,7 @@ code_of ProtocolError = 1002
 abbrev pub close_of : CloseReason → Option (CloseCode × List ℕ)
 close_of reason = Some (close_code_of (code_of reason), [])
 
--- the code by which a peer is told what it did wrong (section 7.4.1); there is none where the stream ended or failed, or memory was refused
+-- the code by which a peer is told what it did wrong (section 7.4.1); there is none if the stream ended or failed, or memory was refused
 abbrev pub breach_code : Error → Option ℕ
 breach_code (Protocol ResetWithoutClosingHandshake) = None
 breach_code (Protocol cause) = Some 1002

@@ -8,9 +8,9 @@ use Rattle.ws_core.specs.Handshakes.{IsAccepted, refusal_bytes}
 use Rattle.ws_core.specs.Links.{IsReady}
 
 module _ {S : Type 0} where
-  -- Who waits goes on as the same handshake. Who is accepted has sent a whole head that is to be accepted, over all the handshake's
-  -- life, and was written the whole response that says so, by a server that takes one more; who is refused, the whole response of
-  -- that refusal.
+  -- A client that waits goes on as the same handshake. A client that is accepted has sent a whole head that is to be accepted, over
+  -- all the handshake's life. It was written the whole response that says so, by a server that takes one client more. A client that
+  -- is refused was written the whole response of that refusal.
   abbrev pub Greets : (S → Option (List ℕ)) → (S → Option (List ℕ)) → Greeter S → Greeted S → Type 0
   Greets remaining contents g (outcomes.Waits next) = next ≡ g
   Greets remaining contents g (outcomes.Accepted link) =

@@ -6,7 +6,7 @@ use Rattle.ws_core.specs.declared.answer.Answer.TheVariants.{Refuse}
 use Rattle.ws_core.specs.declared.saying.Saying.{Saying}
 use Rattle.ws_core.specs.Handshakes.{IsAnswerTo, as_full, response_to}
 
--- The stream as it was given, the origins whose pages are served, and whether the server takes no one more.
+-- The stream as it was given, the origins whose pages are served, and whether the server takes no more clients.
 pub record Greeter (S : Type 0) : Type 0 where
   pub opening : S
   pub origins : List (List ℕ)
@@ -15,7 +15,7 @@ pub record Greeter (S : Type 0) : Type 0 where
 abbrev pub greeter : {S : Type 0} → S → List (List ℕ) → Bool → Greeter S
 greeter opening origins is_full = record { opening = opening; origins = origins; is_full = is_full }
 
--- the answer, unless the server takes no one more
+-- the answer, unless the server takes no more clients
 abbrev pub answer_at : Bool → Answer → Answer
 answer_at is_full answer = cond is_full (as_full answer) answer
 

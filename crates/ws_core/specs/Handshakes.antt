@@ -18,7 +18,7 @@ use Rattle.ws_core.specs.declared.refusal.Refusal.TheVariants.{Malformed, OtherP
 use Rattle.ws_core.specs.Fields.{values}
 use Rattle.ws_core.specs.Offers.{choice_of}
 
--- each Origin of the request is one of those that are served (section 4.2.2; RFC 6454, section 7); where none is named, all are
+-- each Origin of the request is one of those that are served (section 4.2.2; RFC 6454, section 7); if none is named, all are
 abbrev pub is_let_in : List (List ℕ) → Fields → Bool
 is_let_in origins fields =
     length origins == 0 || list_all (λ origin. list_any (λ served. bytes_eq served origin) origins) (values fields (codes "Origin"))
@@ -27,8 +27,8 @@ is_let_in origins fields =
 abbrev pub is_malformed : Fields → Bool
 is_malformed fields = not (length (values fields (codes "Host")) == 1) || not (length (values fields (codes "Transfer-Encoding")) == 0)
 
--- The refusal that says what the request lacks: another method than GET; no Upgrade to a WebSocket, to which HTTP/1.0 has none
--- (RFC 9110, section 7.8); another version than 13; or a key that is missing or is none.
+-- The refusal that says what the request lacks. It has another method than GET, or another version than 13. Or it has no Upgrade
+-- to a WebSocket, as HTTP/1.0 never has (RFC 9110, section 7.8). Or its key is missing or is none.
 abbrev pub refusal_of : HandshakeError → Refusal
 refusal_of WrongHttpMethod = Method
 refusal_of WrongHttpVersion = NoUpgrade
@@ -37,31 +37,31 @@ refusal_of MissingUpgradeWebSocketHeader = NoUpgrade
 refusal_of MissingSecWebSocketVersionHeader = Version
 refusal_of _ = Malformed
 
--- who offers other subprotocols alone is refused
+-- a client that offers only other subprotocols is refused
 abbrev pub admitted : List ℕ → Choice → Answer
 admitted accept_key choices.Stomp = Accept accept_key true
 admitted accept_key choices.Nothing = Accept accept_key false
 admitted accept_key choices.Refuse = Refuse OtherProtocol
 
--- the answer where the request's key is answered so, or lacks that
+-- the answer if the request's key is answered so, or lacks that
 abbrev pub answer_by : List (List ℕ) → Fields → Result (List ℕ) HandshakeError → Answer
 answer_by origins fields (Err lacking) = Refuse (refusal_of lacking)
 answer_by origins fields (Ok accept_key) =
     cond (is_let_in origins fields) (admitted accept_key (choice_of (values fields (codes "Sec-WebSocket-Protocol")))) (Refuse Foreign)
 
--- The answer to a request with this method, minor version of HTTP and fields: what is malformed is told first, then what makes it
+-- The answer to a request with this method, minor version of HTTP and fields. What is malformed is told first, then what makes it
 -- none for a WebSocket (section 4.2.1), then the origin, and last the subprotocols.
 abbrev pub IsAnswer : List (List ℕ) → List ℕ → ℕ → Fields → Answer → Type 0
 IsAnswer origins method minor fields answer =
     (asked : Result (List ℕ) HandshakeError) × Answers asked (requested_key method minor fields)
     × (answer ≡ cond (is_malformed fields) (Refuse Malformed) (answer_by origins fields asked))
 
--- nobody is accepted who sends more before it was (section 4.1)
+-- no client is accepted that sends more before it was accepted (section 4.1)
 abbrev pub as_refusal : Answer → Answer
 as_refusal (Accept accept_key has_stomp) = Refuse Malformed
 as_refusal (Refuse refusal) = Refuse refusal
 
--- the bytes begin with a whole head, behind which these stand, and that is answered so
+-- the bytes begin with a whole head, after which these stand, and that is answered so
 pub record IsHead (origins : List (List ℕ)) (bytes : List ℕ) (answer : Answer) : Type 0 where
   pub head : RequestHead
   pub more : List ℕ
@@ -79,7 +79,7 @@ abbrev pub IsAnswerTo : List (List ℕ) → List ℕ → Answer → Type 0
 IsAnswerTo origins bytes answer =
     IsHead origins bytes answer ⊎ ((answer ≡ Refuse Malformed) × NeverHasRequest bytes) ⊎ ((answer ≡ Refuse TooLarge) × IsTooLarge bytes)
 
--- what a server that takes no one more answers in the place of this (RFC 9110, section 15.6.4)
+-- what a server that takes no more clients answers instead of this (RFC 9110, section 15.6.4)
 abbrev pub as_full : Answer → Answer
 as_full (Accept accept_key has_stomp) = Refuse Full
 as_full (Refuse refusal) = Refuse refusal
@@ -96,7 +96,7 @@ status_line TooLarge = codes "431 Request Header Fields Too Large"
 status_line Full = codes "503 Service Unavailable"
 
 -- What it has to say beside that: the methods that are allowed, what to upgrade to, and by which version, or in how many seconds
--- to ask again (RFC 9110, sections 15.5.6, 15.5.22 and 10.2.3; RFC 6455, section 4.4). The connection is closed behind it.
+-- to ask again. (RFC 9110, sections 15.5.6, 15.5.22 and 10.2.3; RFC 6455, section 4.4.) The connection is closed after it.
 abbrev pub further_fields : Refusal → List ℕ
 further_fields Malformed = codes "Connection: close\r\n"
 further_fields OtherProtocol = codes "Connection: close\r\n"
@@ -124,7 +124,7 @@ refusal_bytes refusal =
     codes "HTTP/1.1 " ++ (status_line refusal ++ (codes "\r\n" ++ (further_fields refusal
     ++ (codes "Content-Type: text/plain\r\nContent-Length: " ++ (decimal (length (body_of refusal)) ++ (codes "\r\n\r\n" ++ body_of refusal))))))
 
--- the response that says that the WebSocket is there (RFC 6455, section 4.2.2), with the subprotocol where the client offers it
+-- the response that says that the WebSocket is there (RFC 6455, section 4.2.2), with the subprotocol if the client offers it
 abbrev pub accepting : List ℕ → Bool → List ℕ
 accepting accept_key has_stomp =
     codes "HTTP/1.1 101 Switching Protocols" ++ crlf
@@ -133,20 +133,20 @@ accepting accept_key has_stomp =
     ++ field_line (codes "sec-websocket-accept") accept_key
     ++ cond has_stomp (field_line (codes "sec-websocket-protocol") (codes "v12.stomp")) [] ++ crlf
 
--- what is written to who is answered so
+-- what is written to a client that is answered so
 abbrev pub response_to : Answer → List ℕ
 response_to (Accept accept_key has_stomp) = accepting accept_key has_stomp
 response_to (Refuse refusal) = refusal_bytes refusal
 
--- Reads took on: where a stream had lost this head in all before them, it has lost that one now.
+-- Reads took on: if a stream had lost this head in all before them, it has lost that one now.
 abbrev pub ReadsOn : Option (List ℕ) → Option (List ℕ) → List ℕ → List ℕ → Type 0
 ReadsOn old new before now = (unread : Option (List ℕ)) → Consumes unread old before → Consumes unread new now
 
--- Writes went on: where these bytes had been written in all before them, those have been now.
+-- Writes went on: if these bytes had been written in all before them, those have been now.
 abbrev pub WritesOn : Option (List ℕ) → Option (List ℕ) → List ℕ → List ℕ → Type 0
 WritesOn old new before now = (held : Option (List ℕ)) → Appends held old before → Appends held new now
 
--- The stream gave a whole head that is to be accepted, and nothing behind it; then the response that says so was written.
+-- The stream gave a whole head that is to be accepted, and nothing after it; then the response that says so was written.
 pub record IsAccepted {S : Type 0} (remaining contents : S → Option (List ℕ)) (origins : List (List ℕ)) (old new : S) : Type 0 where
   pub between : S
   pub bytes : List ℕ

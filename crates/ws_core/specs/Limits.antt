@@ -2,8 +2,8 @@
 use Rattle.std.specs.Prelude.{◌≡◌, Some, false}
 use Rattle.tungstenite.specs.declared.protocol.WebSocketConfig.{WebSocketConfig}
 
--- A message and a frame of it may have 131,072 bytes, 1,048,576 bytes may wait to be sent, from 65,536 on they are offered to the
--- stream by each send, one read of the stream asks for 4,096, and the peer's frames are masked (RFC 6455, section 5.1).
+-- A message and a frame of it may have 131,072 bytes, and 1,048,576 bytes may wait to be sent. From 65,536 on, each send
+-- offers them to the stream. One read of the stream asks for 4,096, and the peer's frames are masked (RFC 6455, section 5.1).
 pub record HasOurLimits (c : WebSocketConfig) : Type 0 where
   pub message : c.max_message_size ≡ Some 131072
   pub frame : c.max_frame_size ≡ Some 131072

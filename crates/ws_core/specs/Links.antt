@@ -10,7 +10,7 @@ use Rattle.ws_core.specs.declared.phase.Phase.TheVariants.{Open, Closing, Failed
 use Rattle.ws_core.specs.Closing.{close_of}
 
 -- A WebSocket, how far the link has come, whether the stream has not taken all that it was last offered, and how many bytes were
--- dropped behind the close.
+-- dropped after the close.
 pub record Linked (S : Type 0) : Type 0 where
   pub socket : Socket S
   pub phase : Phase
@@ -52,8 +52,8 @@ module _ {S : Type 0} where
       (λ l. (l.socket, (l.phase, (l.held_up, l.dropped))))
       (λ p. record { socket = p.0; phase = p.1.0; held_up = p.1.1.0; dropped = p.1.1.1 }) (λ _. refl)
 
-  -- A link whose handshake has just been done: nothing is read or waits to be sent, a message and a frame of it may have
-  -- 131,072 bytes, and the peer's frames are masked (RFC 6455, section 5.1).
+  -- A link whose handshake has just been done: nothing is read, and nothing waits to be sent. A message and a frame of it may
+  -- have 131,072 bytes, and the peer's frames are masked (RFC 6455, section 5.1).
   pub record IsReady (l : Linked S) : Type 0 where
     pub is_fresh : (stream : S) × IsFresh l.socket stream Server
     pub goes_on : l.phase ≡ Open
@@ -63,7 +63,7 @@ module _ {S : Type 0} where
     pub frame : l.socket.conn.config.max_frame_size ≡ Some 131072
     pub masked : l.socket.conn.config.accept_unmasked_frames ≡ false
 
-  -- The close frame with that reason went to the stream (section 5.5.1), or waits behind what still does, and the link is being
+  -- The close frame with that reason went to the stream (section 5.5.1), or waits after what still does, and the link is being
   -- closed.
   pub record Ends (contents : S → Option (List ℕ)) (reason : CloseReason) (old new : Linked S) : Type 0 where
     pub written : Writes contents old.socket new.socket (close_step old.socket.conn (close_of reason))
@@ -71,6 +71,6 @@ module _ {S : Type 0} where
     pub before : old.phase ≡ Open
     pub after : new.phase ≡ Closing
 
-  -- An end that is Ok: the close was said; or the link had said its last before, and stays as it is.
+  -- An end that is Ok: the close was said, or the link had said its last before and stays as it is.
   abbrev pub IsEnded : (S → Option (List ℕ)) → CloseReason → Linked S → Linked S → Type 0
   IsEnded contents reason old new = Ends contents reason old new ⊎ (HasFailed old.phase × (new ≡ old))

@@ -24,7 +24,7 @@ IsRest all rest = (before : List (List ℕ)) × (all ≡ before ++ rest)
 unfoldable pub joined_before : List (List ℕ) → List (List ℕ) → List ℕ
 joined_before all rest = flat_map (λ message. message) (take (length all - length rest) all)
 
--- the next message, nothing where there is none left, and Closed once the link is over
+-- the next message, nothing if there is none left, and Closed once the link is over
 abbrev pub Recalls : Remembered → Remembered → Received → Type 0
 Recalls old new (Bytes v) =
     (old.over ≡ false) × (old.coming ≡ v.items ∷ new.coming) × (new ≡ remembered new.coming old.sent (old.received ++ v.items) false)
@@ -41,7 +41,7 @@ with_sent old bytes = remembered old.coming (old.sent ++ bytes ∷ []) old.recei
 abbrev pub ended : Remembered → Remembered
 ended old = remembered old.coming old.sent old.received true
 
--- a refusal leaves the same link: one that is over, where it is gone, or one that goes on
+-- a refusal leaves the same link: one that is over if it is gone, or one that goes on
 abbrev pub Forgoes : Remembered → Remembered → LinkFault → Type 0
 Forgoes old new faults.Gone = (old.over ≡ true) × (new ≡ old)
 Forgoes old new faults.Memory = (old.over ≡ false) × (new ≡ old)

@@ -25,6 +25,6 @@ is_stomp item = starts_with nat_eq (without_blanks item) (codes "v12.stomp") && 
 unfoldable pub has_stomp : List ℕ → Bool
 has_stomp offer = list_any is_stomp (items_of offer)
 
--- the answer to all offers of a request: `v12.stomp` where one has it, nothing where there is none
+-- the answer to all offers of a request: `v12.stomp` if one has it, nothing if there is none
 abbrev pub choice_of : List (List ℕ) → Choice
 choice_of offers = cond (list_any has_stomp offers) Stomp (cond (length offers == 0) Nothing Refuse)

@@ -23,7 +23,7 @@ given Nothing = []
 given Failed = []
 given Closed = []
 
--- so many bytes more were received, where the link tells them
+-- so many bytes more were received, if the link tells them
 abbrev pub with_received : Received → Option (List ℕ) → Option (List ℕ)
 with_received got received = option_map (λ bytes. bytes ++ given got) received
 
@@ -52,7 +52,7 @@ after phase Nothing = phase
 after phase Failed = phases.Failed
 after phase Closed = phases.Over
 
--- What came behind a close was dropped, and how much that was in all: 16,777,216 bytes at most, or the link is over.
+-- What came after a close was dropped, and this is how much that was in all: 16,777,216 bytes at most, or the link is over.
 abbrev pub Counts : ℕ → ℕ → Received → Type 0
 Counts old new (Bytes v) = ⊥
 Counts old new Skipped = (old < new) × (new ≤ 16777216)
@@ -61,14 +61,14 @@ Counts old new Failed = ⊥
 Counts old new Closed = ⊤
 
 module _ {S : Type 0} where
-  -- These frames were read, one behind the other, off the bytes that were there and those that the stream gave, and no
-  -- byte behind them is lost.
+  -- These frames were read, one after the other, off the bytes that were there and those that the stream gave, and no byte after
+  -- them is lost.
   pub record Reads (remaining : S → Option (List ℕ)) (old new : Socket S) (frames : Run) : Type 0 where
     pub got : List ℕ
     pub run : Runs old.conn (old.input ++ got) frames new.conn new.input
     pub stated : old.output ≡ [] → Consumes (remaining old.stream) (remaining new.stream) got
 
-  -- The next frame breaks the protocol or a limit, behind others that end no message: the read of it failed, and left a socket on
+  -- The next frame breaks the protocol or a limit, after others that end no message. The read of it failed, and left a socket on
   -- which the close of that code was said (section 7.1.7), and nothing else.
   pub record Breaks (contents : S → Option (List ℕ)) (old new : Socket S) : Type 0 where
     pub got : List ℕ
@@ -109,8 +109,8 @@ module _ {S : Type 0} where
   Drops remaining old new Failed = ⊤
   Drops remaining old new Closed = ⊤
 
-  -- What a read of a link does that has said its last: some of that went to the stream, which was shut once nothing waited any more;
-  -- what came was dropped without a look at it.
+  -- What a read of a link does that has said its last. Some of that went to the stream, which was shut once nothing waited any more.
+  -- What came was dropped without a look at it.
   pub record Leaves (contents : S → Option (List ℕ)) (old new : Linked S) (got : Received) : Type 0 where
     pub flushed : got ≢ Closed → Flushed contents old.socket new.socket
     pub counts : Counts old.dropped new.dropped got

@@ -9,11 +9,11 @@ use Rattle.ws_core.specs.declared.fault.LinkFault.TheVariants.{Memory, Gone}
 use Rattle.ws_core.specs.declared.phase.Phase.TheVariants as phases
 use Rattle.ws_core.specs.Links.{Linked}
 
--- one message more, where the link tells them
+-- one message more, if the link tells them
 abbrev pub with_message : List ℕ → Option (List (List ℕ)) → Option (List (List ℕ))
 with_message bytes sent = option_map (λ messages. messages ++ bytes ∷ []) sent
 
--- the message has these bytes: it is text where they are UTF-8, or else binary (RFC 6455, section 5.6)
+-- the message has these bytes: it is text if they are UTF-8, or else binary (RFC 6455, section 5.6)
 abbrev pub IsMessageOf : List ℕ → Content → Type 0
 IsMessageOf bytes (text t) = (t ≡ bytes) × IsUtf8 bytes
 IsMessageOf bytes (binary b) = (b ≡ bytes) × ¬ (IsUtf8 bytes)
@@ -22,8 +22,8 @@ IsMessageOf bytes (pong _) = ⊥
 IsMessageOf bytes (close _) = ⊥
 
 module _ {S : Type 0} where
-  -- The message is one frame more behind what still waited (sections 5.2 and 5.6), of which the stream took what it would. A
-  -- stream that had not taken all is not told to have done so.
+  -- The message is one frame more after what still waited (sections 5.2 and 5.6), of which the stream took what it would. A
+  -- stream that had not taken all is not said to have done so.
   pub record Puts (contents : S → Option (List ℕ)) (message : Content) (old new : Linked S) : Type 0 where
     pub written : Writes contents old.socket new.socket (write_step old.socket.conn message)
     pub held_up : old.held_up ≡ true → new.held_up ≡ true
@@ -38,7 +38,7 @@ module _ {S : Type 0} where
   abbrev pub Pings : (S → Option (List ℕ)) → Linked S → Linked S → Type 0
   Pings contents old new = Puts contents (ping []) old new
 
-  -- Some of what waited went to the stream, and nothing else changed. Where that is said, nothing waits any more.
+  -- Some of what waited went to the stream, and nothing else changed. If that is said, nothing waits any more.
   pub record Flushes (contents : S → Option (List ℕ)) (old new : Linked S) (all : Bool) : Type 0 where
     pub flushed : Flushed contents old.socket new.socket
     pub rest : all ≡ true → new.socket.output ≡ []
@@ -46,12 +46,12 @@ module _ {S : Type 0} where
     pub before : old.phase ≢ phases.Over
     pub after : new.phase ≡ old.phase
 
-  -- What a refusal leaves: the same link for want of memory, and where it was ended or over before; or else one that is over.
+  -- What a refusal leaves: the same link if memory was refused, or if it was ended or over before; or else one that is over.
   abbrev pub Refuses : Linked S → Linked S → LinkFault → Type 0
   Refuses old new Memory = new ≡ old
   Refuses old new Gone = (old.phase ≡ phases.Open → new.phase ≡ phases.Over) × (old.phase ≢ phases.Open → new ≡ old)
 
-  -- what a flush leaves that failed: a link that is over
+  -- what a flush that failed leaves: a link that is over
   pub record Fails (old new : Linked S) (fault : LinkFault) : Type 0 where
     pub gone : fault ≡ Gone
     pub over : new.phase ≡ phases.Over

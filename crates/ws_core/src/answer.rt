@@ -20,14 +20,14 @@ const MOST_FIELDS: usize = 124;
 /// The answer to a request for a WebSocket.
 #[derive(Clone, Copy)]
 pub enum Answer {
-    /// It gets one: what its key is answered (section 4.2.2), and whether the subprotocol is `v12.stomp`, or there is none.
+    /// It gets one: what its key is answered (section 4.2.2), and whether the subprotocol is `v12.stomp` or there is none.
     Accept([u8; 28], bool),
     /// It gets none.
     Refuse(Refusal),
 }
 
-/// The answer to these bytes of a client; `None` while there is no whole head of a request. Pages of these origins are served
-/// alone; where none is named, all are. No memory is taken.
+/// The answer to these bytes of a client; `None` while they hold no whole head of a request. Only pages of these origins are
+/// served; if none is named, all pages are. No memory is taken.
 pub fn answer_to(origins: &[Vec<u8>], bytes: &[u8]) -> Option<Answer>
     ensures answered { IfSome result (IsAnswerTo (map (λ origin. origin.items) origins.now) bytes.now) }
     ensures waits { IsNone result → HasNoRequest bytes.now }
@@ -44,7 +44,7 @@ pub fn answer_to(origins: &[Vec<u8>], bytes: &[u8]) -> Option<Answer>
     }
 }
 
-// The answer to a head behind which so many bytes stand.
+// The answer to a head that is followed by so many bytes.
 fn followed(answer: Answer, more: usize) -> Answer
     ensures { result ≡ cond (more == 0) answer (as_refusal answer) }
 {
@@ -73,7 +73,7 @@ fn answer_of(
     answer_by(origins, head, fields, asked)
 }
 
-// The answer where the request's key is answered so, or lacks that.
+// The answer if the request's key is answered so, or lacks that.
 fn answer_by(
     origins: &[Vec<u8>],
     head: &[u8],

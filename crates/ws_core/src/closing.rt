@@ -9,7 +9,7 @@ pub enum CloseReason {
     NormalClosure,
     /// The broker stops, or has given the connection up: 1001.
     GoingAway,
-    /// The client was told an ERROR: 1002.
+    /// The client was sent an ERROR: 1002.
     ProtocolError,
 }
 

@@ -38,7 +38,7 @@ pub fn count(head: &[u8], fields: &[HeaderSpan], name: &[u8]) -> usize
     count
 }
 
-// Whether the request comes from no page, or from one that is served.
+// Whether the request comes from no page, or from a page that is served.
 pub fn is_let_in(origins: &[Vec<u8>], head: &[u8], fields: &[HeaderSpan]) -> bool
     requires { All (IsHeaderWithin (length head.now)) fields.now }
     ensures { result ≡ is_let_in (map (λ origin. origin.items) origins.now) (fields_of head.now fields.now) }
@@ -72,8 +72,8 @@ fn is_among(origins: &[Vec<u8>], origin: &[u8]) -> bool
     false
 }
 
-/// The answer to the subprotocols that a request offers. Each `Sec-WebSocket-Protocol` is a list with commas, and several are
-/// one list (RFC 6455, section 11.3.4).
+/// The answer to the subprotocols that a request offers. Each `Sec-WebSocket-Protocol` is a list with commas, and several of
+/// them form one list (RFC 6455, section 11.3.4).
 pub fn choose(head: &[u8], fields: &[HeaderSpan]) -> Choice
     requires { All (IsHeaderWithin (length head.now)) fields.now }
     ensures { result ≡ choice_of (values (fields_of head.now fields.now) (codes "Sec-WebSocket-Protocol")) }
@@ -88,7 +88,7 @@ pub fn choose(head: &[u8], fields: &[HeaderSpan]) -> Choice
     }
 }
 
-// Whether one of the offers, which have that name, has `v12.stomp`.
+// Whether one of the offers, which are the fields of that name, has `v12.stomp`.
 fn some_has_stomp(head: &[u8], fields: &[HeaderSpan], name: &[u8]) -> bool
     requires { All (IsHeaderWithin (length head.now)) fields.now }
     ensures { result ≡ list_any has_stomp (values (fields_of head.now fields.now) name.now) }

@@ -18,17 +18,17 @@ use std::marker::Model;
 use std::snapshot::Snapshot;
 use std::sync::Arc;
 
-/// A client's opening handshake over a stream, as far as it has come. A call of `greet` does what the stream lets it do and returns:
-/// a read that has nothing to give, and a write that takes nothing, fails with `WouldBlock`.
+/// A client's opening handshake over a stream, as far as it has come. A call of `greet` does what the stream lets it do and returns.
+/// A read that has nothing to give, and a write that takes nothing, fails with `WouldBlock`.
 ///
-/// A client gets a WebSocket by a whole request for one, whatever path it names, with nothing behind it. The subprotocol is
-/// `v12.stomp` where the client offers it, and none where it offers none. A browser's page, which sends its origin, is served where
-/// that is among the named ones, or where none is named. Everyone else is told why not, by a response with a status.
+/// A client gets a WebSocket if it sends a whole request for one, whatever path it names, and nothing after it. The subprotocol is
+/// `v12.stomp` if the client offers it, and none if it offers none. A browser's page, which sends its origin, is served if its
+/// origin is among the named ones, or if none is named. Any other client gets a response whose status says why not.
 ///
-/// A head may have 65,536 bytes and 124 fields, and from the 65th read on at least 128 bytes a read; beyond that the stream is
-/// given up, so a client that never ends its head costs no more than that. How long a client takes is the caller's to limit.
+/// A head may have 65,536 bytes and 124 fields, and from the 65th read on at least 128 bytes a read. Beyond that the stream is given
+/// up, so a client that never ends its head costs no more than that. How long a client takes is the caller's to limit.
 ///
-/// Contracts see the stream as it was given, the origins, and whether the server takes no one more.
+/// Contracts see the stream as it was given, the origins, and whether the server takes no more clients.
 #[derive(Drop)]
 pub struct Greeting<S: Read + Write> {
     // The stream as it was given.
@@ -59,27 +59,27 @@ impl<S: Read + Write> Model for Greeting<S> {
 /// What a handshake has come to.
 #[derive(Drop)]
 pub enum Greeted<S: Read + Write> {
-    /// The stream gives or takes no more now: the handshake is to be gone on with once it does.
+    /// The stream gives or takes no more now: the handshake goes on once it does.
     Waits(Greeting<S>),
     /// The client has its WebSocket, and the whole response that says so is written.
     Accepted(WsLink<S>),
     /// The client gets none. The whole response that says why is written, and the stream is closed.
     Refused(Refusal),
-    /// The handshake is given up, and the stream is closed: `Memory` where that was refused, `Gone` where the stream has ended or
-    /// failed, or gave its head too slowly.
+    /// The handshake is given up, and the stream is closed. It is `Memory` if memory was refused, and `Gone` if the stream has ended
+    /// or failed, or gave its head too slowly.
     Failed(LinkFault),
 }
 
 impl<S: Read + Write + Drop> Greeting<S> {
-    /// The handshake with a client to which that stream leads, of which nothing was read. Pages of these origins are served alone;
-    /// where none is named, all are. No memory is taken.
+    /// The handshake with a client to which that stream leads, of which nothing was read. Only pages of these origins are served; if
+    /// none is named, all pages are. No memory is taken.
     pub fn new(alloc: Global, stream: S, origins: Arc<Vec<Vec<u8>>>) -> Greeting<S>
         ensures { result ≡ greeter stream (map (λ origin. origin.items) (arc_value origins).items) false }
     {
         Greeting::begin(alloc, stream, origins, false)
     }
 
-    /// The same of a server that takes no one more: who would get a WebSocket is told `Refusal::Full`.
+    /// The same of a server that takes no more clients: one that would get a WebSocket is answered `Refusal::Full`.
     pub fn full(alloc: Global, stream: S, origins: Arc<Vec<Vec<u8>>>) -> Greeting<S>
         ensures { result ≡ greeter stream (map (λ origin. origin.items) (arc_value origins).items) true }
     {
@@ -101,7 +101,7 @@ impl<S: Read + Write + Drop> Greeting<S> {
         }
     }
 
-    /// Goes on with the handshake: reads the request as far as it has come, and once it has an answer writes that, as far as the
+    /// Goes on with the handshake: reads the request as far as it has come, and once there is an answer, writes that as far as the
     /// stream takes it.
     pub fn greet(self, alloc: Global) -> Greeted<S>
         ensures { Greets S.remaining S.contents self result }
@@ -161,7 +161,7 @@ impl<S: Read + Write + Drop> Greeting<S> {
         }
     }
 
-    // Says the answer, where there is one.
+    // Says the answer, if there is one.
     fn say(self, alloc: Global) -> Greeted<S>
         ensures { Greets S.remaining S.contents self result }
     {
@@ -201,7 +201,7 @@ impl<S: Read + Write + Drop> Greeting<S> {
     }
 }
 
-// The answer, unless the server takes no one more.
+// The answer, unless the server takes no more clients.
 fn at(is_full: bool, answer: Answer) -> Answer
     ensures { result ≡ answer_at is_full answer }
 {
@@ -211,7 +211,7 @@ fn at(is_full: bool, answer: Answer) -> Answer
     }
 }
 
-// What a handshake has come to whose answer is wholly written.
+// What a handshake has come to if its answer is wholly written.
 fn done<S: Read + Write + Drop>(alloc: Global, stream: S, answer: Answer) -> Greeted<S>
     ensures { (g : Greeter S) (head : List ℕ) → Tells S.remaining S.contents g head stream answer (response_to answer) → Greets S.remaining S.contents g result }
 {

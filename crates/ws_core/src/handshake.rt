@@ -13,15 +13,15 @@ const PIECE_BYTES: usize = 4_096;
 
 const HEAD_BYTES: usize = 65_536;
 
-// How many reads a head may take; from so many on, how many bytes they must have given on average.
+// How many reads a head may take; and, after so many of them, how many bytes a read must have given on average.
 const MOST_READS: usize = 1_024;
 
 const FREE_READS: usize = 64;
 
 const LEAST_BYTES: usize = 128;
 
-/// Reads on until the head is whole or is none, and says what is answered; `None` where the stream has no more of it now. So many
-/// reads have been made for it.
+/// Reads on until the head is whole or is none, and reports the answer; `None` if the stream has no more of it now. So many reads
+/// have been made for it.
 pub fn hear_head<S: Read>(
     stream: &mut S,
     head: &mut Vec<u8>,

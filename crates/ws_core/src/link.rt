@@ -16,44 +16,45 @@ use std::alloc::Global;
 pub enum Received {
     /// The next bytes of the peer's STOMP stream. A frame may be cut over several of these.
     Bytes(Vec<u8>),
-    /// Nothing for the STOMP stream: a ping or a pong, or a message that came behind the link's end. More may be there at once.
+    /// Nothing for the STOMP stream: a ping or a pong, or a message that came after the link's end. More may be there at once.
     Skipped,
-    /// The stream has nothing to give now. There may be more once it can be read again, or takes bytes again where some wait.
+    /// The stream has nothing to give now. There may be more once it can be read again, or, if some bytes wait, once it takes bytes
+    /// again.
     Nothing,
-    /// The peer broke the protocol and was told its close code, or it has closed and was answered. The link is ended: it says nothing
+    /// The peer broke the protocol and was sent its close code, or it has closed and was answered. The link is ended: it says nothing
     /// more, and drops what comes until the stream's end. Then it is `Closed`.
     Failed,
-    /// The peer has closed, or the link has failed, for want of memory too. It is over for good.
+    /// The peer has closed, or the link has failed, perhaps because memory was refused. It is over for good.
     Closed,
 }
 
-/// The part of a connection that sends what may leave. Each frame goes out as one message. Who has this alone can neither
+/// The part of a connection that sends what may leave. Each frame goes out as one message. A caller that has this alone can neither
 /// read the connection nor close it. No call waits.
 ///
-/// A link may tell what was sent: then contracts see a list of the messages, to which only a send that answers Ok adds
-/// one. It may tell what was received: then they see all the bytes that reads gave, to which only a read adds. It may tell too
-/// what a refusal leaves, by its fault: then nobody can take one fault for another.
+/// A link may tell what was sent: then contracts see a list of the messages, to which only a send that answers Ok adds one. It may
+/// tell what was received: then they see all the bytes that reads gave, to which only a read adds. It may also tell what a refusal
+/// leaves, by its fault: then nobody can take one fault for another.
 pub trait Outgoing {
     ghost use Rattle.ws_core.specs.declared.fault.LinkFault.{LinkFault};
 
-    /// The messages that were sent, where the link tells them.
+    /// The messages that were sent, if the link tells them.
     ghost sent: { Self → Option (List (List ℕ)) } = { λ _. None };
 
-    /// The bytes that were received, where the link tells them.
+    /// The bytes that were received, if the link tells them.
     ghost received: { Self → Option (List ℕ) } = { λ _. None };
 
-    /// What a refusal with that fault leaves, where the link tells it: the link before the call, and after it.
+    /// What a refusal with that fault leaves, if the link tells it: the link before the call, and after it.
     ghost refuses: { Self → Self → LinkFault → Type 0 } = { λ _ _ _. ⊤ };
 
     /// Whether the stream has not taken all that it was last offered.
     ghost is_held_up: { Self → Bool } = { λ _. false };
 
-    /// Sends what may leave, as one message, behind all that was sent before. It is Ok also where the stream takes only a part
-    /// now, or nothing: the rest waits in the link, and leaves by later calls. `flush` has all leave that was sent since the last
-    /// one, in as few writes as can be.
+    /// Sends what may leave as one message, after all that was sent before. It is Ok even if the stream takes only a part now, or
+    /// nothing: the rest waits in the link, and leaves by later calls. `flush` has all leave that was sent since the last one, in as
+    /// few writes as can be.
     ///
     /// `Memory` leaves the link as it was, and the call may be made again. `Gone` says that the link was ended or over, or now is
-    /// over: where too much waits too, which it never does where nothing is sent while `waits`.
+    /// over. It is also over if too much waits, which never happens if nothing is sent while `waits`.
     fn send(&mut self, alloc: Global, released: &Released) -> Result<(), LinkFault>
         ensures told { OnOk result (sent self.new ≡ with_message (written released.now.frame) (sent self.old)) }
         ensures untold { OnErr result (sent self.new ≡ sent self.old) }
@@ -69,21 +70,21 @@ pub trait Outgoing {
         ensures rest { IfOk result (λ all. is_held_up self.new ≡ not all) }
         ensures gone { IfErr result (λ fault. fault ≡ LinkFault.Gone) };
 
-    /// Whether the stream has not taken all that it was last offered: behind a flush, whether something waits to be written. While
-    /// it does, nothing more should be sent; a flush once the stream takes bytes again ends it.
+    /// Whether the stream has not taken all that it was last offered; after a flush, whether something waits to be written. While
+    /// this is so, nothing more should be sent. A flush ends it once the stream takes bytes again.
     fn waits(&self) -> bool
         ensures { result ≡ is_held_up self.now };
 }
 
 /// A connection to one client, which carries one STOMP stream each way.
 pub trait Link: Outgoing {
-    /// Reads one message, or as much of it as there is. A link that was ended drops what comes, until the stream's end. One that is
-    /// over answers `Closed`.
+    /// Reads one message, or as much of it as there is. A link that was ended drops what comes, until the stream's end. A link that
+    /// is over answers `Closed`.
     fn receive(&mut self, alloc: Global) -> Received
         ensures told { Self.sent self.new ≡ Self.sent self.old }
         ensures read { Self.received self.new ≡ with_received result (Self.received self.old) };
 
-    /// Sends an ERROR that doesn't wait for the broker, as `send` does: one that a session made, and none of the broker's.
+    /// Sends an ERROR that doesn't wait for the broker, as `send` does: one that a session made, and not the broker.
     fn send_direct(&mut self, alloc: Global, notice: &Notice) -> Result<(), LinkFault>
         ensures told { OnOk result (Self.sent self.new ≡ with_message (written notice.now) (Self.sent self.old)) }
         ensures untold { OnErr result (Self.sent self.new ≡ Self.sent self.old) }
@@ -96,14 +97,14 @@ pub trait Link: Outgoing {
         ensures unread { Self.received self.new ≡ Self.received self.old }
         ensures memory { IfErr result (λ fault. fault ≡ LinkFault.Memory → self.new ≡ self.old) };
 
-    /// How many bytes it keeps, as far as it knows: those that wait to be written, and those that came of a message that isn't whole.
+    /// How many bytes it keeps, as far as it knows: those that wait to be written, and those of a message that isn't whole yet.
     fn held(&self) -> u64 {
         0
     }
 
-    /// Says the close with that reason, behind all that was sent, as far as the stream takes it; the rest leaves by later calls.
-    /// From then on the link sends nothing, and `receive` hears the peer's close. One that has answered `Failed` says nothing more
-    /// and stays as it is: it is Ok. `Memory` leaves the link as it was; `Gone` says that it was ended or over, or that its stream
+    /// Says the close with that reason, after all that was sent, as far as the stream takes it; the rest leaves by later calls. From
+    /// then on the link sends nothing, and `receive` hears the peer's close. A link that has answered `Failed` says nothing more and
+    /// stays as it is: that is Ok. `Memory` leaves the link as it was. `Gone` says that it was ended or over, or that its stream
     /// failed.
     fn end(&mut self, reason: CloseReason) -> Result<(), LinkFault>
         ensures told { Self.sent self.new ≡ Self.sent self.old }

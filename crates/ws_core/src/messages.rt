@@ -19,11 +19,11 @@ use std::io::{ErrorKind, Read, Write};
 use tungstenite::{Bytes, CloseCode, CloseFrame, Error, Message, NoMask, Utf8Bytes, WebSocket};
 use websocket::error::ProtocolError;
 
-// How many bytes are dropped at most that come behind a close.
+// How many bytes are dropped at most after a close.
 const DROPPED_BYTES: u64 = 16_777_216;
 
-// Reads once, and says what came for the STOMP stream. A peer that closes is answered, and one that breaks the protocol is told why
-// (RFC 6455, section 7.1.7). Then it is said too whether the stream has taken all of that.
+// Reads once, and says what came for the STOMP stream. A peer that closes is answered, and one that breaks the protocol is sent the
+// reason (RFC 6455, section 7.1.7). Then it also says whether the stream has taken all of that.
 pub fn hear<S: Read + Write + Drop>(
     alloc: Global,
     socket: &mut WebSocket<S, NoMask>,
@@ -65,8 +65,8 @@ fn said(all: Result<bool, Error>, held_up: &mut bool) -> Received
     }
 }
 
-// Reads once behind the close frame that was sent, and drops what came, until the peer's close or the stream's end (RFC 6455,
-// section 7.1.2).
+// Reads once after the close frame was sent, and drops what came, until the peer's close or the stream's end (RFC 6455, section
+// 7.1.2).
 pub fn hear_close<S: Read + Write + Drop>(socket: &mut WebSocket<S, NoMask>) -> Received
     ensures { Drops S.remaining socket.old socket.new result }
 {
@@ -85,7 +85,7 @@ pub fn hear_close<S: Read + Write + Drop>(socket: &mut WebSocket<S, NoMask>) -> 
     }
 }
 
-// What a read came to whose bytes are dropped. Behind so many of them the link is over. A read that was interrupted counts as a byte.
+// What a read came to whose bytes are dropped. After so many of them the link is over. A read that was interrupted counts as a byte.
 pub fn count_dropped(read: io::Result<usize>, dropped: &mut u64) -> Received
     ensures { Counts dropped.old dropped.new result }
 {
@@ -106,7 +106,7 @@ pub fn count_dropped(read: io::Result<usize>, dropped: &mut u64) -> Received
     }
 }
 
-// What a read gave that failed only for now: one that was interrupted is to be made again.
+// What a read gave that failed only for now. One that was interrupted is to be made again.
 fn nothing(error: &Error) -> Received
     ensures { (result ≡ Received.Skipped) ⊎ (result ≡ Received.Nothing) }
 {
@@ -143,8 +143,8 @@ fn bytes_of(alloc: Global, bytes: &[u8]) -> Received
     }
 }
 
-// Whether the stream only has nothing to give yet. `TimedOut` says something else: a read sends what waits first, such as the
-// answer to a ping, and the peer took nothing of it for as long as it was given.
+// Whether the stream only has nothing to give yet. `TimedOut` says something else. A read first sends what waits, such as the answer
+// to a ping, and the peer took nothing of it for as long as it was given.
 fn is_wait(error: &Error) -> bool
     ensures { IsTrue result → IsIo error.now }
 {
@@ -156,7 +156,7 @@ fn is_wait(error: &Error) -> bool
     }
 }
 
-// The code of what the peer did wrong (RFC 6455, section 7.4.1), where it did.
+// The code of what the peer did wrong (RFC 6455, section 7.4.1), if it did.
 fn failure_code(error: &Error) -> Option<u16>
     ensures { result ≡ breach_code error.now }
 {
@@ -169,7 +169,7 @@ fn failure_code(error: &Error) -> Option<u16>
     }
 }
 
-// A text where the bytes are UTF-8, or else binary.
+// A text if the bytes are UTF-8, or else binary.
 pub fn message_of(bytes: Vec<u8>) -> Result<Message, LinkFault>
     ensures ok { IfOk result (λ message. IsMessageOf bytes.items (content_of message)) }
     ensures err { IfErr result (λ fault. fault ≡ LinkFault.Memory) }
@@ -181,7 +181,7 @@ pub fn message_of(bytes: Vec<u8>) -> Result<Message, LinkFault>
     }
 }
 
-// Puts a message behind what waits to be sent, and answers whether the stream has taken all that it was offered.
+// Puts a message after what waits to be sent, and answers whether the stream has taken all that it was offered.
 pub fn put<S: Read + Write + Drop>(
     socket: &mut WebSocket<S, NoMask>,
     message: Message,
@@ -207,7 +207,7 @@ pub fn flush<S: Read + Write + Drop>(socket: &mut WebSocket<S, NoMask>) -> Resul
     }
 }
 
-// Puts the close frame behind what waits to be sent, writes all that, and answers whether the stream has taken it.
+// Puts the close frame after what waits to be sent, writes all that, and answers whether the stream has taken it.
 pub fn say_close<S: Read + Write + Drop>(
     socket: &mut WebSocket<S, NoMask>,
     reason: CloseReason,
@@ -222,7 +222,7 @@ pub fn say_close<S: Read + Write + Drop>(
     }
 }
 
-// What a write that failed came to: where the stream only takes nothing more now, what it has not taken waits.
+// What a write that failed came to: if the stream only takes nothing more now, what it has not taken waits.
 fn held_up(error: Error) -> Result<bool, Error>
     ensures now { IfOk result (λ all. (all ≡ false) × IsIo error) }
     ensures failed { IfErr result (λ same. same ≡ error) }

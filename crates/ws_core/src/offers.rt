@@ -11,7 +11,7 @@ pub enum Choice {
     Stomp,
     /// No subprotocol, as none was offered.
     Nothing,
-    /// The client offers other subprotocols alone, so it isn't accepted.
+    /// The client offers only other subprotocols, so it isn't accepted.
     Refuse,
 }
 

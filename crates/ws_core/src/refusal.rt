@@ -1,4 +1,4 @@
-//! Why a client gets no WebSocket, and what it is told.
+//! Why a client gets no WebSocket, and what it is sent.
 
 ghost use Rattle.std.specs.Prelude.{◌≡◌, IfOk, string_bytes};
 ghost use Rattle.ws_core.specs.Handshakes.{body_of, further_fields, refusal_bytes, refusal_of, status_line};
@@ -6,12 +6,13 @@ ghost use Rattle.ws_core.specs.Handshakes.{body_of, further_fields, refusal_byte
 use std::alloc::{AllocError, Global};
 use websocket::handshake::HandshakeError;
 
-/// Why a client is refused that asks for a WebSocket, or for something else.
+/// Why a client that asks for a WebSocket, or for something else, is refused.
 #[derive(Clone, Copy)]
 pub enum Refusal {
-    /// 400: its head is none, it has no Host or two, no key or none of 16 bytes, or it says that a body follows in pieces.
+    /// 400: its head is no request's, it has no Host or two, its key is missing or not of 16 bytes, or it says that a body
+    /// follows in pieces.
     Malformed,
-    /// 400: it offers other subprotocols alone, as `v10.stomp` and `v11.stomp`.
+    /// 400: it offers only other subprotocols, such as `v10.stomp` and `v11.stomp`.
     OtherProtocol,
     /// 403: it comes from a page of an origin that is not served.
     Foreign,
@@ -23,12 +24,12 @@ pub enum Refusal {
     Version,
     /// 431: its head has more than 65,536 bytes or 124 fields.
     TooLarge,
-    /// 503: it would get one, but the server takes no one more now. It is told to ask again in ten seconds.
+    /// 503: it would get one, but the server takes no more clients now. The answer asks it to come again in ten seconds.
     Full,
 }
 
 impl Refusal {
-    /// What the client is told: a response of HTTP/1.1 with a short text, behind which the connection is closed.
+    /// What the client is sent: a response of HTTP/1.1 with a short text, after which the connection is closed.
     pub fn response(self, alloc: Global) -> Result<String, AllocError>
         ensures { IfOk result (λ text. string_bytes text ≡ refusal_bytes self) }
     {

@@ -24,7 +24,7 @@ pub struct Saying {
 }
 
 impl Saying {
-    /// That answer, of which nothing was written. It fails for want of memory alone.
+    /// An answer of which nothing was written yet. It fails only if memory is refused.
     pub fn new(alloc: Global, answer: Answer) -> Result<Saying, LinkFault>
         ensures said { IfOk result (λ saying. (saying.answer ≡ answer) × (saying.said ≡ 0)) }
         ensures response { IfOk result (λ saying. saying.response.items ≡ response_to answer) }
@@ -38,7 +38,7 @@ impl Saying {
         })
     }
 
-    /// Writes on, as far as the stream takes it, and answers whether the whole response is written. It is `Gone` where the stream
+    /// Writes on, as far as the stream takes it, and answers whether the whole response is written. It is `Gone` if the stream
     /// fails.
     pub fn go_on<S: Write>(&mut self, stream: &mut S) -> Result<bool, LinkFault>
         requires { self.old.said ≤ length self.old.response.items }
@@ -74,7 +74,7 @@ fn refusing(alloc: Global, refusal: Refusal) -> Result<Vec<u8>, LinkFault>
     }
 }
 
-// That the WebSocket is there, and its subprotocol.
+// The response that the WebSocket is there, with its subprotocol.
 fn acceptance(alloc: Global, accept_key: &[u8; 28], has_stomp: bool) -> Result<Vec<u8>, LinkFault>
     ensures response { IfOk result (λ response. response.items ≡ accepting accept_key.now has_stomp) }
     ensures memory { IfErr result (λ fault. fault ≡ LinkFault.Memory) }
@@ -116,7 +116,7 @@ fn put_plain(accept_key: &[u8; 28], response: &mut Vec<u8>) -> Result<(), Handsh
     write_response(accept_key, &[], response)
 }
 
-// Writes of a response what is left, as far as the stream takes it.
+// Writes what is left of a response, as far as the stream takes it.
 fn say<S: Write>(stream: &mut S, response: &[u8], said: &mut usize) -> Result<(), LinkFault>
     requires { said.old ≤ length response.now }
     ensures within { said.new ≤ length response.now }

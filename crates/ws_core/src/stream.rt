@@ -2,17 +2,16 @@
 
 use std::io;
 
-/// A stream that one who shares it can bring to its end. What that does no contract sees: a stream that tells contracts what it has to
-/// give, or what it holds, is to tell the same afterwards.
+/// A stream that can be brought to its end by a caller that shares it. No contract sees what that does: a stream that tells contracts
+/// what it has to give, or what it holds, is to tell the same afterwards.
 pub trait Ending {
-    /// Reads some bytes and drops them, and answers how many: none where the stream has ended. It is `WouldBlock` where there are none
-    /// now.
+    /// Reads some bytes and drops them, and answers how many: none if the stream has ended. It is `WouldBlock` if there are none now.
     fn drop_some(&self) -> io::Result<usize>;
 
-    /// Says that nothing more will be written. The peer finds the stream's end behind what was.
+    /// Says that nothing more will be written. The peer finds the stream's end after what was written.
     fn shut_down(&self) -> io::Result<()>;
 
-    /// How many bytes its reads gave in all, those that were dropped not counted; 0 if it counts none.
+    /// How many bytes its reads gave in all, not counting those that were dropped; 0 if it counts none.
     fn given(&self) -> u64 {
         0
     }

@@ -28,16 +28,16 @@ const READ_BYTES: usize = 4_096;
 // The most bytes that a ping or a pong of a client takes (RFC 6455, section 5.5): its head, its mask and what it says.
 const CONTROL_BYTES: u64 = 131;
 
-/// A WebSocket over a stream, after its handshake. Of a stream that has nothing to give, or takes nothing, a read or a write fails
-/// with `WouldBlock`; any other failure but `Interrupted` ends the link. Contracts see the socket, how far the link has come, whether
-/// the stream has not taken all that it was last offered, and how many bytes were dropped behind the close.
+/// A WebSocket over a stream, after its handshake. If a stream has nothing to give, or takes nothing, a read or a write fails with
+/// `WouldBlock`; any other failure but `Interrupted` ends the link. Contracts see the socket, how far the link has come, and how many bytes
+/// were dropped after the close. They also see whether the stream has not taken all that it was last offered.
 ///
-/// Behind the peer's close, and behind the close by which a peer is told that it broke the protocol, the stream's writing side is shut
-/// once all is written, and what comes is dropped up to the stream's end, but no more than 16,777,216 bytes (RFC 6455, section 7.1.1):
-/// a system resets a connection that is closed before all was read, and then the peer may never hear why.
+/// A link drops what comes after the peer's close, and after the close that tells a peer that it broke the protocol. Its stream's writing
+/// side is shut once all is written. It drops bytes up to the stream's end, but no more than 16,777,216 (RFC 6455, section 7.1.1). For a
+/// system resets a connection that is closed before all was read, and then the peer may never hear why.
 ///
-/// A message may have 131,072 bytes, and so may a frame of it. A link is `Gone` where a message would make over 1,048,576 bytes
-/// wait to be sent; from 65,536 on a send offers them to the stream, so that many messages may be sent before a flush.
+/// A message may have 131,072 bytes, and so may a frame of it. A link is `Gone` if a message would make over 1,048,576 bytes wait to be
+/// sent. From 65,536 on, a send offers them to the stream, so that many messages may be sent before a flush.
 #[derive(Drop)]
 pub struct WsLink<S> {
     socket: WebSocket<S, NoMask>,
@@ -105,8 +105,8 @@ impl<S: Read + Write + Drop> WsLink<S> {
         self.socket.get_ref()
     }
 
-    /// Sends a frame as one message, as `Outgoing::send` does, whoever made it: for whoever has a link and no broker. What a desk sends
-    /// goes by the traits alone.
+    /// Sends a frame as one message, as `Outgoing::send` does, whoever made it: for callers that have a link and no broker. What a desk
+    /// sends goes by the traits alone.
     pub fn send_frame(&mut self, alloc: Global, frame: &Frame) -> Result<(), LinkFault>
         requires { Writable frame.now }
         ensures sends { OnOk result (Sends S.contents (written frame.now) self.old self.new) }
@@ -120,7 +120,7 @@ impl<S: Read + Write + Drop> WsLink<S> {
         self.put(message)
     }
 
-    // Puts a message behind what waits to be sent.
+    // Puts a message after what waits to be sent.
     fn put(&mut self, message: Message) -> Result<(), LinkFault>
         requires { self.old.phase ≡ Open }
         ensures puts { OnOk result (Puts S.contents (content_of message) self.old self.new) }
@@ -139,8 +139,8 @@ impl<S: Read + Write + Drop> WsLink<S> {
         }
     }
 
-    // Counts a message that was put into the socket. From `WRITING_BYTES` on all was offered to the stream, which has taken it unless it
-    // is held up.
+    // Counts a message that was put into the socket. From `WRITING_BYTES` on all was offered to the stream, which has taken it unless it is
+    // held up.
     fn count_unsent(&mut self, bytes: u64)
         ensures { self.new ≡ self.old }
     {
@@ -152,7 +152,7 @@ impl<S: Read + Write + Drop> WsLink<S> {
         };
     }
 
-    // What a failed write leaves: a link that is over, but for want of memory.
+    // What a failed write leaves: a link that is over, unless memory was refused.
     fn refuse(&mut self, error: &Error) -> LinkFault
         ensures memory { error.now ≡ OutOfMemory → (result ≡ LinkFault.Memory) × (self.new ≡ self.old) }
         ensures gone { error.now ≢ OutOfMemory → (result ≡ LinkFault.Gone) × (self.new.phase ≡ Over) }
@@ -236,8 +236,8 @@ impl<S: Read + Write + Ending + Drop> Link for WsLink<S> {
         received
     }
 
-    // Both are counted for more than they are: messages of up to 64 KiB that the stream has taken, until a flush, and of a message that isn't
-    // whole the heads of its fragments.
+    // Both are counted for more than they are. The first has messages of up to 64 KiB that the stream has taken, until a flush; the second
+    // has the heads of a message's fragments, while it isn't whole.
     fn held(&self) -> u64 {
         let given = self.socket.get_ref().given();
         let most = (MESSAGE_BYTES + READ_BYTES) as u64;
@@ -314,7 +314,7 @@ impl<S: Read + Write + Ending + Drop> WsLink<S> {
         received
     }
 
-    // Shuts the stream's writing side where all was written, unless it is shut.
+    // Shuts the stream's writing side if all was written, unless it is shut.
     fn shut(&mut self, all: bool)
         ensures { self.new ≡ record self.old { phase = cond all Shut Failed; held_up = not all } }
     {

@@ -25,13 +25,13 @@ pub enum Do {
     Flush,
     Ping,
     End(CloseReason),
-    /// So many bytes behind the request are open.
+    /// So many bytes after the request are open.
     Open(usize),
     /// The stream takes so many bytes more, and then it would block.
     Take(usize),
     /// The stream takes nothing more: each write fails.
     Cut,
-    /// The same, and each write was tried for as long as it is given.
+    /// The same, and each write was tried for as long as it may take.
     Stall,
 }
 
@@ -72,7 +72,7 @@ fn put_sent(
     put_done(shown, done)
 }
 
-// What a flush shows. Behind it something waits just where it says so.
+// What a flush shows. After it something waits exactly if it says so.
 fn put_flushed(
     shown: &mut Vec<u8>,
     link: &WsLink<&Wire>,
@@ -162,10 +162,10 @@ pub fn accepted(alloc: Global, wire: &Wire) -> Result<WsLink<&Wire>, Fail> {
     }
 }
 
-/// What these acts show of a link whose handshake is done. A read shows bytes between < and >, a dash for what is skipped, a point
-/// for nothing, x for a link that has failed and ! for a closed one; a send, a ping and an end show k, or w where a send finds that the stream doesn't take all,
-/// or m and g for their faults; a flush shows t where nothing waits any more, and else f. Behind it stands what was written, and
-/// | where the stream's writing side was shut.
+/// What these acts show of a link whose handshake is done. A read shows bytes between < and >, a dash for what is skipped, a point for
+/// nothing, x for a link that has failed, and ! for a closed one. A send, a ping and an end show k, or m and g for their faults, or w if a
+/// send finds that the stream doesn't take all. A flush shows t if nothing waits any more, and else f. After it stands what was written,
+/// and | if the stream's writing side was shut.
 pub fn run(alloc: Global, wire: &Wire, acts: &[Do]) -> Result<Vec<u8>, Fail> {
     let mut link = accepted(alloc, wire)?;
     let mut response = Vec::new(alloc);

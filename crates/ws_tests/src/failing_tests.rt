@@ -4,7 +4,7 @@ use std::alloc::Global;
 use std::test::Fail;
 use ws_core::CloseReason;
 
-// Bytes as a peer may send them behind what has failed its link.
+// Bytes as a peer may send them after what has failed its link.
 const BEHIND: &[u8] = b"none of this is looked at";
 
 // The stream takes two bytes of the close at first, and then none, while the peer goes on sending.
@@ -28,7 +28,7 @@ const SLOWLY: &[Do] = &[
     Do::End(CloseReason::GoingAway),
 ];
 
-// What these acts show where one frame of eleven bytes comes, and then so many others.
+// What these acts show if one frame of eleven bytes comes, and then so many others.
 fn shown_behind(alloc: Global, first: u8, payload: &[u8], acts: &[Do]) -> Result<Vec<u8>, Fail> {
     let mut input = frames(alloc, &[(first, payload)])?;
     input.extend_from_slice(BEHIND)?;
@@ -40,7 +40,7 @@ fn shown_behind(alloc: Global, first: u8, payload: &[u8], acts: &[Do]) -> Result
 #[test]
 fn a_failed_link_says_its_close_and_drops_what_comes(rt: HostRuntime) -> Result<(), Fail> {
     let alloc = rt.alloc();
-    // A reserved bit is set, a text is no UTF-8, or the peer closes with 1000 and three letters.
+    // A reserved bit is set, a text is not UTF-8, or the peer closes with 1000 and three letters.
     let rows: [(u8, &[u8], &[u8]); 3] = [
         (0xc1, b"Hello", b"x\x88\x02.-..\x03\xea|ggkt-!g"),
         (0x81, b"\xff....", b"x\x88\x02.-..\x03\xef|ggkt-!g"),

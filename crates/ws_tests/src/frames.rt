@@ -35,7 +35,7 @@ pub fn put_frame(bytes: &mut Vec<u8>, first: u8, payload: &[u8]) -> Result<(), A
     Ok(())
 }
 
-/// Frames, each of a first byte and a payload, behind one another.
+/// Frames, each of a first byte and a payload, one after another.
 pub fn frames(alloc: Global, all: &[(u8, &[u8])]) -> Result<Vec<u8>, AllocError> {
     let mut bytes = Vec::new(alloc);
     for (first, payload) in all {

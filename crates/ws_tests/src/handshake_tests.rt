@@ -13,7 +13,7 @@ fn answered(alloc: Global, request: &str) -> Result<(bool, String), Fail> {
     answered_for(alloc, request, all_origins(alloc)?)
 }
 
-// The same where pages of these origins are served alone.
+// The same if only pages of these origins are served.
 fn answered_for(
     alloc: Global,
     request: &str,
@@ -99,7 +99,7 @@ fn an_offer_of_subprotocols_is_answered(rt: HostRuntime) -> Result<(), Fail> {
     Ok(())
 }
 
-// What stands in the place of what, so that the request is no handshake, and what its answer begins with: 405 names the methods
+// What stands in the place of what, so that the request is no handshake, and what its answer begins with. 405 names the methods
 // that are allowed (RFC 9110, section 15.5.6), 426 what to upgrade to (section 15.5.22), and RFC 6455, section 4.4, the version.
 const SPOILED: &[(&str, &str, &str)] = &[
     ("GET /chat", "POST /chat", "HTTP/1.1 405 "),
@@ -118,7 +118,7 @@ const SPOILED: &[(&str, &str, &str)] = &[
     ),
     ("GET", "\u{0}", "HTTP/1.1 400 "),
     ("\r\n\r\n", "\r\n\r\nmore", "HTTP/1.1 400 "),
-    // Half of a head is answered by nothing.
+    // Half of a head is not answered.
     ("\r\n\r\n", "\r\n", ""),
 ];
 
@@ -152,7 +152,7 @@ fn what_is_no_handshake_is_told_why(rt: HostRuntime) -> Result<(), Fail> {
     Ok(())
 }
 
-// Header lines, and whether they are accepted where pages of `http://a.example` and of `null` are served alone.
+// Header lines, and whether they are accepted if only pages of `http://a.example` and of `null` are served.
 const ORIGINS: &[(&str, bool)] = &[
     ("", true),
     ("Origin: http://a.example\r\n", true),
@@ -189,7 +189,7 @@ fn pages_of_other_origins_are_told_403(rt: HostRuntime) -> Result<(), Fail> {
     Ok(())
 }
 
-// How many bytes are read of a head that does not end, where a read gives so many. `None` if it is accepted.
+// How many bytes are read of a head that does not end, if a read gives so many. `None` if it is accepted.
 fn bytes_read(alloc: Global, step: usize) -> Result<Option<usize>, Fail> {
     let endless = vec![in alloc; b'a'; 1_000_000]?;
     let wire = Wire::new(alloc, b"", endless.as_slice(), step)?;
@@ -213,7 +213,7 @@ fn a_head_that_does_not_end_is_given_up(rt: HostRuntime) -> Result<(), Fail> {
     Ok(())
 }
 
-// A handshake that waits, or what it has come to: + for a client that is accepted, - for one that is refused, ! where it failed.
+// A handshake that waits, or what it has come to: + for a client that is accepted, - for one that is refused, ! if it failed.
 fn outcome(greeted: Greeted<&Wire>) -> Result<Greeting<&Wire>, u8> {
     match greeted {
         Greeted::Waits(greeting) => Ok(greeting),
@@ -223,7 +223,7 @@ fn outcome(greeted: Greeted<&Wire>) -> Result<Greeting<&Wire>, u8> {
     }
 }
 
-// What the next call makes of it: a point where it waits.
+// What the next call makes of it: a point if it waits.
 fn mark_of_next(alloc: Global, greeting: Greeting<&Wire>) -> u8 {
     match outcome(greeting.greet(alloc)) {
         Ok(_greeting) => b'.',
@@ -231,7 +231,7 @@ fn mark_of_next(alloc: Global, greeting: Greeting<&Wire>) -> u8 {
     }
 }
 
-// What a handshake comes to at the first call, a point where it waits, and what is written then; and what it comes to at the next
+// What a handshake comes to at the first call, a point if it waits, and what is written then. Also what it comes to at the next
 // one, before which the stream is open and takes all.
 fn greeted_twice(
     alloc: Global,
@@ -264,8 +264,8 @@ fn a_request_may_come_in_two_parts(rt: HostRuntime) -> Result<(), Fail> {
     Ok(())
 }
 
-// How a response goes out of which the stream takes so many bytes first: whether it waits then, having written just these, and what
-// it comes to with the rest.
+// How a response goes out if the stream takes so many bytes first: whether it waits then, having written just these, and what it
+// comes to with the rest.
 fn goes_out_in_two(alloc: Global, request: &str, room: usize, response: &str) -> Result<u8, Fail> {
     let wire = Wire::new(alloc, request.as_bytes(), b"", usize::MAX)?;
     wire.take_only(room);
@@ -306,7 +306,7 @@ fn a_response_may_go_out_a_byte_at_a_time(rt: HostRuntime) -> Result<(), Fail> {
     Ok(())
 }
 
-// What a server that takes no one more answers, and whether it tells that it is full.
+// What a server that takes no more clients answers, and whether it says that it is full.
 fn answered_in_full(alloc: Global, request: &str) -> Result<(bool, String), Fail> {
     let wire = Wire::new(alloc, request.as_bytes(), b"", usize::MAX)?;
     let greeted = Greeting::full(alloc, &wire, two_origins(alloc)?).greet(alloc);
@@ -326,7 +326,7 @@ fn one_client_too_many_is_told_503_and_when_to_ask_again(rt: HostRuntime) -> Res
         is_refusal(answer) && answer.contains("\r\nRetry-After: 10\r\n"),
         "{answer}"
     );
-    // Who would be refused by any server is told that.
+    // A client that any server would refuse is told that.
     let (is_full, answer) = answered_in_full(alloc, REQUEST)?;
     assert!(rt; !is_full && answer.as_str().starts_with("HTTP/1.1 403 "));
     Ok(())

@@ -1,5 +1,5 @@
-//! Tests of WebSocket links by their public face. They are a crate of their own, since a crate that has tests is proved twice,
-//! and rows of data over one driver, since each function that holds a link has a long proof.
+//! Tests of WebSocket links by their public face. They are a crate of their own, since a crate that has tests is proved twice.
+//! They are rows of data over one driver, since each function that holds a link has a long proof.
 
 #![tactic(auto)]
 

@@ -85,7 +85,7 @@ fn what_breaks_the_protocol_fails_the_link(rt: HostRuntime) -> Result<(), Fail> 
     Ok(())
 }
 
-// A ping is answered before the next read, and the peer takes nothing of that for as long as it is given.
+// A ping is answered before the next read, and the peer takes nothing of that for as long as the write may take.
 const UNANSWERED: &[Row] = &[(
     &[(0x89, b"Hello"), (0x82, b"a"), (0x82, b"b")],
     &[Do::Stall, Do::Hear, Do::Hear, Do::Hear],
@@ -145,14 +145,14 @@ fn nothing_comes_at_each_place_of_a_frame_and_then_all_of_it(rt: HostRuntime) ->
     Ok(())
 }
 
-// What is shown of a frame with so many bytes, and one that ends its message where it doesn't.
+// What is shown of a frame with so many bytes, and then, if it doesn't end its message, of one that does.
 fn shown_of(alloc: Global, first: u8, length: usize) -> Result<Vec<u8>, Fail> {
     let payload = vec![in alloc; b'a'; length]?;
     let input = frames(alloc, &[(first, payload.as_slice()), (0x80, b"a")])?;
     shown(alloc, input.as_slice(), usize::MAX, ONCE)
 }
 
-// The same of the head of a frame alone.
+// The same of only the head of a frame.
 fn shown_of_head(alloc: Global, length: u64) -> Result<Vec<u8>, Fail> {
     let mut head = Vec::new(alloc);
     put_head(&mut head, 0x82, length)?;

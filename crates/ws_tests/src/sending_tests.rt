@@ -185,7 +185,7 @@ fn twenty_messages_leave_in_one_write_or_a_byte_at_a_time(rt: HostRuntime) -> Re
 #[test]
 fn a_send_offers_65536_bytes_to_the_stream_and_no_fewer(rt: HostRuntime) -> Result<(), Fail> {
     let alloc = rt.alloc();
-    // Beside its body an ERROR has eight bytes, and its frame four more, or ten where these are 65,536.
+    // Beside its body an ERROR has eight bytes, and its frame four more, or ten if these are 65,536.
     let rows: [(&[Do], &[u8]); 3] = [
         (&[Do::Take(0), Do::SendLong(65_523)], b"k"),
         (&[Do::Take(0), Do::SendLong(65_524)], b"w"),
@@ -226,7 +226,7 @@ fn late(alloc: Global, count: usize) -> Result<Vec<u8>, Fail> {
     Ok(frames(alloc, all.as_slice())?)
 }
 
-// How many bytes behind the request these acts read.
+// How many bytes after the request these acts read.
 fn read_by(alloc: Global, wire: &Wire, acts: &[Do]) -> Result<usize, Fail> {
     drop(run(alloc, wire, acts)?);
     Ok(wire.read_so_far().saturating_sub(REQUEST.len()))

@@ -10,10 +10,10 @@ use ws_core::Ending;
 #[derive(Drop)]
 pub struct Wire {
     input: Vec<u8>,
-    // So many bytes come with one read, and behind them at most `step` with each.
+    // So many bytes come with one read, and after them at most `step` with each.
     head: usize,
     step: usize,
-    // How far the input is open. Behind that a read is refused; behind all of it the stream has ended.
+    // How far the input is open. After that a read is refused; after all of it the stream has ended.
     open: Cell<usize>,
     at: Cell<usize>,
     output: RefCell<Vec<u8>>,
@@ -59,7 +59,7 @@ impl Wire {
         self.refused.get()
     }
 
-    /// Opens the input so far and no further.
+    /// Opens the input up to there and no further.
     pub fn open_to(&self, end: usize) {
         self.open.set(end);
     }
@@ -69,7 +69,7 @@ impl Wire {
         self.at.get()
     }
 
-    /// Moves what was written behind these bytes.
+    /// Moves what was written to the end of these bytes.
     pub fn move_output(&self, bytes: &mut Vec<u8>) -> Result<(), AllocError> {
         if let Ok(mut output) = self.output.try_borrow_mut() {
             bytes.extend_from_slice(output.as_slice())?;
