@@ -1,4 +1,4 @@
-//! How what a connection wants is done.
+//! What a connection wants is done.
 
 ghost use Rattle.std.specs.Prelude.{◌≡◌, ◌≢◌, None, true, false};
 ghost use Rattle.connection_core.specs.Connections.{HasWantedForm, to_append};
@@ -16,8 +16,8 @@ use session_core::Notice;
 use std::alloc::Global;
 use ws_core::{Link, LinkFault};
 
-// How many acts of a connection are done in a turn at most: half of what its seat may have under way, so that one that has much
-// to say leaves room for the next in turn, where the whole window is free.
+// How many acts of a connection are done in a turn at most: half of what its seat may have under way. So a connection that has much
+// to say leaves room for the next one, if the whole window is free.
 const ACTS: u32 = 8;
 
 /// What one act, or the entry that is kept, came to.
@@ -40,7 +40,7 @@ pub enum Step {
 pub struct Executed {
     /// A command was appended.
     pub appended: bool,
-    /// What the last one came to: `Appended` or `Done` where more may be done at once.
+    /// What the last one came to: `Appended` or `Done` if more may be done at once.
     pub last: Step,
 }
 
@@ -79,7 +79,7 @@ impl<B: Bell> Slot<B> {
     ghost use Rattle.desk_core.specs.Histories.{LivesOn};
     ghost use Rattle.desk_core.specs.Slots.{Stays};
 
-    // Does what the connection wants, in order, until something has to wait or so much was done.
+    // Does what the connection wants, in order, until something has to wait or `ACTS` are done.
     pub(crate) fn execute<M: Ringers<B>, L: Link>(
         &mut self,
         alloc: Global,
@@ -138,8 +138,8 @@ impl<B: Bell> Slot<B> {
         }
     }
 
-    // Makes the entry of a command and appends it. Where memory is refused, the connection wants the command again. One that would have
-    // the session pass its bytes is dropped, with all that waits behind it: the connection is given up.
+    // Makes the entry of a command and appends it. If memory is refused, the connection wants the command again. If its session would
+    // pass its bytes by the command, the connection is given up: the command is dropped, with all that waits after it.
     fn prepare<M: Ringers<B>>(
         &mut self,
         alloc: Global,
@@ -172,7 +172,7 @@ impl<B: Bell> Slot<B> {
         }
     }
 
-    // Appends an entry, or keeps it where the window is full.
+    // Appends an entry, or keeps it if the window is full.
     fn append(
         &mut self,
         ring: &BrokerRing<OutSender<B>>,
@@ -222,7 +222,7 @@ impl<B: Bell> Slot<B> {
         }
     }
 
-    // Tells the client an ERROR that doesn't wait for the broker, which is the last frame. Where its link is over nobody is told.
+    // Sends the client an ERROR that doesn't wait for the broker, as the last frame. Nothing is sent if its link is over.
     fn tell<L: Link>(&mut self, alloc: Global, link: &mut L, notice: Notice) -> Step
         requires first { self.old.connection.acts.again ≡ None }
         requires nothing { self.old.pending ≡ None }
@@ -254,7 +254,7 @@ impl<B: Bell> Slot<B> {
     }
 }
 
-// Whether nobody hears any more what is told.
+// Whether nobody hears any more what is sent.
 fn is_cut_off(stage: Stage) -> bool
     ensures yes { result ≡ true → stage ≡ Stage.Leaving }
     ensures no { result ≡ false → stage ≢ Stage.Leaving }

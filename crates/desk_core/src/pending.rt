@@ -14,8 +14,8 @@ use connection_core::{Connection, Role, Said};
 use outbox_core::{Bell, BoxSize, OutSender, OutTaker, outbox};
 use std::alloc::{AllocError, Global};
 
-/// The entry of a command that is to be appended. That of an Open carries the giving end of a new outbox, whose taking end is kept
-/// beside it, for the connection to have once the Open is appended. No other command has a box.
+/// The entry of a command that is to be appended. The entry of an Open carries the giving end of a new outbox. The taking end is kept
+/// beside it, and the connection has it once the Open is appended. No other command has a box.
 #[derive(Drop)]
 pub struct Pending<B: Bell> {
     pub(crate) entry: Entry<OutSender<B>>,
@@ -29,7 +29,8 @@ pub struct Pending<B: Bell> {
 }
 
 impl<B: Bell> Pending<B> {
-    /// The entry of a command, which is this to its session. Where memory is refused, for the entry or for the outbox, the command comes back.
+    /// The entry of a command, which is this to its session. If memory is refused, for the entry or for the outbox, the command comes
+    /// back.
     pub(crate) fn new<M: Ringers<B>>(
         alloc: Global,
         ringers: &M,
@@ -70,7 +71,8 @@ impl<B: Bell> Pending<B> {
     }
 }
 
-// Makes the entry of a command, and counts the command. Where memory is refused for either, the command comes back and nothing has changed.
+// Makes the entry of a command, and counts the command. If memory is refused for either, the command comes back and nothing has
+// changed.
 pub fn charge<B: Bell, M: Ringers<B>>(
     alloc: Global,
     ringers: &M,

@@ -16,7 +16,7 @@ pub struct Slot<B: Bell> {
     pub(crate) connection: Connection,
     // An entry that found the window full.
     pub(crate) pending: Option<Pending<B>>,
-    // What comes for the session, once its Open is appended.
+    // Where its outputs wait, once its Open is appended.
     pub(crate) outbox: Option<OutTaker>,
     pub(crate) kept: Kept,
     ghost opened: { number_in connection.progress ≡ None → outbox ≡ None },
@@ -28,7 +28,7 @@ impl<B: Bell> Slot<B> {
     ghost use Rattle.desk_core.specs.Places.{is_over};
     ghost use Rattle.desk_core.specs.Slots.{IsNew};
 
-    /// A connection whose client was not heard yet. No memory is taken.
+    /// A connection whose client has not been heard yet. No memory is taken.
     pub fn new(alloc: Global) -> Slot<B>
         ensures { IsNew result }
     {

@@ -10,7 +10,7 @@ use claim_core::{BrokerRing, BrokerSeat, Refused, WINDOW};
 use command_core::Entry;
 use connection_core::{Connection, Said};
 
-// Appends the next command of a connection's conversation, which is this to its session, and answers its ticket. Where the ring refuses,
+// Appends the next command of a connection's conversation, which is this to its session, and answers its ticket. If the ring refuses,
 // the entry comes back.
 pub fn speak<B: Drop>(
     ring: &BrokerRing<B>,
