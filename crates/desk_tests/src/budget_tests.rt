@@ -54,25 +54,34 @@ fn unsubscribe(alloc: Global, length: usize) -> Result<Vec<u8>, AllocError> {
 type Came = (u64, Option<u16>, bool);
 
 fn run(alloc: Global, texts: &[&[u8]], wanted: &[&[u8]]) -> Option<Came> {
-    let client = Client::new(alloc, texts, 0)?;
     let mut room = Room::with_areas(alloc, 262_144)?;
+    let came = run_in(alloc, &mut room, texts, wanted);
+    drop(room);
+    came
+}
+
+fn run_in(alloc: Global, room: &mut Room, texts: &[&[u8]], wanted: &[&[u8]]) -> Option<Came> {
+    let client = Client::new(alloc, texts, 0)?;
     let place = room.admit(alloc, client);
     room.go_round(alloc, 60);
-    let count = room.count();
-    let came = match room.dismiss(0) {
+    let count = room.count()?;
+    let (code, right) = dismissed(room, wanted)?;
+    if place == Some(0) {
+        Some((count, code, right))
+    } else {
+        None
+    }
+}
+
+// The client goes: the code with which it was closed, and whether it heard these.
+fn dismissed(room: &mut Room, wanted: &[&[u8]]) -> Option<(Option<u16>, bool)> {
+    match room.dismiss(0) {
         Some(client) => {
             let came = (client.code(), client.heard(wanted));
             drop(client);
             Some(came)
         }
         None => None,
-    };
-    drop(room);
-    let (code, right) = came?;
-    if place == Some(0) {
-        Some((count?, code, right))
-    } else {
-        None
     }
 }
 
@@ -108,12 +117,26 @@ fn a_session_of_8193_bytes_is_ended(rt: HostRuntime) -> Result<(), Fail> {
 
 // The same in one message, whose DISCONNECT the session has heard by then.
 fn run_at_once(alloc: Global, length: usize, wanted: &[&[u8]]) -> Option<Came> {
-    let large = subscribe(alloc, length).ok()?;
-    let mut all = Vec::from_slice(alloc, CONNECT).ok()?;
-    for text in [large.as_slice(), SEND, DISCONNECT] {
-        all.extend_from_slice(text).ok()?;
+    let all = all_at_once(alloc, length).ok()?;
+    let came = run(alloc, &[all.as_slice()], wanted);
+    drop(all);
+    came
+}
+
+fn all_at_once(alloc: Global, length: usize) -> Result<Vec<u8>, AllocError> {
+    let large = subscribe(alloc, length)?;
+    let mut all = Vec::new(alloc);
+    let pushed = push_all(&mut all, large.as_slice());
+    drop(large);
+    pushed?;
+    Ok(all)
+}
+
+fn push_all(all: &mut Vec<u8>, large: &[u8]) -> Result<(), AllocError> {
+    for text in [CONNECT, large, SEND, DISCONNECT] {
+        all.extend_from_slice(text)?;
     }
-    run(alloc, &[all.as_slice()], wanted)
+    Ok(())
 }
 
 #[test]
@@ -185,16 +208,41 @@ fn an_unsubscribe_gives_its_part_back(rt: HostRuntime) -> Result<(), Fail> {
 // Subscribes with all that it may, and ends that, twelve times.
 fn run_churn(alloc: Global) -> Option<Came> {
     let begin = subscribe(alloc, LARGEST).ok()?;
-    let end = unsubscribe(alloc, LARGEST).ok()?;
-    let mut texts: Vec<&[u8]> = Vec::new(alloc);
-    texts.push(CONNECT).ok()?;
+    let came = match unsubscribe(alloc, LARGEST) {
+        Ok(end) => {
+            let came = churn(alloc, begin.as_slice(), end.as_slice());
+            drop(end);
+            came
+        }
+        Err(_) => None,
+    };
+    drop(begin);
+    came
+}
+
+fn churn(alloc: Global, begin: &[u8], end: &[u8]) -> Option<Came> {
+    let mut texts = Vec::new(alloc);
+    let came = match push_churn(&mut texts, begin, end) {
+        Ok(()) => run(alloc, texts.as_slice(), RECEIPTS),
+        Err(_) => None,
+    };
+    drop(texts);
+    came
+}
+
+fn push_churn<'a>(
+    texts: &mut Vec<&'a [u8]>,
+    begin: &'a [u8],
+    end: &'a [u8],
+) -> Result<(), AllocError> {
+    texts.push(CONNECT)?;
     for _ in 0..12u32 {
-        texts.push(begin.as_slice()).ok()?;
-        texts.push(end.as_slice()).ok()?;
+        texts.push(begin)?;
+        texts.push(end)?;
     }
-    texts.push(SEND).ok()?;
-    texts.push(DISCONNECT).ok()?;
-    run(alloc, texts.as_slice(), RECEIPTS)
+    texts.push(SEND)?;
+    texts.push(DISCONNECT)?;
+    Ok(())
 }
 
 #[test]

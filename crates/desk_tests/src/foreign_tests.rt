@@ -22,6 +22,24 @@ fn take_box(ring: &HubRing, flusher: &mut RawFlusher) -> Option<OutSender<Silent
     sender
 }
 
+// Those of two Opens.
+fn take_both(
+    ring: &HubRing,
+    flusher: &mut RawFlusher,
+) -> Option<(OutSender<Silent>, OutSender<Silent>)>
+    requires { flusher.old.ring ≡ ring.now }
+    ensures { flusher.new.ring ≡ flusher.old.ring }
+{
+    let first = take_box(ring, flusher)?;
+    match take_box(ring, flusher) {
+        Some(second) => Some((first, second)),
+        None => {
+            drop(first);
+            None
+        }
+    }
+}
+
 // Publishes all that was taken.
 fn publish(ring: &HubRing, flusher: &mut RawFlusher)
     requires { flusher.old.ring ≡ ring.now }
@@ -64,43 +82,88 @@ fn end_of(desk: &MemDesk, at: usize, wanted: &[&[u8]]) -> Option<Option<u16>> {
     }
 }
 
-fn desk_of_two(alloc: Global, seat: HubSeat) -> Option<MemDesk>
-    ensures { IfSome result (λ desk. desk.seat.ring ≡ seat.ring) }
+// A client comes in that connects.
+fn admit_one(alloc: Global, desk: &mut MemDesk) -> bool
+    ensures { desk.new.seat.ring ≡ desk.old.seat.ring }
 {
-    let mut desk = Desk::new(alloc, seat);
-    let first = Client::new(alloc, &[CONNECT], 0);
-    let second = Client::new(alloc, &[CONNECT], 0);
-    match (first, second) {
-        (Some(first), Some(second)) => {
-            let _ = desk.admit(alloc, first);
-            let _ = desk.admit(alloc, second);
-            Some(desk)
+    match Client::new(alloc, &[CONNECT], 0) {
+        Some(client) => {
+            let _ = desk.admit(alloc, client);
+            true
         }
-        _ => None,
+        None => false,
     }
 }
 
-// How each of two clients ends, where the outbox of the first is given an output of the second's session: its code, where it heard
-// what it should. Tickets are the numbers of commands, from 0.
-fn run(alloc: Global) -> Option<(Option<Option<u16>>, Option<Option<u16>>)> {
-    let Ok((ring, mut seats, mut flusher)) = Ring::new(alloc, 0) else {
-        return None;
-    };
-    let seat = seats.pop()?;
-    let mut desk = desk_of_two(alloc, seat)?;
-    turn_both(alloc, &ring, &mut desk, 1);
-    let mut first = take_box(&ring, &mut flusher)?;
-    let mut second = take_box(&ring, &mut flusher)?;
-    if !give(alloc, &mut first, 1, 1) || !give(alloc, &mut second, 1, 1) {
+// How each of two clients ends: its code, where it heard what it should.
+type Ends = (Option<Option<u16>>, Option<Option<u16>>);
+
+// Both outboxes are given an output of the second's session.
+fn give_both(
+    alloc: Global,
+    ring: &HubRing,
+    desk: &mut MemDesk,
+    flusher: &mut RawFlusher,
+    boxes: &mut (OutSender<Silent>, OutSender<Silent>),
+) -> Option<Ends>
+    requires desk { desk.old.seat.ring ≡ ring.now }
+    requires flusher { flusher.old.ring ≡ ring.now }
+{
+    let (first, second) = boxes;
+    if !give(alloc, first, 1, 1) || !give(alloc, second, 1, 1) {
         return None;
     }
-    publish(&ring, &mut flusher);
-    turn_both(alloc, &ring, &mut desk, 3);
-    let ends = (end_of(&desk, 0, &[]), end_of(&desk, 1, &[CONNECTED]));
+    publish(ring, flusher);
+    turn_both(alloc, ring, desk, 3);
+    Some((end_of(desk, 0, &[]), end_of(desk, 1, &[CONNECTED])))
+}
+
+// The outboxes of both, which stay until the end.
+fn play(alloc: Global, ring: &HubRing, desk: &mut MemDesk, flusher: &mut RawFlusher) -> Option<Ends>
+    requires desk { desk.old.seat.ring ≡ ring.now }
+    requires flusher { flusher.old.ring ≡ ring.now }
+{
+    if !admit_one(alloc, desk) || !admit_one(alloc, desk) {
+        return None;
+    }
+    turn_both(alloc, ring, desk, 1);
+    match take_both(ring, flusher) {
+        Some(mut boxes) => {
+            let ends = give_both(alloc, ring, desk, flusher, &mut boxes);
+            drop(boxes);
+            ends
+        }
+        None => None,
+    }
+}
+
+// A desk at that seat.
+fn play_at(alloc: Global, ring: &HubRing, seat: HubSeat, flusher: &mut RawFlusher) -> Option<Ends>
+    requires seat { seat.ring ≡ ring.now }
+    requires flusher { flusher.old.ring ≡ ring.now }
+{
+    let mut desk = Desk::new(alloc, seat);
+    let ends = play(alloc, ring, &mut desk, flusher);
     drop(desk);
-    drop(first);
-    drop(second);
-    Some(ends)
+    ends
+}
+
+// How both end, where the outbox of the first is given an output of the second's session. Tickets are the numbers of commands,
+// from 0.
+fn run(alloc: Global) -> Option<Ends> {
+    match Ring::new(alloc, 0) {
+        Ok((ring, mut seats, mut flusher)) => {
+            let ends = match seats.pop() {
+                Some(seat) => play_at(alloc, &ring, seat, &mut flusher),
+                None => None,
+            };
+            drop(seats);
+            drop(flusher);
+            drop(ring);
+            ends
+        }
+        Err(_) => None,
+    }
 }
 
 #[test]

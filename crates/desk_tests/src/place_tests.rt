@@ -177,16 +177,26 @@ fn each_client_of_a_desk_hears_its_own(rt: HostRuntime) -> Result<(), Fail> {
 // A client whose bytes are two messages, so many of them and the rest, beside one that says nothing: how many commands were carried
 // out, and whether it heard these.
 fn run_cut(alloc: Global, stream: &[u8], at: usize, wanted: &[&[u8]]) -> Option<(u64, bool)> {
-    let (front, rest) = stream.split_at(at.min(stream.len()));
-    let client = Client::new(alloc, &[front, rest], 0)?;
     let mut room = Room::new(alloc)?;
-    admit_all(alloc, &mut room, &[SILENT]);
+    let ran = hear_cut(alloc, &mut room, stream, at, wanted);
+    drop(room);
+    ran
+}
+
+fn hear_cut(
+    alloc: Global,
+    room: &mut Room,
+    stream: &[u8],
+    at: usize,
+    wanted: &[&[u8]],
+) -> Option<(u64, bool)> {
+    let (front, rest) = stream.split_at(at.min(stream.len()));
+    admit_all(alloc, room, &[SILENT]);
+    let client = Client::new(alloc, &[front, rest], 0)?;
     let place = room.admit(alloc, client);
     room.go_round(alloc, ROUNDS);
-    let count = room.count();
-    let right = place == Some(1) && has_heard(&room, 1, wanted);
-    drop(room);
-    Some((count?, right))
+    let count = room.count()?;
+    Some((count, place == Some(1) && has_heard(room, 1, wanted)))
 }
 
 // What is cut at each byte, and what is to come of it: how many commands, and what is heard.
@@ -225,9 +235,15 @@ fn dismisses(room: &mut Room, at: usize) -> bool {
 // heard its own CONNECTED alone.
 fn run_again(alloc: Global) -> Option<(Option<usize>, bool)> {
     let mut room = Room::new(alloc)?;
+    let ran = take_again(alloc, &mut room);
+    drop(room);
+    ran
+}
+
+fn take_again(alloc: Global, room: &mut Room) -> Option<(Option<usize>, bool)> {
     admit_all(
         alloc,
-        &mut room,
+        room,
         &[
             Guest {
                 stuck: 1_000,
@@ -237,16 +253,14 @@ fn run_again(alloc: Global) -> Option<(Option<usize>, bool)> {
         ],
     );
     room.go_round(alloc, ROUNDS);
-    let sits = room.dismiss(0).is_none();
+    let sits = !dismisses(room, 0);
     room.lose(0);
     room.go_round(alloc, 2);
-    let left = sits && has_heard(&room, 0, &[]) && dismisses(&mut room, 0);
+    let left = sits && has_heard(room, 0, &[]) && dismisses(room, 0);
     let next = Client::new(alloc, &[CONNECT], 0)?;
     let place = room.admit(alloc, next);
     room.go_round(alloc, ROUNDS);
-    let right = left && has_heard(&room, 0, &[CONNECTED]);
-    drop(room);
-    Some((place, right))
+    Some((place, left && has_heard(room, 0, &[CONNECTED])))
 }
 
 #[test]
@@ -258,14 +272,19 @@ fn who_takes_a_place_hears_nothing_of_the_one_before(rt: HostRuntime) -> Result<
 // A client that is refused memory for its CONNECTED: whether its turn says that memory is lacking, and whether the next one, which sends that
 // and reads nothing, says that it has another turn at once.
 fn turns_of_one_short_of_memory(alloc: Global) -> Option<[bool; 2]> {
+    let mut room = Room::new(alloc)?;
+    let turns = turns_of_one_short(alloc, &mut room);
+    drop(room);
+    turns
+}
+
+fn turns_of_one_short(alloc: Global, room: &mut Room) -> Option<[bool; 2]> {
     let client = Client::new(alloc, &[CONNECT, SEND], 0)?;
     client.run_short(1);
-    let mut room = Room::new(alloc)?;
     let _ = room.admit(alloc, client);
     let opened = room.turn(alloc, 0).is_some() && room.flush(alloc);
     let short = room.turn(alloc, 0);
     let unread = room.turn(alloc, 0);
-    drop(room);
     Some([
         opened && matches!(short, Some(Next::Memory)),
         matches!(unread, Some(Next::Go)),
