@@ -117,26 +117,12 @@ fn a_session_of_8193_bytes_is_ended(rt: HostRuntime) -> Result<(), Fail> {
 
 // The same in one message, whose DISCONNECT the session has heard by then.
 fn run_at_once(alloc: Global, length: usize, wanted: &[&[u8]]) -> Option<Came> {
-    let all = all_at_once(alloc, length).ok()?;
-    let came = run(alloc, &[all.as_slice()], wanted);
-    drop(all);
-    came
-}
-
-fn all_at_once(alloc: Global, length: usize) -> Result<Vec<u8>, AllocError> {
-    let large = subscribe(alloc, length)?;
-    let mut all = Vec::new(alloc);
-    let pushed = push_all(&mut all, large.as_slice());
-    drop(large);
-    pushed?;
-    Ok(all)
-}
-
-fn push_all(all: &mut Vec<u8>, large: &[u8]) -> Result<(), AllocError> {
-    for text in [CONNECT, large, SEND, DISCONNECT] {
-        all.extend_from_slice(text)?;
+    let large = subscribe(alloc, length).ok()?;
+    let mut all = Vec::from_slice(alloc, CONNECT).ok()?;
+    for text in [large.as_slice(), SEND, DISCONNECT] {
+        all.extend_from_slice(text).ok()?;
     }
-    Ok(())
+    run(alloc, &[all.as_slice()], wanted)
 }
 
 #[test]
@@ -208,41 +194,16 @@ fn an_unsubscribe_gives_its_part_back(rt: HostRuntime) -> Result<(), Fail> {
 // Subscribes with all that it may, and ends that, twelve times.
 fn run_churn(alloc: Global) -> Option<Came> {
     let begin = subscribe(alloc, LARGEST).ok()?;
-    let came = match unsubscribe(alloc, LARGEST) {
-        Ok(end) => {
-            let came = churn(alloc, begin.as_slice(), end.as_slice());
-            drop(end);
-            came
-        }
-        Err(_) => None,
-    };
-    drop(begin);
-    came
-}
-
-fn churn(alloc: Global, begin: &[u8], end: &[u8]) -> Option<Came> {
-    let mut texts = Vec::new(alloc);
-    let came = match push_churn(&mut texts, begin, end) {
-        Ok(()) => run(alloc, texts.as_slice(), RECEIPTS),
-        Err(_) => None,
-    };
-    drop(texts);
-    came
-}
-
-fn push_churn<'a>(
-    texts: &mut Vec<&'a [u8]>,
-    begin: &'a [u8],
-    end: &'a [u8],
-) -> Result<(), AllocError> {
-    texts.push(CONNECT)?;
+    let end = unsubscribe(alloc, LARGEST).ok()?;
+    let mut texts: Vec<&[u8]> = Vec::new(alloc);
+    texts.push(CONNECT).ok()?;
     for _ in 0..12u32 {
-        texts.push(begin)?;
-        texts.push(end)?;
+        texts.push(begin.as_slice()).ok()?;
+        texts.push(end.as_slice()).ok()?;
     }
-    texts.push(SEND)?;
-    texts.push(DISCONNECT)?;
-    Ok(())
+    texts.push(SEND).ok()?;
+    texts.push(DISCONNECT).ok()?;
+    run(alloc, texts.as_slice(), RECEIPTS)
 }
 
 #[test]
