@@ -20,17 +20,9 @@ const REQUEST: &[u8] =
 
 // Whether the answer to a request for a WebSocket begins so.
 fn is_answered(rt: &HostRuntime, beginning: &[u8]) -> bool {
-    match TcpStream::connect(rt, ("127.0.0.1", PORT)) {
-        Ok(mut stream) => {
-            let answered = answers(&mut stream, beginning);
-            drop(stream);
-            answered
-        }
-        Err(_) => false,
-    }
-}
-
-fn answers(stream: &mut TcpStream, beginning: &[u8]) -> bool {
+    let Ok(mut stream) = TcpStream::connect(rt, ("127.0.0.1", PORT)) else {
+        return false;
+    };
     let longest = Duration::from_secs(10);
     if stream.set_read_timeout(Some(longest)).is_err() || stream.write_all(REQUEST).is_err() {
         return false;

@@ -19,17 +19,7 @@ const BEGINNING: &[u8] = b"GET / HTTP/1.1\r\nHost: a\r\nUpgrade: websocket\r\nCo
 // After how many seconds the server ends the connection of a client that says no more than the first part of its handshake.
 // It waits for thirty at most.
 fn ended_after(rt: &HostRuntime) -> Option<u64> {
-    match TcpStream::connect(rt, ("127.0.0.1", PORT)) {
-        Ok(mut stream) => {
-            let after = stream_ended_after(rt, &mut stream);
-            drop(stream);
-            after
-        }
-        Err(_) => None,
-    }
-}
-
-fn stream_ended_after(rt: &HostRuntime, stream: &mut TcpStream) -> Option<u64> {
+    let mut stream = TcpStream::connect(rt, ("127.0.0.1", PORT)).ok()?;
     stream.set_read_timeout(Some(Duration::from_secs(30))).ok()?;
     stream.write_all(BEGINNING).ok()?;
     let start = Instant::now(rt).ok()?;

@@ -51,54 +51,25 @@ fn receipts(alloc: Global, client: &mut Client<HostRuntime>, frame: &str) -> u32
 
 // The first client subscribes to a topic and reads nothing more. Another one at its desk floods that topic.
 fn flood(rt: &HostRuntime, alloc: Global) -> Option<(u32, bool)> {
-    match greeted(rt, alloc, PORT) {
-        Some(mut slow) => {
-            let subscribed = slow.send(alloc, SUBSCRIBE) && slow.reads(RECEIPT);
-            let mut others = Vec::new(alloc);
-            let all = greet(rt, alloc, PORT, &mut others, BETWEEN) == BETWEEN;
-            let told = flood_beside(rt, alloc, subscribed && all);
-            drop(others);
-            drop(slow);
-            told
-        }
-        None => None,
-    }
-}
-
-fn flood_beside(rt: &HostRuntime, alloc: Global, is_set_up: bool) -> Option<(u32, bool)> {
-    match greeted(rt, alloc, PORT) {
+    let frame = send_to(alloc, "/topic/flood").ok()?;
+    let queued = send_to(alloc, "/queue/a").ok()?;
+    let mut slow = greeted(rt, alloc, PORT)?;
+    let subscribed = slow.send(alloc, SUBSCRIBE) && slow.reads(RECEIPT);
+    let mut others = Vec::new(alloc);
+    let all = greet(rt, alloc, PORT, &mut others, BETWEEN) == BETWEEN;
+    let quick = greeted(rt, alloc, PORT);
+    let told = match quick {
         Some(mut quick) => {
-            let count = receive_all(alloc, &mut quick);
-            let filled = fill_all(alloc, &mut quick);
+            let count = receipts(alloc, &mut quick, frame.as_str());
+            let filled = fill_with(alloc, &mut quick, queued.as_str());
             drop(quick);
-            Some((count?, is_set_up && filled?))
+            Some((count, subscribed && all && filled))
         }
         None => None,
-    }
-}
-
-// How many of the SENDs to the topic have a receipt.
-fn receive_all(alloc: Global, client: &mut Client<HostRuntime>) -> Option<u32> {
-    match send_to(alloc, "/topic/flood") {
-        Ok(frame) => {
-            let count = receipts(alloc, client, frame.as_str());
-            drop(frame);
-            Some(count)
-        }
-        Err(_) => None,
-    }
-}
-
-// Whether the journal is full of SENDs to a queue then.
-fn fill_all(alloc: Global, client: &mut Client<HostRuntime>) -> Option<bool> {
-    match send_to(alloc, "/queue/a") {
-        Ok(frame) => {
-            let filled = fill_with(alloc, client, frame.as_str());
-            drop(frame);
-            Some(filled)
-        }
-        Err(_) => None,
-    }
+    };
+    drop(others);
+    drop(slow);
+    told
 }
 
 fn serve_both<R: Threads + Wait + Clock + Drop + Sync>(
