@@ -225,9 +225,15 @@ fn dismisses(room: &mut Room, at: usize) -> bool {
 // heard its own CONNECTED alone.
 fn run_again(alloc: Global) -> Option<(bool, bool)> {
     let mut room = Room::new(alloc)?;
+    let ran = take_again(alloc, &mut room);
+    drop(room);
+    ran
+}
+
+fn take_again(alloc: Global, room: &mut Room) -> Option<(bool, bool)> {
     admit_all(
         alloc,
-        &mut room,
+        room,
         &[
             Guest {
                 stuck: 1_000,
@@ -237,16 +243,14 @@ fn run_again(alloc: Global) -> Option<(bool, bool)> {
         ],
     );
     room.go_round(alloc, ROUNDS);
-    let sits = room.dismiss(0).is_none();
+    let sits = !dismisses(room, 0);
     room.lose(0);
     room.go_round(alloc, 2);
-    let left = sits && has_heard(&room, 0, &[]) && dismisses(&mut room, 0);
+    let left = sits && has_heard(room, 0, &[]) && dismisses(room, 0);
     let next = Client::new(alloc, &[CONNECT], 0)?;
     let sits_there = room.admit(alloc, 0, next);
     room.go_round(alloc, ROUNDS);
-    let right = left && has_heard(&room, 0, &[CONNECTED]);
-    drop(room);
-    Some((sits_there, right))
+    Some((sits_there, left && has_heard(room, 0, &[CONNECTED])))
 }
 
 #[test]

@@ -3,7 +3,7 @@ use crate::damage_tests::{bytes_of, journal as journal_of_three};
 use crate::journals::SIZE;
 use area_core::ReadFault;
 use disk_core::{Disk, MemDisk};
-use recover_core::{OpenFault, open, read};
+use recover_core::{OpenFault, Store, open, read};
 use std::alloc::Global;
 use std::process::Abort;
 use std::test::Fail;
@@ -41,11 +41,28 @@ fn told_by_read(alloc: Global, disk: &mut MemDisk) -> Told {
 
 fn told_by_open(alloc: Global, disk: MemDisk) -> Told {
     match open(alloc, disk) {
-        Ok(mut store) => match store.broker() {
-            Some(broker) => Told::Holds(broker.count(), broker.held().messages),
-            None => Told::Other,
-        },
-        Err((_, fault)) => told_of(&fault),
+        Ok(mut store) => {
+            let told = told_of_store(&mut store);
+            drop(store);
+            told
+        }
+        Err((disk, fault)) => {
+            let told = told_of(&fault);
+            drop(fault);
+            drop(disk);
+            told
+        }
+    }
+}
+
+fn told_of_store(store: &mut Store<MemDisk>) -> Told {
+    match store.broker() {
+        Some(broker) => {
+            let told = Told::Holds(broker.count(), broker.held().messages);
+            drop(broker);
+            told
+        }
+        None => Told::Other,
     }
 }
 

@@ -80,10 +80,13 @@ pub(crate) fn bytes_of(rt: &impl Abort, disk: &mut MemDisk) -> Result<[u8; SIZE 
 #[test]
 fn a_journal_is_written_as_its_format_says(rt: HostRuntime) -> Result<(), Fail> {
     let mut made = journal(&rt, rt.alloc())?;
+    let wanted = bytes_of(&rt, &mut made);
+    drop(made);
+    let wanted = wanted?;
     let mut written = journal_of(rt.alloc(), &[&[OPEN, SEND], &[SEND], &[SEND]])?;
-    let wanted = bytes_of(&rt, &mut made)?;
-    let bytes = bytes_of(&rt, &mut written)?;
-    assert!(rt; bytes == wanted);
+    let bytes = bytes_of(&rt, &mut written);
+    drop(written);
+    assert!(rt; bytes? == wanted);
     Ok(())
 }
 

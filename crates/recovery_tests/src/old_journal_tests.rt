@@ -66,13 +66,25 @@ pub(crate) const RESTARTED: &[u8] = b"\0\0\0\0\0\0\0\x09\0\0\0\0\0\0\0\x04\0\0\0
 
 pub(crate) fn journal(rt: &impl Abort, alloc: Global) -> Result<MemDisk, Fail> {
     let mut disk = MemDisk::new(alloc, SIZE)?;
+    match write_journal(rt, &mut disk) {
+        Ok(()) => {
+            disk.crash(None);
+            Ok(disk)
+        }
+        Err(fail) => {
+            drop(disk);
+            Err(fail)
+        }
+    }
+}
+
+fn write_journal(rt: &impl Abort, disk: &mut MemDisk) -> Result<(), Fail> {
     for (at, bytes) in WRITTEN {
         assert!(rt; disk.size() == SIZE && at <= 8_000 && bytes.len() <= 100);
         disk.write_at(at, bytes)?;
     }
     disk.sync()?;
-    disk.crash(None);
-    Ok(disk)
+    Ok(())
 }
 
 // Its second area is live. Three messages are not acknowledged: the two of the topic, and `y`.

@@ -81,7 +81,9 @@ fn expect_opening(
     match open(alloc, journal) {
         Ok(store) => {
             let disk = store.into_disk();
-            assert!(rt; are_of_opening(disk.calls(), writes));
+            let is_right = are_of_opening(disk.calls(), writes);
+            drop(disk);
+            assert!(rt; is_right);
             Ok(())
         }
         Err((_, fault)) => Err(Fail::from(fault)),
@@ -137,12 +139,25 @@ fn takes(
 // Whether a new journal takes a batch with a body of `body` bytes, and the disk that this leaves.
 fn offer(rt: &impl Abort, alloc: Global, body: u32) -> Result<(bool, MemDisk), Fail> {
     let record = sending(alloc, body)?;
+    let offered = offer_record(rt, alloc, record.as_slice());
+    drop(record);
+    offered
+}
+
+fn offer_record(rt: &impl Abort, alloc: Global, record: &[u8]) -> Result<(bool, MemDisk), Fail> {
     let journal = formatted(alloc)?;
     match open(alloc, journal) {
-        Ok(mut store) => match takes(rt, alloc, &mut store, record.as_slice()) {
-            Ok(is_taken) => Ok((is_taken, store.into_disk())),
-            Err(fail) => Err(fail),
-        },
+        Ok(mut store) => {
+            let taken = takes(rt, alloc, &mut store, record);
+            let disk = store.into_disk();
+            match taken {
+                Ok(is_taken) => Ok((is_taken, disk)),
+                Err(fail) => {
+                    drop(disk);
+                    Err(fail)
+                }
+            }
+        }
         Err((_, fault)) => Err(Fail::from(fault)),
     }
 }
@@ -152,8 +167,8 @@ fn offer(rt: &impl Abort, alloc: Global, body: u32) -> Result<(bool, MemDisk), F
 fn a_batch_that_does_not_fit_leaves_the_state_before(rt: HostRuntime) -> Result<(), Fail> {
     for (body, fits, wanted) in [(4_018, true, "1 0"), (4_019, false, "0 0")] {
         let (is_taken, disk) = offer(&rt, rt.alloc(), body)?;
-        assert!(rt; is_taken == fits, "{body} bytes");
         let is_told = tells(rt.alloc(), disk, wanted)?;
+        assert!(rt; is_taken == fits, "{body} bytes");
         assert!(rt; is_told, "{body} bytes");
     }
     Ok(())
@@ -175,18 +190,37 @@ fn three_held(alloc: Global, record: &[u8]) -> Result<Vec<u8>, Fail> {
     let Some(sent) = record.get(10..) else {
         return Err(Fail::from("no SEND"));
     };
-    let mut snapshot = Vec::from_slice(
-        alloc,
-        b"\0\0\0\0\0\0\0\x04\0\0\0\0\0\0\0\0\0\0\0\0\0\0\0\0",
-    )?;
+    let mut snapshot = Vec::new(alloc);
+    push_three(&mut snapshot, sent)?;
+    Ok(snapshot)
+}
+
+fn push_three(snapshot: &mut Vec<u8>, sent: &[u8]) -> Result<(), AllocError> {
+    snapshot.extend_from_slice(b"\0\0\0\0\0\0\0\x04\0\0\0\0\0\0\0\0\0\0\0\0\0\0\0\0")?;
     snapshot.extend_from_slice(b"\0\0\0\x01\0\0\0\x08/queue/q\0\0\0\x03")?;
     for number in 1..4u64 {
         snapshot.extend_from_slice(&number.to_be_bytes())?;
         snapshot.extend_from_slice(b"\0\0\0\0")?;
         snapshot.extend_from_slice(sent)?;
     }
-    snapshot.extend_from_slice(b"\0\0\0\0")?;
-    Ok(snapshot)
+    snapshot.extend_from_slice(b"\0\0\0\0")
+}
+
+// Whether a journal that has the three messages, and was opened twice, opens with that snapshot.
+fn opens_with(alloc: Global, sent: &[u8], wanted: &[u8]) -> Result<bool, Fail> {
+    let empty = formatted_with(alloc, 262_144)?;
+    let journal = with_batches(alloc, empty, &[&[OPEN, sent], &[sent], &[sent]])?;
+    let journal = with_batches(alloc, journal, &[])?;
+    opens_as(alloc, journal, wanted)
+}
+
+fn opens_with_three(rt: &impl Abort, alloc: Global, sent: &[u8]) -> Result<bool, Fail> {
+    let wanted = three_held(alloc, sent)?;
+    let length = wanted.len();
+    let is_right = opens_with(alloc, sent, wanted.as_slice());
+    drop(wanted);
+    assert_eq!(rt; length, 90_138);
+    is_right
 }
 
 // Three messages with bodies of 30,000 bytes make a snapshot of 90,138. The second opening writes it, and the third reads it. No memory is
@@ -194,25 +228,16 @@ fn three_held(alloc: Global, record: &[u8]) -> Result<Vec<u8>, Fail> {
 #[test]
 fn a_journal_with_a_snapshot_over_65_536_bytes_opens(rt: HostRuntime) -> Result<(), Fail> {
     let record = sending(rt.alloc(), 30_000)?;
-    let sent = record.as_slice();
-    let empty = formatted_with(rt.alloc(), 262_144)?;
-    let journal = with_batches(rt.alloc(), empty, &[&[OPEN, sent], &[sent], &[sent]])?;
-    let journal = with_batches(rt.alloc(), journal, &[])?;
-    let wanted = three_held(rt.alloc(), sent)?;
-    assert_eq!(rt; wanted.len(), 90_138);
-    let is_right = opens_as(rt.alloc(), journal, wanted.as_slice())?;
-    assert!(rt; is_right);
+    let is_right = opens_with_three(&rt, rt.alloc(), record.as_slice());
+    drop(record);
+    assert!(rt; is_right?);
     Ok(())
 }
 
-// With its length and a gate that snapshot has 90,147 bytes, which two calls write into the second area.
-#[test]
-fn a_snapshot_over_65_536_bytes_is_written_in_pieces(rt: HostRuntime) -> Result<(), Fail> {
-    let record = sending(rt.alloc(), 30_000)?;
-    let sent = record.as_slice();
-    let empty = formatted_with(rt.alloc(), 262_144)?;
-    let journal = with_batches(rt.alloc(), empty, &[])?;
-    let journal = with_batches(rt.alloc(), journal, &[&[OPEN, sent], &[sent], &[sent]])?;
+fn expect_pieces(rt: &impl Abort, alloc: Global, sent: &[u8]) -> Result<(), Fail> {
+    let empty = formatted_with(alloc, 262_144)?;
+    let journal = with_batches(alloc, empty, &[])?;
+    let journal = with_batches(alloc, journal, &[&[OPEN, sent], &[sent], &[sent]])?;
     let writes = [
         Call::Write {
             at: 262_176,
@@ -223,5 +248,14 @@ fn a_snapshot_over_65_536_bytes_is_written_in_pieces(rt: HostRuntime) -> Result<
             len: 24_611,
         },
     ];
-    expect_opening(&rt, rt.alloc(), journal, writes.as_slice())
+    expect_opening(rt, alloc, journal, writes.as_slice())
+}
+
+// With its length and a gate that snapshot has 90,147 bytes, which two calls write into the second area.
+#[test]
+fn a_snapshot_over_65_536_bytes_is_written_in_pieces(rt: HostRuntime) -> Result<(), Fail> {
+    let record = sending(rt.alloc(), 30_000)?;
+    let written = expect_pieces(&rt, rt.alloc(), record.as_slice());
+    drop(record);
+    written
 }

@@ -6,7 +6,7 @@ use crate::journals::SIZE;
 use area_core::{AreaFault, ReadFault};
 use broker_core::Broker;
 use disk_core::{Disk, MemDisk};
-use recover_core::{OpenFault, open};
+use recover_core::{OpenFault, Store, open};
 use snapshot_core::encode_state;
 use std::alloc::Global;
 use std::test::Fail;
@@ -53,14 +53,26 @@ fn is_restarted(alloc: Global, broker: &Broker) -> Option<bool> {
     Some(snapshot.as_slice() == RESTARTED)
 }
 
+fn is_opened(alloc: Global, store: &mut Store<MemDisk>) -> Option<bool> {
+    match store.broker() {
+        Some(broker) => {
+            let seen = is_restarted(alloc, &broker);
+            drop(broker);
+            seen
+        }
+        None => Some(false),
+    }
+}
+
 // What comes of opening the disk: whether it has that state, or `None` if there was no memory for its snapshot. If it was not opened, the
 // disk, and whether the reason was that memory was refused, the disk's own included.
 fn opened(alloc: Global, disk: MemDisk) -> Result<Option<bool>, (MemDisk, bool)> {
     match open(alloc, disk) {
-        Ok(mut store) => match store.broker() {
-            Some(broker) => Ok(is_restarted(alloc, &broker)),
-            None => Ok(Some(false)),
-        },
+        Ok(mut store) => {
+            let seen = is_opened(alloc, &mut store);
+            drop(store);
+            Ok(seen)
+        }
         Err((disk, fault)) => {
             let is_want = matches!(
                 fault,

@@ -341,9 +341,12 @@ fn what_is_opened_is_the_broker_that_did_the_same(rt: HostRuntime) -> Result<(),
         memory: Broker::new(rt.alloc()),
         done: [0; 9],
     };
-    lives(&rt, rt.alloc(), &mut script)?;
-    assert!(rt; script.memory.count() >= 1_000);
-    for (kind, done) in script.done.iter().enumerate() {
+    let lived = lives(&rt, rt.alloc(), &mut script);
+    let (count, done) = (script.memory.count(), script.done);
+    drop(script);
+    lived?;
+    assert!(rt; count >= 1_000);
+    for (kind, done) in done.iter().enumerate() {
         assert!(rt; *done >= 5, "{done} of kind {kind}");
     }
     Ok(())

@@ -20,17 +20,32 @@ fn write(rt: &impl Abort, disk: &mut MemDisk, at: u64, bytes: &[u8]) -> Result<(
 // block: a session opens, listens to `/queue/q`, sends a message there, is handed it, and refuses it. The records have 87 bytes.
 fn journal(rt: &impl Abort, alloc: Global, digits: &[u8], first: u8) -> Result<MemDisk, Fail> {
     let mut disk = MemDisk::new(alloc, SIZE)?;
-    write(rt, &mut disk, 0, b"STOMPJ")?;
-    write(rt, &mut disk, 6, digits)?;
-    write(rt, &mut disk, 8, b"\0\0\0\0\0\0\x10\0")?;
-    write(rt, &mut disk, 32, &[first, 0, 0, 0, 0, 0, 0, 32])?;
-    write(rt, &mut disk, 72, b"\x01\0\0\0\0\0\0\0\x57")?;
-    write(rt, &mut disk, 81, OPEN)?;
-    write(rt, &mut disk, 92, SUBSCRIBE)?;
-    write(rt, &mut disk, 121, SEND)?;
-    write(rt, &mut disk, 150, NACK)?;
+    match write_journal(rt, &mut disk, digits, first) {
+        Ok(()) => Ok(disk),
+        Err(fail) => {
+            drop(disk);
+            Err(fail)
+        }
+    }
+}
+
+fn write_journal(
+    rt: &impl Abort,
+    disk: &mut MemDisk,
+    digits: &[u8],
+    first: u8,
+) -> Result<(), Fail> {
+    write(rt, disk, 0, b"STOMPJ")?;
+    write(rt, disk, 6, digits)?;
+    write(rt, disk, 8, b"\0\0\0\0\0\0\x10\0")?;
+    write(rt, disk, 32, &[first, 0, 0, 0, 0, 0, 0, 32])?;
+    write(rt, disk, 72, b"\x01\0\0\0\0\0\0\0\x57")?;
+    write(rt, disk, 81, OPEN)?;
+    write(rt, disk, 92, SUBSCRIBE)?;
+    write(rt, disk, 121, SEND)?;
+    write(rt, disk, 150, NACK)?;
     disk.sync()?;
-    Ok(disk)
+    Ok(())
 }
 
 // The digits in a journal's name, the byte that its live area begins with, and what opening it reports. That is how many commands were
@@ -96,16 +111,22 @@ fn shown_twice(alloc: Global, disk: MemDisk) -> Result<([u64; 6], [u64; 6], MemD
     }
 }
 
+fn name_of(rt: &impl Abort, disk: &mut MemDisk) -> Result<[u8; 8], Fail> {
+    let mut name = [0; 8];
+    assert!(rt; disk.size() == SIZE);
+    disk.read_at(0, &mut name)?;
+    Ok(name)
+}
+
 // The refused message has the destination `/queue/dead` and a body of one byte: 12 bytes. Opening writes the second version, and
 // leaves the name as it is.
 #[test]
 fn opening_makes_a_journal_one_of_the_second_version(rt: HostRuntime) -> Result<(), Fail> {
     let old = journal(&rt, rt.alloc(), b"01", 0)?;
     let (before, after, mut disk) = shown_twice(rt.alloc(), old)?;
-    let mut name = [0; 8];
-    assert!(rt; disk.size() == SIZE);
-    disk.read_at(0, &mut name)?;
+    let name = name_of(&rt, &mut disk);
     drop(disk);
+    let name = name?;
     assert_eq!(rt; before, [1, 0, 137, 4, 0, 0]);
     assert_eq!(rt; after, [2, 1, 41, 4, 0, 0]);
     assert!(rt; &name == b"STOMPJ01");

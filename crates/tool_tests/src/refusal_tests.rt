@@ -57,22 +57,33 @@ fn word_of_script(alloc: Global) -> &'static str {
     let Ok(mut written) = Vec::<u8>::with_capacity(alloc, 4_096) else {
         return "unseen";
     };
+    let word = word_of_written(alloc, &mut written);
+    drop(written);
+    word
+}
+
+fn word_of_written(alloc: Global, written: &mut Vec<u8>) -> &'static str {
     let Some(disk) = formatted(alloc) else {
-        drop(written);
         return "unseen";
     };
     let mut reader = SCRIPT;
-    let (disk, ended) = run_script(alloc, &mut reader, &mut written, disk);
+    let (disk, ended) = run_script(alloc, &mut reader, written, disk);
     drop(disk);
-    let is_whole = written.as_slice() == PRINTED;
-    let is_front = PRINTED.starts_with(written.as_slice());
-    drop(written);
     match ended {
-        Ok(()) => if is_whole { "whole" } else { "wrong" },
-        Err(fault) => match is_want(alloc, &fault) {
-            Some(true) if is_front => "refused",
-            _ => "wrong",
+        Ok(()) => if written.as_slice() == PRINTED {
+            "whole"
+        } else {
+            "wrong"
         },
+        Err(fault) => {
+            let wanted = is_want(alloc, &fault);
+            drop(fault);
+            if wanted == Some(true) && PRINTED.starts_with(written.as_slice()) {
+                "refused"
+            } else {
+                "wrong"
+            }
+        }
     }
 }
 

@@ -44,22 +44,57 @@ fn printed_over(alloc: Global, script: &[u8], disk: MemDisk) -> Result<(MemDisk,
     let mut reader = script;
     let mut written = Vec::new(alloc);
     let (disk, ended) = run_script(alloc, &mut reader, &mut written, disk);
-    ended?;
-    Ok((disk, written))
+    match ended {
+        Ok(()) => Ok((disk, written)),
+        Err(fault) => {
+            drop(written);
+            drop(disk);
+            Err(Fail::from(fault))
+        }
+    }
+}
+
+// A script prints that over a disk, which comes back.
+fn expect_printed_over(
+    rt: &impl Abort,
+    alloc: Global,
+    script: &[u8],
+    disk: MemDisk,
+    printed: &str,
+) -> Result<MemDisk, Fail> {
+    let (disk, written) = printed_over(alloc, script, disk)?;
+    let same = compare(rt, 0, written.as_slice(), b"", (0, printed, ""));
+    drop(written);
+    match same {
+        Ok(()) => Ok(disk),
+        Err(fail) => {
+            drop(disk);
+            Err(fail)
+        }
+    }
+}
+
+// A disk that begins with these bytes.
+fn disk_with(alloc: Global, front: &[u8]) -> Result<MemDisk, Fail>
+    requires { length front.now ≤ 8224 }
+{
+    let mut disk = MemDisk::new(alloc, DISK_BYTES)?;
+    match disk.write_at(0, front) {
+        Ok(()) => Ok(disk),
+        Err(fault) => {
+            drop(disk);
+            Err(Fail::from(fault))
+        }
+    }
 }
 
 // The lines have left the disk with what they count and hold, and its next script opens that.
 #[test]
 fn a_script_goes_on_from_what_its_disk_holds(rt: HostRuntime) -> Result<(), Fail> {
-    let mut disk = MemDisk::new(rt.alloc(), DISK_BYTES)?;
-    disk.write_at(0, HELD)?;
-    let (disk, written) = printed_over(rt.alloc(), SCRIPT, disk)?;
-    assert_eq!(rt; str::from_utf8(written.as_slice())?, PRINTED);
-    drop(written);
-    let (disk, written) = printed_over(rt.alloc(), b"open\n", disk)?;
+    let disk = disk_with(rt.alloc(), HELD)?;
+    let disk = expect_printed_over(&rt, rt.alloc(), SCRIPT, disk, PRINTED)?;
+    let disk = expect_printed_over(&rt, rt.alloc(), b"open\n", disk, "open 7 1\n")?;
     drop(disk);
-    assert_eq!(rt; str::from_utf8(written.as_slice())?, "open 7 1\n");
-    drop(written);
     Ok(())
 }
 
@@ -81,8 +116,7 @@ fn push_fault(fault: &ScriptFault, all: &mut Vec<u8>) -> Result<(), Fail> {
 fn push_over(alloc: Global, front: &[u8], script: &[u8], all: &mut Vec<u8>) -> Result<(), Fail>
     requires { length front.now ≤ 8224 }
 {
-    let mut disk = MemDisk::new(alloc, DISK_BYTES)?;
-    disk.write_at(0, front)?;
+    let disk = disk_with(alloc, front)?;
     let mut reader = script;
     let (disk, ended) = run_script(alloc, &mut reader, all, disk);
     drop(disk);
