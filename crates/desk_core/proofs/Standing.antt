@@ -274,7 +274,7 @@ pub admits : {B L : Type 0} (old : DeskValue B L) (before seat : SessionSeatValu
     → desk before seat places ≡ old → all ≡ reaching at places → seated_at old.places at ≡ None → is ≡ Some seated → seated.link ≡ link → IsNew seated.slot → Admits old (desk before seat (set all at is)) link at
 admits {B} {L} old before seat places all at is seated link same reach free sits link_is is_new =
     let long : length all ≡ length places + (at + 1 - length places) =
-        ap length reach ∙ length-append places (replicate (at + 1 - length places) None) ∙ ap (λ n. length places + n) (length-replicate (at + 1 - length places) None) in
+    ap length reach ∙ length-append places (replicate (at + 1 - length places) None) ∙ ap (λ n. length places + n) (length-replicate (at + 1 - length places) None) in
     let of_old : length places ≡ length old.places = ap (λ (d : DeskValue B L). length d.places) same in record {
       seated = seated;
       before = ap (λ (d : DeskValue B L). d.before) same;

@@ -42,12 +42,12 @@ module _ {D : Type 0} (disk : Ghosts D) where
       → RefusesFirst {B = B} {T = T} disk old new fs (Err fault)
   refuses_as {B} {T} old new es fs fault same refuses breaks =
       subst (λ (l : List (EntryValue B)). RefusesFirst {B = B} {T = T} disk old new l (Err fault)) same (so fault refuses breaks)
-      where
-        so : (fault : AreaFault) → StoreRefuses {T = Unit {0}} disk old new (commands es) (Err fault) → StoreBreaks {T = Unit {0}} disk old new (Err fault) → RefusesFirst {B = B} {T = T} disk old new es (Err fault)
-        so area.Device refuses breaks = record { block = record { full = λ is. absurd (cc is); memory = tt }; sound = λ is. absurd (cc is); cause = breaks.cause }
-        so area.Full refuses breaks = record { block = record { full = λ is. refuses.full refl; memory = tt }; sound = λ is. absurd (cc is); cause = breaks.cause }
-        so area.Broken refuses breaks = record { block = record { full = λ is. absurd (cc is); memory = tt }; sound = λ is. breaks.sound refl; cause = breaks.cause }
-        so (area.Memory refused) refuses breaks = record { block = record { full = λ is. absurd (cc is); memory = refuses.memory }; sound = λ is. absurd (cc is); cause = breaks.cause }
+    where
+      so : (fault : AreaFault) → StoreRefuses {T = Unit {0}} disk old new (commands es) (Err fault) → StoreBreaks {T = Unit {0}} disk old new (Err fault) → RefusesFirst {B = B} {T = T} disk old new es (Err fault)
+      so area.Device refuses breaks = record { block = record { full = λ is. absurd (cc is); memory = tt }; sound = λ is. absurd (cc is); cause = breaks.cause }
+      so area.Full refuses breaks = record { block = record { full = λ is. refuses.full refl; memory = tt }; sound = λ is. absurd (cc is); cause = breaks.cause }
+      so area.Broken refuses breaks = record { block = record { full = λ is. absurd (cc is); memory = tt }; sound = λ is. breaks.sound refl; cause = breaks.cause }
+      so (area.Memory refused) refuses breaks = record { block = record { full = λ is. absurd (cc is); memory = refuses.memory }; sound = λ is. absurd (cc is); cause = breaks.cause }
 
 pub returns-then-not-fits-clause-any_moment : goal.returns-then-not-fits-clause-any_moment
 returns-then-not-fits-clause-any_moment g c = stands_still g.D.Disk c.args.journal.now (commands (take c.args.count c.args.batch.now.items)) (g.met.D.Disk.only_now c.args.journal.now.disk)

@@ -21,7 +21,7 @@ returns-in-Append-clause-goes g c =
     let executes = subst Executes c.stage.ensures (c.executes.ensures.yes c.if-not-executes.false) in
     let command = c.in-Append.command in
     let wants : Wants c.args.self.now.connection c.next.new.self (to_append command) =
-        subst (λ (s : Said). Wants c.args.self.now.connection c.next.new.self (Append command s)) c.in-Append.ensures.form.2 c.in-Append.ensures.wants in
+    subst (λ (s : Said). Wants c.args.self.now.connection c.next.new.self (Append command s)) c.in-Append.ensures.form.2 c.in-Append.ensures.wants in
     let still = still_executes c.args.self.now.connection c.next.new.self (to_append command) executes wants tt in
     goes_wanted g.L.Outgoing.sent g.L.Outgoing.received c.args.self.now _ c.prepare.new.self c.args.seat.now c.prepare.new.seat c.args.link.now (to_append command)
     executes still (sym c.take.ensures.value ∙ not_some c.take.result c.in_default.not-Some) wants refl refl c.prepare.ensures.continues c.prepare.ensures.stays (c.prepare.ensures.lives still)
