@@ -1,5 +1,5 @@
 #!/usr/bin/env python3
-"""200 connections at once, of which each worker has three or four, and how they come and go.
+"""200 connections at once, of which each desk has three or four, and how they come and go.
 
     python3 tests/program/crowd.py [PROGRAM]
     python3 tests/program/crowd.py [PROGRAM] --many [--clients N] [--topics N] [--sends N] [--seconds N]

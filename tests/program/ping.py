@@ -1,6 +1,6 @@
 #!/usr/bin/env python3
 """Pings servers that answer, and others that do not or do it wrong, and compares the status and the one line that is told with what
-docs/RUNNING.md says. The others are servers that are stopped, full or at their end, and sockets that speak HTTP, half of a WebSocket, or another STOMP.
+docs/PROTOCOL.md says ("Pings"). The others are servers that are stopped, full or at their end, and sockets that speak HTTP, half of a WebSocket, or another STOMP.
 Needs Python 3 alone; the gate does not run it.
 
     python3 tests/program/ping.py [PROGRAM]

@@ -1,6 +1,6 @@
 #!/usr/bin/env python3
 """What nobody reads: a queue, what workers refuse, and a durable subscription whose client is away, until no message has room; how that is
-seen, and how room is made again. As the README says it ("To know when you write a client").
+seen, and how room is made again: docs/RUNNING.md, "No room for messages".
 
     python3 tests/program/unread.py [PROGRAM]
 """
