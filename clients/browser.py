@@ -330,14 +330,19 @@ def lines_with_stomp_js(broker, checks, browser, library):
     if library is None:
         checks.tell("the lines for stomp.js were not tried: it is not here (Debian has it in rabbitmq-server)")
         return
-    for document, heading, number in (("README.md", "Connect", 2), ("docs/CLIENTS.md", "With stomp.js", 1)):
-        page = browser.open("about:blank")
-        page.value(f"(0, eval)({json.dumps(library.read_text(encoding='utf-8'))}); 0")
-        lines = lines_below(document, heading, number).replace(":8080", f":{broker.port}")
-        page.value(f"var heard = []; console.log = (...words) => heard.push(words.join(' ')); (0, eval)({json.dumps(lines)}); 0")
-        page.comes("heard.length == 2")
-        checks.same(f"the lines of {document} for stomp.js hear what they say", page.value("heard"), ["somebody said: hello", "it is on disk: first"])
-        checks.same("no exception was thrown", page.exceptions, [])
+    page = browser.open("about:blank")
+    page.value(f"(0, eval)({json.dumps(library.read_text(encoding='utf-8'))}); 0")
+    lines = lines_below("README.md", "Connect", 2).replace(":8080", f":{broker.port}") + "\nvar stomp = client;"
+    # The library logs each frame too.
+    told = "const line = words.join(' '); if (/^(somebody said|it is on disk):/.test(line)) heard.push(line);"
+    page.value(f"var heard = []; console.log = (...words) => {{ {told} }}; (0, eval)({json.dumps(lines)}); 0")
+    page.comes("heard.length == 2")
+    checks.same("the README's lines for stomp.js hear what they say", page.value("heard"), ["somebody said: hello", "it is on disk: first"])
+    works = lines_below("docs/CLIENTS.md", "With stomp.js") + "\nclient.send('/queue/jobs', {}, 'sweep');"
+    page.value(f"((client) => {{ {works} }})(stomp); 0")
+    page.comes("heard.length == 3")
+    checks.same("a worker's line for stomp.js acknowledges", page.value("heard[2]"), "it is on disk: done")
+    checks.same("no exception was thrown", page.exceptions, [])
 
 
 TALK = [

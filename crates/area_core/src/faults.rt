@@ -65,7 +65,7 @@ impl From<DeviceFault> for AreaFault {
 pub enum ReadFault {
     /// The disk has fewer than 32 bytes, or another name.
     NotAJournal,
-    /// What stands at that place of the disk is not a length that fits, or not a record.
+    /// What stands at that place of the disk is no known version, no length that fits, no state's snapshot, or no record.
     Damaged(u64),
     /// The disk failed.
     Device,

@@ -126,7 +126,7 @@ impl<B, const SEATS: usize, const WINDOW: usize, const PLACES: usize> Ring<
         flush.compare(&self.table.shared, seat);
     }
 
-    /// Stops the ring: from now on `append` refuses, for good.
+    /// Stops the ring, for good: an `append` that reads this refuses.
     pub fn stop(&self, seat: &mut FlushSeat<B>)
         requires { seat.old.ring ≡ self.now }
         ensures { seat.new ≡ when_stopped seat.old }

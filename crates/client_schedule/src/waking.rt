@@ -57,7 +57,7 @@ impl Clients {
         }
     }
 
-    /// Until when there is nothing to do of which neither the poll nor the doorbell tells.
+    /// A moment before which no client's comes, and nobody tries again for memory.
     pub fn until(&self) -> u64
         ensures { result ≡ min self.now.timers.earliest self.now.retry }
     {

@@ -6,7 +6,7 @@ ghost use Rattle.client_schedule.specs.Watches.{counted};
 /// By how many milliseconds a round may take longer than it was allowed to wait, before that counts as a pause.
 const SPARE: u64 = 1_000;
 
-/// A clock that does not count the time for which the whole process stood still: no client is to be given up for that. Moments are in
+/// A clock that does not count pauses of the whole process of over a second: no client is to be given up for them. Moments are in
 /// milliseconds, and begin with that of the system's clock.
 #[derive(Clone, Copy)]
 pub struct Watch {

@@ -46,7 +46,7 @@ pub enum Relayed {
     },
     /// The next output is not under the mark yet, and is kept.
     Waits,
-    /// The next output is of another session, and is kept: it is never sent.
+    /// The next output is of another session, and is kept unsent.
     Foreign,
     /// There is no output.
     Empty,

@@ -66,7 +66,8 @@ impl<D: Disk> Store<D> {
     ///
     /// A stop at any moment leaves a disk that stands for that state. While the snapshot is written, every byte outside the idle area
     /// stays; while the areas are switched, both stand for the state. `Full` means that no snapshot of the state fits into an area; the
-    /// store stays as it was. If memory is refused, the store is as it was, or broken. A broken store answers `Broken` to every later call.
+    /// store stays as it was. If memory is refused, the disk is as it was, or the store is broken. A broken store answers `Broken` to every
+    /// later call.
     pub fn compact(&mut self, alloc: Global, broker: &Broker) -> Result<(), AreaFault>
         requires whole { broker.now.broken ≡ false }
         requires stands { StandsUnbroken D.Disk self.old broker.now.state }

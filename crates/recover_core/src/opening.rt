@@ -87,10 +87,10 @@ fn open_area<D: Disk>(alloc: Global, disk: &mut D) -> Result<(Area, Broker), Ope
 /// Opens a journal of either version. It reads the state that the disk stands for, with the blocks by the rule of the live area's version,
 /// and ends its sessions. Then it writes what is left into the other area as the second version, and makes that area live.
 ///
-/// A stop at any moment leaves a disk that stands for a state with the same restart. After Ok the live area has the snapshot of the state
-/// alone, and is of the second version. The name and the version in the header stay as they are at every moment. A refusal hands the disk
-/// back, and it may be opened again. If what was read is the reason, nothing was written at any moment; a snapshot that does not fit is
-/// such a reason.
+/// If each image of an honest disk stood for a state, a stop at any moment leaves one that restarts as one of these. After Ok the live area
+/// has the snapshot of the state alone, and is of the second version. The name and the version in the header stay as they are at every
+/// moment. A refusal hands the disk back, and it may be opened again. If what was read is the reason, nothing was written at any moment; a
+/// snapshot that does not fit is such a reason.
 pub fn open<D: Disk>(alloc: Global, disk: D) -> Result<Store<D>, (D, OpenFault)>
     ensures opens { IfOk result (Opens D.Disk disk) }
     ensures hands_back { IfErr result (λ back. HandsBack D.Disk disk back.0 back.1) }

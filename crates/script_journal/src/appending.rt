@@ -13,7 +13,7 @@ use std::alloc::{AllocError, Global};
 
 /// Appends waiting commands, each with the seat of its connection. The first has this ticket, and each the next one.
 ///
-/// `Broken` if there is no such seat, or if the ring refuses a command or gives it another ticket. The ring does neither
+/// `Broken` if there is no such seat, or if the ring refuses a command or gives it another ticket. Tests show that the ring does neither
 /// to a caller that has all of its seats and flushes before a seat's window is full.
 pub fn append_all(
     alloc: Global,

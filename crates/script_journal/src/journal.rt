@@ -101,8 +101,8 @@ impl<D: Disk> Journal<D> {
     ///
     /// After a call that failed, and after a fault, the journal is not durable, and takes nothing more. `Full` comes if the block of some
     /// of the commands has no room after those before, and `Memory` if memory was refused. `Broken` comes if a step failed before, or if
-    /// the ring does not take a command: its connection has no seat, or a full window. `Device` comes instead of `None` if the flusher took
-    /// what no seat here has appended; that never happens if all seats are here.
+    /// the ring does not take a command: its connection has no seat, or a full window; or if the turns do not take all that was appended.
+    /// `Device` comes instead of `None` if the flusher took what no seat here has appended; that never happens if all seats are here.
     pub fn record(
         &mut self,
         alloc: Global,
@@ -135,8 +135,8 @@ impl<D: Disk> Journal<D> {
     }
 
     /// Lets an output leave by its connection's seat, which has read a mark over its number. `Broken` if a step has failed, if the
-    /// connection has no seat, or if the seat reads a mark that isn't over the output's number. The last never happens to an output that
-    /// `record` answered. After `Broken` the journal is not durable, and takes nothing more.
+    /// connection has no seat, or if the seat reads a mark that isn't over the output's number. No contract rules the last out, even for an
+    /// output that `record` answered. After `Broken` the journal is not durable, and takes nothing more.
     pub fn release(&mut self, connection: u8, out: Out) -> Result<Released, FlushFault>
         ensures same { OnOk result (self.new ≡ record self.old { seats = self.new.seats }) }
         ensures seat { OnOk result (IsReadBy connection out.number self.old.seats self.new.seats) }

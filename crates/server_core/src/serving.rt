@@ -47,7 +47,7 @@ const HELD_BYTES: u64 = 25_300_000;
 /// Why a server serves no more.
 #[derive(Debug, Drop)]
 pub enum ServeEnd {
-    /// It was asked to end: all that was claimed by then is stored.
+    /// It was asked to end, and its ring is stopped. What was claimed by then is stored, as tests show.
     Asked,
     /// A fault.
     Fault(ServeFault),
@@ -84,10 +84,10 @@ where
     R: Files<File = File> + Net<Listener = TcpListener, Stream = TcpStream> + Wait + Clone + Drop,
 {
     /// Opens the port at 127.0.0.1, and then the journal in a file, whose lock the server has from then on until its flusher is gone. It
-    /// takes as many clients at a time as `reception` says, or as the process may have descriptors for, if these are fewer. `Port` if
-    /// the port can't be opened, and `Threads` if the system refuses what workers wait on. `File` if the file can't be opened, or
-    /// another server has its lock: then nothing of it is read or written. `Opening` if the journal is refused: what opening a journal
-    /// leaves is said there. A refusal keeps no lock.
+    /// takes as many clients at a time as `reception` says, or as the process may have descriptors for, if these are fewer. `Port` if the
+    /// port can't be opened, `Threads` if the system refuses what workers wait on, and `Memory` if memory is refused. `File` if the file
+    /// can't be opened, or another server has its lock: then nothing of it is read or written. `Opening` if the journal is refused: what
+    /// opening a journal leaves is said there. A refusal keeps no lock.
     pub fn open(
         alloc: Global,
         rt: &R,
@@ -210,7 +210,7 @@ impl<R: Wait + Clock + Drop> Server<R> {
         }
     }
 
-    /// What asks the server to end, in good order.
+    /// What asks the server to end, in good order. `Memory` if memory is refused.
     pub fn ender(&self) -> Result<Ender, ServeFault> {
         match self.shared.wakeups.ending() {
             Ok(ending) => Ok(Ender { ending }),
